@@ -1,0 +1,8 @@
+// The vocabulary that all crates share, over plain lists and numbers. There is no code here.
+//
+//   specs/Lists      all elements, all pairs, membership, no repetition, ascending, counting
+//   specs/Tests      what it means that a test decides
+//   proofs/Numbers   order as a sum, tests of numbers
+//   proofs/Lists     laws of All, Pairs, Mem, Distinct
+//   proofs/Maps      laws of map and filterMap
+//   proofs/Stores    laws of set and sets: what a write changes and what it leaves
