@@ -1,0 +1,66 @@
+-- What is lent: the lengths of the tables, and how many rows they have (01, "Words", Lent). Head sizes and widths are those of docs/LAYOUT.md.
+use mathlib.Core.Bool.{Bool, _||_}
+use Prim.Native.Nat.{ℕ, _-_, _/_, min}
+use lib.Dec.{ltb}
+
+-- ── heads and widths, in numbers ──
+
+abbrev pub pieceHead : ℕ
+pieceHead = 8
+
+abbrev pub pieceWidth : ℕ
+pieceWidth = 8
+
+-- the head that grows with the requests
+abbrev pub blockHead : ℕ
+blockHead = 8
+
+abbrev pub blockWidth : ℕ
+blockWidth = 8
+
+abbrev pub nodeHead : ℕ
+nodeHead = 8
+
+abbrev pub nodeWidth : ℕ
+nodeWidth = 8
+
+abbrev pub entryHead : ℕ
+entryHead = 8
+
+abbrev pub entryWidth : ℕ
+entryWidth = 2
+
+-- a scratch has no head
+abbrev pub scratchWidth : ℕ
+scratchWidth = 8
+
+-- ── lengths ──
+
+-- the lengths of the four tables, in numbers, and of the store, in bytes
+pub record Lent : Type 0 where
+  pub pieces : ℕ
+  pub blocks : ℕ
+  pub store : ℕ
+  pub nodes : ℕ
+  pub entries : ℕ
+
+-- past its head a table has as many rows as its length holds
+abbrev pub pieceRows : Lent → ℕ
+pieceRows n = (n .pieces - pieceHead) / pieceWidth
+
+abbrev pub blockRows : Lent → ℕ
+blockRows n = (n .blocks - blockHead) / blockWidth
+
+abbrev pub nodeRows : Lent → ℕ
+nodeRows n = (n .nodes - nodeHead) / nodeWidth
+
+abbrev pub entryRows : Lent → ℕ
+entryRows n = (n .entries - entryHead) / entryWidth
+
+-- lengths too short to be well formed: a table that cannot hold its head
+unfoldable pub tooShort : Lent → Bool
+tooShort n = ltb (n .pieces) pieceHead || ltb (n .blocks) blockHead || ltb (n .nodes) nodeHead || ltb (n .entries) entryHead
+
+-- The space for pieces is the piece table's rows or the scratch's, whichever are fewer.
+unfoldable pub pieceSpace : Lent → (scratch : ℕ) → ℕ
+pieceSpace n scratch = min (pieceRows n) (scratch / scratchWidth)

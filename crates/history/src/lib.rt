@@ -1,0 +1,1 @@
+// What is right, said once, over plain lists, and its laws.
