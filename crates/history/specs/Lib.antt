@@ -2,3 +2,4 @@ pub mod Words
 pub mod Lent
 pub mod Tree
 pub mod Find
+pub mod Rules
