@@ -42,6 +42,13 @@ module _ (from to : ℕ) (s : Stretch) where
   unfolding part
   part-ends h = omega (arith, part-size)
 
+  -- it has the bytes that the stretch has from its first cell on
+  pub part-bytes : max from (s .first) < min to (ends s) → part .bytes ≡ take (length (part .bytes)) (drop (part .first - s .first) (s .bytes))
+  unfolding part
+  part-bytes h =
+      let e : length (part .bytes) ≡ min to (ends s) - max from (s .first) = omega (arith, part-size) in
+      ap (λ (n : ℕ). take n (drop (max from (s .first) - s .first) (s .bytes))) (sym e)
+
   -- below its first cell and from its end on, the part has nothing
   clip-low : (c : ℕ) → c < max from (s .first) → bind (clip from to s) (byteAt c) ≡ none
   unfolding part clip bind

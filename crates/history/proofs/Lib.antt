@@ -6,3 +6,7 @@ pub mod Apart
 pub mod Split
 pub mod Reading
 pub mod Cells
+pub mod Value
+pub mod Storing
+pub mod Passing
+pub mod Steps

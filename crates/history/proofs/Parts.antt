@@ -13,7 +13,7 @@ use Rattle.lists.specs.Lists.{All, all-nil, all-cons, Pairs, pairs-nil, pairs-c
 use Rattle.history.specs.Sound.{InOrder}
 use Rattle.lists.proofs.Lists.{all-append, all-map, all-any, pairs-append}
 use Rattle.lists.proofs.Maps.{all-filterMap, pairs-filterMap}
-use Rattle.history.proofs.Clip.{part, part-ends}
+use Rattle.history.proofs.Clip.{part, part-ends, part-bytes}
 
 -- q is the part of p in [from, to), and not empty
 pub record PartOf (from to : ℕ) (p q : Piece) : Type 0 where
@@ -22,6 +22,7 @@ pub record PartOf (from to : ℕ) (p q : Piece) : Type 0 where
   pub from-low : from ≤ q .stretch .first
   pub to-high : ends (q .stretch) ≤ to
   pub some-cell : 0 < size (q .stretch)
+  pub same-bytes : q .stretch .bytes ≡ take (size (q .stretch)) (drop (q .stretch .first - p .stretch .first) (p .stretch .bytes))
   pub same-tick : q .written ≡ p .written
   pub same-kind : q .kind ≡ p .kind
 
@@ -45,6 +46,7 @@ clip-part from to p q = go (ltb (max from (p .stretch .first)) (min to (ends (p 
           from-low = omega arith;
           to-high = omega arith;
           some-cell = omega arith;
+          same-bytes = part-bytes from to (p .stretch) lt;
           same-tick = refl;
           same-kind = refl;
         } in

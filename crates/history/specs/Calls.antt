@@ -6,7 +6,7 @@ use Prim.Native.Nat.{ℕ}
 use lib.Dec.{leb}
 use Rattle.history.specs.Words.{Operation, stretchOf, byteAt}
 use Rattle.history.specs.Ledger.{Ledger, recordBy, finishBy}
-use Rattle.history.specs.Refusals.{Answer, accepted, refused, firstOf, recordRefusals, finishRefusals}
+use Rattle.history.specs.Refusals.{Answer, accepted, refused, recordAnswer, finishAnswer}
 
 -- Record is lent a scratch, of which the length is fed.
 pub data Call : Type 0 where
@@ -17,8 +17,8 @@ pub data Call : Type 0 where
 
 -- A call gets the first refusal whose condition holds of what is fed and kept; else it is accepted.
 unfoldable pub answerTo : Ledger → Call → Answer Unit
-answerTo l (recordCall scratch o) = firstOf (recordRefusals l scratch o) tt
-answerTo l finishCall = firstOf (finishRefusals l) tt
+answerTo l (recordCall scratch o) = recordAnswer l scratch o
+answerTo l finishCall = finishAnswer l
 
 unfoldable pub acceptedBy : Ledger → Call → Ledger
 acceptedBy l (recordCall scratch o) = recordBy l o

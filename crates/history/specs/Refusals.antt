@@ -10,7 +10,7 @@ use Rattle.history.specs.Words.{Operation, Block}
 use Rattle.history.specs.Lent.{Lent, pieceRows, blockRows, nodeRows, entryRows, tooShort, pieceSpace}
 use Rattle.history.specs.Tree.{treeOf, nodeCount, entryCount}
 use Rattle.history.specs.Ledger.{Opening, Ledger, finished, isRead, updateBy, settled}
-use Rattle.history.specs.Reads.{findBy}
+use Rattle.history.specs.Reads.{Found, Cells, findBy, cellsBy, blockBy}
 
 -- ── answers ──
 
@@ -47,13 +47,12 @@ openRefusals a =
     1 if (eqb (a .end) 0 || ltb maxEndTick (a .end) || ltb 4 (a .kind))
     ∷ []
 
--- of the lengths of what is lent alone; else the tables are well formed
 unfoldable pub recordRefusals : Ledger → (scratch : ℕ) → Operation → List Refusal
 recordRefusals l scratch o =
     let lent = l .opening .lent in
     let update = not (isRead (l .now) o) in
     let next = updateBy (l .opening .kind) (l .now) o in
-    -- its lent tables aren't well formed
+    -- its lent tables aren't well formed: of the ledger's, because their lengths are too short
     2 if tooShort lent
     -- the index is finished or loaded
     ∷ 3 if finished l
@@ -85,9 +84,18 @@ finishRefusals l =
     ∷ 13 if ltb (entryRows lent) (entryCount tree)
     ∷ []
 
+abbrev pub openAnswer : Opening → Answer Unit
+openAnswer a = firstOf (openRefusals a) tt
+
+abbrev pub recordAnswer : Ledger → (scratch : ℕ) → Operation → Answer Unit
+recordAnswer l scratch o = firstOf (recordRefusals l scratch o) tt
+
+abbrev pub finishAnswer : Ledger → Answer Unit
+finishAnswer l = firstOf (finishRefusals l) tt
+
 -- ── the reads ──
 
--- of find and read cells alike; `room` says whether the result exceeds a lent slice
+-- of find and read cells alike; `exceeds` says whether the result exceeds a lent slice
 unfoldable pub windowRefusals : Ledger → (t start stop : ℕ) → (exceeds : Bool) → List Refusal
 windowRefusals l t s n exceeds =
     2 if tooShort (l .opening .lent)
@@ -101,11 +109,11 @@ windowRefusals l t s n exceeds =
     ∷ 16 if exceeds
     ∷ []
 
-abbrev pub findRefusals : Ledger → (t start stop answer : ℕ) → List Refusal
-findRefusals l t s n answer = windowRefusals l t s n (ltb answer (length (findBy l t s n .numbers)))
+abbrev pub findAnswer : Ledger → (t start stop answer : ℕ) → Answer Found
+findAnswer l t s n answer = firstOf (windowRefusals l t s n (ltb answer (length (findBy l t s n .numbers)))) (findBy l t s n)
 
-abbrev pub cellsRefusals : Ledger → (t start stop bytes held : ℕ) → List Refusal
-cellsRefusals l t s n bytes held = windowRefusals l t s n (ltb bytes (n - s) || ltb held (n - s))
+abbrev pub cellsAnswer : Ledger → (t start stop bytes held : ℕ) → Answer Cells
+cellsAnswer l t s n bytes held = firstOf (windowRefusals l t s n (ltb bytes (n - s) || ltb held (n - s))) (cellsBy l t s n)
 
 unfoldable pub blockRefusals : Ledger → (k : ℕ) → List Refusal
 blockRefusals l k =
@@ -114,6 +122,9 @@ blockRefusals l k =
     -- the number isn't below the block count
     ∷ 15 if leb (length (l .now .blocks)) k
     ∷ []
+
+abbrev pub blockAnswer : Ledger → (k : ℕ) → Answer Block
+blockAnswer l k = firstOf (blockRefusals l k) (blockBy l k)
 
 unfoldable pub writeRefusals : Ledger → (out file : ℕ) → List Refusal
 writeRefusals l out file =
