@@ -1,1 +1,3 @@
 pub mod RulesLaws
+pub mod TreeAdding
+pub mod TreePath
