@@ -1,3 +1,4 @@
 pub mod RulesLaws
 pub mod TreeAdding
 pub mod TreePath
+pub mod TreeWidths
