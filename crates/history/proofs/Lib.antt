@@ -1,4 +1,6 @@
 pub mod RulesLaws
+pub mod TreeInserting
 pub mod TreeAdding
 pub mod TreePath
 pub mod TreeWidths
+pub mod TreePlaced

@@ -86,6 +86,11 @@ pub data Half (goes stays : Type 0) (P : (before after : Tree) → Type 0) (T : 
   went : {L : Tree} → goes → P T L → Half goes stays P T L
   kept : stays → Half goes stays P T T
 
+-- what adding keeps, a half has afterwards
+pub half-keeps : {goes stays : Type 0} (A : Tree → Type 0) {T L : Tree} → Half goes stays (λ X Y. A X → A Y) T L → A T → A L
+half-keeps A (went g p) q = p q
+half-keeps A (kept g) q = q
+
 -- To show P of every node before and after, show it of the node that lists the block, of one that ends the way without, and of one whose halves
 -- were gone to or left alone.
 module _ (key : ℕ → ℕ) (b c d : ℕ) (P : (lo hi : ℕ) (before after : Tree) → Type 0)

@@ -14,24 +14,8 @@ use Rattle.lists.proofs.Lists.{count-append}
 use Rattle.history.specs.Words.{within, Block, live}
 use Rattle.history.specs.Tree.{Tree, hole, node, mid, halves, covers, entriesOf, leftOf, rightOf, insert, addLocation, noBlock, blockAt, keyIn, treeOf}
 use Rattle.history.specs.Find.{path, visited}
+use Rattle.history.proofs.TreeInserting.{one, count-insert}
 use Rattle.history.proofs.TreeAdding.{half-left, half-right, Half, went, kept, made, listed, add-by, tree-sum}
-
--- ── counts ──
-
--- 1 where k is b
-abbrev pub one : (k b : ℕ) → ℕ
-one k b = cond (eqb k b) 1 0
-
--- a block put in stands in the list once more
-pub count-insert : (key : ℕ → ℕ) (k b : ℕ) (xs : List ℕ) → count k (insert key b xs) ≡ one k b + count k xs
-unfolding count insert
-count-insert key k b [] = refl
-count-insert key k b (x ∷ xs) = choose (ltb (key b) (key x)) (count-insert key k b xs)
-  where
-    choose : (u : Bool) → count k (insert key b xs) ≡ one k b + count k xs
-        → count k (cond u (b ∷ x ∷ xs) (x ∷ insert key b xs)) ≡ one k b + (one k x + count k xs)
-    choose true h = refl
-    choose false h = omega arith
 
 -- ── live ──
 

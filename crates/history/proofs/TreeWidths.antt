@@ -14,7 +14,7 @@ use Rattle.lists.proofs.Numbers.{le-or-lt, lt-or-le, cond-same}
 use Rattle.history.specs.Words.{Block, life}
 use Rattle.history.specs.Tree.{Tree, hole, node, mid, covers, entriesOf, leftOf, rightOf, addLocation, blockAt, keyIn, treeOf, widths}
 use Rattle.history.proofs.TreeAdding.{Half, went, kept, made, listed, add-by, tree-sum}
-use Rattle.history.proofs.TreePath.{count-insert}
+use Rattle.history.proofs.TreeInserting.{count-insert}
 
 -- ── the part of a life in an interval ──
 
