@@ -4,3 +4,4 @@ pub mod TreeAdding
 pub mod TreePath
 pub mod TreeWidths
 pub mod TreePlaced
+pub mod TreeSorted

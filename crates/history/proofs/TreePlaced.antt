@@ -53,14 +53,14 @@ treeOf-some e b bs =
 
 -- ── halved ──
 
+pub halved-made : (lo hi : ℕ) (T : Tree) → halved lo hi T ≡ true → halved lo hi (made T) ≡ true
+unfolding halved
+halved-made lo hi hole h = halved-node lo hi [] hole hole (λ _. (refl, refl)) refl refl
+halved-made lo hi (node es l r) h = h
+
 module _ (key : ℕ → ℕ) (b c d : ℕ) where
   Halves : (lo hi : ℕ) (before after : Tree) → Type 0
   Halves lo hi T U = halved lo hi T ≡ true → halved lo hi U ≡ true
-
-  halved-made : (lo hi : ℕ) (T : Tree) → halved lo hi T ≡ true → halved lo hi (made T) ≡ true
-  unfolding halved
-  halved-made lo hi hole h = halved-node lo hi [] hole hole (λ _. (refl, refl)) refl refl
-  halved-made lo hi (node es l r) h = h
 
   halved-here : (lo hi : ℕ) (T : Tree) → halved lo hi T ≡ true → halved lo hi (listed key b T) ≡ true
   unfolding halved
@@ -98,15 +98,15 @@ numbered-more n m hole w h = refl
 numbered-more n m (node es l r) w h =
     numbered-node m es l r (every-more n m es w (numbered-here n es l r h)) (numbered-more n m l w (numbered-left n es l r h)) (numbered-more n m r w (numbered-right n es l r h))
 
-module _ (key : ℕ → ℕ) (b c d max : ℕ) (low : b < max) where
-  numbered-made : (T : Tree) → numbered max T ≡ true → numbered max (made T) ≡ true
-  unfolding numbered every
-  numbered-made hole h = refl
-  numbered-made (node es l r) h = h
+pub numbered-made : (max : ℕ) (T : Tree) → numbered max T ≡ true → numbered max (made T) ≡ true
+unfolding numbered every
+numbered-made max hole h = refl
+numbered-made max (node es l r) h = h
 
+module _ (key : ℕ → ℕ) (b c d max : ℕ) (low : b < max) where
   numbered-listed : (T : Tree) → numbered max T ≡ true → numbered max (listed key b T) ≡ true
   numbered-listed T h =
-      let whole = numbered-made T h in
+      let whole = numbered-made max T h in
       numbered-node max (insert key b (entriesOf T)) (leftOf T) (rightOf T)
       (every-insert (λ k. ltb k max) key b (entriesOf T) (lt-ltb b max low) (numbered-here max (entriesOf T) (leftOf T) (rightOf T) whole))
       (numbered-left max (entriesOf T) (leftOf T) (rightOf T) whole) (numbered-right max (entriesOf T) (leftOf T) (rightOf T) whole)
@@ -118,7 +118,7 @@ module _ (key : ℕ → ℕ) (b c d max : ℕ) (low : b < max) where
       → Half (mid lo hi < d) (d ≤ mid lo hi) (Numbers (mid lo hi) hi) (rightOf T) R → Numbers lo hi T (node (entriesOf T) L R)
   unfolding Numbers
   numbered-down lo hi T L R left right h =
-      let whole = numbered-made T h in
+      let whole = numbered-made max T h in
       numbered-node max (entriesOf T) L R (numbered-here max (entriesOf T) (leftOf T) (rightOf T) whole)
       (half-keeps (λ X. numbered max X ≡ true) left (numbered-left max (entriesOf T) (leftOf T) (rightOf T) whole))
       (half-keeps (λ X. numbered max X ≡ true) right (numbered-right max (entriesOf T) (leftOf T) (rightOf T) whole))
@@ -126,7 +126,7 @@ module _ (key : ℕ → ℕ) (b c d max : ℕ) (low : b < max) where
   pub numbered-add : (n lo hi : ℕ) (T : Tree) → lo ≤ hi → hi - lo ≤ 2 ^ n → numbered max T ≡ true → numbered max (addLocation key n b c d lo hi T) ≡ true
   unfolding Numbers
   numbered-add =
-      add-by key b c d Numbers (λ lo hi T w p q e. numbered-listed T) (λ lo hi T w n o. numbered-made T) (λ lo hi T L R w e. numbered-down lo hi T L R)
+      add-by key b c d Numbers (λ lo hi T w p q e. numbered-listed T) (λ lo hi T w n o. numbered-made max T) (λ lo hi T L R w e. numbered-down lo hi T L R)
 
 pub treeOf-numbered : (e : ℕ) (bs : List Block) → e ≤ 2 ^ 63 → numbered (length bs) (treeOf e bs) ≡ true
 unfolding numbered
@@ -137,12 +137,12 @@ treeOf-numbered e bs z =
 
 -- ── placed ──
 
-module _ (at : ℕ → Block) (key : ℕ → ℕ) (b : ℕ) where
-  placed-made : (above : ℕ → Bool) (lo hi : ℕ) (T : Tree) → placed at above lo hi T ≡ true → placed at above lo hi (made T) ≡ true
-  unfolding placed every
-  placed-made above lo hi hole h = refl
-  placed-made above lo hi (node es l r) h = h
+pub placed-made : (at : ℕ → Block) (above : ℕ → Bool) (lo hi : ℕ) (T : Tree) → placed at above lo hi T ≡ true → placed at above lo hi (made T) ≡ true
+unfolding placed every
+placed-made at above lo hi hole h = refl
+placed-made at above lo hi (node es l r) h = h
 
+module _ (at : ℕ → Block) (key : ℕ → ℕ) (b : ℕ) where
   -- whichever is the node above, if block b does not cover it
   Places : (lo hi : ℕ) (before after : Tree) → Type 0
   Places lo hi T U = (above : ℕ → Bool) → above b ≡ false → placed at above lo hi T ≡ true → placed at above lo hi U ≡ true
@@ -150,7 +150,7 @@ module _ (at : ℕ → Block) (key : ℕ → ℕ) (b : ℕ) where
   placed-listed : (lo hi : ℕ) (T : Tree) → coversNode at lo hi b ≡ true → Places lo hi T (listed key b T)
   unfolding Places
   placed-listed lo hi T e above u h =
-      let whole = placed-made above lo hi T h in
+      let whole = placed-made at above lo hi T h in
       placed-node at above lo hi (insert key b (entriesOf T)) (leftOf T) (rightOf T)
       (every-insert (λ k. coversNode at lo hi k && not (above k)) key b (entriesOf T) (rw (e, u)) (placed-here at above lo hi (entriesOf T) (leftOf T) (rightOf T) whole))
       (placed-left at above lo hi (entriesOf T) (leftOf T) (rightOf T) whole) (placed-right at above lo hi (entriesOf T) (leftOf T) (rightOf T) whole)
@@ -167,7 +167,7 @@ module _ (at : ℕ → Block) (key : ℕ → ℕ) (b : ℕ) where
       → Goes (mid lo hi < d) (d ≤ mid lo hi) (mid lo hi) hi (rightOf T) R → Places lo hi T (node (entriesOf T) L R)
   unfolding Places
   placed-down lo hi T L R e left right above u h =
-      let whole = placed-made above lo hi T h in
+      let whole = placed-made at above lo hi T h in
       placed-node at above lo hi (entriesOf T) L R (placed-here at above lo hi (entriesOf T) (leftOf T) (rightOf T) whole)
       (half-placed lo (mid lo hi) (coversNode at lo hi) left e (placed-left at above lo hi (entriesOf T) (leftOf T) (rightOf T) whole))
       (half-placed (mid lo hi) hi (coversNode at lo hi) right e (placed-right at above lo hi (entriesOf T) (leftOf T) (rightOf T) whole))
@@ -177,7 +177,7 @@ module _ (at : ℕ → Block) (key : ℕ → ℕ) (b : ℕ) where
   unfolding Places
   placed-add =
       add-by key b (at b .created) (at b .destroyed) Places (λ lo hi T w p q e. placed-listed lo hi T e)
-      (λ lo hi T w n o above u h. placed-made above lo hi T h) (λ lo hi T L R w e. placed-down lo hi T L R e)
+      (λ lo hi T w n o above u h. placed-made at above lo hi T h) (λ lo hi T L R w e. placed-down lo hi T L R e)
 
 pub treeOf-placed : (e : ℕ) (bs : List Block) → e ≤ 2 ^ 63 → placed (blockAt bs) (λ k. false) 0 e (treeOf e bs) ≡ true
 unfolding placed
