@@ -5,3 +5,4 @@ pub mod TreePath
 pub mod TreeWidths
 pub mod TreePlaced
 pub mod TreeSorted
+pub mod FindMet

@@ -28,11 +28,14 @@ within-low from to n p = rw (lt-leb from n p)
 pub within-high : (from to n : ℕ) → to ≤ n → within from to n ≡ false
 within-high from to n p = rw (le-ltb n to p) (and-false (leb from n))
 
--- no block is live where none has the number
+-- no block has a number that is too high
+pub block-none : (k : ℕ) (bs : List Block) → length bs ≤ k → blockAt bs k ≡ noBlock
+block-none k [] h = refl
+block-none zero (b ∷ bs) h = absurd (omega arith)
+block-none (suc k) (b ∷ bs) h = block-none k bs (omega arith)
+
 pub live-none : (t k : ℕ) (bs : List Block) → length bs ≤ k → live t (blockAt bs k) ≡ false
-live-none t k [] h = within-high 0 0 t (omega arith)
-live-none t zero (b ∷ bs) h = absurd (omega arith)
-live-none t (suc k) (b ∷ bs) h = live-none t k bs (omega arith)
+live-none t k bs h = rw (block-none k bs h) (within-high 0 0 t (omega arith))
 
 -- ── the way down ──
 

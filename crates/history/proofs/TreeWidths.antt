@@ -13,6 +13,7 @@ use Rattle.lists.specs.Lists.{count}
 use Rattle.lists.proofs.Numbers.{le-or-lt, lt-or-le, cond-same}
 use Rattle.history.specs.Words.{Block, life}
 use Rattle.history.specs.Tree.{Tree, hole, node, mid, covers, entriesOf, leftOf, rightOf, addLocation, blockAt, keyIn, treeOf, widths}
+use Rattle.history.proofs.TreePath.{block-none}
 use Rattle.history.proofs.TreeAdding.{Half, went, kept, made, listed, add-by, tree-sum}
 use Rattle.history.proofs.TreeInserting.{count-insert}
 
@@ -113,12 +114,6 @@ module _ (key : ℕ → ℕ) (k b c d : ℕ) where
 
 -- ── the tree of all blocks ──
 
--- no block, no life
-life-none : (k : ℕ) (bs : List Block) → length bs ≤ k → life (blockAt bs k) ≡ 0
-life-none k [] h = refl
-life-none zero (b ∷ bs) h = absurd (omega arith)
-life-none (suc k) (b ∷ bs) h = life-none k bs (omega arith)
-
 -- The widths of a block's nodes add up to its life.
 pub widths-life : (e k : ℕ) (bs : List Block) → e ≤ 2 ^ 63 → blockAt bs k .destroyed ≤ e → widths k 0 e (treeOf e bs) ≡ life (blockAt bs k)
 unfolding widths
@@ -127,5 +122,5 @@ widths-life e k bs z h =
     (λ n T. widths-add (keyIn bs) k n (blockAt bs n .created) (blockAt bs n .destroyed) 63 0 e T (omega arith) (omega arith))
     ∙ (elim (lt-or-le k (length bs)) [
       | inl l ↦ rw (lt-ltb k (length bs) l) (omega arith)
-      | inr l ↦ rw (le-ltb k (length bs) l) (omega (arith, life-none k bs l))
+      | inr l ↦ rw (le-ltb k (length bs) l) (rw (block-none k bs l))
     ])
