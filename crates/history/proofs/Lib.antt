@@ -10,3 +10,11 @@ pub mod Value
 pub mod Storing
 pub mod Passing
 pub mod Steps
+pub mod RulesLaws
+pub mod TreeInserting
+pub mod TreeAdding
+pub mod TreePath
+pub mod TreeWidths
+pub mod TreePlaced
+pub mod TreeSorted
+pub mod FindMet
