@@ -11,6 +11,7 @@ pub mod Storing
 pub mod Passing
 pub mod Steps
 pub mod RulesLaws
+pub mod EveryList
 pub mod TreeInserting
 pub mod TreeAdding
 pub mod TreePath
