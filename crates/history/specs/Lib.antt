@@ -3,3 +3,4 @@ pub mod Lent
 pub mod Tree
 pub mod Find
 pub mod Rules
+pub mod File
