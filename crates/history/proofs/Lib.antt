@@ -1,1 +1,3 @@
 pub mod FileBoards
+pub mod FileNumbers
+pub mod FileReads
