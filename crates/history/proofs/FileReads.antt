@@ -144,43 +144,76 @@ module _ {file : List ℕ} where
       let e : n - at ≡ length w = omega (arith, p .next) in
       rw e (stands-taken (p .stands))
 
-module _ {A B : Type 0} where
-  -- a reading that succeeded did so at its first reader, and then at what followed
-  pub onward-got : (o : Read A) (k : A → ℕ → Read B) {y : B} {n : ℕ} {G : Type 0} → onward o k ≡ got y n
-      → ((x : A) (m : ℕ) → o ≡ got x m → k x m ≡ got y n → G) → G
-  unfolding onward
-  onward-got (got x m) k e f = f x m refl e
-  onward-got (fault i) k {y} {n} e f = absurd (fault-got e)
-    where
-      fault-got : _≡_ {A = Read B} (fault i) (got y n) → ⊥
-      fault-got h = let z : _≡_ {A = ℕ} 0 1 = cc in omega arith
-
 module _ {A : Type 0} where
-  pub got-value : {x y : A} {m n : ℕ} → got x m ≡ got y n → x ≡ y
+  got-value : {x y : A} {m n : ℕ} → got x m ≡ got y n → x ≡ y
   got-value e = cc
 
-  pub got-next : {x y : A} {m n : ℕ} → got x m ≡ got y n → m ≡ n
+  got-next : {x y : A} {m n : ℕ} → got x m ≡ got y n → m ≡ n
   got-next e = cc
 
+  pub fault-got : {i : ℕ} {y : A} {n : ℕ} → _≡_ {A = Read A} (fault i) (got y n) → ⊥
+  fault-got e = let z : _≡_ {A = ℕ} 0 1 = cc in omega arith
+
 module _ (file : List ℕ) where
-  pub refuse-got : (at i : ℕ) (t : Bool) {A : Type 0} (k : Unit {0} → ℕ → Read A) {y : A} {n : ℕ} {G : Type 0}
-      → onward ((refuse i unless t) file at) k ≡ got y n → (t ≡ true → k tt at ≡ got y n → G) → G
-  unfolding refuse_unless_ onward
-  refuse-got at i true k e f = f refl e
-  refuse-got at i false k e f = let z : _≡_ {A = ℕ} 0 1 = cc in absurd (omega arith)
+  -- the reader has given x, and Q holds of x and of the bytes between the two positions
+  pub record Yielded {A : Type 0} (Q : A → List ℕ → Type 0) (at : ℕ) (x : A) (n : ℕ) : Type 0 where
+    pub bytes : List ℕ
+    pub says : Q x bytes
+    pub spans : Spans file at n bytes
 
-  pub field-got : (width at : ℕ) {w : List ℕ} {n : ℕ} → field width file at ≡ got w n → (length w ≡ width) × Spans file at n w
+  -- so it does wherever it succeeds
+  pub record Yields {A : Type 0} (r : Reader A) (Q : A → List ℕ → Type 0) : Type 0 where
+    pub yields : (at : ℕ) (x : A) (n : ℕ) → at ≤ length file → r file at ≡ got x n → Yielded Q at x n
+
+  -- the bytes are those that x is written with, and P holds of x
+  abbrev pub Gives : {A : Type 0} → Reader A → (A → List ℕ) → (A → Type 0) → Type 0
+  Gives r write P = Yields r (λ x w. P x × (w ≡ write x))
+
+  module _ {A : Type 0} where
+    pub yields-give : {Q : A → List ℕ → Type 0} (x : A) → Q x [] → Yields (give x) Q
+    unfolding give
+    yields-give x q =
+        record { yields = λ at y n h e. rw (← (got-value e), ← (got-next e)) (record { bytes = []; says = q; spans = spans-nil at h }) }
+
+    pub yields-check : {Q : A → List ℕ → Type 0} (i : ℕ) (t : Bool) {s : Reader A} → (t ≡ true → Yields s Q) → Yields (refuse i unless t >> s) Q
+    unfolding _>>=_ onward refuse_unless_
+    yields-check i true f = record { yields = λ at y n h e. (f refl) .yields at y n h e }
+    yields-check i false f = record { yields = λ at y n h e. absurd (fault-got e) }
+
+    pub yields-cond : {Q : A → List ℕ → Type 0} (t : Bool) {a b : Reader A} → (t ≡ true → Yields a Q) → (t ≡ false → Yields b Q) → Yields (cond t a b) Q
+    yields-cond true f g = f refl
+    yields-cond false f g = g refl
+
+  module _ {A B : Type 0} where
+    pub yields-bind : {Q : B → List ℕ → Type 0} {P : A → Type 0} {write : A → List ℕ} (k : A → Reader B) {r : Reader A} → Gives r write P
+        → ((x : A) → P x → Yields (k x) (λ y v. Q y (write x ++ v))) → Yields (r >>= k) Q
+    unfolding _>>=_ onward
+    yields-bind {Q} {P} {write} k {r} g f = record { yields = λ at y n h e. go at y n h (r file at) refl e }
+      where
+        go : (at : ℕ) (y : B) (n : ℕ) → at ≤ length file → (o : Read A) → r file at ≡ o → onward o (λ x m. k x file m) ≡ got y n → Yielded Q at y n
+        go at y n h (got x m) p e =
+            let a : Yielded (λ x w. P x × (w ≡ write x)) at x m = g .yields at x m h p in
+            let first : Spans file at m (write x) = rw (a .says .1) at (a .spans) in
+            let b : Yielded (λ y v. Q y (write x ++ v)) m y n = (f x (a .says .0)) .yields m y n (spans-fits first) e in
+            record { bytes = write x ++ b .bytes; says = b .says; spans = spans-append (write x) (b .bytes) first (b .spans) }
+        go at y n h (fault i) p e = absurd (fault-got e)
+
+  -- a reader whose value is taken further
+  module _ {A B : Type 0} where
+    pub gives-map : {P : A → Type 0} {R : B → Type 0} {write : A → List ℕ} {write′ : B → List ℕ} (f : A → B) {r : Reader A} → Gives r write P
+        → ((x : A) → P x → R (f x) × (write x ≡ write′ (f x))) → Gives (r >>= (λ x. give (f x))) write′ R
+    gives-map {P} {R} {write} {write′} f g h = yields-bind _ g (λ x p. yields-give (f x) (h x p .0, append-nil (write x) ∙ h x p .1))
+
+  pub gives-field : (width : ℕ) → Gives (field width) (λ w. w) (λ w. length w ≡ width)
   unfolding field
-  field-got width at {w} {n} e = go (leb (at + width) (length file)) refl e
+  gives-field width = record { yields = λ at x n h e. go at x n (leb (at + width) (length file)) refl e }
     where
-      taken : List ℕ
-      taken = take width (drop at file)
-
-      go : (t : Bool) → leb (at + width) (length file) ≡ t → cond t (got taken (at + width)) (fault 17) ≡ got w n → (length w ≡ width) × Spans file at n w
-      go true h r =
+      go : (at : ℕ) (w : List ℕ) (n : ℕ) (t : Bool) → leb (at + width) (length file) ≡ t
+          → cond t (got (take width (drop at file)) (at + width)) (fault 17) ≡ got w n → Yielded (λ x v. (length x ≡ width) × (v ≡ x)) at w n
+      go at w n true h e =
           let room : at + width ≤ length file = leb-true (at + width) (length file) h in
-          let size : length taken ≡ width = length-take-le width (drop at file) (rw (length-drop at file) (omega arith)) in
-          let span : Spans file at (at + width) taken =
+          let size : length (take width (drop at file)) ≡ width = length-take-le width (drop at file) (rw (length-drop at file) (omega arith)) in
+          let span : Spans file at (at + width) (take width (drop at file)) =
           record {
             stands = record {
               before = take at file;
@@ -190,43 +223,34 @@ module _ (file : List ℕ) where
             };
             next = ap (λ (k : ℕ). at + k) (sym size);
           } in
-          rw (← (got-value r), ← (got-next r)) (size, span)
-      go false h r = let z : _≡_ {A = ℕ} 0 1 = cc in absurd (omega arith)
+          rw (← (got-value e), ← (got-next e)) (record { bytes = take width (drop at file); says = (size, refl); spans = span })
+      go at w n false h e = absurd (fault-got e)
 
-  module _ (bytes : Bytes file) where
-    pub number-got : (width at : ℕ) {x n : ℕ} → number width file at ≡ got x n → (x < 256 ^ width) × Spans file at n (bytesOf width x)
-    unfolding number _>>=_ give
-    number-got width at {x} {n} e =
-        onward-got _ _ e
-        (λ w m f g.
-        let size : length w ≡ width = field-got width at f .0 in
-        let span : Spans file at m w = field-got width at f .1 in
-        let small : Bytes w = stands-bytes (span .stands) bytes in
-        let below : numberOf w < 256 ^ width = rw size at (numberOf-below w small) in
-        let same : bytesOf width (numberOf w) ≡ w = rw size at (bytesOf-numberOf w small) in
-        let from : Spans file at m (bytesOf width (numberOf w)) = rw same span in
-        rw (← (got-value g), ← (got-next g)) (below, from))
+  module _ {A : Type 0} where
+    pub gives-many : (r : Reader A) {P : A → Type 0} {write : A → List ℕ} → Gives r write P
+        → (count : ℕ) → Gives (many r count) (flatMap write) (λ xs. (length xs ≡ count) × All P xs)
+    unfolding many flatMap
+    gives-many r g zero = yields-give [] ((refl, all-nil), refl)
+    gives-many r {P} {write} g (suc c) =
+        yields-bind _ g
+        (λ x p.
+        yields-bind _ (gives-many r g c)
+        (λ xs q. yields-give (x ∷ xs) ((ap suc (q .0), all-cons p (q .1)), ap (λ (v : List ℕ). write x ++ v) (append-nil (flatMap write xs)))))
 
-  module _ {A : Type 0} (r : Reader A) where
-    pub many-all : {P : A → Type 0} → ((at : ℕ) (x : A) (n : ℕ) → r file at ≡ got x n → P x)
-        → (count at : ℕ) (xs : List A) (n : ℕ) → many r count file at ≡ got xs n → All P xs
-    unfolding many _>>=_ give
-    many-all {P} one zero at xs n e = rw (← (got-value e)) all-nil
-    many-all {P} one (suc c) at xs n e =
-        onward-got _ _ e
-        (λ y m f g.
-        onward-got _ _ g
-        (λ ys k f′ g′. rw (← (got-value g′)) (all-cons (one at y m f) (many-all one c m ys k f′))))
+-- ── what is read of a file of bytes ──
 
-    pub many-got : (bytesOf : A → List ℕ) → ((at : ℕ) (x : A) (n : ℕ) → r file at ≡ got x n → Spans file at n (bytesOf x))
-        → (count at : ℕ) (xs : List A) (n : ℕ) → at ≤ length file → many r count file at ≡ got xs n → (length xs ≡ count) × Spans file at n (flatMap bytesOf xs)
-    unfolding many _>>=_ give flatMap
-    many-got W one zero at xs n h e = rw (← (got-value e), ← (got-next e)) (refl, spans-nil at h)
-    many-got W one (suc c) at xs n h e =
-        onward-got _ _ e
-        (λ y m f g.
-        onward-got _ _ g
-        (λ ys k f′ g′.
-        let first : Spans file at m (W y) = one at y m f in
-        let later : (length ys ≡ c) × Spans file m k (flatMap W ys) = many-got W one c m ys k (spans-fits first) f′ in
-        rw (← (got-value g′), ← (got-next g′)) (ap suc (later .0), spans-append (W y) (flatMap W ys) first (later .1))))
+module _ (file : List ℕ) (bytes : Bytes file) where
+  gives-bytes : {A : Type 0} {r : Reader A} {P : A → Type 0} {write : A → List ℕ} → Gives file r write P → Gives file r write (λ x. P x × Bytes (write x))
+  gives-bytes {A} {r} {P} {write} g =
+      record {
+        yields = λ at x n h e.
+            let y : Yielded file (λ x w. P x × (w ≡ write x)) at x n = g .yields at x n h e in
+            let small : Bytes (write x) = rw (y .says .1) at (stands-bytes (y .spans .stands) bytes) in
+            record { bytes = y .bytes; says = ((y .says .0, small), y .says .1); spans = y .spans };
+      }
+
+  pub gives-number : (width : ℕ) → Gives file (number width) (bytesOf width) (λ n. n < 256 ^ width)
+  unfolding number
+  gives-number width =
+      gives-map file numberOf (gives-bytes (gives-field file width))
+      (λ w p. (rw (p .0) at (numberOf-below w (p .1)), sym (rw (p .0) at (bytesOf-numberOf w (p .1)))))

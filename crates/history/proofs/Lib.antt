@@ -1,3 +1,4 @@
 pub mod FileBoards
 pub mod FileNumbers
 pub mod FileReads
+pub mod FileRoundTrip
