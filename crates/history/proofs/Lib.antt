@@ -2,3 +2,4 @@ pub mod FileBoards
 pub mod FileNumbers
 pub mod FileReads
 pub mod FileRoundTrip
+pub mod FileWritten
