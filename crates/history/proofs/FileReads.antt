@@ -145,10 +145,10 @@ module _ {file : List ℕ} where
       rw e (stands-taken (p .stands))
 
 module _ {A : Type 0} where
-  got-value : {x y : A} {m n : ℕ} → got x m ≡ got y n → x ≡ y
+  pub got-value : {x y : A} {m n : ℕ} → got x m ≡ got y n → x ≡ y
   got-value e = cc
 
-  got-next : {x y : A} {m n : ℕ} → got x m ≡ got y n → m ≡ n
+  pub got-next : {x y : A} {m n : ℕ} → got x m ≡ got y n → m ≡ n
   got-next e = cc
 
   pub fault-got : {i : ℕ} {y : A} {n : ℕ} → _≡_ {A = Read A} (fault i) (got y n) → ⊥

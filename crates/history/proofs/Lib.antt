@@ -3,3 +3,4 @@ pub mod FileNumbers
 pub mod FileReads
 pub mod FileRoundTrip
 pub mod FileWritten
+pub mod FileLoad
