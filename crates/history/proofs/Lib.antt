@@ -1,3 +1,9 @@
+pub mod FileBoards
+pub mod FileNumbers
+pub mod FileReads
+pub mod FileRoundTrip
+pub mod FileWritten
+pub mod FileLoad
 pub mod Within
 pub mod Clip
 pub mod Seen

@@ -3,6 +3,7 @@ pub mod Lent
 pub mod Tree
 pub mod Find
 pub mod Rules
+pub mod File
 pub mod Ledger
 pub mod Reads
 pub mod Refusals
