@@ -18,6 +18,7 @@ pub mod Passing
 pub mod Steps
 pub mod RulesLaws
 pub mod EveryList
+pub mod Boards
 pub mod TreeInserting
 pub mod TreeAdding
 pub mod TreePath
