@@ -5,34 +5,26 @@ use lib.Dec.{ltb}
 
 -- ── heads and widths, in numbers ──
 
-abbrev pub pieceHead : ℕ
-pieceHead = 8
+-- a row of pieces, blocks or nodes, and of the scratch
+abbrev pub rowWidth : ℕ
+rowWidth = 8
 
-abbrev pub pieceWidth : ℕ
-pieceWidth = 8
-
--- the head that grows with the requests
-abbrev pub blockHead : ℕ
-blockHead = 8
-
-abbrev pub blockWidth : ℕ
-blockWidth = 8
-
-abbrev pub nodeHead : ℕ
-nodeHead = 8
-
-abbrev pub nodeWidth : ℕ
-nodeWidth = 8
-
-abbrev pub entryHead : ℕ
-entryHead = 8
-
+-- a row of entries
 abbrev pub entryWidth : ℕ
 entryWidth = 2
 
--- a scratch has no head
-abbrev pub scratchWidth : ℕ
-scratchWidth = 8
+-- the heads; that of the blocks alone will grow
+abbrev pub pieceHead : ℕ
+pieceHead = rowWidth
+
+abbrev pub blockHead : ℕ
+blockHead = 8
+
+abbrev pub nodeHead : ℕ
+nodeHead = rowWidth
+
+abbrev pub entryHead : ℕ
+entryHead = 8
 
 -- ── lengths ──
 
@@ -46,13 +38,13 @@ pub record Lent : Type 0 where
 
 -- past its head a table has as many rows as its length holds
 abbrev pub pieceRows : Lent → ℕ
-pieceRows n = (n .pieces - pieceHead) / pieceWidth
+pieceRows n = (n .pieces - pieceHead) / rowWidth
 
 abbrev pub blockRows : Lent → ℕ
-blockRows n = (n .blocks - blockHead) / blockWidth
+blockRows n = (n .blocks - blockHead) / rowWidth
 
 abbrev pub nodeRows : Lent → ℕ
-nodeRows n = (n .nodes - nodeHead) / nodeWidth
+nodeRows n = (n .nodes - nodeHead) / rowWidth
 
 abbrev pub entryRows : Lent → ℕ
 entryRows n = (n .entries - entryHead) / entryWidth
@@ -61,6 +53,6 @@ entryRows n = (n .entries - entryHead) / entryWidth
 unfoldable pub tooShort : Lent → Bool
 tooShort n = ltb (n .pieces) pieceHead || ltb (n .blocks) blockHead || ltb (n .nodes) nodeHead || ltb (n .entries) entryHead
 
--- The space for pieces is the piece table's rows or the scratch's, whichever are fewer.
+-- The space for pieces is the piece table's rows or the scratch's, whichever are fewer. A scratch has no head.
 unfoldable pub pieceSpace : Lent → (scratch : ℕ) → ℕ
-pieceSpace n scratch = min (pieceRows n) (scratch / scratchWidth)
+pieceSpace n scratch = min (pieceRows n) (scratch / rowWidth)

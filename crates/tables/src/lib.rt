@@ -1,0 +1,73 @@
+// The columns of the lent tables by name (docs/LAYOUT.md). Reads and writes are total: past a table's end `getD` is 0 and `set` changes nothing, and
+// so do these, so that no caller owes an index.
+//
+//   specs/Columns   where each column stands
+//   piece, block, node, entry   its names in code
+ghost use mathlib.Core.Path.{_≡_};
+ghost use Prim.Native.Nat.{ℕ, _+_, _*_};
+ghost use lib.ListN.{length, getD, set, replicate};
+ghost use lib.Seq.{sets};
+ghost use Rattle.history.specs.Lent.{rowWidth, entryWidth, entryHead};
+ghost use Rattle.tables.specs.Columns.{column, blockColumn, blockBase, entryColumn};
+
+pub mod block;
+pub mod entry;
+pub mod node;
+pub mod piece;
+
+// Numbers in a row of pieces, blocks or nodes.
+pub const ROW: usize = 8;
+
+// Column `col` of the row of `link`, of a piece or node table.
+pub fn get(table: &[u64], link: u64, col: usize) -> u64
+    ensures { λ r. ⌜ r ≡ column (now (table .entry)) link col ⌝ }
+{
+    let row = link as usize;
+    if col < table.len() {
+        if row <= (table.len() - 1 - col) / ROW {
+            return table[ROW * row + col];
+        }
+    }
+    0
+}
+
+// Sets column `col` of the row of `link`, of a piece or node table.
+pub fn put(table: &mut [u64], link: u64, col: usize, value: u64)
+    ensures { λ _. ⌜ now (table .exit) ≡ set (now (table .entry)) (rowWidth * link + col) value ⌝ }
+{
+    let row = link as usize;
+    if col < table.len() {
+        if row <= (table.len() - 1 - col) / ROW {
+            table[ROW * row + col] = value;
+        }
+    }
+}
+
+// Every number of the table becomes 0.
+pub fn zero(table: &mut [u64])
+    ensures { λ _. ⌜ now (table .exit) ≡ replicate (length (now (table .entry))) 0 ⌝ }
+{
+    let mut i = 0;
+    while i < table.len() {
+        table[i] = 0;
+        i += 1;
+    }
+}
+
+// Copies bytes into the store from place `at` on, as far as the store goes.
+pub fn copy_in(store: &mut [u8], at: usize, bytes: &[u8])
+    ensures { λ _. ⌜ now (store .exit) ≡ sets (now (store .entry)) at (now (bytes .entry)) ⌝ }
+{
+    if store.len() <= at {
+        return;
+    }
+    let room = store.len() - at;
+    let mut i = 0;
+    while i < bytes.len() {
+        if room <= i {
+            return;
+        }
+        store[at + i] = bytes[i];
+        i += 1;
+    }
+}
