@@ -20,9 +20,10 @@ use Rattle.history.specs.Words.{within, Block, live, life}
 use Rattle.history.specs.Tree.{Tree, hole, node, mid, covers, noBlock, blockAt, keyIn, widths}
 use Rattle.history.specs.Find.{path}
 use Rattle.history.specs.Rules.{halved, placed, sorted, rule23}
+use Rattle.history.proofs.Within.{within-in, within-low, within-high}
 use Rattle.history.proofs.RulesLaws.{halved-left, halved-right, halved-narrow, coversNode, placed-left, placed-right, placed-covers, placed-above, ascends-decides, sorted-here, sorted-left, sorted-right, Rule23, rule23-decides}
 use Rattle.history.proofs.TreeAdding.{covers-yes, covers-inside}
-use Rattle.history.proofs.TreePath.{within-yes, within-low, within-high, block-none, pathBelow, path-node, path-below-left, path-below-right, path-below-none}
+use Rattle.history.proofs.TreePath.{block-none, pathBelow, path-node, path-below-left, path-below-right, path-below-none}
 use Rattle.history.proofs.TreeWidths.{overlap, overlap-split, widths-node}
 
 -- ── no repetition in a node ──
@@ -210,7 +211,7 @@ module _ (at : ℕ → Block) (key : ℕ → ℕ) where
             below-by k t lo hi l r 0
             (λ v h. path-under t (coversNode at lo hi) lo (mid lo hi) l (omega arith) here (in-life .0) (omega (arith, in-life .1)) (lefts .places))
             (λ v h. path-under t (coversNode at lo hi) (mid lo hi) hi r (omega arith) here (omega (arith, in-life .0)) (in-life .1) (rights .places)) (λ v. refl) in
-            rw (below, within-yes c d t (omega (arith, in-life .0)) (omega (arith, in-life .1)))
+            rw (below, within-in c d t (omega (arith, in-life .0)) (omega (arith, in-life .1)))
 
 -- ── a sound tree ──
 

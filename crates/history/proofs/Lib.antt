@@ -26,3 +26,5 @@ pub mod TreeWidths
 pub mod TreePlaced
 pub mod TreeSorted
 pub mod FindMet
+pub mod FindLaws
+pub mod FindOrder

@@ -40,6 +40,12 @@ pub decided : {P : Type 0} (a : Bool) → Decides a P → P → a ≡ true
 decided true d p = refl
 decided false d p = absurd (d .not refl p)
 
+-- two tests of one statement are equal
+pub decides-same : {P : Type 0} (a b : Bool) → Decides a P → Decides b P → a ≡ b
+decides-same true b p q = sym (decided b q (p .yes refl))
+decides-same false true p q = absurd (p .not refl (q .yes refl))
+decides-same false false p q = refl
+
 -- ── every ──
 
 module _ {A : Type 0} where
