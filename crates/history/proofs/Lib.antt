@@ -24,3 +24,4 @@ pub mod TreeWidths
 pub mod TreePlaced
 pub mod TreeSorted
 pub mod FindMet
+pub mod FileRenumbered
