@@ -28,3 +28,4 @@ pub mod TreeSorted
 pub mod FindMet
 pub mod FindLaws
 pub mod FindOrder
+pub mod FileRenumbered
