@@ -29,3 +29,4 @@ pub mod FindMet
 pub mod FindLaws
 pub mod FindOrder
 pub mod FileRenumbered
+pub mod FindSound
