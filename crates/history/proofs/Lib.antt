@@ -27,3 +27,4 @@ pub mod TreeSorted
 pub mod FindMet
 pub mod FindLaws
 pub mod FindOrder
+pub mod TreeOrder
