@@ -28,3 +28,4 @@ pub mod FindMet
 pub mod FindLaws
 pub mod FindOrder
 pub mod TreeOrder
+pub mod TreeCounts
