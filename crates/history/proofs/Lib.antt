@@ -18,6 +18,7 @@ pub mod Passing
 pub mod Steps
 pub mod RulesLaws
 pub mod EveryList
+pub mod Boards
 pub mod TreeInserting
 pub mod TreeAdding
 pub mod TreePath
@@ -29,3 +30,4 @@ pub mod FindLaws
 pub mod FindOrder
 pub mod TreeOrder
 pub mod TreeCounts
+pub mod FileRenumbered

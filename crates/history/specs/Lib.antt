@@ -10,3 +10,4 @@ pub mod Refusals
 pub mod Calls
 pub mod Sound
 pub mod Law
+pub mod Boards
