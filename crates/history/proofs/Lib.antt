@@ -31,3 +31,4 @@ pub mod FindOrder
 pub mod TreeOrder
 pub mod TreeCounts
 pub mod FileRenumbered
+pub mod FindSound
