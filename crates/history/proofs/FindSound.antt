@@ -1,8 +1,8 @@
 -- Find over a sound closed index, finished or loaded: the list has exactly the live blocks whose first cell is in [start, stop), each once, root
 -- first and ascending within a node; and the number of nodes visited is that of the way, at most 64. Assumes nothing.
 use mathlib.Core.Path.{_≡_, refl, ap, sym, _∙_}
-use mathlib.Core.Bool.{Bool, true, false, true≢false, cond, _&&_}
-use mathlib.Core.List.{List, [], _∷_, map, flatten}
+use mathlib.Core.Bool.{true, true≢false, cond, _&&_}
+use mathlib.Core.List.{List, [], map, flatten}
 use Prim.Native.Nat.{ℕ, _≤_, _<_}
 use lib.ListN.{length}
 use Rattle.lists.specs.Lists.{All, Ascending, Distinct, count, sumOf}
@@ -12,7 +12,7 @@ use Rattle.history.specs.Tree.{Tree, hole, node, blockAt, keyIn}
 use Rattle.history.specs.Find.{path, visited, window, find}
 use Rattle.history.specs.Ledger.{Ledger}
 use Rattle.history.specs.Rules.{isHole}
-use Rattle.history.specs.Sound.{SoundBlock, SoundBoard, SoundClosed, isEmpty}
+use Rattle.history.specs.Sound.{SoundBoard, SoundClosed, isEmpty}
 use Rattle.history.proofs.TreePath.{visited-bound}
 use Rattle.history.proofs.FindLaws.{find-count, find-numbers, find-distinct, find-length}
 use Rattle.history.proofs.FindOrder.{nodesTo, foundAt, visited-nodes, find-nodes, find-ascending}

@@ -1,21 +1,20 @@
 -- How many nodes and entries adding a block makes: the nodes that were not there yet, and as many entries as its life has pieces, whatever the
 -- tree. So both counts only grow, in whatever order blocks are added. Assumes nothing.
-use mathlib.Core.Path.{_≡_, refl, ap, sym, _∙_}
-use mathlib.Core.Logic.{_⊎_, inl, inr}
+use mathlib.Core.Path.{_≡_, refl, ap, _∙_}
+use mathlib.Core.Logic.{inl, inr}
 use mathlib.Core.Bool.{Bool, true, false, cond, _&&_}
 use mathlib.Core.List.{List, [], _∷_, _++_, map}
-use Prim.Native.Nat.{ℕ, zero, suc, _+_, _/_, _≤_, _<_}
+use Prim.Native.Nat.{ℕ, zero, suc, _+_, _≤_}
 use native.Mathlib.Omega.{arith}
-use lib.ListN.{length, getD, length-append}
-use lib.Dec.{leb, ltb}
-use borrow.Author.Tests.{lt-ltb, le-ltb}
+use lib.ListN.{length, length-append}
+use lib.Dec.{ltb}
 use Rattle.lists.specs.Lists.{countFrom, sumOf}
 use Rattle.lists.proofs.Numbers.{bool-cases}
 use Rattle.lists.proofs.Counting.{map-from-at}
 use Rattle.history.specs.Words.{Block}
 use Rattle.history.specs.Tree.{Tree, hole, node, mid, halves, covers, entriesOf, leftOf, rightOf, addLocation, noBlock, blockAt, keyIn, treeOf, nodeCount, entryCount, entriesIn}
 use Rattle.history.proofs.TreeInserting.{insert-length}
-use Rattle.history.proofs.TreeAdding.{made, listed, deeper, add-here, add-last, add-below}
+use Rattle.history.proofs.TreeAdding.{add-here, add-last, add-below}
 use Rattle.history.proofs.TreeOrder.{addEach, treeOf-each}
 
 -- ── what adding makes ──

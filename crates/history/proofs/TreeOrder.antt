@@ -1,22 +1,22 @@
 -- The tree does not depend on the order in which blocks are added, where any two that live together differ in first cell, as rule 24 says: the
 -- tree of finish, which adds in recorded order, is that of any order. Assumes nothing.
 use mathlib.Core.Path.{_≡_, refl, ap, sym, _∙_}
-use mathlib.Core.Logic.{_⊎_, inl, inr, _≢_}
+use mathlib.Core.Logic.{inl, inr, _≢_}
 use mathlib.Core.Bool.{Bool, true, false, cond, _&&_}
 use mathlib.Core.List.{List, [], _∷_}
-use Prim.Native.Nat.{ℕ, zero, suc, _+_, _/_, _≤_, _<_}
+use Prim.Native.Nat.{ℕ, zero, suc, _+_, _<_}
 use native.Mathlib.Omega.{arith}
 use lib.ListN.{length, getD}
 use lib.Dec.{ltb, eqb}
 use borrow.Author.Tests.{ltb-true, eq-eqb, ne-eqb}
 use Rattle.lists.specs.Lists.{Mem, here, there, count, countFrom}
-use Rattle.lists.proofs.Numbers.{bool-cases, le-or-lt, lt-or-le, eq-or-ne, and-left}
-use Rattle.lists.proofs.Counting.{count-here, count-other, mem-count, count-mem}
+use Rattle.lists.proofs.Numbers.{bool-cases, lt-or-le, eq-or-ne, and-left}
+use Rattle.lists.proofs.Counting.{count-here, count-mem}
 use Rattle.history.specs.Words.{Block}
-use Rattle.history.specs.Tree.{Tree, hole, node, mid, halves, covers, entriesOf, leftOf, rightOf, insert, addLocation, addAll, noBlock, blockAt, keyIn, treeOf}
+use Rattle.history.specs.Tree.{Tree, hole, node, mid, halves, covers, entriesOf, leftOf, rightOf, addLocation, addAll, noBlock, blockAt, keyIn, treeOf}
 use Rattle.history.specs.Rules.{Apart}
 use Rattle.history.proofs.TreeInserting.{insert-two}
-use Rattle.history.proofs.TreeAdding.{covers-inside, made, listed, deeper, add-here, add-last, add-below, tree-by}
+use Rattle.history.proofs.TreeAdding.{covers-inside, made, listed, deeper, add-here, add-last, add-below}
 use Rattle.history.proofs.TreePath.{block-none}
 use Rattle.history.proofs.TreeSorted.{Filled, Together, cells-differ}
 
