@@ -1,16 +1,15 @@
 -- What find lists, over any sound tree: exactly the live blocks whose first cell is in the window, each once. Assumes nothing.
 use mathlib.Core.Path.{_≡_, refl, ap, sym, _∙_}
-use mathlib.Core.Logic.{_⊎_, inl, inr}
-use mathlib.Core.Bool.{Bool, true, false, true≢false, false≢true, cond, _&&_}
-use mathlib.Core.List.{List, [], _∷_, _++_, map}
-use Prim.Native.Nat.{ℕ, zero, suc, _+_, _≤_, _<_}
+use mathlib.Core.Logic.{inl, inr}
+use mathlib.Core.Bool.{Bool, true, false, true≢false, cond, _&&_}
+use mathlib.Core.List.{List, [], _∷_, map}
+use Prim.Native.Nat.{ℕ, _+_, _≤_, _<_}
 use native.Mathlib.Nat.{zero-add}
 use native.Mathlib.Omega.{arith}
-use lib.ListN.{length, getD}
-use lib.Dec.{leb, ltb, eqb}
+use lib.ListN.{length}
+use lib.Dec.{eqb}
 use borrow.Author.Tests.{ne-eqb}
 use Rattle.lists.specs.Lists.{All, Mem, Distinct, has, count, countFrom, sumOf}
-use Rattle.lists.specs.Tests.{Decides}
 use Rattle.lists.proofs.Numbers.{bool-cases, lt-or-le, eq-or-ne, and-left, cond-same}
 use Rattle.lists.proofs.Lists.{all-map, all-any, all-of-mem}
 use Rattle.lists.proofs.Maps.{map-all}

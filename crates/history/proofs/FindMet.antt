@@ -5,13 +5,13 @@
 -- the part there, and at the end of the way to a tick of its life a node lists it.
 use mathlib.Core.Path.{_≡_, refl, ap, sym, _∙_}
 use mathlib.Core.Logic.{_⊎_, inl, inr}
-use mathlib.Core.Bool.{Bool, true, false, true≢false, cond, _&&_}
-use mathlib.Core.List.{List, [], _∷_, _++_}
-use Prim.Native.Nat.{ℕ, zero, suc, _+_, _-_, _*_, _/_, _≤_, _<_, min, max}
+use mathlib.Core.Bool.{Bool, true, false, true≢false, cond}
+use mathlib.Core.List.{List, [], _∷_}
+use Prim.Native.Nat.{ℕ, _+_, _-_, _*_, _≤_, _<_}
 use native.Mathlib.Nat.{zero-add}
 use native.Mathlib.Omega.{arith}
-use lib.ListN.{length, getD}
-use lib.Dec.{leb, ltb, eqb}
+use lib.ListN.{length}
+use lib.Dec.{eqb}
 use borrow.Author.Tests.{eqb-true}
 use Rattle.lists.specs.Lists.{All, all-cons, Ascending, pairs-nil, pairs-cons, count}
 use Rattle.lists.proofs.Numbers.{bool-cases, le-or-lt, lt-or-le}
@@ -23,8 +23,8 @@ use Rattle.history.specs.Rules.{halved, placed, sorted, rule23}
 use Rattle.history.proofs.Within.{within-in, within-low, within-high}
 use Rattle.history.proofs.RulesLaws.{halved-left, halved-right, halved-narrow, coversNode, placed-left, placed-right, placed-covers, placed-above, ascends-decides, sorted-here, sorted-left, sorted-right, Rule23, rule23-decides}
 use Rattle.history.proofs.TreeAdding.{covers-yes, covers-inside}
-use Rattle.history.proofs.TreePath.{block-none, pathBelow, path-node, path-below-left, path-below-right, path-below-none}
-use Rattle.history.proofs.TreeWidths.{overlap, overlap-split, widths-node}
+use Rattle.history.proofs.TreePath.{block-none, pathBelow, path-below-left, path-below-right, path-below-none}
+use Rattle.history.proofs.TreeWidths.{overlap, overlap-split}
 
 -- ── no repetition in a node ──
 

@@ -1,18 +1,18 @@
 -- The order of find's list: node by node on the way down, root first, and ascending by first cell within a node; and the nodes of that way are
 -- those that are counted as visited. Assumes nothing.
-use mathlib.Core.Path.{_≡_, refl, ap, sym, _∙_}
-use mathlib.Core.Bool.{Bool, true, false, cond, _&&_}
+use mathlib.Core.Path.{_≡_, refl, ap, _∙_}
+use mathlib.Core.Bool.{Bool, true, false, cond}
 use mathlib.Core.List.{List, [], _∷_, _++_, map, flatten}
 use Prim.Native.Nat.{ℕ, suc, _<_}
 use lib.ListN.{length}
-use lib.Dec.{leb, ltb}
+use lib.Dec.{ltb}
 use Rattle.lists.specs.Lists.{All, all-nil, all-cons, Ascending, pairs-nil, pairs-cons}
 use Rattle.lists.proofs.Lists.{all-map, all-of-map}
 use Rattle.history.specs.Words.{within, Block}
 use Rattle.history.specs.Tree.{Tree, hole, node, mid, halves, keyIn}
 use Rattle.history.specs.Find.{path, visited, window, find}
 use Rattle.history.specs.Rules.{sorted, rule23}
-use Rattle.history.proofs.RulesLaws.{ascends-decides, sorted-here, sorted-left, sorted-right, Rule23, rule23-decides}
+use Rattle.history.proofs.RulesLaws.{ascends-decides, sorted-here, sorted-left, sorted-right, rule23-decides}
 
 -- ── the nodes on the way ──
 

@@ -28,5 +28,7 @@ pub mod TreeSorted
 pub mod FindMet
 pub mod FindLaws
 pub mod FindOrder
+pub mod TreeOrder
+pub mod TreeCounts
 pub mod FileRenumbered
 pub mod FindSound

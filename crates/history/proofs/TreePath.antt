@@ -1,18 +1,18 @@
 -- The way down to a tick: which blocks it meets in the tree of all blocks, and how many nodes. Assumes nothing.
-use mathlib.Core.Path.{_≡_, refl, ap, sym, _∙_}
+use mathlib.Core.Path.{_≡_, refl, ap, _∙_}
 use mathlib.Core.Logic.{_⊎_, inl, inr}
-use mathlib.Core.Bool.{Bool, true, false, cond, _&&_, and-false}
+use mathlib.Core.Bool.{Bool, true, false, cond}
 use mathlib.Core.List.{List, [], _∷_, _++_}
-use Prim.Native.Nat.{ℕ, zero, suc, _+_, _-_, _/_, _^_, _≤_, _<_}
+use Prim.Native.Nat.{ℕ, zero, suc, _+_, _-_, _^_, _≤_, _<_}
 use native.Mathlib.Omega.{arith}
-use lib.ListN.{length, getD}
-use lib.Dec.{leb, ltb, eqb}
-use borrow.Author.Tests.{lt-ltb, le-ltb, le-leb, lt-leb, eq-eqb, ne-eqb}
+use lib.ListN.{length}
+use lib.Dec.{ltb, eqb}
+use borrow.Author.Tests.{lt-ltb, le-ltb}
 use Rattle.lists.specs.Lists.{count}
-use Rattle.lists.proofs.Numbers.{bool-cases, le-or-lt, lt-or-le, eq-or-ne, cond-same}
+use Rattle.lists.proofs.Numbers.{lt-or-le}
 use Rattle.lists.proofs.Lists.{count-append}
 use Rattle.history.specs.Words.{within, Block, live}
-use Rattle.history.specs.Tree.{Tree, hole, node, mid, halves, covers, entriesOf, leftOf, rightOf, insert, addLocation, noBlock, blockAt, keyIn, treeOf}
+use Rattle.history.specs.Tree.{Tree, hole, node, mid, halves, covers, entriesOf, leftOf, rightOf, addLocation, noBlock, blockAt, keyIn, treeOf}
 use Rattle.history.specs.Find.{path, visited}
 use Rattle.history.proofs.Within.{within-in, within-low, within-high}
 use Rattle.history.proofs.TreeInserting.{one, count-insert}

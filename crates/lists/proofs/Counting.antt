@@ -1,7 +1,7 @@
 -- Laws of count: what stands in a list by how often it does, lists without repetition, and lengths as sums of counts. Assumes nothing.
 use mathlib.Core.Path.{_≡_, refl, sym, ap, ap₂, _∙_}
 use mathlib.Core.Logic.{_⊎_, inl, inr}
-use mathlib.Core.Bool.{Bool, true, false, cond, _||_}
+use mathlib.Core.Bool.{true, false, cond, _||_}
 use mathlib.Core.List.{List, [], _∷_, map}
 use Prim.Native.Nat.{ℕ, zero, suc, _+_, _≤_, _<_}
 use native.Mathlib.Omega.{arith}
@@ -137,3 +137,14 @@ map-from-at {A} {B} f at d n (x ∷ xs) h =
     let this : at n ≡ x = rw z at (h 0 (omega arith)) in
     ap₂ (λ (y : B) (r : List B). y ∷ r) (ap f this)
     (map-from-at f at d (suc n) xs (λ j l. let q : suc n + j ≡ n + suc j = omega arith in rw q (h (suc j) (omega arith))))
+
+-- a list that has each number below n, none twice and no other, has what 0, 1, .. has
+pub permutes-count : (n : ℕ) (xs : List ℕ) → Distinct xs → ((k : ℕ) → Mem k xs → k < n) → ((k : ℕ) → k < n → Mem k xs) → (k : ℕ) → count k xs ≡ count k (countFrom 0 n)
+permutes-count n xs once within every k =
+    elim (lt-or-le k n) [
+      | inl h ↦ omega (arith, mem-count (every k h), distinct-count k xs once, count-from-count k 0 n (omega arith) (omega arith))
+      | inr h ↦ elim (le-or-lt (count k xs) 0) [
+        | inl z ↦ omega (arith, count-from-out k 0 n (inr (omega arith)))
+        | inr z ↦ absurd (omega (arith, within k (count-mem k xs z)))
+      ]
+    ]
