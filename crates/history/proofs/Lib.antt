@@ -25,3 +25,4 @@ pub mod TreePlaced
 pub mod TreeSorted
 pub mod FindMet
 pub mod FileRenumbered
+pub mod FileReloaded
