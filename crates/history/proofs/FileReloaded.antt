@@ -15,11 +15,14 @@ use Rattle.lists.proofs.Lists.{all-map, all-both, all-at, all-of-map, all-of-me
 use Rattle.lists.proofs.Maps.{length-of-map, getD-of-map}
 use Rattle.lists.proofs.Numbers.{bool-cases, and-both, or-cases, eq-or-ne, le-or-lt}
 use Rattle.history.specs.Words.{Block, size, ends, life}
+use Rattle.history.specs.Lent.{Lent, blockRows, nodeRows, entryRows}
 use Rattle.history.specs.Tree.{Tree, hole, node, mid, blockAt, noBlock, keyIn, nodeCount, entryCount, entriesIn, widths}
-use Rattle.history.specs.Rules.{isHole, halved, filled, lived, numbered, placed, sorted, rule23, apart, Apart}
-use Rattle.history.specs.File.{thoseWith, written, placeIn, mapTree, nodesOf, contents}
-use Rattle.history.proofs.RulesLaws.{decided, numbered-decides, halved-narrow, halved-left, halved-right, Rule23, rule23-decides, apart-decides, filled-decides, lived-decides}
-use Rattle.history.proofs.FileWritten.{thoseWith-all, countFrom-below, has-append, widths-none}
+use Rattle.history.specs.Rules.{every, isHole, halved, filled, lived, numbered, placed, sorted, rule23, apart, Apart}
+use Rattle.history.specs.File.{thoseWith, written, placeIn, mapTree, nodesOf, contents, treeFrom, endOf, placedIn, rule20, rule21, rule22, Loaded, loadedFrom, load, fileOf, got, Read}
+use Rattle.history.proofs.RulesLaws.{decided, all-every, numbered-decides, halved-narrow, halved-left, halved-right, Rule23, rule23-decides, apart-decides, filled-decides, lived-decides}
+use Rattle.history.proofs.FileRoundTrip.{BlockFits}
+use Rattle.history.proofs.FileLoad.{read-written, Accepted, load-taken}
+use Rattle.history.proofs.FileWritten.{thoseWith-length, treeFrom-nodesOf, endOf-nodesOf, nodesOf-rule21, IndexFits, thoseWith-all, countFrom-below, has-append, widths-none}
 use Rattle.history.proofs.FileRenumbered.{mapTree-entries, mapTree-isHole, mapTree-halved, mapTree-numbered, mapTree-placed, mapTree-sorted, mapTree-widths}
 
 -- ── places in a list ──
@@ -240,3 +243,76 @@ module _ (kind e : ℕ) (bs : List Block) (tree : Tree) (w : Writable kind e bs 
   kept-apart =
       decided (apart keptBlocks) (apart-decides keptBlocks)
       (pairs-of-map (blockAt bs) (thoseWith-pairs (entriesIn tree) (countFrom-pairs 0 (length bs) (λ i j a b c. pairs-at noBlock (w .rule-24) i j b (omega arith)))))
+
+  -- a block with an entry lives
+  kept-lives : (k : ℕ) → k < length bs → has k (entriesIn tree) ≡ true → (filled (blockAt bs k .stretch) && lived e (blockAt bs k)) ≡ true
+  kept-lives k less z =
+      let whole : WholeBlock kind e (blockAt bs k) = all-at noBlock (w .blocks) k less in
+      let some : 0 < life (blockAt bs k) = rw (rules .sums k less) at (widths-some k 0 e tree (w .some-tick) (w .halves) z) in
+      let forth : blockAt bs k .created < blockAt bs k .destroyed = omega arith in
+      and-both (filled (blockAt bs k .stretch)) (lived e (blockAt bs k)) (whole .full)
+      (decided (lived e (blockAt bs k)) (lived-decides e (blockAt bs k)) (forth, whole .by-end))
+
+  pub kept-rule22 : 0 < length kept → rule22 e keptBlocks ≡ true
+  unfolding rule22
+  kept-rule22 h =
+      and-both (ltb 0 (length keptBlocks)) (every (λ b. filled (b .stretch) && lived e b) keptBlocks)
+      (lt-ltb 0 (length keptBlocks) (rw (length-of-map (blockAt bs) kept) h))
+      (all-every (λ b. filled (b .stretch) && lived e b) (all-of-map (blockAt bs) (all-both kept-lives kept-below (thoseWith-has (entriesIn tree) (countFrom 0 (length bs))))))
+
+  -- a block that lives is written
+  pub living-kept : (k : ℕ) → k < length bs → blockAt bs k .created < blockAt bs k .destroyed → has k kept ≡ true
+  living-kept k less lives =
+      elim (bool-cases (has k (entriesIn tree))) [
+        | inl z ↦ has-thoseWith (entriesIn tree) k (countFrom 0 (length bs)) (has-countFrom k 0 (length bs) (omega arith) (omega arith)) z
+        | inr z ↦ absurd (omega (arith, widths-none k 0 e tree z, rules .sums k less))
+      ]
+
+  pub kept-rule21 : rule21 (nodesOf 0 e keptTree) ≡ true
+  kept-rule21 =
+      nodesOf-rule21 e keptTree (w .some-tick) (w .end-most) (mapTree-isHole (placeIn kept) tree ∙ w .rooted) (mapTree-halved (placeIn kept) 0 e tree ∙ w .halves)
+
+  -- ── written and loaded ──
+
+  block-fits : (b : Block) → WholeBlock kind e b → BlockFits kind b
+  block-fits b h =
+      let (some, no-wrap) = (filled-decides (b .stretch)) .yes (h .full) in
+      record {
+        own = h .own-kind;
+        first = omega (arith, no-wrap);
+        cells = omega (arith, no-wrap);
+        born = omega (arith, h .forward, h .by-end, w .end-most);
+        died = omega (arith, h .by-end, w .end-most);
+      }
+
+  index-fits : IndexFits kind e bs tree
+  index-fits =
+      record { kindly = w .known-kind; last = omega (arith, w .end-most); count = w .count; entries = w .entries; blocks = all-map block-fits (w .blocks) }
+
+  loaded-kept : loadedFrom (contents kind e bs tree) ≡ record { end = e; kind = kind; blocks = keptBlocks; tree = keptTree }
+  unfolding contents
+  loaded-kept =
+      rw (endOf-nodesOf 0 e keptTree (mapTree-isHole (placeIn kept) tree ∙ w .rooted), treeFrom-nodesOf 0 e keptTree) refl
+
+  kept-accepted : (n : Lent) → 0 < length kept → rule20 n (contents kind e bs tree) ≡ true → Accepted n (contents kind e bs tree)
+  unfolding contents
+  kept-accepted n some room =
+      let end : endOf (nodesOf 0 e keptTree) ≡ e = endOf-nodesOf 0 e keptTree (mapTree-isHole (placeIn kept) tree ∙ w .rooted) in
+      record {
+        room = room;
+        halves = kept-rule21;
+        blocks = rw end (kept-rule22 some);
+        entries = rw (end, treeFrom-nodesOf 0 e keptTree) kept-rule23;
+        disjoint = kept-apart;
+      }
+
+  -- Given room, the loader takes what was written, and gives the blocks with an entry and the tree with their new numbers.
+  pub load-written : (n : Lent) → 0 < length kept → rule20 n (contents kind e bs tree) ≡ true → (before behind : List ℕ)
+      → load n (before ++ (fileOf kind e bs tree ++ behind)) (length before)
+      ≡ got (record { end = e; kind = kind; blocks = keptBlocks; tree = keptTree }) (length before + length (fileOf kind e bs tree))
+  load-written n some room before behind =
+      load-taken n _ (length before) (contents kind e bs tree) _ (read-written kind e bs tree blocks-some index-fits before behind) (kept-accepted n some room)
+      ∙ ap (λ (x : Loaded). got x (length before + length (fileOf kind e bs tree))) loaded-kept
+    where
+      blocks-some : 0 < length bs
+      blocks-some = omega (arith, thoseWith-length (entriesIn tree) (countFrom 0 (length bs)), count-from-length 0 (length bs))
