@@ -32,3 +32,4 @@ pub mod TreeOrder
 pub mod TreeCounts
 pub mod FileRenumbered
 pub mod FindSound
+pub mod FileReloaded
