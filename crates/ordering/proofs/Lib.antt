@@ -6,3 +6,5 @@ pub mod Testing
 pub mod Dense
 pub mod Parting
 pub mod Clearing
+pub mod Blocks
+pub mod Agreeing
