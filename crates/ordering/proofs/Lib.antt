@@ -8,3 +8,5 @@ pub mod Parting
 pub mod Clearing
 pub mod Blocks
 pub mod Agreeing
+pub mod Unique
+pub mod Numbering
