@@ -1,0 +1,4 @@
+pub mod Halving
+pub mod Parting
+pub mod Windows
+pub mod Extending

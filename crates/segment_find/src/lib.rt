@@ -1,0 +1,126 @@
+// Reads of a closed index's tree at a tick.
+ghost use mathlib.Core.Path.{_≡_};
+ghost use Prim.Native.Nat.{_+_, _-_};
+ghost use lib.Seq.{sets};
+ghost use Rattle.segment_table.specs.Closed.{run};
+ghost use Rattle.segment_find.specs.Walking.{halfAt, rowsAt, blocksIn, Lower};
+ghost use Rattle.segment_find.specs.Listing.{InWindow, Searched, Finds};
+
+// A node of the tree, [min, max), by the link of its row.
+pub struct Node {
+    pub link: u64,
+    pub min: u64,
+    pub max: u64,
+}
+
+// Rows of the entry table, [from, to).
+pub struct Rows {
+    pub from: u64,
+    pub to: u64,
+}
+
+// What find is asked: the blocks live at a tick whose first cell is in [start, stop).
+pub struct Query {
+    pub tick: u64,
+    pub start: u64,
+    pub stop: u64,
+}
+
+// How many blocks are listed, and how many nodes were visited; or that the lent answer does not hold them.
+pub enum Found {
+    Listed { count: usize, visited: usize },
+    TooSmall,
+}
+
+// The half of a node that has the tick: left if it is below mid. A node of width 1 has none.
+fn half(nodes: &[u64], node: Node, tick: u64) -> Node
+    ensures { λ r. ⌜ r ≡ halfAt (now (nodes .entry)) tick node ⌝ }
+{
+    let link = node.link;
+    let min = node.min;
+    let max = node.max;
+    if max <= min {
+        return Node {
+            link: 0,
+            min: 0,
+            max: 0,
+        };
+    }
+    if max - min <= 1 {
+        return Node {
+            link: 0,
+            min: 0,
+            max: 0,
+        };
+    }
+    let mid = min + (max - min) / 2;
+    if tick < mid {
+        let left = tables::get(nodes, link, tables::node::LEFT);
+        return Node {
+            link: left,
+            min: min,
+            max: mid,
+        };
+    }
+    let right = tables::get(nodes, link, tables::node::RIGHT);
+    Node {
+        link: right,
+        min: mid,
+        max: max,
+    }
+}
+
+// The rows of a node's run. Of a run that does not stand in the table, which no closed index has, none.
+fn rows_of(nodes: &[u64], entries: &[u64], link: u64) -> Rows
+    ensures { λ r. ⌜ r ≡ rowsAt (now (nodes .entry)) (now (entries .entry)) link ⌝ }
+{
+    let from = tables::get(nodes, link, tables::node::FIRST);
+    let count = tables::get(nodes, link, tables::node::ENTRIES);
+    let room = entries.len() as u64;
+    if count <= room {
+        if from <= room - count {
+            return Rows {
+                from: from,
+                to: from + count,
+            };
+        }
+    }
+    Rows {
+        from: from,
+        to: from,
+    }
+}
+
+// The first of the rows whose key is not below `key`, or their end.
+fn lower(entries: &[u64], rows: Rows, key: u64) -> u64
+    ensures { λ r. ⌜ Lower (now (entries .entry)) rows key r ⌝ }
+{
+    let mut lo = rows.from;
+    let mut hi = rows.to;
+    while lo < hi {
+        let mid = lo + (hi - lo) / 2;
+        if tables::entry::get(entries, mid, tables::entry::KEY) < key {
+            lo = mid + 1;
+        } else {
+            hi = mid;
+        }
+    }
+    lo
+}
+
+// Writes the block numbers of the rows to the answer, from place `at` on.
+fn extend_from_self(entries: &[u64], rows: Rows, answer: &mut [u64], at: usize)
+    ensures { λ _. ⌜ now (answer .exit) ≡ sets (now (answer .entry)) at (blocksIn (now (entries .entry)) rows) ⌝ }
+{
+    let to = rows.to;
+    let mut row = rows.from;
+    let mut i = at;
+    while row < to {
+        if answer.len() <= i {
+            return;
+        }
+        answer[i] = tables::entry::get(entries, row, tables::entry::BLOCK);
+        row += 1;
+        i += 1;
+    }
+}
