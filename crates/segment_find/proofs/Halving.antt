@@ -63,3 +63,60 @@ module _ (nodes : List ℕ) (t : ℕ) (n : Node) where
       (le-or-lt (n .max) (n .min + 1))
 
 pub ruleset halving = (half-empty, half-narrow, half-left, half-right)
+
+-- ── the half's tree ──
+
+-- the tree that stands at the half h, and what the way down from the node n meets there
+pub record Down (blocks nodes entries : List ℕ) (kind t : ℕ) (n h : Node) (xs : List ℕ) (tree : Tree) : Type 0 where
+  pub below : Tree
+  pub stands : Stands blocks nodes entries kind h below
+  pub way : path t (n .min) (n .max) tree ≡ xs ++ path t (h .min) (h .max) below
+  pub steps : visited t (n .min) (n .max) tree ≡ suc (visited t (h .min) (h .max) below)
+
+sorted-left : (key : ℕ → ℕ) (xs : List ℕ) (l r : Tree) → sorted key (node xs l r) ≡ true → sorted key l ≡ true
+unfolding sorted
+sorted-left key xs l r e = and-left (sorted key l) (sorted key r) (and-right (ascends key xs) (sorted key l && sorted key r) e)
+
+sorted-right : (key : ℕ → ℕ) (xs : List ℕ) (l r : Tree) → sorted key (node xs l r) ≡ true → sorted key r ≡ true
+unfolding sorted
+sorted-right key xs l r e = and-right (sorted key l) (sorted key r) (and-right (ascends key xs) (sorted key l && sorted key r) e)
+
+module _ (blocks nodes entries : List ℕ) (kind t : ℕ) (n : Node) (xs : List ℕ) (l r : Tree) (s : Stands blocks nodes entries kind n (node xs l r)) where
+  down-narrow : n .max ≤ n .min + 1 → Down blocks nodes entries kind t n noNode xs (node xs l r)
+  unfolding path visited TreeAt sorted
+  down-narrow w =
+      record {
+        below = hole;
+        stands = record { stood = refl; ascend = refl; wide = λ h. absurd (omega arith) };
+        way = rw (le-ltb (n .min + 1) (n .max) w);
+        steps = rw (le-ltb (n .min + 1) (n .max) w);
+      }
+
+  down-left : n .min + 1 < n .max → t < mid (n .min) (n .max) → Down blocks nodes entries kind t n (leftHalf nodes n) xs (node xs l r)
+  unfolding path visited TreeAt
+  down-left w h =
+      record {
+        below = l;
+        stands = record { stood = s .stood .1; ascend = sorted-left (firstCellIn blocks) xs l r (s .ascend); wide = λ _. omega arith };
+        way = rw (lt-ltb (n .min + 1) (n .max) w, lt-ltb t (mid (n .min) (n .max)) h);
+        steps = rw (lt-ltb (n .min + 1) (n .max) w, lt-ltb t (mid (n .min) (n .max)) h);
+      }
+
+  down-right : n .min + 1 < n .max → mid (n .min) (n .max) ≤ t → Down blocks nodes entries kind t n (rightHalf nodes n) xs (node xs l r)
+  unfolding path visited TreeAt
+  down-right w h =
+      record {
+        below = r;
+        stands = record { stood = s .stood .2; ascend = sorted-right (firstCellIn blocks) xs l r (s .ascend); wide = λ _. omega arith };
+        way = rw (lt-ltb (n .min + 1) (n .max) w, le-ltb t (mid (n .min) (n .max)) h);
+        steps = rw (lt-ltb (n .min + 1) (n .max) w, le-ltb t (mid (n .min) (n .max)) h);
+      }
+
+  pub down : (h : Node) → h ≡ halfAt nodes t n → Down blocks nodes entries kind t n h xs (node xs l r)
+  down h e =
+      ⊎-elim (λ (w : n .max ≤ n .min + 1). rw (e, narrow nodes t n w) (down-narrow w))
+      (λ (w : n .min + 1 < n .max).
+      ⊎-elim (λ (k : t < mid (n .min) (n .max)). rw (e, goes-left nodes t n w k) (down-left w k))
+      (λ (k : mid (n .min) (n .max) ≤ t). rw (e, goes-right nodes t n w k) (down-right w k))
+      (lt-or-le t (mid (n .min) (n .max))))
+      (le-or-lt (n .max) (n .min + 1))

@@ -124,3 +124,17 @@ fn extend_from_self(entries: &[u64], rows: Rows, answer: &mut [u64], at: usize)
         i += 1;
     }
 }
+
+// The rows of a node whose key is in [start, stop). The second search begins where the first one ended.
+fn in_window(nodes: &[u64], entries: &[u64], link: u64, start: u64, stop: u64) -> Rows
+    ensures { λ r. ⌜ InWindow (now (nodes .entry)) (now (entries .entry)) link start stop r ⌝ }
+{
+    let rows = rows_of(nodes, entries, link);
+    let to = rows.to;
+    let from = lower(entries, rows, start);
+    let past = lower(entries, Rows { from: from, to: to }, stop);
+    Rows {
+        from: from,
+        to: past,
+    }
+}
