@@ -2,3 +2,4 @@ pub mod Halving
 pub mod Parting
 pub mod Windows
 pub mod Extending
+pub mod Searching

@@ -138,3 +138,49 @@ fn in_window(nodes: &[u64], entries: &[u64], link: u64, start: u64, stop: u64) -
         to: past,
     }
 }
+
+// Goes down to the tick from a node, with the answer filled up to place `at`: counts on the way, and if all of it goes into
+// the answer, writes on the way back, so that each node is searched once. The width falls at each call: at most 64 calls.
+fn search(
+    nodes: &[u64],
+    entries: &[u64],
+    node: Node,
+    query: Query,
+    answer: &mut [u64],
+    at: usize,
+) -> Found
+    ensures { λ r. ⌜ Searched (now (nodes .entry)) (now (entries .entry)) node query (now (answer .entry)) at (now (answer .exit)) r ⌝ }
+{
+    if node.link == 0 {
+        return Found::Listed {
+            count: at,
+            visited: 0,
+        };
+    }
+    if node.max <= node.min {
+        return Found::Listed {
+            count: at,
+            visited: 0,
+        };
+    }
+    let rows = in_window(nodes, entries, node.link, query.start, query.stop);
+    let many = (rows.to - rows.from) as usize;
+    if answer.len() < many {
+        return Found::TooSmall;
+    }
+    if answer.len() - many < at {
+        return Found::TooSmall;
+    }
+    let below = half(nodes, node, query.tick);
+    let found = search(nodes, entries, below, query, answer, at + many);
+    match found {
+        Found::Listed { count, visited } => {
+            extend_from_self(entries, rows, answer, at);
+            Found::Listed {
+                count: count,
+                visited: visited + 1,
+            }
+        }
+        Found::TooSmall => Found::TooSmall,
+    }
+}
