@@ -9,14 +9,13 @@ use lib.Seq.{sets}
 use lib.Dec.{leb}
 use Rattle.history.specs.Tree.{Tree}
 use Rattle.history.specs.Find.{path, visited, window}
-use Rattle.tables.specs.Columns.{column}
 use Rattle.segment_table.specs.Closed.{firstCellIn}
 use Rattle.segment_find.specs.declared.Node.{Node}
 use Rattle.segment_find.specs.declared.Rows.{Rows}
 use Rattle.segment_find.specs.declared.Query.{Query}
 use Rattle.segment_find.specs.declared.Found.{Found}
 use Rattle.segment_find.specs.declared.Found.the-variants.{Listed, TooSmall}
-use Rattle.segment_find.specs.Walking.{Stands, RunOf, rowsAt, blocksIn}
+use Rattle.segment_find.specs.Walking.{Stands, Rooted, RunOf, rowsAt, blocksIn}
 
 -- ── rows in the window ──
 
@@ -47,10 +46,14 @@ pub record Searched (nodes entries : List ℕ) (n : Node) (q : Query) (answer : 
   pub lists : (blocks : List ℕ) (kind : ℕ) (tree : Tree) → Stands blocks nodes entries kind n tree → at ≤ length answer
       → Answered (listed blocks n q tree) (visited (q .tick) (n .min) (n .max) tree) answer at answer′ r
 
-abbrev pub rootOf : (nodes : List ℕ) (kind end : ℕ) → Node
-rootOf nodes kind end = record { link = column nodes 0 kind; min = 0; max = end }
+-- ── find ──
 
--- `find` in the tree of a kind
-pub record Finds (nodes entries : List ℕ) (kind end : ℕ) (q : Query) (answer answer′ : List ℕ) (r : Found) : Type 0 where
-  pub lists : (blocks : List ℕ) (tree : Tree) → Stands blocks nodes entries kind (rootOf nodes kind end) tree
-      → Answered (listed blocks (rootOf nodes kind end) q tree) (visited (q .tick) 0 end tree) answer 0 answer′ r
+-- The list goes into the answer, or is too long for it: then nothing changes.
+pub record Fills (list : List ℕ) (nodes : ℕ) (answer answer′ : List ℕ) (r : Found) : Type 0 where
+  pub result : r ≡ cond (leb (length list) (length answer)) (Listed (length list) nodes) TooSmall
+  pub left : answer′ ≡ cond (leb (length list) (length answer)) (sets answer 0 list) answer
+
+-- `find` in the tree of a kind whose end tick is `end`: it lists what the model lists, and visits as many nodes.
+pub record Finds (nodes entries : List ℕ) (kind end tick start stop : ℕ) (answer answer′ : List ℕ) (r : Found) : Type 0 where
+  pub lists : (blocks : List ℕ) (tree : Tree) → Rooted blocks nodes entries kind end tree
+      → Fills (window (firstCellIn blocks) start stop (path tick 0 end tree)) (visited tick 0 end tree) answer answer′ r

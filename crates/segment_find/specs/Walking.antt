@@ -8,7 +8,7 @@ use lib.ListN.{length}
 use lib.Dec.{leb, ltb}
 use Rattle.history.specs.Tree.{Tree, mid, halves}
 use Rattle.history.specs.Rules.{sorted}
-use Rattle.tables.specs.Columns.{entryColumn, entryKey}
+use Rattle.tables.specs.Columns.{column, entryColumn, entryKey}
 use Rattle.segment_table.specs.Closed.{Tables, TreeAt, leftAt, rightAt, firstAt, countAt, blockIn, firstCellIn, run}
 use Rattle.segment_find.specs.declared.Node.{Node}
 use Rattle.segment_find.specs.declared.Rows.{Rows}
@@ -20,6 +20,15 @@ pub record Stands (blocks nodes entries : List ℕ) (kind : ℕ) (n : Node) (tre
   pub stood : TreeAt (record { blocks = blocks; nodes = nodes; entries = entries }) kind (n .link) (n .min) (n .max) tree
   pub ascend : sorted (firstCellIn blocks) tree ≡ true
   pub wide : 0 < n .link → n .min < n .max
+
+-- The tree stands at the root of a kind, and first cells ascend strictly in each of its nodes.
+pub record Rooted (blocks nodes entries : List ℕ) (kind end : ℕ) (tree : Tree) : Type 0 where
+  pub stood : TreeAt (record { blocks = blocks; nodes = nodes; entries = entries }) kind (column nodes 0 kind) 0 end tree
+  pub ascend : sorted (firstCellIn blocks) tree ≡ true
+  pub some : 0 < end
+
+abbrev pub rootAt : (nodes : List ℕ) (kind end : ℕ) → Node
+rootAt nodes kind end = record { link = column nodes 0 kind; min = 0; max = end }
 
 -- ── halves ──
 

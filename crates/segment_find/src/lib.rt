@@ -3,7 +3,7 @@ ghost use mathlib.Core.Path.{_≡_};
 ghost use Prim.Native.Nat.{_+_, _-_};
 ghost use lib.Seq.{sets};
 ghost use Rattle.segment_table.specs.Closed.{run};
-ghost use Rattle.segment_find.specs.Walking.{halfAt, rowsAt, blocksIn, Lower};
+ghost use Rattle.segment_find.specs.Walking.{rootAt, halfAt, rowsAt, blocksIn, Lower};
 ghost use Rattle.segment_find.specs.Listing.{InWindow, Searched, Finds};
 
 // A node of the tree, [min, max), by the link of its row.
@@ -183,4 +183,39 @@ fn search(
         }
         Found::TooSmall => Found::TooSmall,
     }
+}
+
+// The root of a kind.
+fn root(nodes: &[u64], kind: u64, end: u64) -> Node
+    ensures { λ r. ⌜ r ≡ rootAt (now (nodes .entry)) kind end ⌝ }
+{
+    let link = tables::get(nodes, 0, kind as usize);
+    Node {
+        link: link,
+        min: 0,
+        max: end,
+    }
+}
+
+// Lists the blocks of a kind that are live at the tick and have their first cell in [start, stop): root first, ascending in each node.
+// An answer too small for them is left as it is.
+pub fn find(
+    nodes: &[u64],
+    entries: &[u64],
+    kind: u64,
+    end: u64,
+    tick: u64,
+    start: u64,
+    stop: u64,
+    answer: &mut [u64],
+) -> Found
+    ensures { λ r. ⌜ Finds (now (nodes .entry)) (now (entries .entry)) kind end tick start stop (now (answer .entry)) (now (answer .exit)) r ⌝ }
+{
+    let node = root(nodes, kind, end);
+    let query = Query {
+        tick: tick,
+        start: start,
+        stop: stop,
+    };
+    search(nodes, entries, node, query, answer, 0)
 }
