@@ -10,7 +10,7 @@ use Rattle.history.specs.Lent.{rowWidth, entryWidth, blockHead, entryHead}
 use Rattle.history.specs.Words.{Block, firstCell}
 use Rattle.history.specs.Tree.{Tree, hole, node, mid, covers, blockAt, keyIn, nodeCount}
 use Rattle.history.specs.Rules.{isHole, every, numbered, placed, ascends, sorted, rule23}
-use Rattle.tables.specs.Columns.{column, blockColumn, entryColumn, blockFirst, blockCreated, blockDestroyed, nodesCount, entryKey}
+use Rattle.tables.specs.Columns.{column, blockColumn, entryColumn, blockFirst, blockCreated, blockDestroyed, nodeMin, nodeMax, nodeKind, nodesCount, entryKey}
 use Rattle.segment_table.specs.Closed.{Tables, nodesUsed, entriesUsed, leftAt, rightAt, firstAt, countAt, blockIn, firstCellIn, run, NodeRow, TreeAt, Closed}
 use Rattle.segment_test.specs.Total.{sumTo, entriesOfRow}
 
@@ -72,6 +72,24 @@ pub record RunRows (blocks entries : List ℕ) (n row many lo hi from to : ℕ) 
   pub ascending : (j : ℕ) → j < many → Follows entries row j
 
 -- ── one node ──
+
+-- the node at a link has no half
+pub record Bare (nodes : List ℕ) (link : ℕ) : Type 0 where
+  pub left : leftAt nodes link ≡ 0
+  pub right : rightAt nodes link ≡ 0
+
+-- the row of a link is in use and holds the node [lo, hi) of the kind; a node of width 1 has no halves
+pub record RowStands (nodes : List ℕ) (kind link lo hi : ℕ) : Type 0 where
+  pub some : 0 < link
+  pub used : link ≤ nodesUsed nodes
+  pub low : column nodes link nodeMin ≡ lo
+  pub high : column nodes link nodeMax ≡ hi
+  pub own-kind : column nodes link nodeKind ≡ kind
+  pub narrow : hi ≤ lo + 1 → (leftAt nodes link ≡ 0) × (rightAt nodes link ≡ 0)
+
+-- n entry rows from a row on lie in the table
+pub record Inside (entries : List ℕ) (row n : ℕ) : Type 0 where
+  pub fits : entryHead + entryWidth * (row + n) ≤ length entries
 
 -- the row of a link is as the layout asks, and so is its run of entries
 pub record NodeStands (t : Tables) (n kind link lo hi from to : ℕ) : Type 0 where

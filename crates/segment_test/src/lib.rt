@@ -10,3 +10,4 @@ ghost use mathlib.Core.Path.{_≡_};
 ghost use Prim.Native.Nat.{ℕ, _<_, _≤_};
 
 mod run;
+mod walk;
