@@ -22,7 +22,7 @@ use Rattle.history.proofs.TreeSorted.{Filled, Together, cells-differ}
 
 -- ── two blocks ──
 
--- what is done to a half, or not, twice
+-- A goes to a half where u says so and B where v does: in either order the half is the same
 abbrev Either : (u v : Bool) (A B : Tree → Tree) (T : Tree) → Type 0
 Either u v A B T = cond u (A (cond v (B T) T)) (cond v (B T) T) ≡ cond v (B (cond u (A T) T)) (cond u (A T) T)
 
