@@ -9,15 +9,15 @@ use native.Mathlib.Omega.{arith}
 use lib.ListN.{length, getD}
 use lib.Seq.{ext-getD}
 use lib.Dec.{eqb, ltb, leb}
-use borrow.Author.Tests.{eqb-true, eqb-false, eq-eqb, ne-eqb, ltb-true, lt-ltb}
+use borrow.Author.Tests.{eqb-true, eqb-false, eq-eqb, ne-eqb, ltb-true, lt-ltb, le-leb}
 use Rattle.lists.specs.Lists.{All, all-nil, all-cons, has, count, countFrom}
 use Rattle.lists.proofs.Lists.{all-map, all-both, all-at, all-of-map, all-any, count-from-length, count-from-at}
 use Rattle.lists.proofs.Maps.{length-of-map, getD-of-map}
 use Rattle.lists.proofs.Numbers.{bool-cases, and-left, and-right, and-both, or-left, or-right, eq-or-ne}
 use Rattle.history.specs.Words.{Block, life}
 use Rattle.history.specs.Tree.{Tree, hole, node, mid, blockAt, noBlock, keyIn, entryCount, entriesIn, widths}
-use Rattle.history.specs.Rules.{every, filled, lived, numbered, placed, sorted, summed, rule23}
-use Rattle.history.specs.File.{Nodes, absent, present, File, thoseWith, written, placeIn, mapTree, nodesOf, contents, treeFrom, placedIn, rule22}
+use Rattle.history.specs.Rules.{every, isHole, halved, filled, lived, numbered, placed, sorted, summed, rule23}
+use Rattle.history.specs.File.{Nodes, absent, present, File, thoseWith, written, placeIn, mapTree, nodesOf, contents, treeFrom, endOf, placedIn, rule21, rule22}
 use Rattle.history.proofs.FileRoundTrip.{BlockFits, NodesFit, absent-fits, present-fits, FileFits}
 
 -- ── tests ──
@@ -66,6 +66,17 @@ nodesOf-treeFrom lo hi (present min max middle es l r) h =
     let (a, b, c) = and-three (eqb min lo) (eqb max hi) (eqb middle (mid lo hi)) own in
     rw (eqb-true min lo a, eqb-true max hi b, eqb-true middle (mid lo hi) c)
     (ap₂ (present lo hi (mid lo hi) es) (nodesOf-treeFrom lo (mid lo hi) l p) (nodesOf-treeFrom (mid lo hi) hi r q))
+
+pub endOf-nodesOf : (lo hi : ℕ) (t : Tree) → isHole t ≡ false → endOf (nodesOf lo hi t) ≡ hi
+unfolding nodesOf
+endOf-nodesOf lo hi hole h = absurd (true≢false h)
+endOf-nodesOf lo hi (node es l r) h = refl
+
+-- a tree with a root, halved where it has halves, is written as rule 21 wants it
+pub nodesOf-rule21 : (e : ℕ) (t : Tree) → 0 < e → e ≤ 2 ^ 63 → isHole t ≡ false → halved 0 e t ≡ true → rule21 (nodesOf 0 e t) ≡ true
+unfolding rule21
+nodesOf-rule21 e t some most root h =
+    rw (endOf-nodesOf 0 e t root, lt-ltb 0 e some, le-leb e (2 ^ 63) most, placedIn-nodesOf 0 e t, treeFrom-nodesOf 0 e t, h) refl
 
 -- ── the written blocks ──
 

@@ -33,3 +33,4 @@ pub mod TreeCounts
 pub mod TreeEntries
 pub mod FileRenumbered
 pub mod FindSound
+pub mod FileReloaded

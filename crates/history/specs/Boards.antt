@@ -3,7 +3,7 @@
 use mathlib.Core.Path.{_≡_}
 use mathlib.Core.Bool.{Bool, true, false}
 use mathlib.Core.Option.{Option, none, some}
-use mathlib.Core.List.{List, [], _∷_, _++_, map}
+use mathlib.Core.List.{List, [], _∷_, _++_, map, flatten}
 use Prim.Native.Nat.{ℕ, _+_, _-_, _*_, _^_}
 use lib.ListN.{length, take, replicate, set}
 use Rattle.history.specs.Words.{Operation, Stretch, Piece, Block}
@@ -13,7 +13,8 @@ use Rattle.history.specs.Ledger.{Opening, Ledger, opened}
 use Rattle.history.specs.Reads.{Found, Cells, treeIn, clockLabel}
 use Rattle.history.specs.Refusals.{Answer, accepted, refused, openAnswer, findAnswer, cellsAnswer, blockAnswer}
 use Rattle.history.specs.Calls.{Call, recordCall, finishCall, answers, afterAll}
-use Rattle.history.specs.File.{Read, got, fault, Loaded, fileOf, load}
+use Rattle.history.specs.File.{Read, got, fault, Loaded, bytesOf, fileOf, load}
+use Rattle.history.specs.Printed.{headerText, badRecordText, openText, newline, decimal, refusedLine, printed}
 
 -- ── what is asked ──
 
@@ -348,10 +349,41 @@ loading =
 unfoldable pub loadedAs : Load → Read Loaded
 loadedAs x = load (x .lent) (x .file) (x .at)
 
+-- ── the listing as the program prints it ──
+
+-- a record of the input: its mark, tick, first cell, length, bytes
+abbrev recordBytes : (t first : ℕ) → List ℕ → List ℕ
+recordBytes t f bs = 0xb7 ∷ 0x4f ∷ (bytesOf 8 t ++ (bytesOf 8 f ++ (bytesOf 2 (length bs) ++ bs)))
+
+unfoldable pub listingInput : List ℕ
+listingInput =
+    bytesOf 8 8
+    ++ (bytesOf 1 1
+    ++ (recordBytes 1 100 (7 ∷ 7 ∷ 7 ∷ []) ++ (recordBytes 3 102 (9 ∷ 9 ∷ 9 ∷ []) ++ (recordBytes 5 100 (7 ∷ 7 ∷ []) ++ recordBytes 6 103 (4 ∷ [])))))
+
+-- the header, and six lines from "102 1 1 3 0142 07" to "104 1 3 8 0144 09"
+unfoldable pub listingOutput : List ℕ
+listingOutput =
+    flatten
+    (headerText
+    ∷ (10 ∷ 49 ∷ 48 ∷ 50 ∷ 32 ∷ 49 ∷ 32 ∷ 49 ∷ 32 ∷ 51 ∷ 32 ∷ 48 ∷ 49 ∷ 52 ∷ 50 ∷ 32 ∷ 48 ∷ 55 ∷ [])
+    ∷ (10 ∷ 49 ∷ 48 ∷ 51 ∷ 32 ∷ 49 ∷ 32 ∷ 51 ∷ 32 ∷ 54 ∷ 32 ∷ 48 ∷ 49 ∷ 52 ∷ 51 ∷ 32 ∷ 48 ∷ 57 ∷ [])
+    ∷ (10 ∷ 49 ∷ 48 ∷ 48 ∷ 32 ∷ 50 ∷ 32 ∷ 49 ∷ 32 ∷ 56 ∷ 32 ∷ 48 ∷ 49 ∷ 52 ∷ 48 ∷ 32 ∷ 48 ∷ 55 ∷ 48 ∷ 55 ∷ [])
+    ∷ (10 ∷ 49 ∷ 48 ∷ 50 ∷ 32 ∷ 49 ∷ 32 ∷ 51 ∷ 32 ∷ 56 ∷ 32 ∷ 48 ∷ 49 ∷ 52 ∷ 50 ∷ 32 ∷ 48 ∷ 57 ∷ [])
+    ∷ (10 ∷ 49 ∷ 48 ∷ 51 ∷ 32 ∷ 49 ∷ 32 ∷ 54 ∷ 32 ∷ 56 ∷ 32 ∷ 48 ∷ 49 ∷ 52 ∷ 51 ∷ 32 ∷ 48 ∷ 52 ∷ [])
+    ∷ (10 ∷ 49 ∷ 48 ∷ 52 ∷ 32 ∷ 49 ∷ 32 ∷ 51 ∷ 32 ∷ 56 ∷ 32 ∷ 48 ∷ 49 ∷ 52 ∷ 52 ∷ 32 ∷ 48 ∷ 57 ∷ [])
+    ∷ (newline ∷ [])
+    ∷ [])
+
 -- ── the result ──
 
 -- every board and every file comes out as it must
 pub record MarkedBoards : Type 0 where
   pub boards : map played marked ≡ map expected marked
   pub refusals : map played edges ≡ map expected edges
+  pub printed-listing : printed listingInput ≡ listingOutput
+  pub cut-record : printed (take 40 listingInput) ≡ badRecordText ++ decimal 2 (newline ∷ [])
+  pub wrong-mark : printed (set listingInput 9 0) ≡ badRecordText ++ decimal 1 (newline ∷ [])
+  pub short-input : printed (take 8 listingInput) ≡ badRecordText ++ decimal 0 (newline ∷ [])
+  pub refused-opening : printed (set listingInput 0 0) ≡ refusedLine openText 1
   pub files : map loadedAs loading ≡ map (λ (x : Load). x .comes) loading
