@@ -30,6 +30,7 @@ pub mod FindLaws
 pub mod FindOrder
 pub mod TreeOrder
 pub mod TreeCounts
+pub mod TreeEntries
 pub mod FileRenumbered
 pub mod FindSound
 pub mod FileReloaded

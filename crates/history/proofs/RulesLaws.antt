@@ -170,7 +170,8 @@ module _ (at : ℕ → Block) (above : ℕ → Bool) (lo hi : ℕ) (es : List �
   abbrev placedRight : Bool
   placedRight = placed at (coversNode at lo hi) (mid lo hi) hi r
 
-  pub placed-node : every (λ k. coversNode at lo hi k && not (above k)) es ≡ true → placedLeft ≡ true → placedRight ≡ true → placed at above lo hi (node es l r) ≡ true
+  pub placed-node : every (λ k. coversNode at lo hi k && not (above k)) es ≡ true → placed at (coversNode at lo hi) lo (mid lo hi) l ≡ true → placed at (coversNode at lo hi) (mid lo hi) hi r ≡ true
+      → placed at above lo hi (node es l r) ≡ true
   unfolding placed
   placed-node a p q = and-both (every (λ k. coversNode at lo hi k && not (above k)) es) (placedLeft && placedRight) a (and-both placedLeft placedRight p q)
 

@@ -14,7 +14,7 @@ use Rattle.lists.proofs.Counting.{map-from-at}
 use Rattle.history.specs.Words.{Block}
 use Rattle.history.specs.Tree.{Tree, hole, node, mid, halves, covers, entriesOf, leftOf, rightOf, addLocation, noBlock, blockAt, keyIn, treeOf, nodeCount, entryCount, entriesIn}
 use Rattle.history.proofs.TreeInserting.{insert-length}
-use Rattle.history.proofs.TreeAdding.{add-here, add-last, add-below}
+use Rattle.history.proofs.TreeAdding.{add-here, add-last, add-below, addBlock}
 use Rattle.history.proofs.TreeOrder.{addEach, treeOf-each}
 
 -- ── what adding makes ──
@@ -114,7 +114,7 @@ module _ (at : ℕ → Block) (key : ℕ → ℕ) (e : ℕ) where
       omega (
         arith,
         node-count-add key 63 k (at k .created) (at k .destroyed) 0 e T,
-        node-count-each ks (addLocation key 63 k (at k .created) (at k .destroyed) 0 e T),
+        node-count-each ks (addBlock at key e k T),
       )
 
   pub entry-count-each : (ks : List ℕ) (T : Tree) → entryCount (addEach at key e ks T) ≡ entryCount T + sumOf (map (λ k. newEntries 63 (at k .created) (at k .destroyed) 0 e) ks)
@@ -124,7 +124,7 @@ module _ (at : ℕ → Block) (key : ℕ → ℕ) (e : ℕ) where
       omega (
         arith,
         entry-count-add key 63 k (at k .created) (at k .destroyed) 0 e T,
-        entry-count-each ks (addLocation key 63 k (at k .created) (at k .destroyed) 0 e T),
+        entry-count-each ks (addBlock at key e k T),
       )
 
 -- the tree of all blocks has each block's entries

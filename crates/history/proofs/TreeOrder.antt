@@ -16,13 +16,13 @@ use Rattle.history.specs.Words.{Block}
 use Rattle.history.specs.Tree.{Tree, hole, node, mid, halves, covers, entriesOf, leftOf, rightOf, addLocation, addAll, noBlock, blockAt, keyIn, treeOf}
 use Rattle.history.specs.Rules.{Apart}
 use Rattle.history.proofs.TreeInserting.{insert-two}
-use Rattle.history.proofs.TreeAdding.{covers-inside, made, listed, deeper, add-here, add-last, add-below}
+use Rattle.history.proofs.TreeAdding.{covers-inside, made, listed, deeper, add-here, add-last, add-below, addBlock}
 use Rattle.history.proofs.TreePath.{block-none}
 use Rattle.history.proofs.TreeSorted.{Filled, Together, cells-differ}
 
 -- ── two blocks ──
 
--- what is done to a half, or not, twice
+-- A goes to a half where u says so and B where v does: in either order the half is the same
 abbrev Either : (u v : Bool) (A B : Tree → Tree) (T : Tree) → Type 0
 Either u v A B T = cond u (A (cond v (B T) T)) (cond v (B T) T) ≡ cond v (B (cond u (A T) T)) (cond u (A T) T)
 
@@ -144,7 +144,7 @@ module _ (key : ℕ → ℕ) (at : ℕ → Block) (a b : ℕ) (differ : Together
 -- the blocks of these numbers added one after the other
 unfoldable pub addEach : (at : ℕ → Block) (key : ℕ → ℕ) (end : ℕ) (numbers : List ℕ) → Tree → Tree
 addEach at key e [] T = T
-addEach at key e (k ∷ ks) T = addEach at key e ks (addLocation key 63 k (at k .created) (at k .destroyed) 0 e T)
+addEach at key e (k ∷ ks) T = addEach at key e ks (addBlock at key e k T)
 
 -- the list with the first x left out
 unfoldable without : (x : ℕ) → List ℕ → List ℕ
@@ -177,16 +177,13 @@ count-without k x (y ∷ ys) m =
     turn h = omega arith
 
 module _ (at : ℕ → Block) (key : ℕ → ℕ) (e : ℕ) (some : 0 < e) (differ : (i j : ℕ) → i ≢ j → Together (at i) (at j) → key i ≢ key j) where
-  abbrev add : ℕ → Tree → Tree
-  add k T = addLocation key 63 k (at k .created) (at k .destroyed) 0 e T
-
   -- a block may come first
-  each-first : (x : ℕ) (ys : List ℕ) (T : Tree) → Mem x ys → addEach at key e ys T ≡ addEach at key e (without x ys) (add x T)
+  each-first : (x : ℕ) (ys : List ℕ) (T : Tree) → Mem x ys → addEach at key e ys T ≡ addEach at key e (without x ys) (addBlock at key e x T)
   unfolding addEach
   each-first x (y ∷ ys) T m =
       elim (eq-or-ne x y) [
         | inl s ↦ rw s (rw (without-here y ys))
-        | inr n ↦ rw (without-there x y ys n) (each-first x ys (add y T) (later m n) ∙ ap (addEach at key e (without x ys)) (add-two key at x y (differ x y n) 63 0 e T some))
+        | inr n ↦ rw (without-there x y ys n) (each-first x ys (addBlock at key e y T) (later m n) ∙ ap (addEach at key e (without x ys)) (add-two key at x y (differ x y n) 63 0 e T some))
       ]
     where
       later : Mem x (y ∷ ys) → x ≢ y → Mem x ys
@@ -200,7 +197,7 @@ module _ (at : ℕ → Block) (key : ℕ → ℕ) (e : ℕ) (some : 0 < e) (diff
   each-order [] (y ∷ ys) T h = absurd (omega (arith, h y, count-here y ys))
   each-order (x ∷ xs) ys T h =
       let m : Mem x ys = count-mem x ys (omega (arith, h x, count-here x xs)) in
-      each-order xs (without x ys) (add x T) (λ k. omega (arith, h k, count-without k x ys m))
+      each-order xs (without x ys) (addBlock at key e x T) (λ k. omega (arith, h k, count-without k x ys m))
       ∙ sym (each-first x ys T m)
 
 -- ── the tree of all blocks ──

@@ -1,5 +1,5 @@
--- The tree of all blocks keeps the rules: a node of width 1 has no child, no number is too high, each entry's block covers its node and not the
--- node's parent, and first cells ascend strictly in a node where no two blocks share a cell at a tick. Assumes nothing.
+-- The tree of all blocks keeps the rules: a root exactly where there is a block, no child of a node of width 1, no number too high, each entry's
+-- block covers its node and not the node's parent. (Strict ascent needs rule 24: TreeSorted.) Assumes nothing.
 use mathlib.Core.Path.{_≡_, refl}
 use mathlib.Core.Bool.{Bool, true, false, cond, _&&_, not}
 use mathlib.Core.List.{List, [], _∷_}
@@ -22,6 +22,7 @@ every-insert f key b xs p h = all-every f (insert-all {P = λ x. f x ≡ true} k
 
 -- ── there is a root ──
 
+-- a block makes nodes on its way, of no life too
 pub add-some : (key : ℕ → ℕ) (n b c d lo hi : ℕ) (T : Tree) → isHole (addLocation key n b c d lo hi T) ≡ false
 unfolding addLocation
 add-some key zero b c d lo hi T = choose (covers c d lo hi)

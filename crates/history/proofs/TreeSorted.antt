@@ -17,7 +17,7 @@ use Rattle.history.specs.Tree.{Tree, hole, node, mid, entriesOf, leftOf,
 use Rattle.history.specs.Rules.{every, numbered, placed, ascends, sorted, rule23, Apart}
 use Rattle.history.proofs.RulesLaws.{every-all, numbered-here, numbered-left, numbered-right, coversNode, placed-here, placed-left, placed-right, ascends-decides, decided, sorted-node, sorted-here, sorted-left, sorted-right, rule23-decides}
 use Rattle.history.proofs.TreeInserting.{insert-ascending}
-use Rattle.history.proofs.TreeAdding.{covers-inside, Half, went, kept, made, listed, add-by, tree-by}
+use Rattle.history.proofs.TreeAdding.{covers-inside, Half, went, kept, made, listed, add-by, tree-by, addBlock}
 use Rattle.history.proofs.TreePlaced.{numbered-made, numbered-more, numbered-add, treeOf-numbered, placed-made, placed-add, treeOf-placed}
 use Rattle.history.proofs.TreeWidths.{widths-life}
 
@@ -133,7 +133,7 @@ treeOf-sorted e bs some z apart filled = tree-by e bs Sound step (refl, refl, re
     Sound : (n : ℕ) → Tree → Type 0
     Sound n T = (numbered n T ≡ true) × (placed (blockAt bs) (λ k. false) 0 e T ≡ true) × (sorted (keyIn bs) T ≡ true)
 
-    step : (k : ℕ) (T : Tree) → k < length bs → Sound k T → Sound (suc k) (addLocation (keyIn bs) 63 k (blockAt bs k .created) (blockAt bs k .destroyed) 0 e T)
+    step : (k : ℕ) (T : Tree) → k < length bs → Sound k T → Sound (suc k) (addBlock (blockAt bs) (keyIn bs) e k T)
     step k T h q = (
       numbered-add (keyIn bs) k (blockAt bs k .created) (blockAt bs k .destroyed) (suc k) (omega arith) 63 0 e T (omega arith) (omega arith) (numbered-more k (suc k) T (omega arith) (q .0)),
       placed-add (blockAt bs) (keyIn bs) k 63 0 e T (omega arith) (omega arith) (λ k. false) refl (q .1),
