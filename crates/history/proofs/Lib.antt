@@ -26,3 +26,4 @@ pub mod TreeSorted
 pub mod FindMet
 pub mod FileRenumbered
 pub mod FileReloaded
+pub mod FileAlike

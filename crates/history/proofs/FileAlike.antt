@@ -1,0 +1,133 @@
+-- An index that was written and loaded answers as the one that was written: find lists the same blocks in the same order under their new
+-- numbers and visits as many nodes, a block's new number gives the same block, and every cell has the same byte at every tick. Assumes nothing.
+use mathlib.Core.Path.{_≡_, refl, sym, _∙_, ap, ap₂}
+use mathlib.Core.Logic.{_⊎_, inl, inr, ⊎-elim}
+use mathlib.Core.Bool.{Bool, true, false, cond, true≢false}
+use mathlib.Core.Option.{Option, none, some, Option·elim}
+use mathlib.Core.List.{List, [], _∷_, _++_, map, filterMap}
+use Prim.Native.Nat.{ℕ, zero, suc, _+_, _-_, _≤_, _<_}
+use native.Mathlib.Omega.{arith}
+use lib.ListN.{length, getD}
+use lib.Dec.{leb, ltb}
+use borrow.Author.Tests.{le-leb}
+use Rattle.lists.specs.Lists.{All, all-nil, all-cons, has, countFrom, sumOf}
+use Rattle.lists.proofs.Lists.{all-map, all-append, all-at, count-from-length}
+use Rattle.lists.proofs.Maps.{length-of-map, map-all, filterMap-cons, filterMap-all}
+use Rattle.lists.proofs.Numbers.{lt-or-le}
+use Rattle.history.specs.Words.{Block, size, life, live, firstCell}
+use Rattle.history.specs.Lent.{Lent, blockRows, nodeRows, entryRows}
+use Rattle.history.specs.Tree.{Tree, hole, node, mid, halves, blockAt, noBlock, keyIn, nodeCount, entryCount, entriesIn}
+use Rattle.history.specs.Find.{path, visited, window, find}
+use Rattle.history.specs.Reads.{shows, seen}
+use Rattle.history.specs.File.{thoseWith, written, placeIn, mapTree, nodesOf, contents, treeFrom, rule20}
+use Rattle.history.proofs.RulesLaws.{Rule23, rule23-decides}
+use Rattle.history.proofs.TreePath.{within-low, within-high}
+use Rattle.history.proofs.FileWritten.{thoseWith-length, countFrom-below, treeFrom-nodesOf, map-blockAt, widths-none}
+use Rattle.history.proofs.FileRenumbered.{entries-here, entries-left, entries-right, mapTree-nodeCount, mapTree-entryCount, mapTree-path, mapTree-visited, window-map}
+use Rattle.history.proofs.FileReloaded.{WholeBlock, Writable, kept, keptBlocks, keptTree, entries-kept, kept-block}
+
+-- ── lists ──
+
+module _ {A B C : Type 0} where
+  pub map-map : (g : B → C) (f : A → B) (xs : List A) → map g (map f xs) ≡ map (λ (x : A). g (f x)) xs
+  map-map g f [] = refl
+  map-map g f (x ∷ xs) = ap (λ (r : List C). g (f x) ∷ r) (map-map g f xs)
+
+  pub filterMap-map : (g : B → Option C) (f : A → B) (xs : List A) → filterMap g (map f xs) ≡ filterMap (λ (x : A). g (f x)) xs
+  unfolding filterMap
+  filterMap-map g f [] = refl
+  filterMap-map g f (x ∷ xs) = ap (λ (r : List C). Option·elim (g (f x)) r (λ c. c ∷ r)) (filterMap-map g f xs)
+
+pub thoseWith-sum : (g : ℕ → ℕ) (es ks : List ℕ) → sumOf (map g (thoseWith es ks)) ≤ sumOf (map g ks)
+unfolding thoseWith sumOf
+thoseWith-sum g es [] = omega arith
+thoseWith-sum g es (k ∷ ks) = go (has k es) (thoseWith-sum g es ks)
+  where
+    go : (t : Bool) → sumOf (map g (thoseWith es ks)) ≤ sumOf (map g ks) → sumOf (map g (cond t (k ∷ thoseWith es ks) (thoseWith es ks))) ≤ g k + sumOf (map g ks)
+    go true h = omega arith
+    go false h = omega arith
+
+-- what gives nothing may be left out
+pub thoseWith-filterMap : {A : Type 0} (g : ℕ → Option A) (es : List ℕ) {ks : List ℕ} → All (λ k. has k es ≡ false → g k ≡ none) ks
+    → filterMap g (thoseWith es ks) ≡ filterMap g ks
+unfolding thoseWith filterMap
+thoseWith-filterMap g es all-nil = refl
+thoseWith-filterMap {A} g es (all-cons {x} {xs} p ps) = go (has x es) refl (thoseWith-filterMap g es ps)
+  where
+    go : (t : Bool) → has x es ≡ t → filterMap g (thoseWith es xs) ≡ filterMap g xs
+        → filterMap g (cond t (x ∷ thoseWith es xs) (thoseWith es xs)) ≡ Option·elim (g x) (filterMap g xs) (λ a. a ∷ filterMap g xs)
+    go true h q = ap (λ (r : List A). Option·elim (g x) r (λ a. a ∷ r)) q
+    go false h q = rw (p h) q
+
+-- the way down meets entries of the tree
+pub path-all : {P : ℕ → Type 0} (t lo hi : ℕ) (T : Tree) → All P (entriesIn T) → All P (path t lo hi T)
+unfolding path
+path-all t lo hi hole h = all-nil
+path-all {P} t lo hi (node es l r) h =
+    all-append (entries-here es l r h) (below (halves lo hi) (ltb t (mid lo hi)) (path-all t lo (mid lo hi) l (entries-left es l r h)) (path-all t (mid lo hi) hi r (entries-right es l r h)))
+  where
+    below : (wide left : Bool) → All P (path t lo (mid lo hi) l) → All P (path t (mid lo hi) hi r)
+        → All P (cond wide (cond left (path t lo (mid lo hi) l) (path t (mid lo hi) hi r)) [])
+    below true true a b = a
+    below true false a b = b
+    below false left a b = all-nil
+
+module _ (kind e : ℕ) (bs : List Block) (tree : Tree) (w : Writable kind e bs tree) where
+  abbrev numbers : List ℕ
+  numbers = kept kind e bs tree w
+
+  abbrev blocks : List Block
+  blocks = keptBlocks kind e bs tree w
+
+  -- ── room ──
+
+  -- tables in which the index stands have room for what is written of it
+  pub kept-room : (n : Lent) → length bs ≤ blockRows n → nodeCount tree ≤ nodeRows n → entryCount tree ≤ entryRows n
+      → sumOf (map (λ b. size (b .stretch)) bs) ≤ n .store → rule20 n (contents kind e bs tree) ≡ true
+  unfolding rule20 contents
+  kept-room n a b c d =
+      let new : Tree = keptTree kind e bs tree w in
+      let sizes : List Block → List ℕ = map (λ b. size (b .stretch)) in
+      let few : length blocks ≤ blockRows n =
+      rw (length-of-map (blockAt bs) numbers) (omega (arith, thoseWith-length (entriesIn tree) (countFrom 0 (length bs)), count-from-length 0 (length bs))) in
+      let nodes : nodeCount (treeFrom (nodesOf 0 e new)) ≤ nodeRows n = rw (treeFrom-nodesOf 0 e new, mapTree-nodeCount (placeIn numbers) tree) b in
+      let entries : entryCount (treeFrom (nodesOf 0 e new)) ≤ entryRows n = rw (treeFrom-nodesOf 0 e new, mapTree-entryCount (placeIn numbers) tree) c in
+      let whole : sumOf (sizes (map (blockAt bs) (countFrom 0 (length bs)))) ≤ n .store = rw (map-blockAt bs) d in
+      let less : sumOf (sizes blocks) ≤ sumOf (sizes (map (blockAt bs) (countFrom 0 (length bs)))) =
+      rw (map-map (λ (b : Block). size (b .stretch)) (blockAt bs) numbers, map-map (λ (b : Block). size (b .stretch)) (blockAt bs) (countFrom 0 (length bs)))
+      (thoseWith-sum (λ k. size (blockAt bs k .stretch)) (entriesIn tree) (countFrom 0 (length bs))) in
+      let bytes : sumOf (sizes blocks) ≤ n .store = omega arith in
+      rw (le-leb _ _ few, le-leb _ _ nodes, le-leb _ _ entries, le-leb _ _ bytes) refl
+
+  -- ── find ──
+
+  -- the same blocks in the same order, under their new numbers
+  pub kept-find : (t start stop : ℕ) → find e blocks (keptTree kind e bs tree w) t start stop ≡ map (placeIn numbers) (find e bs tree t start stop)
+  unfolding find
+  kept-find t s n =
+      rw (mapTree-path (placeIn numbers) t 0 e tree)
+      (window-map (placeIn numbers) (keyIn blocks) (keyIn bs) s n
+      (path-all t 0 e tree (all-map (λ k z. ap firstCell (kept-block kind e bs tree w k z)) (entries-kept kind e bs tree w))))
+
+  pub kept-visited : (t : ℕ) → visited t 0 e (keptTree kind e bs tree w) ≡ visited t 0 e tree
+  kept-visited t = mapTree-visited (placeIn numbers) t 0 e tree
+
+  -- ── cells ──
+
+  -- a block without entry has no life, and shows nothing
+  unkept-none : (t c k : ℕ) → k < length bs → has k (entriesIn tree) ≡ false → shows t c (blockAt bs k) ≡ none
+  unfolding shows
+  unkept-none t c k less z =
+      let none-left : life (blockAt bs k) ≡ 0 = sym (((rule23-decides e bs tree) .yes (w .rule-23)) .sums k less) ∙ widths-none k 0 e tree z in
+      let dead : live t (blockAt bs k) ≡ false =
+      ⊎-elim (λ h. within-low _ _ t h) (λ h. within-high (blockAt bs k .created) (blockAt bs k .destroyed) t (omega arith)) (lt-or-le t (blockAt bs k .created)) in
+      rw dead refl
+
+  -- every cell has the same bytes at every tick
+  pub kept-seen : (t cell : ℕ) → seen t cell blocks ≡ seen t cell bs
+  unfolding seen
+  kept-seen t c =
+      filterMap-map (shows t c) (blockAt bs) numbers
+      ∙ thoseWith-filterMap (λ k. shows t c (blockAt bs k)) (entriesIn tree) (all-map (λ k p z. unkept-none t c k (omega arith) z) (countFrom-below 0 (length bs)))
+      ∙ sym (filterMap-map (shows t c) (blockAt bs) (countFrom 0 (length bs)))
+      ∙ ap (filterMap (shows t c)) (map-blockAt bs)
