@@ -1,63 +1,36 @@
 -- An index that was written and loaded answers as the one that was written: find lists the same blocks in the same order under their new
 -- numbers and visits as many nodes, a block's new number gives the same block, and every cell has the same byte at every tick. Assumes nothing.
-use mathlib.Core.Path.{_≡_, refl, sym, _∙_, ap, ap₂}
-use mathlib.Core.Logic.{_⊎_, inl, inr, ⊎-elim}
-use mathlib.Core.Bool.{Bool, true, false, cond, true≢false}
-use mathlib.Core.Option.{Option, none, some, Option·elim}
-use mathlib.Core.List.{List, [], _∷_, _++_, map, filterMap}
-use Prim.Native.Nat.{ℕ, zero, suc, _+_, _-_, _≤_, _<_}
+use mathlib.Core.Path.{_≡_, refl, sym, _∙_, ap}
+use mathlib.Core.Logic.{⊎-elim}
+use mathlib.Core.Bool.{Bool, true, false, cond}
+use mathlib.Core.Option.{none}
+use mathlib.Core.List.{List, [], map, filterMap}
+use Prim.Native.Nat.{ℕ, _≤_, _<_}
 use native.Mathlib.Omega.{arith}
-use lib.ListN.{length, getD}
-use lib.Dec.{leb, ltb}
+use lib.ListN.{length}
+use lib.Dec.{ltb}
 use borrow.Author.Tests.{le-leb}
-use Rattle.lists.specs.Lists.{All, all-nil, all-cons, has, countFrom, sumOf}
-use Rattle.lists.proofs.Lists.{all-map, all-append, all-at, count-from-length}
-use Rattle.lists.proofs.Maps.{length-of-map, map-all, filterMap-cons, filterMap-all}
+use Rattle.lists.specs.Lists.{All, all-nil, has, countFrom, sumOf}
+use Rattle.lists.proofs.Lists.{all-map, all-append, count-from-length}
+use Rattle.lists.proofs.Maps.{length-of-map}
 use Rattle.lists.proofs.Numbers.{lt-or-le}
 use Rattle.history.specs.Words.{Block, size, life, live, firstCell}
 use Rattle.history.specs.Lent.{Lent, blockRows, nodeRows, entryRows}
-use Rattle.history.specs.Tree.{Tree, hole, node, mid, halves, blockAt, noBlock, keyIn, nodeCount, entryCount, entriesIn}
-use Rattle.history.specs.Find.{path, visited, window, find}
+use Rattle.history.specs.Tree.{Tree, hole, node, mid, halves, blockAt, keyIn, nodeCount, entryCount, entriesIn}
+use Rattle.history.specs.Find.{path, visited, find}
 use Rattle.history.specs.Reads.{shows, seen}
-use Rattle.history.specs.File.{thoseWith, written, placeIn, mapTree, nodesOf, contents, treeFrom, rule20}
-use Rattle.history.proofs.RulesLaws.{Rule23, rule23-decides}
+use Rattle.history.specs.File.{placeIn, nodesOf, contents, treeFrom, rule20}
+use Rattle.history.proofs.RulesLaws.{rule23-decides}
 use Rattle.history.proofs.TreePath.{within-low, within-high}
-use Rattle.history.proofs.FileWritten.{thoseWith-length, countFrom-below, treeFrom-nodesOf, map-blockAt, widths-none}
+use Rattle.history.proofs.FileLists.{map-map, filterMap-map, countFrom-below}
+use Rattle.history.proofs.FilePlaces.{withEntry-length, withEntry-sum, withEntry-filterMap}
+use Rattle.history.proofs.FileIntervals.{treeFrom-nodesOf}
 use Rattle.history.proofs.FileRenumbered.{entries-here, entries-left, entries-right, mapTree-nodeCount, mapTree-entryCount, mapTree-path, mapTree-visited, window-map}
-use Rattle.history.proofs.FileReloaded.{WholeBlock, Writable, kept, keptBlocks, keptTree, entries-kept, kept-block}
+use Rattle.history.proofs.FileEntered.{widths-none}
+use Rattle.history.proofs.FileContents.{map-blockAt}
+use Rattle.history.proofs.FileReloaded.{entries-kept, kept-block, kept, keptBlocks, keptTree, Writable}
 
 -- ── lists ──
-
-module _ {A B C : Type 0} where
-  pub map-map : (g : B → C) (f : A → B) (xs : List A) → map g (map f xs) ≡ map (λ (x : A). g (f x)) xs
-  map-map g f [] = refl
-  map-map g f (x ∷ xs) = ap (λ (r : List C). g (f x) ∷ r) (map-map g f xs)
-
-  pub filterMap-map : (g : B → Option C) (f : A → B) (xs : List A) → filterMap g (map f xs) ≡ filterMap (λ (x : A). g (f x)) xs
-  unfolding filterMap
-  filterMap-map g f [] = refl
-  filterMap-map g f (x ∷ xs) = ap (λ (r : List C). Option·elim (g (f x)) r (λ c. c ∷ r)) (filterMap-map g f xs)
-
-pub thoseWith-sum : (g : ℕ → ℕ) (es ks : List ℕ) → sumOf (map g (thoseWith es ks)) ≤ sumOf (map g ks)
-unfolding thoseWith sumOf
-thoseWith-sum g es [] = omega arith
-thoseWith-sum g es (k ∷ ks) = go (has k es) (thoseWith-sum g es ks)
-  where
-    go : (t : Bool) → sumOf (map g (thoseWith es ks)) ≤ sumOf (map g ks) → sumOf (map g (cond t (k ∷ thoseWith es ks) (thoseWith es ks))) ≤ g k + sumOf (map g ks)
-    go true h = omega arith
-    go false h = omega arith
-
--- what gives nothing may be left out
-pub thoseWith-filterMap : {A : Type 0} (g : ℕ → Option A) (es : List ℕ) {ks : List ℕ} → All (λ k. has k es ≡ false → g k ≡ none) ks
-    → filterMap g (thoseWith es ks) ≡ filterMap g ks
-unfolding thoseWith filterMap
-thoseWith-filterMap g es all-nil = refl
-thoseWith-filterMap {A} g es (all-cons {x} {xs} p ps) = go (has x es) refl (thoseWith-filterMap g es ps)
-  where
-    go : (t : Bool) → has x es ≡ t → filterMap g (thoseWith es xs) ≡ filterMap g xs
-        → filterMap g (cond t (x ∷ thoseWith es xs) (thoseWith es xs)) ≡ Option·elim (g x) (filterMap g xs) (λ a. a ∷ filterMap g xs)
-    go true h q = ap (λ (r : List A). Option·elim (g x) r (λ a. a ∷ r)) q
-    go false h q = rw (p h) q
 
 -- the way down meets entries of the tree
 pub path-all : {P : ℕ → Type 0} (t lo hi : ℕ) (T : Tree) → All P (entriesIn T) → All P (path t lo hi T)
@@ -89,13 +62,13 @@ module _ (kind e : ℕ) (bs : List Block) (tree : Tree) (w : Writable kind e bs 
       let new : Tree = keptTree kind e bs tree w in
       let sizes : List Block → List ℕ = map (λ b. size (b .stretch)) in
       let few : length blocks ≤ blockRows n =
-      rw (length-of-map (blockAt bs) numbers) (omega (arith, thoseWith-length (entriesIn tree) (countFrom 0 (length bs)), count-from-length 0 (length bs))) in
+      rw (length-of-map (blockAt bs) numbers) (omega (arith, withEntry-length (entriesIn tree) (countFrom 0 (length bs)), count-from-length 0 (length bs))) in
       let nodes : nodeCount (treeFrom (nodesOf 0 e new)) ≤ nodeRows n = rw (treeFrom-nodesOf 0 e new, mapTree-nodeCount (placeIn numbers) tree) b in
       let entries : entryCount (treeFrom (nodesOf 0 e new)) ≤ entryRows n = rw (treeFrom-nodesOf 0 e new, mapTree-entryCount (placeIn numbers) tree) c in
       let whole : sumOf (sizes (map (blockAt bs) (countFrom 0 (length bs)))) ≤ n .store = rw (map-blockAt bs) d in
       let less : sumOf (sizes blocks) ≤ sumOf (sizes (map (blockAt bs) (countFrom 0 (length bs)))) =
       rw (map-map (λ (b : Block). size (b .stretch)) (blockAt bs) numbers, map-map (λ (b : Block). size (b .stretch)) (blockAt bs) (countFrom 0 (length bs)))
-      (thoseWith-sum (λ k. size (blockAt bs k .stretch)) (entriesIn tree) (countFrom 0 (length bs))) in
+      (withEntry-sum (λ k. size (blockAt bs k .stretch)) (entriesIn tree) (countFrom 0 (length bs))) in
       let bytes : sumOf (sizes blocks) ≤ n .store = omega arith in
       rw (le-leb _ _ few, le-leb _ _ nodes, le-leb _ _ entries, le-leb _ _ bytes) refl
 
@@ -128,6 +101,6 @@ module _ (kind e : ℕ) (bs : List Block) (tree : Tree) (w : Writable kind e bs 
   unfolding seen
   kept-seen t c =
       filterMap-map (shows t c) (blockAt bs) numbers
-      ∙ thoseWith-filterMap (λ k. shows t c (blockAt bs k)) (entriesIn tree) (all-map (λ k p z. unkept-none t c k (omega arith) z) (countFrom-below 0 (length bs)))
+      ∙ withEntry-filterMap (λ k. shows t c (blockAt bs k)) (entriesIn tree) (all-map (λ k p z. unkept-none t c k (omega arith) z) (countFrom-below 0 (length bs)))
       ∙ sym (filterMap-map (shows t c) (blockAt bs) (countFrom 0 (length bs)))
       ∙ ap (filterMap (shows t c)) (map-blockAt bs)

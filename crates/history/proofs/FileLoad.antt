@@ -1,24 +1,27 @@
 -- Loading: what it answers, rule by rule; what is true of an index that it gives; a file that was written is read back, and a loaded index writes
 -- the bytes read. Assumes nothing.
 use mathlib.Core.Path.{_≡_, refl, sym, _∙_, ap}
-use mathlib.Core.Logic.{_⊎_, inl, inr, ⊎-elim}
-use mathlib.Core.Bool.{Bool, true, false, cond, _&&_}
+use mathlib.Core.Logic.{⊎-elim}
+use mathlib.Core.Bool.{Bool, true, false, _&&_}
 use mathlib.Core.List.{List, [], _∷_, _++_}
-use Prim.Native.Nat.{ℕ, zero, suc, _+_, _-_, _^_, _≤_, _<_}
+use Prim.Native.Nat.{ℕ, _+_, _-_, _≤_, _<_, _^_}
 use native.Mathlib.Omega.{arith}
 use lib.ListN.{length, take, drop}
 use lib.Dec.{leb, ltb}
 use borrow.Author.Tests.{ltb-true, lt-leb}
-use Rattle.lists.proofs.Numbers.{le-or-lt, and-left, and-right}
+use Rattle.lists.proofs.Numbers.{le-or-lt, and-left}
 use Rattle.history.specs.Words.{Block}
 use Rattle.history.specs.Lent.{Lent}
 use Rattle.history.specs.Tree.{Tree}
+use Rattle.history.specs.File.{nodesOf, contents, treeFrom, rule20, fileOf, fileBytes, Read, got, fault, _>>=_, onward, give, refuse_unless_, field, number, readFile, intervals, rule21, rule22, Loaded, load, File, endOf, loadedFrom}
 use Rattle.history.specs.Rules.{every, halved, filled, lived, rule23, apart}
-use Rattle.history.specs.File.{Nodes, File, fileBytes, contents, fileOf, nodesOf, Read, got, fault, Reader, onward, _>>=_, give, refuse_unless_, field, number, readFile, treeFrom, endOf, placedIn, rule20, rule21, rule22, Loaded, loadedFrom, load}
 use Rattle.history.proofs.FileNumbers.{Bytes}
-use Rattle.history.proofs.FileReads.{Stands, Reads, Spans, spans-taken, Yields, Yielded, got-value, got-next, fault-got}
-use Rattle.history.proofs.FileRoundTrip.{FileFits, reads-file, gives-file}
-use Rattle.history.proofs.FileWritten.{and-parts, nodesOf-treeFrom, Entered, contents-same, IndexFits, contents-fits, rules-enter}
+use Rattle.history.proofs.FileReads.{spans-taken, got-value, got-next, fault-got, Yielded}
+use Rattle.history.proofs.FileRoundTrip.{reads-file, gives-file, FileFits}
+use Rattle.history.proofs.FileLists.{and-parts}
+use Rattle.history.proofs.FileIntervals.{nodesOf-treeFrom}
+use Rattle.history.proofs.FileEntered.{rules-enter, Entered}
+use Rattle.history.proofs.FileContents.{contents-same, contents-fits, IndexFits}
 
 -- ── written and read ──
 
@@ -128,8 +131,8 @@ pub written-read : (file : List ℕ) → Bytes file → (at : ℕ) (f : File) (n
 unfolding rule21
 written-read file small at f next read halves some entered =
     let e : ℕ = endOf (f .nodes) in
-    let (range, rest) = and-parts (ltb 0 e && leb e (2 ^ 63)) (placedIn 0 e (f .nodes) && halved 0 e (treeFrom (f .nodes))) halves in
-    let nodes : nodesOf 0 e (treeFrom (f .nodes)) ≡ f .nodes = nodesOf-treeFrom 0 e (f .nodes) (and-left (placedIn 0 e (f .nodes)) (halved 0 e (treeFrom (f .nodes))) rest) in
+    let (range, rest) = and-parts (ltb 0 e && leb e (2 ^ 63)) (intervals 0 e (f .nodes) && halved 0 e (treeFrom (f .nodes))) halves in
+    let nodes : nodesOf 0 e (treeFrom (f .nodes)) ≡ f .nodes = nodesOf-treeFrom 0 e (f .nodes) (and-left (intervals 0 e (f .nodes)) (halved 0 e (treeFrom (f .nodes))) rest) in
     let says : contents (f .kind) e (f .blocks) (treeFrom (f .nodes)) ≡ f =
     contents-same (f .kind) e (f .blocks) (treeFrom (f .nodes)) entered ∙ (rw nodes refl) in
     let y : Yielded file (λ g w. FileFits g × (w ≡ fileBytes g)) at f next = (gives-file file small) .yields at f next (read-inside file at f next read) read in

@@ -1,10 +1,10 @@
 -- Numbers in bytes, for every width: the number of a number's bytes is the number, and the bytes of a number that was read are those read.
 -- Assumes nothing.
-use mathlib.Core.Path.{_≡_, refl, sym, _∙_, ap, ap₂}
+use mathlib.Core.Path.{_≡_, refl, _∙_, ap, ap₂}
 use mathlib.Core.List.{List, [], _∷_}
-use Prim.Native.Nat.{ℕ, zero, suc, _+_, _*_, _^_, _/_, _%_, _≤_, _<_}
-use native.Mathlib.Nat.{pow-suc}
+use Prim.Native.Nat.{ℕ, zero, suc, _+_, _<_, _^_, _*_, _/_, _%_}
 use native.Mathlib.Omega.{arith}
+use native.Mathlib.Nat.{pow-suc}
 use lib.ListN.{length}
 use Rattle.lists.specs.Lists.{All, all-nil, all-cons}
 use Rattle.history.specs.File.{bytesOf, numberOf}

@@ -1,20 +1,19 @@
 -- Bytes that stand in a file, and readers one after the other: what a reader gives of written bytes, and which bytes stand where a reader
 -- has succeeded. Assumes nothing.
-use mathlib.Core.Path.{_≡_, refl, sym, _∙_, ap, ap₂, subst}
-use mathlib.Core.Logic.{_⊎_, inl, inr, ⊎-elim}
+use mathlib.Core.Path.{_≡_, refl, sym, _∙_, ap}
 use mathlib.Core.Bool.{Bool, true, false, cond}
-use mathlib.Core.List.{List, [], _∷_, _++_, append-assoc, append-nil, flatMap}
-use Prim.Native.Nat.{ℕ, zero, suc, _+_, _*_, _-_, _^_, _≤_, _<_}
+use mathlib.Core.List.{List, [], _∷_, _++_, flatMap, append-assoc, append-nil}
+use Prim.Native.Nat.{ℕ, zero, suc, _+_, _-_, _≤_, _<_, _^_}
 use native.Mathlib.Omega.{arith}
-use lib.ListN.{length, take, drop, length-append, length-take, length-drop, take-append-drop}
-use lib.Seq.{take-at, drop-at, length-take-le}
+use lib.ListN.{length, take, drop, length-append, length-drop, take-append-drop}
 use lib.Dec.{leb}
-use borrow.Author.Tests.{leb-true, leb-false, le-leb}
-use Rattle.lists.specs.Lists.{All, all-nil, all-cons}
+use lib.Seq.{take-at, drop-at, length-take-le}
+use borrow.Author.Tests.{le-leb, leb-true}
+use Rattle.lists.specs.Lists.{All, all-nil, all-cons, count}
 use Rattle.lists.proofs.Lists.{all-left, all-right}
-use Rattle.lists.proofs.Numbers.{bool-cases}
-use Rattle.history.specs.File.{bytesOf, numberOf, Read, got, fault, Reader, onward, _>>=_, _>>_, give, refuse_unless_, field, number, many}
-use Rattle.history.proofs.FileNumbers.{Bytes, bytesOf-length, bytesOf-numberOf, numberOf-bytesOf, numberOf-below}
+use Rattle.history.specs.Words.{size}
+use Rattle.history.specs.File.{bytesOf, numberOf, Read, got, fault, _>>=_, onward, give, refuse_unless_, field, number, many, Reader, _>>_}
+use Rattle.history.proofs.FileNumbers.{bytesOf-length, numberOf-bytesOf, numberOf-below, bytesOf-numberOf, Bytes}
 
 -- ── bytes in a file ──
 

@@ -1,46 +1,22 @@
 -- A tree with other block numbers: where the blocks behind the numbers are the same, every rule holds as before. Assumes nothing.
 use mathlib.Core.Path.{_≡_, refl, sym, _∙_, ap, ap₂}
-use mathlib.Core.Bool.{Bool, true, false, cond, _&&_, _||_, not}
+use mathlib.Core.Bool.{Bool, true, cond, _&&_, not}
 use mathlib.Core.List.{List, [], _∷_, _++_, map}
-use Prim.Native.Nat.{ℕ, zero, suc, _+_, _*_, _-_, _≤_, _<_}
-use native.Mathlib.Omega.{arith}
-use lib.ListN.{length}
-use lib.Dec.{eqb, ltb}
-use Rattle.lists.specs.Lists.{All, all-nil, all-cons, count}
-use Rattle.lists.proofs.Lists.{all-map, all-both, all-left, all-right, all-of-map}
-use Rattle.lists.proofs.Maps.{map-append, length-of-map}
+use Prim.Native.Nat.{ℕ, _<_}
+use lib.Dec.{ltb, eqb}
+use borrow.Author.Tests.{ltb-true}
+use Rattle.lists.specs.Lists.{All, all-nil, all-cons}
+use Rattle.lists.proofs.Lists.{all-map, all-left, all-right, all-both, all-of-map}
+use Rattle.lists.proofs.Maps.{length-of-map, map-append}
 use Rattle.history.specs.Words.{Block, within}
-use Rattle.history.specs.Tree.{Tree, hole, node, mid, halves, covers, nodeCount, entryCount, entriesIn, widths}
+use Rattle.history.specs.Tree.{Tree, hole, node, mid, halves, nodeCount, entryCount, entriesIn, widths, covers}
 use Rattle.history.specs.Find.{path, visited, window}
-use Rattle.history.specs.Rules.{every, isHole, halved, numbered, placed, ascends, sorted}
 use Rattle.history.specs.File.{mapTree}
+use Rattle.history.specs.Rules.{every, halved, numbered, placed, sorted, isHole}
 use Rattle.history.proofs.RulesLaws.{decided, numbered-decides}
+use Rattle.history.proofs.FileLists.{and-three, every-all, map-same, map-cond, every-map, ascends-map, count-map}
 
 -- ── lists ──
-
-module _ {A B : Type 0} where
-  pub every-map : (f : A → B) (p : B → Bool) (q : A → Bool) {xs : List A} → All (λ x. p (f x) ≡ q x) xs → every p (map f xs) ≡ every q xs
-  unfolding every
-  every-map f p q all-nil = refl
-  every-map f p q (all-cons e es) = ap₂ (λ (a b : Bool). a && b) e (every-map f p q es)
-
-pub ascends-map : (f : ℕ → ℕ) (key′ key : ℕ → ℕ) {xs : List ℕ} → All (λ x. key′ (f x) ≡ key x) xs → ascends key′ (map f xs) ≡ ascends key xs
-unfolding ascends
-ascends-map f key′ key all-nil = refl
-ascends-map f key′ key (all-cons {x} {xs} e es) =
-    ap₂ (λ (a b : Bool). a && b)
-    (every-map f (λ y. ltb (key′ (f x)) (key′ y)) (λ y. ltb (key x) (key y)) (all-map (λ y d. ap₂ ltb e d) es))
-    (ascends-map f key′ key es)
-
-pub count-map : (f : ℕ → ℕ) (j i : ℕ) {xs : List ℕ} → All (λ x. eqb j (f x) ≡ eqb i x) xs → count j (map f xs) ≡ count i xs
-unfolding count
-count-map f j i all-nil = refl
-count-map f j i (all-cons e es) = ap₂ (λ (t : Bool) (n : ℕ). cond t 1 0 + n) e (count-map f j i es)
-
-module _ {A B : Type 0} where
-  pub map-cond : (f : A → B) (t : Bool) (xs ys : List A) → map f (cond t xs ys) ≡ cond t (map f xs) (map f ys)
-  map-cond f true xs ys = refl
-  map-cond f false xs ys = refl
 
 -- what holds of all entries holds of a node's own, and of those of its halves
 module _ {P : ℕ → Type 0} (es : List ℕ) (l r : Tree) where
@@ -137,3 +113,13 @@ module _ (f : ℕ → ℕ) where
   window-map key′ key s e all-nil = refl
   window-map key′ key s e (all-cons {x} {xs} d ds) =
       rw (d, window-map key′ key s e ds) (sym (map-cond f (within s e (key x)) (x ∷ window key s e xs) (window key s e xs)))
+
+pub mapTree-same : (f : ℕ → ℕ) (n : ℕ) (t : Tree) → ((k : ℕ) → k < n → f k ≡ k) → numbered n t ≡ true → mapTree f t ≡ t
+unfolding mapTree numbered
+mapTree-same f n hole h e = refl
+mapTree-same f n (node es l r) h e =
+    let (own, p, q) = and-three (every (λ k. ltb k n) es) (numbered n l) (numbered n r) e in
+    let entries : map f es ≡ es = map-same f (all-map (λ k z. h k (ltb-true k n z)) (every-all (λ k. ltb k n) es own)) in
+    let left : mapTree f l ≡ l = mapTree-same f n l h p in
+    let right : mapTree f r ≡ r = mapTree-same f n r h q in
+    cc

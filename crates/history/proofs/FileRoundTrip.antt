@@ -1,18 +1,19 @@
 -- A file that is written and read is the file, and the bytes of a file that was read are those read: block, nodes, file. Assumes nothing.
-use mathlib.Core.Path.{_≡_, refl, sym, _∙_, ap}
-use mathlib.Core.Bool.{Bool, true, false, cond}
-use mathlib.Core.List.{List, [], _∷_, _++_, flatMap, flatten, append-nil}
-use Prim.Native.Nat.{ℕ, zero, suc, _+_, _^_, _≤_, _<_}
+use mathlib.Core.Path.{_≡_, refl, _∙_, ap}
+use mathlib.Core.Bool.{true}
+use mathlib.Core.Option.{none}
+use mathlib.Core.List.{List, [], _++_, flatten, append-nil}
+use Prim.Native.Nat.{ℕ, zero, suc, _+_, _≤_, _<_, _^_}
 use native.Mathlib.Omega.{arith}
 use lib.ListN.{length, length-append}
 use lib.Dec.{leb, eqb}
-use borrow.Author.Tests.{leb-true, le-leb, eqb-true, eqb-false, eq-eqb}
-use Rattle.lists.specs.Lists.{All, all-nil, all-cons}
+use borrow.Author.Tests.{le-leb, leb-true, eqb-true, eqb-false, eq-eqb}
+use Rattle.lists.specs.Lists.{All}
 use Rattle.lists.proofs.Lists.{all-map}
 use Rattle.history.specs.Words.{Block, size, firstCell}
-use Rattle.history.specs.File.{Nodes, absent, present, File, bytesOf, blockBytes, nodeBytes, fileBytes, Read, got, fault, Reader, onward, _>>=_, give, number, field, many, readBlock, readNodes, readRoot, readFile}
-use Rattle.history.proofs.FileNumbers.{Bytes, bytesOf-length}
-use Rattle.history.proofs.FileReads.{Stands, stands-fits, Reads, reads-give, reads-bind, reads-check, reads-field, reads-number, reads-many, Spans, Yields, Gives, yields-give, yields-check, yields-cond, yields-bind, fault-got, gives-field, gives-number, gives-many}
+use Rattle.history.specs.File.{fileBytes, blockBytes, nodeBytes, bytesOf, number, readBlock, readNodes, readRoot, readFile, Nodes, File, absent, present}
+use Rattle.history.proofs.FileNumbers.{bytesOf-length, Bytes}
+use Rattle.history.proofs.FileReads.{stands-fits, reads-give, reads-bind, reads-check, reads-field, reads-number, reads-many, fault-got, yields-give, yields-check, yields-cond, yields-bind, gives-field, gives-many, gives-number, Gives, Reads}
 
 -- ── every number fits its field ──
 

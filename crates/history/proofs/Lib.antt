@@ -1,9 +1,3 @@
-pub mod FileBoards
-pub mod FileNumbers
-pub mod FileReads
-pub mod FileRoundTrip
-pub mod FileWritten
-pub mod FileLoad
 pub mod Within
 pub mod Clip
 pub mod Seen
@@ -24,6 +18,16 @@ pub mod TreeWidths
 pub mod TreePlaced
 pub mod TreeSorted
 pub mod FindMet
+pub mod FileLists
+pub mod FileNumbers
+pub mod FileReads
+pub mod FileRoundTrip
+pub mod FilePlaces
+pub mod FileIntervals
 pub mod FileRenumbered
+pub mod FileEntered
+pub mod FileContents
+pub mod FileLoad
 pub mod FileReloaded
 pub mod FileAlike
+pub mod FileBoards

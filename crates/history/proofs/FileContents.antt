@@ -1,0 +1,72 @@
+-- What the file of a closed index says: where every block has an entry, the blocks as they stand; and every number fits its field. Assumes nothing.
+use mathlib.Core.Path.{_≡_, refl, _∙_, ap}
+use mathlib.Core.List.{List, map}
+use Prim.Native.Nat.{ℕ, _≤_, _<_, _^_}
+use native.Mathlib.Omega.{arith}
+use lib.ListN.{length}
+use lib.Seq.{ext-getD}
+use Rattle.lists.specs.Lists.{All, countFrom}
+use Rattle.lists.proofs.Lists.{all-map, all-at, count-from-length, all-of-map, count-from-at, all-any}
+use Rattle.lists.proofs.Maps.{length-of-map, getD-of-map}
+use Rattle.history.specs.Words.{Block}
+use Rattle.history.specs.Tree.{Tree, hole, node, mid, blockAt, noBlock, entryCount, entriesIn}
+use Rattle.history.specs.File.{written, placeIn, mapTree, nodesOf, contents}
+use Rattle.history.proofs.FileRoundTrip.{BlockFits, NodesFit, FileFits, absent-fits, present-fits}
+use Rattle.history.proofs.FileLists.{countFrom-below}
+use Rattle.history.proofs.FilePlaces.{withEntry-all, withEntry-length, withEntry-same, placeIn-below, placeIn-countFrom}
+use Rattle.history.proofs.FileRenumbered.{mapTree-same}
+use Rattle.history.proofs.FileEntered.{Entered}
+
+-- ── the blocks as they stand ──
+
+pub map-blockAt : (bs : List Block) → map (blockAt bs) (countFrom 0 (length bs)) ≡ bs
+map-blockAt bs =
+    ext-getD noBlock (map (blockAt bs) (countFrom 0 (length bs))) bs same
+    (λ i h.
+    let small : i < length (countFrom 0 (length bs)) = rw (length-of-map (blockAt bs) (countFrom 0 (length bs))) at h in
+    let less : i < length bs = rw (count-from-length 0 (length bs)) at small in
+    getD-of-map (blockAt bs) (countFrom 0 (length bs)) i 0 noBlock small ∙ ap (blockAt bs) (count-from-at 0 (length bs) i less ∙ omega arith))
+  where
+    same : length (map (blockAt bs) (countFrom 0 (length bs))) ≡ length bs
+    same = length-of-map (blockAt bs) (countFrom 0 (length bs)) ∙ count-from-length 0 (length bs)
+
+-- then the file says the blocks as they stand
+pub contents-same : (kind e : ℕ) (bs : List Block) (tree : Tree) → Entered bs tree
+    → contents kind e bs tree ≡ record { kind = kind; blocks = bs; nodes = nodesOf 0 e tree }
+unfolding contents
+contents-same kind e bs tree h =
+    let all : written (length bs) tree ≡ countFrom 0 (length bs) = withEntry-same (entriesIn tree) (h .entered) in
+    let as-they-are : mapTree (placeIn (countFrom 0 (length bs))) tree ≡ tree =
+    mapTree-same (placeIn (countFrom 0 (length bs))) (length bs) tree (λ k p. placeIn-countFrom 0 (length bs) k (omega arith) (omega arith) ∙ omega arith) (h .numbers) in
+    rw (all, as-they-are, map-blockAt bs) refl
+
+-- ── every number fits its field ──
+
+pub nodes-fit : (f : ℕ → ℕ) → ((k : ℕ) → f k < 2 ^ 64) → (lo hi : ℕ) → lo < 2 ^ 64 → hi < 2 ^ 64
+    → (t : Tree) → entryCount t < 2 ^ 64 → NodesFit (nodesOf lo hi (mapTree f t))
+unfolding nodesOf mapTree entryCount
+nodes-fit f small lo hi a b hole h = absent-fits
+nodes-fit f small lo hi a b (node es l r) h =
+    let c : mid lo hi < 2 ^ 64 = omega arith in
+    let few : length (map f es) < 2 ^ 64 = rw (length-of-map f es) (omega arith) in
+    present-fits a b c few (all-of-map f (all-any es small)) (nodes-fit f small lo (mid lo hi) a c l (omega arith)) (nodes-fit f small (mid lo hi) hi c b r (omega arith))
+
+-- what is written of an index fits if its blocks do, and the counts
+pub record IndexFits (kind end : ℕ) (bs : List Block) (tree : Tree) : Type 0 where
+  pub kindly : kind ≤ 4
+  pub last : end < 2 ^ 64
+  pub count : length bs < 2 ^ 64
+  pub entries : entryCount tree < 2 ^ 64
+  pub blocks : All (BlockFits kind) bs
+
+pub contents-fits : (kind e : ℕ) (bs : List Block) (tree : Tree) → IndexFits kind e bs tree → FileFits (contents kind e bs tree)
+unfolding contents
+contents-fits kind e bs tree h =
+    let ks : List ℕ = written (length bs) tree in
+    let few : length ks ≤ length bs = rw (count-from-length 0 (length bs)) at (withEntry-length (entriesIn tree) (countFrom 0 (length bs))) in
+    record {
+      kindly = h .kindly;
+      count = rw (length-of-map (blockAt bs) ks) (omega (arith, h .count));
+      blocks = all-of-map (blockAt bs) (withEntry-all (entriesIn tree) (all-map (λ k p. all-at noBlock (h .blocks) k (omega arith)) (countFrom-below 0 (length bs))));
+      nodes = nodes-fit (placeIn ks) (λ k. omega (arith, placeIn-below ks k, h .count)) 0 e (omega arith) (h .last) tree (h .entries);
+    }

@@ -1,0 +1,43 @@
+-- The nodes of a tree with their intervals, as they are written, and rule 21. Assumes nothing.
+use mathlib.Core.Path.{_≡_, refl, ap₂}
+use mathlib.Core.Bool.{true, false, true≢false, _&&_}
+use Prim.Native.Nat.{ℕ, _≤_, _<_, _^_}
+use lib.Dec.{eqb}
+use borrow.Author.Tests.{le-leb, eqb-true, eq-eqb, lt-ltb}
+use Rattle.history.specs.Tree.{Tree, hole, node, mid}
+use Rattle.history.specs.File.{nodesOf, treeFrom, intervals, rule21, Nodes, endOf, absent, present}
+use Rattle.history.specs.Rules.{halved, isHole}
+use Rattle.history.proofs.FileLists.{and-parts, and-three}
+
+pub treeFrom-nodesOf : (lo hi : ℕ) (t : Tree) → treeFrom (nodesOf lo hi t) ≡ t
+unfolding treeFrom nodesOf
+treeFrom-nodesOf lo hi hole = refl
+treeFrom-nodesOf lo hi (node es l r) = ap₂ (node es) (treeFrom-nodesOf lo (mid lo hi) l) (treeFrom-nodesOf (mid lo hi) hi r)
+
+pub intervals-nodesOf : (lo hi : ℕ) (t : Tree) → intervals lo hi (nodesOf lo hi t) ≡ true
+unfolding intervals nodesOf
+intervals-nodesOf lo hi hole = refl
+intervals-nodesOf lo hi (node es l r) =
+    rw (eq-eqb lo lo refl, eq-eqb hi hi refl, eq-eqb (mid lo hi) (mid lo hi) refl, intervals-nodesOf lo (mid lo hi) l, intervals-nodesOf (mid lo hi) hi r) refl
+
+-- nodes that stand in their intervals are those of their tree
+pub nodesOf-treeFrom : (lo hi : ℕ) (t : Nodes) → intervals lo hi t ≡ true → nodesOf lo hi (treeFrom t) ≡ t
+unfolding treeFrom nodesOf intervals
+nodesOf-treeFrom lo hi absent h = refl
+nodesOf-treeFrom lo hi (present min max middle es l r) h =
+    let (own, below) = and-parts (eqb min lo && (eqb max hi && eqb middle (mid lo hi))) (intervals lo (mid lo hi) l && intervals (mid lo hi) hi r) h in
+    let (p, q) = and-parts (intervals lo (mid lo hi) l) (intervals (mid lo hi) hi r) below in
+    let (a, b, c) = and-three (eqb min lo) (eqb max hi) (eqb middle (mid lo hi)) own in
+    rw (eqb-true min lo a, eqb-true max hi b, eqb-true middle (mid lo hi) c)
+    (ap₂ (present lo hi (mid lo hi) es) (nodesOf-treeFrom lo (mid lo hi) l p) (nodesOf-treeFrom (mid lo hi) hi r q))
+
+pub endOf-nodesOf : (lo hi : ℕ) (t : Tree) → isHole t ≡ false → endOf (nodesOf lo hi t) ≡ hi
+unfolding nodesOf
+endOf-nodesOf lo hi hole h = absurd (true≢false h)
+endOf-nodesOf lo hi (node es l r) h = refl
+
+-- a tree with a root, halved where it has halves, is written as rule 21 wants it
+pub nodesOf-rule21 : (e : ℕ) (t : Tree) → 0 < e → e ≤ 2 ^ 63 → isHole t ≡ false → halved 0 e t ≡ true → rule21 (nodesOf 0 e t) ≡ true
+unfolding rule21
+nodesOf-rule21 e t some most root h =
+    rw (endOf-nodesOf 0 e t root, lt-ltb 0 e some, le-leb e (2 ^ 63) most, intervals-nodesOf 0 e t, treeFrom-nodesOf 0 e t, h) refl

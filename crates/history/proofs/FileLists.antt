@@ -1,0 +1,142 @@
+-- Laws of lists, and of tests over lists, that the file's laws use. Assumes nothing.
+use mathlib.Core.Path.{_≡_, refl, sym, ap, ap₂}
+use mathlib.Core.Logic.{_⊎_, inl, inr, ⊎-elim}
+use mathlib.Core.Bool.{Bool, true, false, cond, _&&_, _||_, false≢true}
+use mathlib.Core.Option.{Option, Option·elim}
+use mathlib.Core.List.{List, [], _∷_, _++_, map, filterMap}
+use Prim.Native.Nat.{ℕ, zero, suc, _+_, _≤_, _<_}
+use native.Mathlib.Omega.{arith}
+use lib.Dec.{ltb, eqb}
+use borrow.Author.Tests.{eq-eqb, ne-eqb}
+use Rattle.lists.specs.Lists.{All, all-nil, all-cons, has, countFrom, count, Pairs, pairs-nil, pairs-cons, Mem, here, there}
+use Rattle.lists.proofs.Lists.{all-map, all-of-map}
+use Rattle.lists.proofs.Numbers.{and-left, and-right, and-both, eq-or-ne, or-left, or-right}
+use Rattle.history.specs.File.{many}
+use Rattle.history.specs.Rules.{every, ascends}
+
+-- ── tests ──
+
+pub and-parts : (a b : Bool) → (a && b) ≡ true → (a ≡ true) × (b ≡ true)
+and-parts a b e = (and-left a b e, and-right a b e)
+
+pub and-three : (a b c : Bool) → (a && (b && c)) ≡ true → (a ≡ true) × (b ≡ true) × (c ≡ true)
+and-three a b c e = (and-left a (b && c) e, and-left b c (and-right a (b && c) e), and-right b c (and-right a (b && c) e))
+
+pub or-true : (a b : Bool) → b ≡ true → (a || b) ≡ true
+or-true true b e = refl
+or-true false b e = e
+
+-- ── maps ──
+
+module _ {A : Type 0} where
+  pub every-all : (f : A → Bool) (xs : List A) → every f xs ≡ true → All (λ x. f x ≡ true) xs
+  unfolding every
+  every-all f [] e = all-nil
+  every-all f (x ∷ xs) e = all-cons (and-left (f x) (every f xs) e) (every-all f xs (and-right (f x) (every f xs) e))
+
+  pub all-every : (f : A → Bool) {xs : List A} → All (λ x. f x ≡ true) xs → every f xs ≡ true
+  unfolding every
+  all-every f all-nil = refl
+  all-every f (all-cons {x} {xs} p ps) = and-both (f x) (every f xs) p (all-every f ps)
+
+  pub map-same : (f : A → A) {xs : List A} → All (λ x. f x ≡ x) xs → map f xs ≡ xs
+  map-same f all-nil = refl
+  map-same f (all-cons p ps) = ap₂ (λ (y : A) (ys : List A). y ∷ ys) p (map-same f ps)
+
+module _ {A B C : Type 0} where
+  pub map-map : (g : B → C) (f : A → B) (xs : List A) → map g (map f xs) ≡ map (λ (x : A). g (f x)) xs
+  map-map g f [] = refl
+  map-map g f (x ∷ xs) = ap (λ (r : List C). g (f x) ∷ r) (map-map g f xs)
+
+  pub filterMap-map : (g : B → Option C) (f : A → B) (xs : List A) → filterMap g (map f xs) ≡ filterMap (λ (x : A). g (f x)) xs
+  unfolding filterMap
+  filterMap-map g f [] = refl
+  filterMap-map g f (x ∷ xs) = ap (λ (r : List C). Option·elim (g (f x)) r (λ c. c ∷ r)) (filterMap-map g f xs)
+
+module _ {A B : Type 0} where
+  pub map-cond : (f : A → B) (t : Bool) (xs ys : List A) → map f (cond t xs ys) ≡ cond t (map f xs) (map f ys)
+  map-cond f true xs ys = refl
+  map-cond f false xs ys = refl
+
+module _ {A B : Type 0} where
+  pub pairs-of-map : {R : B → B → Type 0} (f : A → B) {xs : List A} → Pairs (λ (x y : A). R (f x) (f y)) xs → Pairs R (map f xs)
+  pairs-of-map f pairs-nil = pairs-nil
+  pairs-of-map f (pairs-cons a p) = pairs-cons (all-of-map f a) (pairs-of-map f p)
+
+-- ── numbers in a list ──
+
+-- the first number, or another one of the rest
+pub has-cons : (k x : ℕ) (xs : List ℕ) → has k (x ∷ xs) ≡ true → (k ≡ x) ⊎ ((k ≡ x → ⊥) × (has k xs ≡ true))
+unfolding has
+has-cons k x xs h = ⊎-elim (λ e. inl e) (λ e. inr (e, rw (ne-eqb k x e) at h)) (eq-or-ne k x)
+
+pub has-append : (k : ℕ) (xs ys : List ℕ) → has k (xs ++ ys) ≡ (has k xs || has k ys)
+unfolding has
+has-append k [] ys = refl
+has-append k (x ∷ xs) ys = rw (has-append k xs ys) (sym (or-assoc (eqb k x) (has k xs) (has k ys)))
+  where
+    or-assoc : (a b c : Bool) → ((a || b) || c) ≡ (a || (b || c))
+    or-assoc true b c = refl
+    or-assoc false b c = refl
+
+pub mem-has : {k : ℕ} {xs : List ℕ} → Mem k xs → has k xs ≡ true
+unfolding has
+mem-has {k} (here {y} e) = rw (eq-eqb k y e) refl
+mem-has {k} (there {y} {ys} m) = or-true (eqb k y) (has k ys) (mem-has m)
+
+pub count-none : (k : ℕ) (xs : List ℕ) → has k xs ≡ false → count k xs ≡ 0
+unfolding has count
+count-none k [] h = refl
+count-none k (x ∷ xs) h = rw (or-left (eqb k x) (has k xs) h, count-none k xs (or-right (eqb k x) (has k xs) h)) refl
+
+pub count-some : (k : ℕ) (xs : List ℕ) → has k xs ≡ true → 0 < count k xs
+unfolding has count
+count-some k [] h = absurd (false≢true h)
+count-some k (x ∷ xs) h =
+    elim (has-cons k x xs h) [
+      | inl e ↦ rw (eq-eqb k x e) (omega arith)
+      | inr z ↦ (let later : 0 < count k xs = count-some k xs (z .1) in omega arith)
+    ]
+
+-- ── numbers that follow one another ──
+
+pub countFrom-below : (n many : ℕ) → All (λ k. (n ≤ k) × (k < n + many)) (countFrom n many)
+unfolding countFrom
+countFrom-below n zero = all-nil
+countFrom-below n (suc many) =
+    let here : (n ≤ n) × (n < n + suc many) = omega arith in
+    all-cons here (all-map (λ k p. (omega arith, omega arith)) (countFrom-below (suc n) many))
+
+pub has-countFrom : (k n many : ℕ) → n ≤ k → k < n + many → has k (countFrom n many) ≡ true
+unfolding has countFrom
+has-countFrom k n zero a b = absurd (omega arith)
+has-countFrom k n (suc many) a b =
+    ⊎-elim (λ e. rw (eq-eqb k n e) refl) (λ e. rw (ne-eqb k n e, has-countFrom k (suc n) many (omega arith) (omega arith)) refl) (eq-or-ne k n)
+
+pub countFrom-pairs : {R : ℕ → ℕ → Type 0} (n many : ℕ) → ((i j : ℕ) → n ≤ i → i < j → j < n + many → R i j) → Pairs R (countFrom n many)
+unfolding countFrom
+countFrom-pairs n zero f = pairs-nil
+countFrom-pairs n (suc many) f =
+    pairs-cons (all-map (λ j p. f n j (omega arith) (omega arith) (omega arith)) (countFrom-below (suc n) many))
+    (countFrom-pairs (suc n) many (λ i j a b c. f i j (omega arith) b (omega arith)))
+
+-- ── tests of a mapped list ──
+
+module _ {A B : Type 0} where
+  pub every-map : (f : A → B) (p : B → Bool) (q : A → Bool) {xs : List A} → All (λ x. p (f x) ≡ q x) xs → every p (map f xs) ≡ every q xs
+  unfolding every
+  every-map f p q all-nil = refl
+  every-map f p q (all-cons e es) = ap₂ (λ (a b : Bool). a && b) e (every-map f p q es)
+
+pub ascends-map : (f : ℕ → ℕ) (key′ key : ℕ → ℕ) {xs : List ℕ} → All (λ x. key′ (f x) ≡ key x) xs → ascends key′ (map f xs) ≡ ascends key xs
+unfolding ascends
+ascends-map f key′ key all-nil = refl
+ascends-map f key′ key (all-cons {x} {xs} e es) =
+    ap₂ (λ (a b : Bool). a && b)
+    (every-map f (λ y. ltb (key′ (f x)) (key′ y)) (λ y. ltb (key x) (key y)) (all-map (λ y d. ap₂ ltb e d) es))
+    (ascends-map f key′ key es)
+
+pub count-map : (f : ℕ → ℕ) (j i : ℕ) {xs : List ℕ} → All (λ x. eqb j (f x) ≡ eqb i x) xs → count j (map f xs) ≡ count i xs
+unfolding count
+count-map f j i all-nil = refl
+count-map f j i (all-cons e es) = ap₂ (λ (t : Bool) (n : ℕ). cond t 1 0 + n) e (count-map f j i es)
