@@ -19,7 +19,7 @@ use Rattle.history.specs.Lent.{Lent, blockRows, nodeRows, entryRows}
 use Rattle.history.specs.Tree.{Tree, hole, node, mid, halves, blockAt, keyIn, nodeCount, entryCount, entriesIn}
 use Rattle.history.specs.Find.{path, visited, find}
 use Rattle.history.specs.Reads.{shows, seen}
-use Rattle.history.specs.File.{placeIn, nodesOf, contents, treeFrom, rule20}
+use Rattle.history.specs.File.{placeIn, nodesOf, contents, treeFrom, rule20, written, writtenBlocks, renumbered}
 use Rattle.history.proofs.RulesLaws.{rule23-decides}
 use Rattle.history.proofs.TreePath.{within-low, within-high}
 use Rattle.history.proofs.FileLists.{map-map, filterMap-map, countFrom-below}
@@ -28,7 +28,7 @@ use Rattle.history.proofs.FileIntervals.{treeFrom-nodesOf}
 use Rattle.history.proofs.FileRenumbered.{entries-here, entries-left, entries-right, mapTree-nodeCount, mapTree-entryCount, mapTree-path, mapTree-visited, window-map}
 use Rattle.history.proofs.FileEntered.{widths-none}
 use Rattle.history.proofs.FileContents.{map-blockAt}
-use Rattle.history.proofs.FileReloaded.{entries-kept, kept-block, kept, keptBlocks, keptTree, Writable}
+use Rattle.history.proofs.FileReloaded.{entries-kept, kept-block, Writable}
 
 -- ── lists ──
 
@@ -46,12 +46,6 @@ path-all {P} t lo hi (node es l r) h =
     below false left a b = all-nil
 
 module _ (kind e : ℕ) (bs : List Block) (tree : Tree) (w : Writable kind e bs tree) where
-  abbrev numbers : List ℕ
-  numbers = kept kind e bs tree w
-
-  abbrev blocks : List Block
-  blocks = keptBlocks kind e bs tree w
-
   -- ── room ──
 
   -- tables in which the index stands have room for what is written of it
@@ -59,31 +53,31 @@ module _ (kind e : ℕ) (bs : List Block) (tree : Tree) (w : Writable kind e bs 
       → sumOf (map (λ b. size (b .stretch)) bs) ≤ n .store → rule20 n (contents kind e bs tree) ≡ true
   unfolding rule20 contents
   kept-room n a b c d =
-      let new : Tree = keptTree kind e bs tree w in
+      let new : Tree = renumbered bs tree in
       let sizes : List Block → List ℕ = map (λ b. size (b .stretch)) in
-      let few : length blocks ≤ blockRows n =
-      rw (length-of-map (blockAt bs) numbers) (omega (arith, withEntry-length (entriesIn tree) (countFrom 0 (length bs)), count-from-length 0 (length bs))) in
-      let nodes : nodeCount (treeFrom (nodesOf 0 e new)) ≤ nodeRows n = rw (treeFrom-nodesOf 0 e new, mapTree-nodeCount (placeIn numbers) tree) b in
-      let entries : entryCount (treeFrom (nodesOf 0 e new)) ≤ entryRows n = rw (treeFrom-nodesOf 0 e new, mapTree-entryCount (placeIn numbers) tree) c in
+      let few : length (writtenBlocks bs tree) ≤ blockRows n =
+      rw (length-of-map (blockAt bs) (written bs tree)) (omega (arith, withEntry-length (entriesIn tree) (countFrom 0 (length bs)), count-from-length 0 (length bs))) in
+      let nodes : nodeCount (treeFrom (nodesOf 0 e new)) ≤ nodeRows n = rw (treeFrom-nodesOf 0 e new, mapTree-nodeCount (placeIn (written bs tree)) tree) b in
+      let entries : entryCount (treeFrom (nodesOf 0 e new)) ≤ entryRows n = rw (treeFrom-nodesOf 0 e new, mapTree-entryCount (placeIn (written bs tree)) tree) c in
       let whole : sumOf (sizes (map (blockAt bs) (countFrom 0 (length bs)))) ≤ n .store = rw (map-blockAt bs) d in
-      let less : sumOf (sizes blocks) ≤ sumOf (sizes (map (blockAt bs) (countFrom 0 (length bs)))) =
-      rw (map-map (λ (b : Block). size (b .stretch)) (blockAt bs) numbers, map-map (λ (b : Block). size (b .stretch)) (blockAt bs) (countFrom 0 (length bs)))
+      let less : sumOf (sizes (writtenBlocks bs tree)) ≤ sumOf (sizes (map (blockAt bs) (countFrom 0 (length bs)))) =
+      rw (map-map (λ (b : Block). size (b .stretch)) (blockAt bs) (written bs tree), map-map (λ (b : Block). size (b .stretch)) (blockAt bs) (countFrom 0 (length bs)))
       (withEntry-sum (λ k. size (blockAt bs k .stretch)) (entriesIn tree) (countFrom 0 (length bs))) in
-      let bytes : sumOf (sizes blocks) ≤ n .store = omega arith in
+      let bytes : sumOf (sizes (writtenBlocks bs tree)) ≤ n .store = omega arith in
       rw (le-leb _ _ few, le-leb _ _ nodes, le-leb _ _ entries, le-leb _ _ bytes) refl
 
   -- ── find ──
 
   -- the same blocks in the same order, under their new numbers
-  pub kept-find : (t start stop : ℕ) → find e blocks (keptTree kind e bs tree w) t start stop ≡ map (placeIn numbers) (find e bs tree t start stop)
+  pub kept-find : (t start stop : ℕ) → find e (writtenBlocks bs tree) (renumbered bs tree) t start stop ≡ map (placeIn (written bs tree)) (find e bs tree t start stop)
   unfolding find
   kept-find t s n =
-      rw (mapTree-path (placeIn numbers) t 0 e tree)
-      (window-map (placeIn numbers) (keyIn blocks) (keyIn bs) s n
+      rw (mapTree-path (placeIn (written bs tree)) t 0 e tree)
+      (window-map (placeIn (written bs tree)) (keyIn (writtenBlocks bs tree)) (keyIn bs) s n
       (path-all t 0 e tree (all-map (λ k z. ap firstCell (kept-block kind e bs tree w k z)) (entries-kept kind e bs tree w))))
 
-  pub kept-visited : (t : ℕ) → visited t 0 e (keptTree kind e bs tree w) ≡ visited t 0 e tree
-  kept-visited t = mapTree-visited (placeIn numbers) t 0 e tree
+  pub kept-visited : (t : ℕ) → visited t 0 e (renumbered bs tree) ≡ visited t 0 e tree
+  kept-visited t = mapTree-visited (placeIn (written bs tree)) t 0 e tree
 
   -- ── cells ──
 
@@ -97,10 +91,10 @@ module _ (kind e : ℕ) (bs : List Block) (tree : Tree) (w : Writable kind e bs 
       rw dead refl
 
   -- every cell has the same bytes at every tick
-  pub kept-seen : (t cell : ℕ) → seen t cell blocks ≡ seen t cell bs
+  pub kept-seen : (t cell : ℕ) → seen t cell (writtenBlocks bs tree) ≡ seen t cell bs
   unfolding seen
   kept-seen t c =
-      filterMap-map (shows t c) (blockAt bs) numbers
+      filterMap-map (shows t c) (blockAt bs) (written bs tree)
       ∙ withEntry-filterMap (λ k. shows t c (blockAt bs k)) (entriesIn tree) (all-map (λ k p z. unkept-none t c k (omega arith) z) (countFrom-below 0 (length bs)))
       ∙ sym (filterMap-map (shows t c) (blockAt bs) (countFrom 0 (length bs)))
       ∙ ap (filterMap (shows t c)) (map-blockAt bs)

@@ -6,11 +6,11 @@ use native.Mathlib.Omega.{arith}
 use lib.ListN.{length}
 use lib.Seq.{ext-getD}
 use Rattle.lists.specs.Lists.{All, countFrom}
-use Rattle.lists.proofs.Lists.{all-map, all-at, count-from-length, all-of-map, count-from-at, all-any}
+use Rattle.lists.proofs.Lists.{all-map, count-from-length, all-at, all-of-map, count-from-at, all-any}
 use Rattle.lists.proofs.Maps.{length-of-map, getD-of-map}
 use Rattle.history.specs.Words.{Block}
-use Rattle.history.specs.Tree.{Tree, hole, node, mid, blockAt, noBlock, entryCount, entriesIn}
-use Rattle.history.specs.File.{written, placeIn, mapTree, nodesOf, contents}
+use Rattle.history.specs.Tree.{Tree, hole, node, mid, blockAt, entryCount, entriesIn, noBlock}
+use Rattle.history.specs.File.{placeIn, nodesOf, contents, mapTree, written}
 use Rattle.history.proofs.FileRoundTrip.{BlockFits, NodesFit, FileFits, absent-fits, present-fits}
 use Rattle.history.proofs.FileLists.{countFrom-below}
 use Rattle.history.proofs.FilePlaces.{withEntry-all, withEntry-length, withEntry-same, placeIn-below, placeIn-countFrom}
@@ -19,6 +19,7 @@ use Rattle.history.proofs.FileEntered.{Entered}
 
 -- ── the blocks as they stand ──
 
+-- the blocks by their numbers
 pub map-blockAt : (bs : List Block) → map (blockAt bs) (countFrom 0 (length bs)) ≡ bs
 map-blockAt bs =
     ext-getD noBlock (map (blockAt bs) (countFrom 0 (length bs))) bs same
@@ -30,15 +31,16 @@ map-blockAt bs =
     same : length (map (blockAt bs) (countFrom 0 (length bs))) ≡ length bs
     same = length-of-map (blockAt bs) (countFrom 0 (length bs)) ∙ count-from-length 0 (length bs)
 
--- then the file says the blocks as they stand
+-- where every block has an entry, nothing is renumbered
 pub contents-same : (kind e : ℕ) (bs : List Block) (tree : Tree) → Entered bs tree
     → contents kind e bs tree ≡ record { kind = kind; blocks = bs; nodes = nodesOf 0 e tree }
 unfolding contents
 contents-same kind e bs tree h =
-    let all : written (length bs) tree ≡ countFrom 0 (length bs) = withEntry-same (entriesIn tree) (h .entered) in
-    let as-they-are : mapTree (placeIn (countFrom 0 (length bs))) tree ≡ tree =
-    mapTree-same (placeIn (countFrom 0 (length bs))) (length bs) tree (λ k p. placeIn-countFrom 0 (length bs) k (omega arith) (omega arith) ∙ omega arith) (h .numbers) in
-    rw (all, as-they-are, map-blockAt bs) refl
+    let numbers : List ℕ = countFrom 0 (length bs) in
+    let all : written bs tree ≡ numbers = withEntry-same (entriesIn tree) (h .entered) in
+    let stays : mapTree (placeIn numbers) tree ≡ tree =
+    mapTree-same (placeIn numbers) tree (all-map (λ k p. placeIn-countFrom 0 (length bs) k (omega arith) (omega arith) ∙ omega arith) (h .numbers)) in
+    rw (all, stays, map-blockAt bs) refl
 
 -- ── every number fits its field ──
 
@@ -62,7 +64,7 @@ pub record IndexFits (kind end : ℕ) (bs : List Block) (tree : Tree) : Type 0 w
 pub contents-fits : (kind e : ℕ) (bs : List Block) (tree : Tree) → IndexFits kind e bs tree → FileFits (contents kind e bs tree)
 unfolding contents
 contents-fits kind e bs tree h =
-    let ks : List ℕ = written (length bs) tree in
+    let ks : List ℕ = written bs tree in
     let few : length ks ≤ length bs = rw (count-from-length 0 (length bs)) at (withEntry-length (entriesIn tree) (countFrom 0 (length bs))) in
     record {
       kindly = h .kindly;

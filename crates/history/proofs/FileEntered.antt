@@ -1,25 +1,24 @@
 -- Which blocks have an entry: a block without one has no width in the tree, and one with an entry has some. So rules 22 and 23 give every block an
 -- entry. Assumes nothing.
 use mathlib.Core.Path.{_≡_, refl}
-use mathlib.Core.Logic.{inl, inr, ⊎-elim}
+use mathlib.Core.Logic.{⊎-elim, inl, inr}
 use mathlib.Core.Bool.{true, false, _&&_, _||_, false≢true}
 use mathlib.Core.Option.{none}
 use mathlib.Core.List.{List, _++_}
-use Prim.Native.Nat.{ℕ, _+_, _-_, _≤_, _<_, _*_}
+use Prim.Native.Nat.{ℕ, _≤_, _<_, _+_, _-_, _*_}
 use native.Mathlib.Omega.{arith}
 use native.Mathlib.Nat.{mul-pos}
 use lib.ListN.{length}
-use lib.Dec.{leb, ltb, eqb}
-use borrow.Author.Tests.{ltb-true, eqb-true}
+use lib.Dec.{ltb}
 use Rattle.lists.specs.Lists.{All, has, countFrom, count}
-use Rattle.lists.proofs.Lists.{all-map, all-at, all-both}
-use Rattle.lists.proofs.Numbers.{le-or-lt, and-left, and-right, bool-cases, or-cases, or-left, or-right}
-use Rattle.history.specs.Words.{Block, life}
-use Rattle.history.specs.Tree.{Tree, hole, node, mid, blockAt, noBlock, keyIn, entriesIn, widths}
+use Rattle.lists.proofs.Lists.{all-map, all-at}
+use Rattle.lists.proofs.Numbers.{le-or-lt, and-right, bool-cases, or-cases, or-left, or-right}
+use Rattle.history.specs.Words.{Block}
+use Rattle.history.specs.Tree.{Tree, hole, node, mid, blockAt, entriesIn, widths, noBlock}
 use Rattle.history.specs.File.{rule22}
-use Rattle.history.specs.Rules.{every, halved, filled, lived, numbered, placed, sorted, summed, rule23}
-use Rattle.history.proofs.RulesLaws.{halved-narrow, halved-left, halved-right}
-use Rattle.history.proofs.FileLists.{and-parts, and-three, every-all, has-append, count-none, count-some, countFrom-below}
+use Rattle.history.specs.Rules.{every, halved, filled, lived, rule23}
+use Rattle.history.proofs.RulesLaws.{rule23-decides, halved-narrow, halved-left, halved-right, Rule23, numbered-decides, lived-decides, every-all}
+use Rattle.history.proofs.FileLists.{has-append, count-none, count-some, countFrom-below}
 
 -- ── widths ──
 
@@ -57,33 +56,31 @@ widths-some k lo hi (node es l r) h e z =
           ])
     ]
   where
+    -- a node with a child is wider than 1
     wider : (hi ≤ lo + 1 → ⊥) → lo + 1 < hi
     wider f = ⊎-elim (λ n. absurd (f n)) (λ n. n) (le-or-lt hi (lo + 1))
 
 -- ── every block has an entry ──
 
+-- a block that lives has an entry, as its widths sum to its life
+pub living-entered : (e : ℕ) (bs : List Block) (tree : Tree) → Rule23 e bs tree → (k : ℕ) → k < length bs → blockAt bs k .created < blockAt bs k .destroyed
+    → has k (entriesIn tree) ≡ true
+living-entered e bs tree h k less lives =
+    ⊎-elim (λ z. z) (λ z. absurd (omega (arith, widths-none k 0 e tree z, h .sums k less))) (bool-cases (has k (entriesIn tree)))
+
 -- every block has an entry, and no entry's number is too high
 pub record Entered (bs : List Block) (tree : Tree) : Type 0 where
   pub entered : All (λ k. has k (entriesIn tree) ≡ true) (countFrom 0 (length bs))
-  pub numbers : numbered (length bs) tree ≡ true
+  pub numbers : All (λ k. k < length bs) (entriesIn tree)
 
 pub rules-enter : (e : ℕ) (bs : List Block) (tree : Tree) → rule22 e bs ≡ true → rule23 e bs tree ≡ true → Entered bs tree
-unfolding rule22 rule23 summed lived
+unfolding rule22
 rules-enter e bs tree h z =
-    let (some, blocks) = and-parts (ltb 0 (length bs)) (every (λ b. filled (b .stretch) && lived e b) bs) h in
-    let (numbers, rest) = and-parts (numbered (length bs) tree) _ z in
-    let (placed, sorted, sums) = and-three (placed (blockAt bs) (λ k. false) 0 e tree) (sorted (keyIn bs) tree) (summed e bs tree) rest in
+    let rule : Rule23 e bs tree = (rule23-decides e bs tree) .yes z in
+    let sound : every (λ b. filled (b .stretch) && lived e b) bs ≡ true = and-right (ltb 0 (length bs)) (every (λ b. filled (b .stretch) && lived e b) bs) h in
     let lives : All (λ b. b .created < b .destroyed) bs =
-    all-map (λ b p. ltb-true (b .created) (b .destroyed) (and-left (ltb (b .created) (b .destroyed)) (leb (b .destroyed) e) (and-right (filled (b .stretch)) (lived e b) p)))
-    (every-all (λ b. filled (b .stretch) && lived e b) bs blocks) in
+    all-map (λ b p. (lived-decides e b) .yes (and-right (filled (b .stretch)) (lived e b) p) .0) (every-all (λ b. filled (b .stretch) && lived e b) bs sound) in
     record {
-      entered = all-both (λ k p q. in-tree k (omega arith) (eqb-true (widths k 0 e tree) (life (blockAt bs k)) p) (all-at noBlock lives k (omega arith)))
-          (every-all (λ k. eqb (widths k 0 e tree) (life (blockAt bs k))) (countFrom 0 (length bs)) sums)
-          (countFrom-below 0 (length bs));
-      numbers = numbers;
+      entered = all-map (λ k p. living-entered e bs tree rule k (omega arith) (all-at noBlock lives k (omega arith))) (countFrom-below 0 (length bs));
+      numbers = (numbered-decides (length bs) tree) .yes (rule .numbers);
     }
-  where
-    -- a block that lives has a width somewhere
-    in-tree : (k : ℕ) → k < length bs → widths k 0 e tree ≡ life (blockAt bs k) → blockAt bs k .created < blockAt bs k .destroyed
-        → has k (entriesIn tree) ≡ true
-    in-tree k less sum lives = ⊎-elim (λ y. y) (λ y. absurd (omega (arith, widths-none k 0 e tree y))) (bool-cases (has k (entriesIn tree)))

@@ -1,13 +1,13 @@
 -- The nodes of a tree with their intervals, as they are written, and rule 21. Assumes nothing.
 use mathlib.Core.Path.{_≡_, refl, ap₂}
-use mathlib.Core.Bool.{true, false, true≢false, _&&_}
+use mathlib.Core.Bool.{true, false, _&&_, true≢false}
 use Prim.Native.Nat.{ℕ, _≤_, _<_, _^_}
 use lib.Dec.{eqb}
 use borrow.Author.Tests.{le-leb, eqb-true, eq-eqb, lt-ltb}
 use Rattle.history.specs.Tree.{Tree, hole, node, mid}
 use Rattle.history.specs.File.{nodesOf, treeFrom, intervals, rule21, Nodes, endOf, absent, present}
 use Rattle.history.specs.Rules.{halved, isHole}
-use Rattle.history.proofs.FileLists.{and-parts, and-three}
+use Rattle.history.proofs.FileLists.{and-parts}
 
 pub treeFrom-nodesOf : (lo hi : ℕ) (t : Tree) → treeFrom (nodesOf lo hi t) ≡ t
 unfolding treeFrom nodesOf
@@ -27,7 +27,8 @@ nodesOf-treeFrom lo hi absent h = refl
 nodesOf-treeFrom lo hi (present min max middle es l r) h =
     let (own, below) = and-parts (eqb min lo && (eqb max hi && eqb middle (mid lo hi))) (intervals lo (mid lo hi) l && intervals (mid lo hi) hi r) h in
     let (p, q) = and-parts (intervals lo (mid lo hi) l) (intervals (mid lo hi) hi r) below in
-    let (a, b, c) = and-three (eqb min lo) (eqb max hi) (eqb middle (mid lo hi)) own in
+    let (a, ends) = and-parts (eqb min lo) (eqb max hi && eqb middle (mid lo hi)) own in
+    let (b, c) = and-parts (eqb max hi) (eqb middle (mid lo hi)) ends in
     rw (eqb-true min lo a, eqb-true max hi b, eqb-true middle (mid lo hi) c)
     (ap₂ (present lo hi (mid lo hi) es) (nodesOf-treeFrom lo (mid lo hi) l p) (nodesOf-treeFrom (mid lo hi) hi r q))
 

@@ -1,16 +1,16 @@
 -- Laws of lists, and of tests over lists, that the file's laws use. Assumes nothing.
 use mathlib.Core.Path.{_≡_, refl, sym, ap, ap₂}
-use mathlib.Core.Logic.{_⊎_, inl, inr, ⊎-elim}
+use mathlib.Core.Logic.{⊎-elim, inl, inr, _⊎_}
 use mathlib.Core.Bool.{Bool, true, false, cond, _&&_, _||_, false≢true}
 use mathlib.Core.Option.{Option, Option·elim}
-use mathlib.Core.List.{List, [], _∷_, _++_, map, filterMap}
-use Prim.Native.Nat.{ℕ, zero, suc, _+_, _≤_, _<_}
+use mathlib.Core.List.{List, [], map, filterMap, _∷_, _++_}
+use Prim.Native.Nat.{ℕ, _≤_, _<_, _+_, zero, suc}
 use native.Mathlib.Omega.{arith}
 use lib.Dec.{ltb, eqb}
 use borrow.Author.Tests.{eq-eqb, ne-eqb}
-use Rattle.lists.specs.Lists.{All, all-nil, all-cons, has, countFrom, count, Pairs, pairs-nil, pairs-cons, Mem, here, there}
+use Rattle.lists.specs.Lists.{All, all-nil, has, countFrom, count, all-cons, Pairs, pairs-nil, pairs-cons, Mem, here, there}
 use Rattle.lists.proofs.Lists.{all-map, all-of-map}
-use Rattle.lists.proofs.Numbers.{and-left, and-right, and-both, eq-or-ne, or-left, or-right}
+use Rattle.lists.proofs.Numbers.{and-left, and-right, or-left, or-right, eq-or-ne}
 use Rattle.history.specs.File.{many}
 use Rattle.history.specs.Rules.{every, ascends}
 
@@ -19,9 +19,6 @@ use Rattle.history.specs.Rules.{every, ascends}
 pub and-parts : (a b : Bool) → (a && b) ≡ true → (a ≡ true) × (b ≡ true)
 and-parts a b e = (and-left a b e, and-right a b e)
 
-pub and-three : (a b c : Bool) → (a && (b && c)) ≡ true → (a ≡ true) × (b ≡ true) × (c ≡ true)
-and-three a b c e = (and-left a (b && c) e, and-left b c (and-right a (b && c) e), and-right b c (and-right a (b && c) e))
-
 pub or-true : (a b : Bool) → b ≡ true → (a || b) ≡ true
 or-true true b e = refl
 or-true false b e = e
@@ -29,16 +26,6 @@ or-true false b e = e
 -- ── maps ──
 
 module _ {A : Type 0} where
-  pub every-all : (f : A → Bool) (xs : List A) → every f xs ≡ true → All (λ x. f x ≡ true) xs
-  unfolding every
-  every-all f [] e = all-nil
-  every-all f (x ∷ xs) e = all-cons (and-left (f x) (every f xs) e) (every-all f xs (and-right (f x) (every f xs) e))
-
-  pub all-every : (f : A → Bool) {xs : List A} → All (λ x. f x ≡ true) xs → every f xs ≡ true
-  unfolding every
-  all-every f all-nil = refl
-  all-every f (all-cons {x} {xs} p ps) = and-both (f x) (every f xs) p (all-every f ps)
-
   pub map-same : (f : A → A) {xs : List A} → All (λ x. f x ≡ x) xs → map f xs ≡ xs
   map-same f all-nil = refl
   map-same f (all-cons p ps) = ap₂ (λ (y : A) (ys : List A). y ∷ ys) p (map-same f ps)
@@ -58,7 +45,6 @@ module _ {A B : Type 0} where
   map-cond f true xs ys = refl
   map-cond f false xs ys = refl
 
-module _ {A B : Type 0} where
   pub pairs-of-map : {R : B → B → Type 0} (f : A → B) {xs : List A} → Pairs (λ (x y : A). R (f x) (f y)) xs → Pairs R (map f xs)
   pairs-of-map f pairs-nil = pairs-nil
   pairs-of-map f (pairs-cons a p) = pairs-cons (all-of-map f a) (pairs-of-map f p)

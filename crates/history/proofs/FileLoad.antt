@@ -4,16 +4,16 @@ use mathlib.Core.Path.{_≡_, refl, sym, _∙_, ap}
 use mathlib.Core.Logic.{⊎-elim}
 use mathlib.Core.Bool.{Bool, true, false, _&&_}
 use mathlib.Core.List.{List, [], _∷_, _++_}
-use Prim.Native.Nat.{ℕ, _+_, _-_, _≤_, _<_, _^_}
+use Prim.Native.Nat.{ℕ, _≤_, _<_, _^_, _+_, _-_}
 use native.Mathlib.Omega.{arith}
 use lib.ListN.{length, take, drop}
-use lib.Dec.{leb, ltb}
+use lib.Dec.{ltb, leb}
 use borrow.Author.Tests.{ltb-true, lt-leb}
 use Rattle.lists.proofs.Numbers.{le-or-lt, and-left}
 use Rattle.history.specs.Words.{Block}
 use Rattle.history.specs.Lent.{Lent}
 use Rattle.history.specs.Tree.{Tree}
-use Rattle.history.specs.File.{nodesOf, contents, treeFrom, rule20, fileOf, fileBytes, Read, got, fault, _>>=_, onward, give, refuse_unless_, field, number, readFile, intervals, rule21, rule22, Loaded, load, File, endOf, loadedFrom}
+use Rattle.history.specs.File.{nodesOf, contents, treeFrom, rule20, fileOf, fileBytes, Read, got, fault, _>>=_, onward, give, refuse_unless_, field, number, readFile, intervals, rule21, rule22, Loaded, load, endOf, File, loadedFrom}
 use Rattle.history.specs.Rules.{every, halved, filled, lived, rule23, apart}
 use Rattle.history.proofs.FileNumbers.{Bytes}
 use Rattle.history.proofs.FileReads.{spans-taken, got-value, got-next, fault-got, Yielded}

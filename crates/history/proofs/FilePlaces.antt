@@ -1,18 +1,18 @@
 -- The block numbers with an entry, and a number's place among them. Assumes nothing.
 use mathlib.Core.Path.{_≡_, refl, sym, ap}
-use mathlib.Core.Logic.{inl, inr, ⊎-elim}
+use mathlib.Core.Logic.{⊎-elim, inl, inr}
 use mathlib.Core.Bool.{Bool, true, false, cond, false≢true}
-use mathlib.Core.Option.{Option, none, Option·elim}
-use mathlib.Core.List.{List, [], _∷_, map, filterMap}
-use Prim.Native.Nat.{ℕ, zero, suc, _+_, _-_, _≤_, _<_}
+use mathlib.Core.Option.{none, Option, Option·elim}
+use mathlib.Core.List.{List, [], map, filterMap, _∷_}
+use Prim.Native.Nat.{ℕ, _≤_, _<_, _+_, _-_, zero, suc}
 use native.Mathlib.Omega.{arith}
 use lib.ListN.{length, getD}
 use lib.Dec.{eqb}
 use borrow.Author.Tests.{eq-eqb, ne-eqb}
-use Rattle.lists.specs.Lists.{All, all-nil, all-cons, has, countFrom, sumOf, Pairs, pairs-nil, pairs-cons, Ascending}
+use Rattle.lists.specs.Lists.{All, all-nil, has, countFrom, sumOf, all-cons, Pairs, pairs-nil, pairs-cons, Ascending}
 use Rattle.lists.proofs.Lists.{all-at}
 use Rattle.lists.proofs.Numbers.{eq-or-ne}
-use Rattle.history.specs.File.{withEntry, placeIn, many}
+use Rattle.history.specs.File.{placeIn, withEntry, many}
 use Rattle.history.proofs.FileLists.{or-true, has-cons}
 
 -- ── numbers with an entry ──

@@ -2,14 +2,14 @@
 -- has succeeded. Assumes nothing.
 use mathlib.Core.Path.{_≡_, refl, sym, _∙_, ap}
 use mathlib.Core.Bool.{Bool, true, false, cond}
-use mathlib.Core.List.{List, [], _∷_, _++_, flatMap, append-assoc, append-nil}
-use Prim.Native.Nat.{ℕ, zero, suc, _+_, _-_, _≤_, _<_, _^_}
+use mathlib.Core.List.{List, [], _∷_, flatMap, _++_, append-assoc, append-nil}
+use Prim.Native.Nat.{ℕ, _≤_, _<_, _^_, _+_, _-_, zero, suc}
 use native.Mathlib.Omega.{arith}
 use lib.ListN.{length, take, drop, length-append, length-drop, take-append-drop}
 use lib.Dec.{leb}
 use lib.Seq.{take-at, drop-at, length-take-le}
 use borrow.Author.Tests.{le-leb, leb-true}
-use Rattle.lists.specs.Lists.{All, all-nil, all-cons, count}
+use Rattle.lists.specs.Lists.{All, all-nil, count, all-cons}
 use Rattle.lists.proofs.Lists.{all-left, all-right}
 use Rattle.history.specs.Words.{size}
 use Rattle.history.specs.File.{bytesOf, numberOf, Read, got, fault, _>>=_, onward, give, refuse_unless_, field, number, many, Reader, _>>_}

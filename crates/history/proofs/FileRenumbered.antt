@@ -1,22 +1,21 @@
 -- A tree with other block numbers: where the blocks behind the numbers are the same, every rule holds as before. Assumes nothing.
 use mathlib.Core.Path.{_≡_, refl, sym, _∙_, ap, ap₂}
 use mathlib.Core.Bool.{Bool, true, cond, _&&_, not}
-use mathlib.Core.List.{List, [], _∷_, _++_, map}
+use mathlib.Core.List.{List, [], map, _∷_, _++_}
 use Prim.Native.Nat.{ℕ, _<_}
 use lib.Dec.{ltb, eqb}
-use borrow.Author.Tests.{ltb-true}
 use Rattle.lists.specs.Lists.{All, all-nil, all-cons}
-use Rattle.lists.proofs.Lists.{all-map, all-left, all-right, all-both, all-of-map}
+use Rattle.lists.proofs.Lists.{all-map, all-of-map, all-both, all-left, all-right}
 use Rattle.lists.proofs.Maps.{length-of-map, map-append}
 use Rattle.history.specs.Words.{Block, within}
 use Rattle.history.specs.Tree.{Tree, hole, node, mid, halves, nodeCount, entryCount, entriesIn, widths, covers}
 use Rattle.history.specs.Find.{path, visited, window}
 use Rattle.history.specs.File.{mapTree}
-use Rattle.history.specs.Rules.{every, halved, numbered, placed, sorted, isHole}
+use Rattle.history.specs.Rules.{halved, numbered, placed, sorted, isHole}
 use Rattle.history.proofs.RulesLaws.{decided, numbered-decides}
-use Rattle.history.proofs.FileLists.{and-three, every-all, map-same, map-cond, every-map, ascends-map, count-map}
+use Rattle.history.proofs.FileLists.{map-same, map-cond, every-map, ascends-map, count-map}
 
--- ── lists ──
+-- ── entries ──
 
 -- what holds of all entries holds of a node's own, and of those of its halves
 module _ {P : ℕ → Type 0} (es : List ℕ) (l r : Tree) where
@@ -114,12 +113,9 @@ module _ (f : ℕ → ℕ) where
   window-map key′ key s e (all-cons {x} {xs} d ds) =
       rw (d, window-map key′ key s e ds) (sym (map-cond f (within s e (key x)) (x ∷ window key s e xs) (window key s e xs)))
 
-pub mapTree-same : (f : ℕ → ℕ) (n : ℕ) (t : Tree) → ((k : ℕ) → k < n → f k ≡ k) → numbered n t ≡ true → mapTree f t ≡ t
-unfolding mapTree numbered
-mapTree-same f n hole h e = refl
-mapTree-same f n (node es l r) h e =
-    let (own, p, q) = and-three (every (λ k. ltb k n) es) (numbered n l) (numbered n r) e in
-    let entries : map f es ≡ es = map-same f (all-map (λ k z. h k (ltb-true k n z)) (every-all (λ k. ltb k n) es own)) in
-    let left : mapTree f l ≡ l = mapTree-same f n l h p in
-    let right : mapTree f r ≡ r = mapTree-same f n r h q in
-    cc
+-- numbers that stay leave the tree as it is
+pub mapTree-same : (f : ℕ → ℕ) (t : Tree) → All (λ k. f k ≡ k) (entriesIn t) → mapTree f t ≡ t
+unfolding mapTree
+mapTree-same f hole h = refl
+mapTree-same f (node es l r) h =
+    rw (map-same f (entries-here es l r h), mapTree-same f l (entries-left es l r h), mapTree-same f r (entries-right es l r h)) refl

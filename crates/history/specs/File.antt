@@ -67,11 +67,15 @@ withEntry es (k ∷ ks) =
     let rest = withEntry es ks in
     cond (has k es) (k ∷ rest) rest
 
--- Only blocks with an entry are written, in recorded order ..
-abbrev pub written : (blocks : ℕ) → Tree → List ℕ
-written n tree = withEntry (entriesIn tree) (countFrom 0 n)
+-- Only blocks with an entry are written, in recorded order: their numbers ..
+abbrev pub written : List Block → Tree → List ℕ
+written bs tree = withEntry (entriesIn tree) (countFrom 0 (length bs))
 
--- .. and numbered so from 0: a block's new number is its place among them
+-- .. and they themselves
+abbrev pub writtenBlocks : List Block → Tree → List Block
+writtenBlocks bs tree = map (blockAt bs) (written bs tree)
+
+-- a number's place in a list
 unfoldable pub placeIn : List ℕ → (k : ℕ) → ℕ
 placeIn [] k = 0
 placeIn (x ∷ xs) k =
@@ -83,6 +87,10 @@ unfoldable pub mapTree : (ℕ → ℕ) → Tree → Tree
 mapTree f hole = hole
 mapTree f (node es l r) = node (map f es) (mapTree f l) (mapTree f r)
 
+-- They are numbered so from 0: a block's new number is its place among those written.
+abbrev pub renumbered : List Block → Tree → Tree
+renumbered bs tree = mapTree (placeIn (written bs tree)) tree
+
 -- a tree's nodes with their intervals, passed down from [lo, hi)
 unfoldable pub nodesOf : (lo hi : ℕ) → Tree → Nodes
 nodesOf lo hi hole = absent
@@ -90,9 +98,7 @@ nodesOf lo hi (node es l r) = present lo hi (mid lo hi) es (nodesOf lo (mid lo h
 
 -- what the file of a closed index says
 unfoldable pub contents : (kind end : ℕ) → List Block → Tree → File
-contents kind e bs tree =
-    let ks = written (length bs) tree in
-    record { kind = kind; blocks = map (blockAt bs) ks; nodes = nodesOf 0 e (mapTree (placeIn ks) tree) }
+contents kind e bs tree = record { kind = kind; blocks = writtenBlocks bs tree; nodes = nodesOf 0 e (renumbered bs tree) }
 
 -- An index without blocks writes no bytes.
 unfoldable pub fileOf : (kind end : ℕ) → List Block → Tree → List ℕ
