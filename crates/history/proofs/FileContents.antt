@@ -10,7 +10,7 @@ use Rattle.lists.proofs.Lists.{all-map, count-from-length, all-at, all-of-map, 
 use Rattle.lists.proofs.Maps.{length-of-map, getD-of-map}
 use Rattle.history.specs.Words.{Block}
 use Rattle.history.specs.Tree.{Tree, hole, node, mid, blockAt, entryCount, entriesIn, noBlock}
-use Rattle.history.specs.File.{placeIn, nodesOf, contents, mapTree, written}
+use Rattle.history.specs.File.{placeIn, nodesOf, contents, written, mapTree}
 use Rattle.history.proofs.FileRoundTrip.{BlockFits, NodesFit, FileFits, absent-fits, present-fits}
 use Rattle.history.proofs.FileLists.{countFrom-below}
 use Rattle.history.proofs.FilePlaces.{withEntry-all, withEntry-length, withEntry-same, placeIn-below, placeIn-countFrom}

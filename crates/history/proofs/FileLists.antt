@@ -10,7 +10,7 @@ use lib.Dec.{ltb, eqb}
 use borrow.Author.Tests.{eq-eqb, ne-eqb}
 use Rattle.lists.specs.Lists.{All, all-nil, has, countFrom, count, all-cons, Pairs, pairs-nil, pairs-cons, Mem, here, there}
 use Rattle.lists.proofs.Lists.{all-map, all-of-map}
-use Rattle.lists.proofs.Numbers.{and-left, and-right, or-left, or-right, eq-or-ne}
+use Rattle.lists.proofs.Numbers.{and-right, or-left, or-right, and-left, eq-or-ne}
 use Rattle.history.specs.File.{many}
 use Rattle.history.specs.Rules.{every, ascends}
 

@@ -6,7 +6,7 @@ use mathlib.Core.List.{List, [], flatten, _++_, append-nil}
 use Prim.Native.Nat.{ℕ, _≤_, _<_, _^_, _+_, zero, suc}
 use native.Mathlib.Omega.{arith}
 use lib.ListN.{length, length-append}
-use lib.Dec.{leb, eqb}
+use lib.Dec.{eqb, leb}
 use borrow.Author.Tests.{le-leb, eqb-true, eq-eqb, leb-true, eqb-false}
 use Rattle.lists.specs.Lists.{All}
 use Rattle.lists.proofs.Lists.{all-map}

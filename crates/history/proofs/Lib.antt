@@ -28,6 +28,7 @@ pub mod FileRenumbered
 pub mod FileEntered
 pub mod FileContents
 pub mod FileLoad
+pub mod FileKept
 pub mod FileReloaded
 pub mod FileAlike
 pub mod FileBoards

@@ -88,8 +88,11 @@ mapTree f hole = hole
 mapTree f (node es l r) = node (map f es) (mapTree f l) (mapTree f r)
 
 -- They are numbered so from 0: a block's new number is its place among those written.
+abbrev pub newNumber : List Block → Tree → (k : ℕ) → ℕ
+newNumber bs tree = placeIn (written bs tree)
+
 abbrev pub renumbered : List Block → Tree → Tree
-renumbered bs tree = mapTree (placeIn (written bs tree)) tree
+renumbered bs tree = mapTree (newNumber bs tree) tree
 
 -- a tree's nodes with their intervals, passed down from [lo, hi)
 unfoldable pub nodesOf : (lo hi : ℕ) → Tree → Nodes
