@@ -19,9 +19,9 @@ use Rattle.history.specs.Reads.{shows, seen}
 use Rattle.history.specs.File.{written, writtenBlocks, renumbered, newNumber}
 use Rattle.history.specs.Rules.{numbered, rule23}
 use Rattle.history.proofs.RulesLaws.{rule23-decides, Rule23, numbered-decides}
-use Rattle.history.proofs.TreePath.{within-low, within-high}
+use Rattle.history.proofs.Within.{within-low, within-high}
 use Rattle.history.proofs.FileLists.{filterMap-map, countFrom-below}
-use Rattle.history.proofs.FilePlaces.{withEntry-filterMap}
+use Rattle.history.proofs.FilePlaces.{thoseWith-filterMap}
 use Rattle.history.proofs.FileRenumbered.{entries-here, entries-left, entries-right, mapTree-path, mapTree-visited, window-map}
 use Rattle.history.proofs.FileEntered.{widths-none}
 use Rattle.history.proofs.FileContents.{map-blockAt}
@@ -74,6 +74,6 @@ unfolding seen
 written-seen e bs tree h t c =
     let rule : Rule23 e bs tree = (rule23-decides e bs tree) .yes h in
     filterMap-map (shows t c) (blockAt bs) (written bs tree)
-    ∙ withEntry-filterMap (λ k. shows t c (blockAt bs k)) (entriesIn tree) (all-map (λ k p z. unwritten-shows e bs tree rule t c k (omega arith) z) (countFrom-below 0 (length bs)))
+    ∙ thoseWith-filterMap (λ k. shows t c (blockAt bs k)) (entriesIn tree) (all-map (λ k p z. unwritten-shows e bs tree rule t c k (omega arith) z) (countFrom-below 0 (length bs)))
     ∙ sym (filterMap-map (shows t c) (blockAt bs) (countFrom 0 (length bs)))
     ∙ ap (filterMap (shows t c)) (map-blockAt bs)

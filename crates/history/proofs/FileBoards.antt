@@ -9,7 +9,7 @@ use Rattle.history.specs.Words.{Block}
 use Rattle.history.specs.Lent.{Lent}
 use Rattle.history.specs.Tree.{Tree, treeOf, addAll, addLocation, insert, entriesIn, nodeCount, entryCount, widths}
 use Rattle.history.specs.Rules.{every, halved, filled, lived, numbered, placed, sorted, ascends, summed, rule23, apart, shares}
-use Rattle.history.specs.File.{fileOf, contents, fileBytes, blockBytes, nodeBytes, bytesOf, numberOf, withEntry, placeIn, mapTree, nodesOf, Read, got, fault, _>>=_, onward, give, refuse_unless_, field, number, many, readBlock, readNodes, readRoot, readFile, treeFrom, intervals, rule20, rule21, rule22, Loaded, load}
+use Rattle.history.specs.File.{fileOf, contents, fileBytes, blockBytes, nodeBytes, bytesOf, numberOf, thoseWith, placeIn, mapTree, nodesOf, Read, got, fault, _>>=_, onward, give, refuse_unless_, field, number, many, readBlock, readNodes, readRoot, readFile, treeFrom, placedIn, rule20, rule21, rule22, Loaded, load}
 
 -- ── field by field ──
 
@@ -49,7 +49,7 @@ earlyFile =
     ∷ [])
 
 pub early-written : fileOf 3 2 early (treeOf 2 early) ≡ earlyFile
-unfolding fileOf contents fileBytes blockBytes nodeBytes bytesOf withEntry placeIn mapTree nodesOf flatten flatMap has countFrom treeOf addAll addLocation insert entriesIn
+unfolding fileOf contents fileBytes blockBytes nodeBytes bytesOf thoseWith placeIn mapTree nodesOf flatten flatMap has countFrom treeOf addAll addLocation insert entriesIn
 early-written = refl
 
 -- ── the listing ──
@@ -73,5 +73,5 @@ listingLent = record { pieces = 0; blocks = 56; store = 7; nodes = 88; entries =
 
 pub listing-loaded : load listingLent (fileOf 1 8 listing (treeOf 8 listing)) 0
     ≡ got (record { end = 8; kind = 1; blocks = listing; tree = treeOf 8 listing }) 651
-unfolding load readFile readRoot readNodes readBlock many number field refuse_unless_ give _>>=_ onward numberOf treeFrom intervals rule20 rule21 rule22 rule23 halved filled lived every numbered placed sorted ascends summed widths count apart shares nodeCount entryCount sumOf countFrom treeOf addAll addLocation insert fileOf contents fileBytes blockBytes nodeBytes bytesOf withEntry placeIn mapTree nodesOf flatten flatMap has entriesIn
+unfolding load readFile readRoot readNodes readBlock many number field refuse_unless_ give _>>=_ onward numberOf treeFrom placedIn rule20 rule21 rule22 rule23 halved filled lived every numbered placed sorted ascends summed widths count apart shares nodeCount entryCount sumOf countFrom treeOf addAll addLocation insert fileOf contents fileBytes blockBytes nodeBytes bytesOf thoseWith placeIn mapTree nodesOf flatten flatMap has entriesIn
 listing-loaded = refl

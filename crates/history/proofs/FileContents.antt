@@ -13,7 +13,7 @@ use Rattle.history.specs.Tree.{Tree, hole, node, mid, blockAt, entryCoun
 use Rattle.history.specs.File.{placeIn, nodesOf, contents, written, mapTree}
 use Rattle.history.proofs.FileRoundTrip.{BlockFits, NodesFit, FileFits, absent-fits, present-fits}
 use Rattle.history.proofs.FileLists.{countFrom-below}
-use Rattle.history.proofs.FilePlaces.{withEntry-all, withEntry-length, withEntry-same, placeIn-below, placeIn-countFrom}
+use Rattle.history.proofs.FilePlaces.{thoseWith-all, thoseWith-length, thoseWith-same, placeIn-below, placeIn-countFrom}
 use Rattle.history.proofs.FileRenumbered.{mapTree-same}
 use Rattle.history.proofs.FileEntered.{Entered}
 
@@ -37,7 +37,7 @@ pub contents-same : (kind e : ℕ) (bs : List Block) (tree : Tree) → Entered b
 unfolding contents
 contents-same kind e bs tree h =
     let numbers : List ℕ = countFrom 0 (length bs) in
-    let all : written bs tree ≡ numbers = withEntry-same (entriesIn tree) (h .entered) in
+    let all : written bs tree ≡ numbers = thoseWith-same (entriesIn tree) (h .entered) in
     let stays : mapTree (placeIn numbers) tree ≡ tree =
     mapTree-same (placeIn numbers) tree (all-map (λ k p. placeIn-countFrom 0 (length bs) k (omega arith) (omega arith) ∙ omega arith) (h .numbers)) in
     rw (all, stays, map-blockAt bs) refl
@@ -65,10 +65,10 @@ pub contents-fits : (kind e : ℕ) (bs : List Block) (tree : Tree) → IndexFits
 unfolding contents
 contents-fits kind e bs tree h =
     let ks : List ℕ = written bs tree in
-    let few : length ks ≤ length bs = rw (count-from-length 0 (length bs)) at (withEntry-length (entriesIn tree) (countFrom 0 (length bs))) in
+    let few : length ks ≤ length bs = rw (count-from-length 0 (length bs)) at (thoseWith-length (entriesIn tree) (countFrom 0 (length bs))) in
     record {
       kindly = h .kindly;
       count = rw (length-of-map (blockAt bs) ks) (omega (arith, h .count));
-      blocks = all-of-map (blockAt bs) (withEntry-all (entriesIn tree) (all-map (λ k p. all-at noBlock (h .blocks) k (omega arith)) (countFrom-below 0 (length bs))));
+      blocks = all-of-map (blockAt bs) (thoseWith-all (entriesIn tree) (all-map (λ k p. all-at noBlock (h .blocks) k (omega arith)) (countFrom-below 0 (length bs))));
       nodes = nodes-fit (placeIn ks) (λ k. omega (arith, placeIn-below ks k, h .count)) 0 e (omega arith) (h .last) tree (h .entries);
     }

@@ -5,7 +5,7 @@ use Prim.Native.Nat.{ℕ, _≤_, _<_, _^_}
 use lib.Dec.{eqb}
 use borrow.Author.Tests.{le-leb, eqb-true, eq-eqb, lt-ltb}
 use Rattle.history.specs.Tree.{Tree, hole, node, mid}
-use Rattle.history.specs.File.{nodesOf, treeFrom, intervals, rule21, Nodes, endOf, absent, present}
+use Rattle.history.specs.File.{nodesOf, treeFrom, placedIn, rule21, Nodes, endOf, absent, present}
 use Rattle.history.specs.Rules.{halved, isHole}
 use Rattle.history.proofs.FileLists.{and-parts}
 
@@ -14,19 +14,19 @@ unfolding treeFrom nodesOf
 treeFrom-nodesOf lo hi hole = refl
 treeFrom-nodesOf lo hi (node es l r) = ap₂ (node es) (treeFrom-nodesOf lo (mid lo hi) l) (treeFrom-nodesOf (mid lo hi) hi r)
 
-pub intervals-nodesOf : (lo hi : ℕ) (t : Tree) → intervals lo hi (nodesOf lo hi t) ≡ true
-unfolding intervals nodesOf
-intervals-nodesOf lo hi hole = refl
-intervals-nodesOf lo hi (node es l r) =
-    rw (eq-eqb lo lo refl, eq-eqb hi hi refl, eq-eqb (mid lo hi) (mid lo hi) refl, intervals-nodesOf lo (mid lo hi) l, intervals-nodesOf (mid lo hi) hi r) refl
+pub placedIn-nodesOf : (lo hi : ℕ) (t : Tree) → placedIn lo hi (nodesOf lo hi t) ≡ true
+unfolding placedIn nodesOf
+placedIn-nodesOf lo hi hole = refl
+placedIn-nodesOf lo hi (node es l r) =
+    rw (eq-eqb lo lo refl, eq-eqb hi hi refl, eq-eqb (mid lo hi) (mid lo hi) refl, placedIn-nodesOf lo (mid lo hi) l, placedIn-nodesOf (mid lo hi) hi r) refl
 
 -- nodes that stand in their intervals are those of their tree
-pub nodesOf-treeFrom : (lo hi : ℕ) (t : Nodes) → intervals lo hi t ≡ true → nodesOf lo hi (treeFrom t) ≡ t
-unfolding treeFrom nodesOf intervals
+pub nodesOf-treeFrom : (lo hi : ℕ) (t : Nodes) → placedIn lo hi t ≡ true → nodesOf lo hi (treeFrom t) ≡ t
+unfolding treeFrom nodesOf placedIn
 nodesOf-treeFrom lo hi absent h = refl
 nodesOf-treeFrom lo hi (present min max middle es l r) h =
-    let (own, below) = and-parts (eqb min lo && (eqb max hi && eqb middle (mid lo hi))) (intervals lo (mid lo hi) l && intervals (mid lo hi) hi r) h in
-    let (p, q) = and-parts (intervals lo (mid lo hi) l) (intervals (mid lo hi) hi r) below in
+    let (own, below) = and-parts (eqb min lo && (eqb max hi && eqb middle (mid lo hi))) (placedIn lo (mid lo hi) l && placedIn (mid lo hi) hi r) h in
+    let (p, q) = and-parts (placedIn lo (mid lo hi) l) (placedIn (mid lo hi) hi r) below in
     let (a, ends) = and-parts (eqb min lo) (eqb max hi && eqb middle (mid lo hi)) own in
     let (b, c) = and-parts (eqb max hi) (eqb middle (mid lo hi)) ends in
     rw (eqb-true min lo a, eqb-true max hi b, eqb-true middle (mid lo hi) c)
@@ -41,4 +41,4 @@ endOf-nodesOf lo hi (node es l r) h = refl
 pub nodesOf-rule21 : (e : ℕ) (t : Tree) → 0 < e → e ≤ 2 ^ 63 → isHole t ≡ false → halved 0 e t ≡ true → rule21 (nodesOf 0 e t) ≡ true
 unfolding rule21
 nodesOf-rule21 e t some most root h =
-    rw (endOf-nodesOf 0 e t root, lt-ltb 0 e some, le-leb e (2 ^ 63) most, intervals-nodesOf 0 e t, treeFrom-nodesOf 0 e t, h) refl
+    rw (endOf-nodesOf 0 e t root, lt-ltb 0 e some, le-leb e (2 ^ 63) most, placedIn-nodesOf 0 e t, treeFrom-nodesOf 0 e t, h) refl

@@ -19,7 +19,7 @@ use Rattle.history.specs.File.{placeIn, nodesOf, written, writtenBlocks,
 use Rattle.history.specs.Rules.{every, halved, filled, lived, rule23, apart, isHole, Apart}
 use Rattle.history.proofs.RulesLaws.{rule23-decides, Rule23, numbered-decides, lived-decides, decided, apart-decides, all-every}
 use Rattle.history.proofs.FileLists.{pairs-of-map, mem-has, countFrom-below, has-countFrom, countFrom-pairs}
-use Rattle.history.proofs.FilePlaces.{withEntry-all, withEntry-has, has-withEntry, withEntry-pairs, withEntry-length, placeIn-inside, placeIn-found, placeIn-at}
+use Rattle.history.proofs.FilePlaces.{thoseWith-all, thoseWith-has, has-thoseWith, thoseWith-pairs, thoseWith-length, placeIn-inside, placeIn-found, placeIn-at}
 use Rattle.history.proofs.FileIntervals.{nodesOf-rule21}
 use Rattle.history.proofs.FileRenumbered.{mapTree-isHole, mapTree-halved, mapTree-numbered, mapTree-placed, mapTree-sorted, mapTree-widths}
 use Rattle.history.proofs.FileEntered.{widths-some, living-entered}
@@ -53,17 +53,17 @@ module _ (bs : List Block) (tree : Tree) where
   ks = written bs tree
 
   written-ascending : Ascending (λ k. k) ks
-  written-ascending = withEntry-pairs (entriesIn tree) (countFrom-pairs 0 (length bs) (λ i j a b c. b))
+  written-ascending = thoseWith-pairs (entriesIn tree) (countFrom-pairs 0 (length bs) (λ i j a b c. b))
 
   pub written-below : All (λ k. k < length bs) (written bs tree)
-  written-below = withEntry-all (entriesIn tree) (all-map (λ k p. omega arith) (countFrom-below 0 (length bs)))
+  written-below = thoseWith-all (entriesIn tree) (all-map (λ k p. omega arith) (countFrom-below 0 (length bs)))
 
   pub written-few : length (written bs tree) ≤ length bs
-  written-few = rw (count-from-length 0 (length bs)) at (withEntry-length (entriesIn tree) (countFrom 0 (length bs)))
+  written-few = rw (count-from-length 0 (length bs)) at (thoseWith-length (entriesIn tree) (countFrom 0 (length bs)))
 
   -- a block with an entry
   pub entry-written : (k : ℕ) → k < length bs → has k (entriesIn tree) ≡ true → has k (written bs tree) ≡ true
-  entry-written k less z = has-withEntry (entriesIn tree) k (countFrom 0 (length bs)) (has-countFrom k 0 (length bs) (omega arith) (omega arith)) z
+  entry-written k less z = has-thoseWith (entriesIn tree) k (countFrom 0 (length bs)) (has-countFrom k 0 (length bs) (omega arith) (omega arith)) z
 
   -- so every entry's block
   pub entries-written : All (λ k. k < length bs) (entriesIn tree) → All (λ k. has k (written bs tree) ≡ true) (entriesIn tree)
@@ -113,7 +113,7 @@ module _ (kind e : ℕ) (bs : List Block) (tree : Tree) (w : Writable kind e bs 
       and-both (ltb 0 (length (writtenBlocks bs tree))) (every (λ b. filled (b .stretch) && lived e b) (writtenBlocks bs tree))
       (lt-ltb 0 (length (writtenBlocks bs tree)) (rw (length-of-map (blockAt bs) (written bs tree)) h))
       (all-every (λ b. filled (b .stretch) && lived e b)
-      (all-of-map (blockAt bs) (all-both entered-lives (written-below bs tree) (withEntry-has (entriesIn tree) (countFrom 0 (length bs))))))
+      (all-of-map (blockAt bs) (all-both entered-lives (written-below bs tree) (thoseWith-has (entriesIn tree) (countFrom 0 (length bs))))))
 
   -- a block that lives is written
   pub living-written : (k : ℕ) → k < length bs → blockAt bs k .created < blockAt bs k .destroyed → has k (written bs tree) ≡ true
@@ -145,4 +145,4 @@ module _ (kind e : ℕ) (bs : List Block) (tree : Tree) (w : Writable kind e bs 
   pub written-apart : apart (writtenBlocks bs tree) ≡ true
   written-apart =
       decided (apart (writtenBlocks bs tree)) (apart-decides (writtenBlocks bs tree))
-      (pairs-of-map (blockAt bs) (withEntry-pairs (entriesIn tree) (countFrom-pairs 0 (length bs) (λ i j a b c. pairs-at noBlock (w .rule-24) i j b (omega arith)))))
+      (pairs-of-map (blockAt bs) (thoseWith-pairs (entriesIn tree) (countFrom-pairs 0 (length bs) (λ i j a b c. pairs-at noBlock (w .rule-24) i j b (omega arith)))))

@@ -13,7 +13,7 @@ use Rattle.lists.proofs.Numbers.{le-or-lt, and-left}
 use Rattle.history.specs.Words.{Block}
 use Rattle.history.specs.Lent.{Lent}
 use Rattle.history.specs.Tree.{Tree}
-use Rattle.history.specs.File.{nodesOf, contents, treeFrom, rule20, fileOf, fileBytes, Read, got, fault, _>>=_, onward, give, refuse_unless_, field, number, readFile, intervals, rule21, rule22, Loaded, load, endOf, File, loadedFrom}
+use Rattle.history.specs.File.{nodesOf, contents, treeFrom, rule20, fileOf, fileBytes, Read, got, fault, _>>=_, onward, give, refuse_unless_, field, number, readFile, placedIn, rule21, rule22, Loaded, load, endOf, File, loadedFrom}
 use Rattle.history.specs.Rules.{every, halved, filled, lived, rule23, apart}
 use Rattle.history.proofs.FileNumbers.{Bytes}
 use Rattle.history.proofs.FileReads.{spans-taken, got-value, got-next, fault-got, Yielded}
@@ -131,8 +131,8 @@ pub written-read : (file : List ℕ) → Bytes file → (at : ℕ) (f : File) (n
 unfolding rule21
 written-read file small at f next read halves some entered =
     let e : ℕ = endOf (f .nodes) in
-    let (range, rest) = and-parts (ltb 0 e && leb e (2 ^ 63)) (intervals 0 e (f .nodes) && halved 0 e (treeFrom (f .nodes))) halves in
-    let nodes : nodesOf 0 e (treeFrom (f .nodes)) ≡ f .nodes = nodesOf-treeFrom 0 e (f .nodes) (and-left (intervals 0 e (f .nodes)) (halved 0 e (treeFrom (f .nodes))) rest) in
+    let (range, rest) = and-parts (ltb 0 e && leb e (2 ^ 63)) (placedIn 0 e (f .nodes) && halved 0 e (treeFrom (f .nodes))) halves in
+    let nodes : nodesOf 0 e (treeFrom (f .nodes)) ≡ f .nodes = nodesOf-treeFrom 0 e (f .nodes) (and-left (placedIn 0 e (f .nodes)) (halved 0 e (treeFrom (f .nodes))) rest) in
     let says : contents (f .kind) e (f .blocks) (treeFrom (f .nodes)) ≡ f =
     contents-same (f .kind) e (f .blocks) (treeFrom (f .nodes)) entered ∙ (rw nodes refl) in
     let y : Yielded file (λ g w. FileFits g × (w ≡ fileBytes g)) at f next = (gives-file file small) .yields at f next (read-inside file at f next read) read in

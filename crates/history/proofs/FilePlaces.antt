@@ -12,85 +12,85 @@ use borrow.Author.Tests.{eq-eqb, ne-eqb}
 use Rattle.lists.specs.Lists.{All, all-nil, has, countFrom, sumOf, all-cons, Pairs, pairs-nil, pairs-cons, Ascending}
 use Rattle.lists.proofs.Lists.{all-at}
 use Rattle.lists.proofs.Numbers.{eq-or-ne}
-use Rattle.history.specs.File.{placeIn, withEntry, many}
+use Rattle.history.specs.File.{placeIn, thoseWith, many}
 use Rattle.history.proofs.FileLists.{or-true, has-cons}
 
 -- ── numbers with an entry ──
 
-pub withEntry-all : {P : ℕ → Type 0} (es : List ℕ) {ks : List ℕ} → All P ks → All P (withEntry es ks)
-unfolding withEntry
-withEntry-all es all-nil = all-nil
-withEntry-all {P} es (all-cons {x = k} {xs = ks} p ps) = go (has k es) (withEntry-all es ps)
+pub thoseWith-all : {P : ℕ → Type 0} (es : List ℕ) {ks : List ℕ} → All P ks → All P (thoseWith es ks)
+unfolding thoseWith
+thoseWith-all es all-nil = all-nil
+thoseWith-all {P} es (all-cons {x = k} {xs = ks} p ps) = go (has k es) (thoseWith-all es ps)
   where
-    go : (t : Bool) → All P (withEntry es ks) → All P (cond t (k ∷ withEntry es ks) (withEntry es ks))
+    go : (t : Bool) → All P (thoseWith es ks) → All P (cond t (k ∷ thoseWith es ks) (thoseWith es ks))
     go true q = all-cons p q
     go false q = q
 
 -- those that are written have an entry
-pub withEntry-has : (es ks : List ℕ) → All (λ k. has k es ≡ true) (withEntry es ks)
-unfolding withEntry
-withEntry-has es [] = all-nil
-withEntry-has es (k ∷ ks) = go (has k es) refl (withEntry-has es ks)
+pub thoseWith-has : (es ks : List ℕ) → All (λ k. has k es ≡ true) (thoseWith es ks)
+unfolding thoseWith
+thoseWith-has es [] = all-nil
+thoseWith-has es (k ∷ ks) = go (has k es) refl (thoseWith-has es ks)
   where
-    go : (t : Bool) → has k es ≡ t → All (λ k. has k es ≡ true) (withEntry es ks) → All (λ k. has k es ≡ true) (cond t (k ∷ withEntry es ks) (withEntry es ks))
+    go : (t : Bool) → has k es ≡ t → All (λ k. has k es ≡ true) (thoseWith es ks) → All (λ k. has k es ≡ true) (cond t (k ∷ thoseWith es ks) (thoseWith es ks))
     go true h q = all-cons h q
     go false h q = q
 
-pub has-withEntry : (es : List ℕ) (k : ℕ) (ks : List ℕ) → has k ks ≡ true → has k es ≡ true → has k (withEntry es ks) ≡ true
-unfolding has withEntry
-has-withEntry es k [] h z = absurd (false≢true h)
-has-withEntry es k (x ∷ xs) h z =
+pub has-thoseWith : (es : List ℕ) (k : ℕ) (ks : List ℕ) → has k ks ≡ true → has k es ≡ true → has k (thoseWith es ks) ≡ true
+unfolding has thoseWith
+has-thoseWith es k [] h z = absurd (false≢true h)
+has-thoseWith es k (x ∷ xs) h z =
     elim (has-cons k x xs h) [
       | inl e ↦ (let own : has x es ≡ true = rw e at z in rw (own, eq-eqb k x e) refl)
-      | inr q ↦ later (has x es) (has-withEntry es k xs (q .1) z)
+      | inr q ↦ later (has x es) (has-thoseWith es k xs (q .1) z)
     ]
   where
-    later : (t : Bool) → has k (withEntry es xs) ≡ true → has k (cond t (x ∷ withEntry es xs) (withEntry es xs)) ≡ true
-    later true r = or-true (eqb k x) (has k (withEntry es xs)) r
+    later : (t : Bool) → has k (thoseWith es xs) ≡ true → has k (cond t (x ∷ thoseWith es xs) (thoseWith es xs)) ≡ true
+    later true r = or-true (eqb k x) (has k (thoseWith es xs)) r
     later false r = r
 
-pub withEntry-pairs : {R : ℕ → ℕ → Type 0} (es : List ℕ) {ks : List ℕ} → Pairs R ks → Pairs R (withEntry es ks)
-unfolding withEntry
-withEntry-pairs es pairs-nil = pairs-nil
-withEntry-pairs {R} es (pairs-cons {x} {xs} a p) = go (has x es) (withEntry-pairs es p)
+pub thoseWith-pairs : {R : ℕ → ℕ → Type 0} (es : List ℕ) {ks : List ℕ} → Pairs R ks → Pairs R (thoseWith es ks)
+unfolding thoseWith
+thoseWith-pairs es pairs-nil = pairs-nil
+thoseWith-pairs {R} es (pairs-cons {x} {xs} a p) = go (has x es) (thoseWith-pairs es p)
   where
-    go : (t : Bool) → Pairs R (withEntry es xs) → Pairs R (cond t (x ∷ withEntry es xs) (withEntry es xs))
-    go true q = pairs-cons (withEntry-all es a) q
+    go : (t : Bool) → Pairs R (thoseWith es xs) → Pairs R (cond t (x ∷ thoseWith es xs) (thoseWith es xs))
+    go true q = pairs-cons (thoseWith-all es a) q
     go false q = q
 
-pub withEntry-length : (es ks : List ℕ) → length (withEntry es ks) ≤ length ks
-unfolding withEntry
-withEntry-length es [] = omega arith
-withEntry-length es (k ∷ ks) = go (has k es) (withEntry-length es ks)
+pub thoseWith-length : (es ks : List ℕ) → length (thoseWith es ks) ≤ length ks
+unfolding thoseWith
+thoseWith-length es [] = omega arith
+thoseWith-length es (k ∷ ks) = go (has k es) (thoseWith-length es ks)
   where
-    go : (t : Bool) → length (withEntry es ks) ≤ length ks → length (cond t (k ∷ withEntry es ks) (withEntry es ks)) ≤ suc (length ks)
+    go : (t : Bool) → length (thoseWith es ks) ≤ length ks → length (cond t (k ∷ thoseWith es ks) (thoseWith es ks)) ≤ suc (length ks)
     go true q = omega arith
     go false q = omega arith
 
-pub withEntry-sum : (g : ℕ → ℕ) (es ks : List ℕ) → sumOf (map g (withEntry es ks)) ≤ sumOf (map g ks)
-unfolding withEntry sumOf
-withEntry-sum g es [] = omega arith
-withEntry-sum g es (k ∷ ks) = go (has k es) (withEntry-sum g es ks)
+pub thoseWith-sum : (g : ℕ → ℕ) (es ks : List ℕ) → sumOf (map g (thoseWith es ks)) ≤ sumOf (map g ks)
+unfolding thoseWith sumOf
+thoseWith-sum g es [] = omega arith
+thoseWith-sum g es (k ∷ ks) = go (has k es) (thoseWith-sum g es ks)
   where
-    go : (t : Bool) → sumOf (map g (withEntry es ks)) ≤ sumOf (map g ks) → sumOf (map g (cond t (k ∷ withEntry es ks) (withEntry es ks))) ≤ g k + sumOf (map g ks)
+    go : (t : Bool) → sumOf (map g (thoseWith es ks)) ≤ sumOf (map g ks) → sumOf (map g (cond t (k ∷ thoseWith es ks) (thoseWith es ks))) ≤ g k + sumOf (map g ks)
     go true h = omega arith
     go false h = omega arith
 
 -- all of them, if each has an entry
-pub withEntry-same : (es : List ℕ) {ks : List ℕ} → All (λ k. has k es ≡ true) ks → withEntry es ks ≡ ks
-unfolding withEntry
-withEntry-same es all-nil = refl
-withEntry-same es (all-cons {x = k} p ps) = rw p (ap (λ (r : List ℕ). k ∷ r) (withEntry-same es ps))
+pub thoseWith-same : (es : List ℕ) {ks : List ℕ} → All (λ k. has k es ≡ true) ks → thoseWith es ks ≡ ks
+unfolding thoseWith
+thoseWith-same es all-nil = refl
+thoseWith-same es (all-cons {x = k} p ps) = rw p (ap (λ (r : List ℕ). k ∷ r) (thoseWith-same es ps))
 
 -- what gives nothing may be left out
-pub withEntry-filterMap : {A : Type 0} (g : ℕ → Option A) (es : List ℕ) {ks : List ℕ} → All (λ k. has k es ≡ false → g k ≡ none) ks
-    → filterMap g (withEntry es ks) ≡ filterMap g ks
-unfolding withEntry filterMap
-withEntry-filterMap g es all-nil = refl
-withEntry-filterMap {A} g es (all-cons {x} {xs} p ps) = go (has x es) refl (withEntry-filterMap g es ps)
+pub thoseWith-filterMap : {A : Type 0} (g : ℕ → Option A) (es : List ℕ) {ks : List ℕ} → All (λ k. has k es ≡ false → g k ≡ none) ks
+    → filterMap g (thoseWith es ks) ≡ filterMap g ks
+unfolding thoseWith filterMap
+thoseWith-filterMap g es all-nil = refl
+thoseWith-filterMap {A} g es (all-cons {x} {xs} p ps) = go (has x es) refl (thoseWith-filterMap g es ps)
   where
-    go : (t : Bool) → has x es ≡ t → filterMap g (withEntry es xs) ≡ filterMap g xs
-        → filterMap g (cond t (x ∷ withEntry es xs) (withEntry es xs)) ≡ Option·elim (g x) (filterMap g xs) (λ a. a ∷ filterMap g xs)
+    go : (t : Bool) → has x es ≡ t → filterMap g (thoseWith es xs) ≡ filterMap g xs
+        → filterMap g (cond t (x ∷ thoseWith es xs) (thoseWith es xs)) ≡ Option·elim (g x) (filterMap g xs) (λ a. a ∷ filterMap g xs)
     go true h q = ap (λ (r : List A). Option·elim (g x) r (λ a. a ∷ r)) q
     go false h q = rw (p h) q
 

@@ -18,7 +18,7 @@ use Rattle.history.specs.Rules.{filled}
 use Rattle.history.proofs.RulesLaws.{filled-decides}
 use Rattle.history.proofs.FileRoundTrip.{BlockFits}
 use Rattle.history.proofs.FileLists.{map-map}
-use Rattle.history.proofs.FilePlaces.{withEntry-sum}
+use Rattle.history.proofs.FilePlaces.{thoseWith-sum}
 use Rattle.history.proofs.FileIntervals.{treeFrom-nodesOf, endOf-nodesOf}
 use Rattle.history.proofs.FileRenumbered.{mapTree-nodeCount, mapTree-entryCount}
 use Rattle.history.proofs.FileContents.{map-blockAt, IndexFits}
@@ -31,7 +31,7 @@ bytes-written : (bs : List Block) (tree : Tree) → sumOf (map (λ b. size (b .s
 bytes-written bs tree =
     rw (map-map (λ (b : Block). size (b .stretch)) (blockAt bs) (written bs tree))
     (rw (← (map-map (λ (b : Block). size (b .stretch)) (blockAt bs) (countFrom 0 (length bs))), map-blockAt bs) at
-    (withEntry-sum (λ k. size (blockAt bs k .stretch)) (entriesIn tree) (countFrom 0 (length bs))))
+    (thoseWith-sum (λ k. size (blockAt bs k .stretch)) (entriesIn tree) (countFrom 0 (length bs))))
 
 -- tables in which the index stands have room for what is written of it
 pub room-written : (n : Lent) (kind e : ℕ) (bs : List Block) (tree : Tree) → length bs ≤ blockRows n → nodeCount tree ≤ nodeRows n → entryCount tree ≤ entryRows n

@@ -11,6 +11,8 @@ pub mod Storing
 pub mod Passing
 pub mod Steps
 pub mod RulesLaws
+pub mod EveryList
+pub mod Boards
 pub mod TreeInserting
 pub mod TreeAdding
 pub mod TreePath
@@ -18,6 +20,12 @@ pub mod TreeWidths
 pub mod TreePlaced
 pub mod TreeSorted
 pub mod FindMet
+pub mod FindLaws
+pub mod FindOrder
+pub mod TreeOrder
+pub mod TreeCounts
+pub mod TreeEntries
+pub mod FindSound
 pub mod FileLists
 pub mod FileNumbers
 pub mod FileReads

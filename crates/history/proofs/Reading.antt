@@ -12,6 +12,8 @@ use borrow.Author.Tests.{leb-true, ltb-true}
 use Rattle.history.specs.Words.{Holds, HasCell, live, within, Stretch, Block, ends, byteAt}
 use Rattle.history.specs.Reads.{shows, seen}
 use Rattle.lists.specs.Lists.{All, all-nil, all-cons, Mem, here, there}
+use Rattle.lists.proofs.Lists.{mem-right}
+use Rattle.history.proofs.Clip.{byteAt-in}
 use Rattle.history.proofs.Within.{within-true}
 use Rattle.history.proofs.Seen.{seen-cons, holds-shows}
 
@@ -57,3 +59,14 @@ seen-none t c (k ∷ ks) e = go (shows t c k) refl (sym (seen-cons t c k ks) ∙
     go none p q ih =
         all-cons (λ h. Option·none-ne-some _ (sym p ∙ holds-shows t c k h)) (ih q)
     go (some x) p q ih = absurd (nil≢cons (sym q))
+
+-- a block of the list that holds the cell has a byte that is seen
+pub seen-holds : (t c : ℕ) (k : Block) (ks : List Block) → Mem k ks → Holds t c k → (x : ℕ) × (byteAt c (k .stretch) ≡ some x) × Mem x (seen t c ks)
+unfolding Option·toList
+seen-holds t c k (y ∷ ks) (here e) h =
+    let x = getD (k .stretch .bytes) (c - k .stretch .first) 0 in
+    let shown : shows t c y ≡ some x = rw (← e) (holds-shows t c k h) in
+    (x, byteAt-in c (k .stretch) (h .has .from) (h .has .below), rw (seen-cons t c y ks, shown) (here refl))
+seen-holds t c k (y ∷ ks) (there m) h =
+    let r = seen-holds t c k ks m h in
+    (r .0, r .1, rw (seen-cons t c y ks) (mem-right (Option·toList (shows t c y)) (seen t c ks) (r .2)))

@@ -73,7 +73,7 @@ standing-opened a o = record {
 }
 
 module _ (a : Opening) (m : Moment) (h : List Operation) (o : Operation) (s : Standing a m h) (before-end : o .tick < a .end) (not-back : m .last ≤ o .tick) where
-  standing-read : isRead m o ≡ true → Standing a (readBy m o) (o ∷ h)
+  pub standing-read : isRead m o ≡ true → Standing a (readBy m o) (o ∷ h)
   unfolding readBy
   standing-read known = record {
     opens = s .opens;
@@ -126,7 +126,7 @@ module _ (a : Opening) (m : Moment) (h : List Operation) (o : Operation) (s : St
   unfolding next updateBy
   all-pieces own = all-updated (a .kind) o (m .pieces) (SoundPiece (a .kind) m) (SoundPiece (a .kind) next) part-sound own (s .pieces)
 
-  standing-update : 0 < size (stretchOf o) → ends (stretchOf o) ≤ 2 ^ 64 - 1 → Room (a .lent) (updateBy (a .kind) m o) → Standing a (updateBy (a .kind) m o) (o ∷ h)
+  pub standing-update : 0 < size (stretchOf o) → ends (stretchOf o) ≤ 2 ^ 64 - 1 → Room (a .lent) (updateBy (a .kind) m o) → Standing a (updateBy (a .kind) m o) (o ∷ h)
   unfolding next updateBy
   standing-update cells wrap r = record {
     opens = s .opens;

@@ -61,15 +61,15 @@ fileBytes f =
     flatten (bytesOf 1 (f .kind) ∷ bytesOf 8 (length (f .blocks)) ∷ flatMap blockBytes (f .blocks) ∷ nodeBytes (f .nodes) ∷ [])
 
 -- those of the block numbers that have an entry
-unfoldable pub withEntry : (entries : List ℕ) → List ℕ → List ℕ
-withEntry es [] = []
-withEntry es (k ∷ ks) =
-    let rest = withEntry es ks in
+unfoldable pub thoseWith : (entries : List ℕ) → List ℕ → List ℕ
+thoseWith es [] = []
+thoseWith es (k ∷ ks) =
+    let rest = thoseWith es ks in
     cond (has k es) (k ∷ rest) rest
 
 -- Only blocks with an entry are written, in recorded order: their numbers ..
 abbrev pub written : List Block → Tree → List ℕ
-written bs tree = withEntry (entriesIn tree) (countFrom 0 (length bs))
+written bs tree = thoseWith (entriesIn tree) (countFrom 0 (length bs))
 
 -- .. and they themselves
 abbrev pub writtenBlocks : List Block → Tree → List Block
@@ -216,10 +216,10 @@ endOf absent = 0
 endOf (present min max middle es l r) = max
 
 -- every node is the half that it should be, from [lo, hi) on, with its mid
-unfoldable pub intervals : (lo hi : ℕ) → Nodes → Bool
-intervals lo hi absent = true
-intervals lo hi (present min max middle es l r) =
-    (eqb min lo && (eqb max hi && eqb middle (mid lo hi))) && (intervals lo (mid lo hi) l && intervals (mid lo hi) hi r)
+unfoldable pub placedIn : (lo hi : ℕ) → Nodes → Bool
+placedIn lo hi absent = true
+placedIn lo hi (present min max middle es l r) =
+    (eqb min lo && (eqb max hi && eqb middle (mid lo hi))) && (placedIn lo (mid lo hi) l && placedIn (mid lo hi) hi r)
 
 -- unless 20: blocks, nodes, entries or bytes exceed a table
 unfoldable pub rule20 : Lent → File → Bool
@@ -230,7 +230,7 @@ rule20 n f =
 
 -- unless 21: no root, root min not 0, E out of range, a wrong mid, a child that isn't the half, a child of a node of width 1
 unfoldable pub rule21 : Nodes → Bool
-rule21 t = (ltb 0 (endOf t) && leb (endOf t) (2 ^ 63)) && (intervals 0 (endOf t) t && halved 0 (endOf t) (treeFrom t))
+rule21 t = (ltb 0 (endOf t) && leb (endOf t) (2 ^ 63)) && (placedIn 0 (endOf t) t && halved 0 (endOf t) (treeFrom t))
 
 -- unless 22: no block, or one with length 0, an end above 2^64 − 1, created ≥ destroyed, or destroyed > E
 unfoldable pub rule22 : (end : ℕ) → List Block → Bool

@@ -1,14 +1,17 @@
 -- What is proved of the ledger, for every list of calls: the value of a cell in the mission's words, the law, and demand 3's clauses of a finished
 -- ledger. Statements alone: the proofs stand in proofs/.
 use mathlib.Core.Path.{_≡_}
-use mathlib.Core.Bool.{Bool, true, false}
+use mathlib.Core.Bool.{Bool, true, false, cond, _&&_}
 use mathlib.Core.Option.{Option, none, some}
-use mathlib.Core.List.{List, [], _∷_, _++_, Option·toList}
+use mathlib.Core.List.{List, [], _∷_, _++_, map, flatten, Option·toList}
 use Prim.Native.Nat.{ℕ, _≤_, _<_}
-use Rattle.lists.specs.Lists.{All, Mem}
-use Rattle.history.specs.Words.{Operation, Block, stretchOf, byteAt, Covers, Holds}
+use lib.ListN.{length}
+use Rattle.lists.specs.Lists.{All, Mem, Ascending, count, sumOf}
+use Rattle.history.specs.Words.{within, Operation, Block, firstCell, live, stretchOf, byteAt, Covers, Holds}
+use Rattle.history.specs.Tree.{keyIn}
 use Rattle.history.specs.Ledger.{Ledger, Opening, opened, finished, settled}
-use Rattle.history.specs.Reads.{seen}
+use Rattle.history.specs.Reads.{blockBy, findBy, seen}
+use Rattle.history.specs.Refusals.{accepted, openAnswer}
 use Rattle.history.specs.Calls.{Call, afterAll, history, valueAt}
 use Rattle.history.specs.Rules.{Apart}
 use Rattle.history.specs.Sound.{Sound, SoundForFinish}
@@ -64,3 +67,24 @@ pub record Faithful (end : ℕ) (blocks : List Block) (h : List Operation) : Typ
 pub record EveryList (a : Opening) (ks : List Call) : Type 0 where
   pub law : LedgerLaw (afterAll (opened a) ks) (history [] (opened a) ks)
   pub faithful : finished (afterAll (opened a) ks) ≡ true → Faithful (a .end) (afterAll (opened a) ks .now .blocks) (history [] (opened a) ks)
+
+abbrev pub LawOfCalls : Type 0
+LawOfCalls = (a : Opening) → openAnswer a ≡ accepted tt → (ks : List Call) → EveryList a ks
+
+-- ── find over any sound closed index, finished or loaded ──
+
+pub record FindLaw (l : Ledger) (t start stop : ℕ) : Type 0 where
+  -- the list has exactly the live blocks whose first cell is in [start, stop), each once;
+  pub once : (k : ℕ) → count k (findBy l t start stop .numbers) ≡ cond (live t (blockBy l k) && within start stop (firstCell (blockBy l k))) 1 0
+  pub numbers : All (λ k. k < length (l .now .blocks)) (findBy l t start stop .numbers)
+  -- they are so many;
+  pub how-many : length (findBy l t start stop .numbers) ≡ sumOf (map (λ b. cond (live t b && within start stop (firstCell b)) 1 0) (l .now .blocks))
+  -- a list for each node visited, root first, ascending within a node; at most 64.
+  pub by-node : List (List ℕ)
+  pub joined : findBy l t start stop .numbers ≡ flatten by-node
+  pub ascending : All (Ascending (keyIn (l .now .blocks))) by-node
+  pub as-many : findBy l t start stop .visited ≡ length by-node
+  pub at-most : findBy l t start stop .visited ≤ 64
+
+abbrev pub LawOfFind : Type 0
+LawOfFind = (l : Ledger) → Sound l → finished l ≡ true → (t start stop : ℕ) → t < l .opening .end → FindLaw l t start stop

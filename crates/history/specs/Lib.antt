@@ -10,3 +10,5 @@ pub mod Refusals
 pub mod Calls
 pub mod Sound
 pub mod Law
+pub mod Printed
+pub mod Boards
