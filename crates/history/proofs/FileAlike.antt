@@ -5,27 +5,27 @@ use mathlib.Core.Logic.{⊎-elim}
 use mathlib.Core.Bool.{Bool, true, false, cond}
 use mathlib.Core.Option.{none}
 use mathlib.Core.List.{List, [], map, filterMap}
-use Prim.Native.Nat.{ℕ, _<_}
+use Prim.Native.Nat.{ℕ, _<_, _≤_}
 use native.Mathlib.Omega.{arith}
 use lib.ListN.{length}
 use lib.Dec.{ltb}
+use borrow.Author.Tests.{ltb-false}
 use Rattle.lists.specs.Lists.{All, all-nil, has, countFrom}
 use Rattle.lists.proofs.Lists.{all-map, all-append}
 use Rattle.lists.proofs.Numbers.{lt-or-le}
-use Rattle.history.specs.Words.{Block, life, live, firstCell}
+use Rattle.history.specs.Words.{Block, live, firstCell}
 use Rattle.history.specs.Tree.{Tree, hole, node, mid, halves, blockAt, keyIn, entriesIn}
 use Rattle.history.specs.Find.{path, visited, find}
 use Rattle.history.specs.Reads.{shows, seen}
 use Rattle.history.specs.File.{written, writtenBlocks, renumbered, newNumber}
-use Rattle.history.specs.Rules.{numbered, rule23}
-use Rattle.history.proofs.RulesLaws.{rule23-decides, Rule23, numbered-decides}
+use Rattle.history.specs.Rules.{numbered}
+use Rattle.history.proofs.RulesLaws.{numbered-decides}
 use Rattle.history.proofs.Within.{within-low, within-high}
 use Rattle.history.proofs.FileLists.{filterMap-map, countFrom-below}
 use Rattle.history.proofs.FilePlaces.{thoseWith-filterMap}
 use Rattle.history.proofs.FileRenumbered.{entries-here, entries-left, entries-right, mapTree-path, mapTree-visited, window-map}
-use Rattle.history.proofs.FileEntered.{widths-none}
 use Rattle.history.proofs.FileContents.{map-blockAt}
-use Rattle.history.proofs.FileKept.{entries-written, written-block}
+use Rattle.history.proofs.FileKept.{entries-written, written-block, entered-lives, Writable}
 
 -- ── find ──
 
@@ -58,22 +58,21 @@ written-visited e bs tree t = mapTree-visited (newNumber bs tree) t 0 e tree
 
 -- ── cells ──
 
--- a block without entry has no life, and shows nothing
-unwritten-shows : (e : ℕ) (bs : List Block) (tree : Tree) → Rule23 e bs tree → (t c k : ℕ) → k < length bs → has k (entriesIn tree) ≡ false
-    → shows t c (blockAt bs k) ≡ none
-unfolding shows
-unwritten-shows e bs tree h t c k less z =
-    let no-life : life (blockAt bs k) ≡ 0 = sym (h .sums k less) ∙ widths-none k 0 e tree z in
-    let dead : live t (blockAt bs k) ≡ false =
-    ⊎-elim (λ low. within-low _ _ t low) (λ high. within-high (blockAt bs k .created) (blockAt bs k .destroyed) t (omega arith)) (lt-or-le t (blockAt bs k .created)) in
-    rw dead refl
+module _ (kind e : ℕ) (bs : List Block) (tree : Tree) (w : Writable kind e bs tree) where
+  -- a block without entry has no life, and shows nothing
+  unwritten-shows : (t c k : ℕ) → k < length bs → has k (entriesIn tree) ≡ false → shows t c (blockAt bs k) ≡ none
+  unfolding shows
+  unwritten-shows t c k less z =
+      let no-life : blockAt bs k .destroyed ≤ blockAt bs k .created = ltb-false (blockAt bs k .created) (blockAt bs k .destroyed) (sym (entered-lives kind e bs tree w k less) ∙ z) in
+      let dead : live t (blockAt bs k) ≡ false =
+      ⊎-elim (λ low. within-low _ _ t low) (λ high. within-high (blockAt bs k .created) (blockAt bs k .destroyed) t (omega arith)) (lt-or-le t (blockAt bs k .created)) in
+      rw dead refl
 
--- every cell has the same bytes at every tick
-pub written-seen : (e : ℕ) (bs : List Block) (tree : Tree) → rule23 e bs tree ≡ true → (t cell : ℕ) → seen t cell (writtenBlocks bs tree) ≡ seen t cell bs
-unfolding seen
-written-seen e bs tree h t c =
-    let rule : Rule23 e bs tree = (rule23-decides e bs tree) .yes h in
-    filterMap-map (shows t c) (blockAt bs) (written bs tree)
-    ∙ thoseWith-filterMap (λ k. shows t c (blockAt bs k)) (entriesIn tree) (all-map (λ k p z. unwritten-shows e bs tree rule t c k (omega arith) z) (countFrom-below 0 (length bs)))
-    ∙ sym (filterMap-map (shows t c) (blockAt bs) (countFrom 0 (length bs)))
-    ∙ ap (filterMap (shows t c)) (map-blockAt bs)
+  -- every cell has the same bytes at every tick
+  pub written-seen : (t cell : ℕ) → seen t cell (writtenBlocks bs tree) ≡ seen t cell bs
+  unfolding seen
+  written-seen t c =
+      filterMap-map (shows t c) (blockAt bs) (written bs tree)
+      ∙ thoseWith-filterMap (λ k. shows t c (blockAt bs k)) (entriesIn tree) (all-map (λ k p z. unwritten-shows t c k (omega arith) z) (countFrom-below 0 (length bs)))
+      ∙ sym (filterMap-map (shows t c) (blockAt bs) (countFrom 0 (length bs)))
+      ∙ ap (filterMap (shows t c)) (map-blockAt bs)

@@ -1,21 +1,47 @@
--- What the file of a closed index says: where every block has an entry, the blocks as they stand; and every number fits its field. Assumes nothing.
+-- What the file of a closed index says: where every block has an entry, as rules 21 to 23 give, the blocks as they stand; and every number fits
+-- its field. Assumes nothing.
 use mathlib.Core.Path.{_≡_, refl, _∙_, ap}
+use mathlib.Core.Bool.{true}
 use mathlib.Core.List.{List, map}
-use Prim.Native.Nat.{ℕ, _≤_, _<_, _^_}
+use Prim.Native.Nat.{ℕ, _<_, _≤_, _^_, _+_}
 use native.Mathlib.Omega.{arith}
 use lib.ListN.{length}
 use lib.Seq.{ext-getD}
-use Rattle.lists.specs.Lists.{All, countFrom}
+use borrow.Author.Tests.{lt-ltb}
+use Rattle.lists.specs.Lists.{All, has, countFrom}
 use Rattle.lists.proofs.Lists.{all-map, count-from-length, all-at, all-of-map, count-from-at, all-any}
 use Rattle.lists.proofs.Maps.{length-of-map, getD-of-map}
 use Rattle.history.specs.Words.{Block}
-use Rattle.history.specs.Tree.{Tree, hole, node, mid, blockAt, entryCount, entriesIn, noBlock}
-use Rattle.history.specs.File.{placeIn, nodesOf, contents, written, mapTree}
+use Rattle.history.specs.Tree.{Tree, hole, node, mid, blockAt, entriesIn, entryCount, noBlock}
+use Rattle.history.specs.File.{written, contents, placeIn, mapTree, nodesOf, treeFrom, Nodes, endOf}
+use Rattle.history.specs.Rules.{rule23}
+use Rattle.history.proofs.RulesLaws.{rule23-decides, numbered-decides}
 use Rattle.history.proofs.FileRoundTrip.{BlockFits, NodesFit, FileFits, absent-fits, present-fits}
 use Rattle.history.proofs.FileLists.{countFrom-below}
 use Rattle.history.proofs.FilePlaces.{thoseWith-all, thoseWith-length, thoseWith-same, placeIn-below, placeIn-countFrom}
+use Rattle.history.proofs.FileRules.{Rule21, Rule22}
 use Rattle.history.proofs.FileRenumbered.{mapTree-same}
-use Rattle.history.proofs.FileEntered.{Entered}
+use Rattle.history.proofs.TreeEntries.{entry-life}
+
+-- ── every block has an entry ──
+
+-- every block has an entry, and no entry's number is too high
+pub record Entered (bs : List Block) (tree : Tree) : Type 0 where
+  pub entered : All (λ k. has k (entriesIn tree) ≡ true) (countFrom 0 (length bs))
+  pub numbers : All (λ k. k < length bs) (entriesIn tree)
+
+pub rules-enter : (t : Nodes) (bs : List Block) → Rule21 t → Rule22 (endOf t) bs → rule23 (endOf t) bs (treeFrom t) ≡ true → Entered bs (treeFrom t)
+rules-enter t bs h r z =
+    record {
+      entered = all-map in-tree (countFrom-below 0 (length bs));
+      numbers = numbered-decides (length bs) (treeFrom t) .yes (rule23-decides (endOf t) bs (treeFrom t) .yes z .numbers);
+    }
+  where
+    in-tree : (k : ℕ) → (0 ≤ k) × (k < 0 + length bs) → has k (entriesIn (treeFrom t)) ≡ true
+    in-tree k p =
+        let less : k < length bs = omega arith in
+        entry-life (endOf t) bs (treeFrom t) (h .some-tick) (h .halves) z k less
+        ∙ lt-ltb (blockAt bs k .created) (blockAt bs k .destroyed) (all-at noBlock (r .blocks) k less .lives)
 
 -- ── the blocks as they stand ──
 

@@ -2,27 +2,29 @@
 -- nothing.
 use mathlib.Core.Path.{_≡_, refl, sym, _∙_, ap}
 use mathlib.Core.Logic.{inl, inr}
-use mathlib.Core.Bool.{true, false, _&&_}
+use mathlib.Core.Bool.{true, false}
 use mathlib.Core.List.{List}
-use Prim.Native.Nat.{ℕ, _≤_, _<_, _^_}
+use Prim.Native.Nat.{ℕ, _<_, _≤_, _^_, _-_}
 use native.Mathlib.Omega.{arith}
 use lib.ListN.{length, getD}
 use lib.Dec.{ltb, eqb}
-use borrow.Author.Tests.{eq-eqb, lt-ltb, ne-eqb}
+use borrow.Author.Tests.{eq-eqb, lt-ltb, ne-eqb, ltb-true}
 use Rattle.lists.specs.Lists.{All, has, countFrom, Ascending}
 use Rattle.lists.proofs.Lists.{all-map, count-from-length, all-at, all-of-map, all-both, all-of-mem, all-mem, pairs-at}
+use Rattle.lists.proofs.Numbers.{eq-or-ne}
 use Rattle.lists.proofs.Maps.{length-of-map, getD-of-map}
-use Rattle.lists.proofs.Numbers.{eq-or-ne, and-both}
-use Rattle.history.specs.Words.{Block, life, firstCell}
-use Rattle.history.specs.Tree.{Tree, blockAt, keyIn, entryCount, entriesIn, widths, noBlock}
-use Rattle.history.specs.File.{placeIn, nodesOf, written, writtenBlocks, renumbered, rule21, rule22, newNumber}
-use Rattle.history.specs.Rules.{every, halved, filled, lived, rule23, apart, isHole, Apart}
-use Rattle.history.proofs.RulesLaws.{rule23-decides, Rule23, numbered-decides, lived-decides, decided, apart-decides, all-every}
-use Rattle.history.proofs.FileLists.{pairs-of-map, mem-has, countFrom-below, has-countFrom, countFrom-pairs}
+use Rattle.lists.proofs.Counting.{has-decides}
+use Rattle.history.specs.Words.{Block, life, firstCell, size, ends}
+use Rattle.history.specs.Tree.{Tree, blockAt, keyIn, entriesIn, entryCount, widths, noBlock}
+use Rattle.history.specs.File.{written, writtenBlocks, renumbered, newNumber, placeIn, nodesOf, rule21, rule22}
+use Rattle.history.specs.Rules.{rule23, halved, filled, apart, isHole, Apart}
+use Rattle.history.proofs.RulesLaws.{rule23-decides, Rule23, numbered-decides, decided, apart-decides, filled-decides}
+use Rattle.history.proofs.FileLists.{pairs-of-map, countFrom-below, has-countFrom, countFrom-pairs}
 use Rattle.history.proofs.FilePlaces.{thoseWith-all, thoseWith-has, has-thoseWith, thoseWith-pairs, thoseWith-length, placeIn-inside, placeIn-found, placeIn-at}
+use Rattle.history.proofs.FileRules.{rule22-decides, LivingBlock}
 use Rattle.history.proofs.FileIntervals.{nodesOf-rule21}
 use Rattle.history.proofs.FileRenumbered.{mapTree-isHole, mapTree-halved, mapTree-numbered, mapTree-placed, mapTree-sorted, mapTree-widths}
-use Rattle.history.proofs.FileEntered.{widths-some, living-entered}
+use Rattle.history.proofs.TreeEntries.{entry-life}
 
 -- ── an index that can be written ──
 
@@ -67,7 +69,7 @@ module _ (bs : List Block) (tree : Tree) where
 
   -- so every entry's block
   pub entries-written : All (λ k. k < length bs) (entriesIn tree) → All (λ k. has k (written bs tree) ≡ true) (entriesIn tree)
-  entries-written h = all-of-mem (entriesIn tree) (λ k m. entry-written k (all-mem h m) (mem-has m))
+  entries-written h = all-of-mem (entriesIn tree) (λ k m. entry-written k (all-mem h m) (decided (has k (entriesIn tree)) (has-decides k (entriesIn tree)) m))
 
   -- by its new number each is the block that it was
   pub written-at : (j : ℕ) → j < length (written bs tree) → blockAt (writtenBlocks bs tree) j ≡ blockAt bs (getD (written bs tree) j 0)
@@ -99,25 +101,31 @@ module _ (kind e : ℕ) (bs : List Block) (tree : Tree) (w : Writable kind e bs 
   pub written-rule21 : rule21 (nodesOf 0 e (renumbered bs tree)) ≡ true
   written-rule21 = nodesOf-rule21 e (renumbered bs tree) (w .some-tick) (w .end-most) renumbered-root (mapTree-halved (newNumber bs tree) 0 e tree ∙ w .halves)
 
-  -- a block with an entry lives
-  entered-lives : (k : ℕ) → k < length bs → has k (entriesIn tree) ≡ true → (filled (blockAt bs k .stretch) && lived e (blockAt bs k)) ≡ true
-  entered-lives k less z =
-      let whole : WholeBlock kind e (blockAt bs k) = all-at noBlock (w .blocks) k less in
-      let some-life : 0 < life (blockAt bs k) = rw (rules .sums k less) at (widths-some k 0 e tree (w .some-tick) (w .halves) z) in
-      and-both (filled (blockAt bs k .stretch)) (lived e (blockAt bs k)) (whole .full)
-      (decided (lived e (blockAt bs k)) (lived-decides e (blockAt bs k)) (omega arith, whole .by-end))
+  -- a block is written exactly if it has a life
+  pub entered-lives : (k : ℕ) → k < length bs → has k (entriesIn tree) ≡ ltb (blockAt bs k .created) (blockAt bs k .destroyed)
+  entered-lives k less = entry-life e bs tree (w .some-tick) (w .halves) (w .rule-23) k less
+
+  pub living-written : (k : ℕ) → k < length bs → blockAt bs k .created < blockAt bs k .destroyed → has k (written bs tree) ≡ true
+  living-written k less lives = entry-written bs tree k less (entered-lives k less ∙ lt-ltb (blockAt bs k .created) (blockAt bs k .destroyed) lives)
 
   pub written-rule22 : 0 < length (written bs tree) → rule22 e (writtenBlocks bs tree) ≡ true
-  unfolding rule22
   written-rule22 h =
-      and-both (ltb 0 (length (writtenBlocks bs tree))) (every (λ b. filled (b .stretch) && lived e b) (writtenBlocks bs tree))
-      (lt-ltb 0 (length (writtenBlocks bs tree)) (rw (length-of-map (blockAt bs) (written bs tree)) h))
-      (all-every (λ b. filled (b .stretch) && lived e b)
-      (all-of-map (blockAt bs) (all-both entered-lives (written-below bs tree) (thoseWith-has (entriesIn tree) (countFrom 0 (length bs))))))
-
-  -- a block that lives is written
-  pub living-written : (k : ℕ) → k < length bs → blockAt bs k .created < blockAt bs k .destroyed → has k (written bs tree) ≡ true
-  living-written k less lives = entry-written bs tree k less (living-entered e bs tree rules k less lives)
+      decided (rule22 e (writtenBlocks bs tree)) (rule22-decides e (writtenBlocks bs tree))
+      (record {
+        some-block = rw (length-of-map (blockAt bs) (written bs tree)) h;
+        blocks = all-of-map (blockAt bs) (all-both living (written-below bs tree) (thoseWith-has (entriesIn tree) (countFrom 0 (length bs))));
+      })
+    where
+      living : (k : ℕ) → k < length bs → has k (entriesIn tree) ≡ true → LivingBlock e (blockAt bs k)
+      living k less z =
+          let whole : WholeBlock kind e (blockAt bs k) = all-at noBlock (w .blocks) k less in
+          let full : (0 < size (blockAt bs k .stretch)) × (ends (blockAt bs k .stretch) ≤ 2 ^ 64 - 1) = filled-decides (blockAt bs k .stretch) .yes (whole .full) in
+          record {
+            some-cell = full .0;
+            no-wrap = full .1;
+            lives = ltb-true (blockAt bs k .created) (blockAt bs k .destroyed) (sym (entered-lives k less) ∙ z);
+            by-end = whole .by-end;
+          }
 
   written-sums : (j : ℕ) → j < length (writtenBlocks bs tree) → widths j 0 e (renumbered bs tree) ≡ life (blockAt (writtenBlocks bs tree) j)
   written-sums j h =

@@ -1,23 +1,22 @@
 -- Laws of lists, and of tests over lists, that the file's laws use. Assumes nothing.
-use mathlib.Core.Path.{_≡_, refl, sym, ap, ap₂}
+use mathlib.Core.Path.{_≡_, refl, ap, ap₂}
 use mathlib.Core.Logic.{⊎-elim, inl, inr, _⊎_}
-use mathlib.Core.Bool.{Bool, true, false, cond, _&&_, _||_, false≢true}
+use mathlib.Core.Bool.{Bool, true, false, cond, _&&_, _||_}
 use mathlib.Core.Option.{Option, Option·elim}
-use mathlib.Core.List.{List, [], map, filterMap, _∷_, _++_}
-use Prim.Native.Nat.{ℕ, _≤_, _<_, _+_, zero, suc}
+use mathlib.Core.List.{List, [], map, filterMap, _∷_}
+use Prim.Native.Nat.{ℕ, _<_, _≤_, _+_, zero, suc}
 use native.Mathlib.Omega.{arith}
 use lib.Dec.{ltb, eqb}
-use borrow.Author.Tests.{eq-eqb, ne-eqb}
-use Rattle.lists.specs.Lists.{All, all-nil, has, countFrom, count, all-cons, Pairs, pairs-nil, pairs-cons, Mem, here, there}
+use borrow.Author.Tests.{ne-eqb}
+use Rattle.lists.specs.Lists.{All, all-nil, has, countFrom, count, all-cons, Pairs, pairs-nil, pairs-cons, here}
 use Rattle.lists.proofs.Lists.{all-map, all-of-map}
-use Rattle.lists.proofs.Numbers.{and-right, or-left, or-right, and-left, eq-or-ne}
+use Rattle.lists.proofs.Numbers.{eq-or-ne}
+use Rattle.lists.proofs.Counting.{has-decides, count-mem, count-from-count}
 use Rattle.history.specs.File.{many}
 use Rattle.history.specs.Rules.{every, ascends}
+use Rattle.history.proofs.RulesLaws.{decided}
 
 -- ── tests ──
-
-pub and-parts : (a b : Bool) → (a && b) ≡ true → (a ≡ true) × (b ≡ true)
-and-parts a b e = (and-left a b e, and-right a b e)
 
 pub or-true : (a b : Bool) → b ≡ true → (a || b) ≡ true
 or-true true b e = refl
@@ -56,34 +55,6 @@ pub has-cons : (k x : ℕ) (xs : List ℕ) → has k (x ∷ xs) ≡ true → (k 
 unfolding has
 has-cons k x xs h = ⊎-elim (λ e. inl e) (λ e. inr (e, rw (ne-eqb k x e) at h)) (eq-or-ne k x)
 
-pub has-append : (k : ℕ) (xs ys : List ℕ) → has k (xs ++ ys) ≡ (has k xs || has k ys)
-unfolding has
-has-append k [] ys = refl
-has-append k (x ∷ xs) ys = rw (has-append k xs ys) (sym (or-assoc (eqb k x) (has k xs) (has k ys)))
-  where
-    or-assoc : (a b c : Bool) → ((a || b) || c) ≡ (a || (b || c))
-    or-assoc true b c = refl
-    or-assoc false b c = refl
-
-pub mem-has : {k : ℕ} {xs : List ℕ} → Mem k xs → has k xs ≡ true
-unfolding has
-mem-has {k} (here {y} e) = rw (eq-eqb k y e) refl
-mem-has {k} (there {y} {ys} m) = or-true (eqb k y) (has k ys) (mem-has m)
-
-pub count-none : (k : ℕ) (xs : List ℕ) → has k xs ≡ false → count k xs ≡ 0
-unfolding has count
-count-none k [] h = refl
-count-none k (x ∷ xs) h = rw (or-left (eqb k x) (has k xs) h, count-none k xs (or-right (eqb k x) (has k xs) h)) refl
-
-pub count-some : (k : ℕ) (xs : List ℕ) → has k xs ≡ true → 0 < count k xs
-unfolding has count
-count-some k [] h = absurd (false≢true h)
-count-some k (x ∷ xs) h =
-    elim (has-cons k x xs h) [
-      | inl e ↦ rw (eq-eqb k x e) (omega arith)
-      | inr z ↦ (let later : 0 < count k xs = count-some k xs (z .1) in omega arith)
-    ]
-
 -- ── numbers that follow one another ──
 
 pub countFrom-below : (n many : ℕ) → All (λ k. (n ≤ k) × (k < n + many)) (countFrom n many)
@@ -94,10 +65,8 @@ countFrom-below n (suc many) =
     all-cons here (all-map (λ k p. (omega arith, omega arith)) (countFrom-below (suc n) many))
 
 pub has-countFrom : (k n many : ℕ) → n ≤ k → k < n + many → has k (countFrom n many) ≡ true
-unfolding has countFrom
-has-countFrom k n zero a b = absurd (omega arith)
-has-countFrom k n (suc many) a b =
-    ⊎-elim (λ e. rw (eq-eqb k n e) refl) (λ e. rw (ne-eqb k n e, has-countFrom k (suc n) many (omega arith) (omega arith)) refl) (eq-or-ne k n)
+has-countFrom k n many a b =
+    decided (has k (countFrom n many)) (has-decides k (countFrom n many)) (count-mem k (countFrom n many) (omega (arith, count-from-count k n many a b)))
 
 pub countFrom-pairs : {R : ℕ → ℕ → Type 0} (n many : ℕ) → ((i j : ℕ) → n ≤ i → i < j → j < n + many → R i j) → Pairs R (countFrom n many)
 unfolding countFrom

@@ -2,26 +2,24 @@
 -- the bytes read. Assumes nothing.
 use mathlib.Core.Path.{_≡_, refl, sym, _∙_, ap}
 use mathlib.Core.Logic.{⊎-elim}
-use mathlib.Core.Bool.{Bool, true, false, _&&_}
+use mathlib.Core.Bool.{Bool, true, false}
 use mathlib.Core.List.{List, [], _∷_, _++_}
-use Prim.Native.Nat.{ℕ, _≤_, _<_, _^_, _+_, _-_}
+use Prim.Native.Nat.{ℕ, _<_, _≤_, _+_, _-_}
 use native.Mathlib.Omega.{arith}
 use lib.ListN.{length, take, drop}
-use lib.Dec.{ltb, leb}
-use borrow.Author.Tests.{ltb-true, lt-leb}
-use Rattle.lists.proofs.Numbers.{le-or-lt, and-left}
+use borrow.Author.Tests.{lt-leb}
+use Rattle.lists.proofs.Numbers.{le-or-lt}
 use Rattle.history.specs.Words.{Block}
-use Rattle.history.specs.Lent.{Lent}
 use Rattle.history.specs.Tree.{Tree}
-use Rattle.history.specs.File.{nodesOf, contents, treeFrom, rule20, fileOf, fileBytes, Read, got, fault, _>>=_, onward, give, refuse_unless_, field, number, readFile, placedIn, rule21, rule22, Loaded, load, endOf, File, loadedFrom}
-use Rattle.history.specs.Rules.{every, halved, filled, lived, rule23, apart}
+use Rattle.history.specs.File.{fileOf, contents, fileBytes, Read, got, fault, _>>=_, onward, give, refuse_unless_, field, number, readFile, treeFrom, rule20, rule21, rule22, Loaded, load, endOf, File, loadedFrom}
+use Rattle.history.specs.Rules.{rule23, apart}
+use Rattle.history.specs.Lent.{Lent}
 use Rattle.history.proofs.FileNumbers.{Bytes}
 use Rattle.history.proofs.FileReads.{spans-taken, got-value, got-next, fault-got, Yielded}
 use Rattle.history.proofs.FileRoundTrip.{reads-file, gives-file, FileFits}
-use Rattle.history.proofs.FileLists.{and-parts}
+use Rattle.history.proofs.FileRules.{rule21-decides, rule22-decides, Rule21, Rule22}
 use Rattle.history.proofs.FileIntervals.{nodesOf-treeFrom}
-use Rattle.history.proofs.FileEntered.{rules-enter, Entered}
-use Rattle.history.proofs.FileContents.{contents-same, contents-fits, IndexFits}
+use Rattle.history.proofs.FileContents.{rules-enter, contents-same, contents-fits, Entered, IndexFits}
 
 -- ── written and read ──
 
@@ -29,10 +27,6 @@ fileOf-some : (kind e : ℕ) (bs : List Block) (tree : Tree) → 0 < length bs �
 unfolding fileOf
 fileOf-some kind e [] tree h = absurd (omega arith)
 fileOf-some kind e (b ∷ bs) tree h = refl
-
-blocks-some : (e : ℕ) (bs : List Block) → rule22 e bs ≡ true → 0 < length bs
-unfolding rule22
-blocks-some e bs h = ltb-true 0 (length bs) (and-left (ltb 0 (length bs)) (every (λ b. filled (b .stretch) && lived e b) bs) h)
 
 -- A file that was written is read back, wherever it stands: the blocks with an entry, and the nodes with their intervals and new numbers.
 pub read-written : (kind e : ℕ) (bs : List Block) (tree : Tree) → 0 < length bs → IndexFits kind e bs tree → (before behind : List ℕ)
@@ -126,17 +120,14 @@ read-inside file at f next e =
 
 -- What was read, written again, is the bytes read, if rule 21 holds and every block has an entry.
 pub written-read : (file : List ℕ) → Bytes file → (at : ℕ) (f : File) (next : ℕ) → readFile file at ≡ got f next
-    → rule21 (f .nodes) ≡ true → 0 < length (f .blocks) → Entered (f .blocks) (treeFrom (f .nodes))
+    → Rule21 (f .nodes) → 0 < length (f .blocks) → Entered (f .blocks) (treeFrom (f .nodes))
     → fileOf (f .kind) (endOf (f .nodes)) (f .blocks) (treeFrom (f .nodes)) ≡ take (next - at) (drop at file)
-unfolding rule21
-written-read file small at f next read halves some entered =
+written-read file small at f next read halves some-block entered =
     let e : ℕ = endOf (f .nodes) in
-    let (range, rest) = and-parts (ltb 0 e && leb e (2 ^ 63)) (placedIn 0 e (f .nodes) && halved 0 e (treeFrom (f .nodes))) halves in
-    let nodes : nodesOf 0 e (treeFrom (f .nodes)) ≡ f .nodes = nodesOf-treeFrom 0 e (f .nodes) (and-left (placedIn 0 e (f .nodes)) (halved 0 e (treeFrom (f .nodes))) rest) in
     let says : contents (f .kind) e (f .blocks) (treeFrom (f .nodes)) ≡ f =
-    contents-same (f .kind) e (f .blocks) (treeFrom (f .nodes)) entered ∙ (rw nodes refl) in
+    contents-same (f .kind) e (f .blocks) (treeFrom (f .nodes)) entered ∙ (rw (nodesOf-treeFrom 0 e (f .nodes) (halves .places)) refl) in
     let y : Yielded file (λ g w. FileFits g × (w ≡ fileBytes g)) at f next = (gives-file file small) .yields at f next (read-inside file at f next read) read in
-    fileOf-some (f .kind) e (f .blocks) (treeFrom (f .nodes)) some ∙ ap fileBytes says ∙ sym (y .says .1) ∙ sym (spans-taken (y .spans))
+    fileOf-some (f .kind) e (f .blocks) (treeFrom (f .nodes)) some-block ∙ ap fileBytes says ∙ sym (y .says .1) ∙ sym (spans-taken (y .spans))
 
 -- A loaded index is written with the bytes read.
 pub loaded-written : (n : Lent) (file : List ℕ) → Bytes file → (at : ℕ) (x : Loaded) (next : ℕ) → load n file at ≡ got x next
@@ -144,6 +135,6 @@ pub loaded-written : (n : Lent) (file : List ℕ) → Bytes file → (at : ℕ) 
 loaded-written n file small at x next e =
     let z : LoadedOf n file at x next = load-accepted n file at x next e in
     let f : File = z .said in
-    rw (z .same)
-    (written-read file small at f next (z .read) (z .rules .halves) (blocks-some (endOf (f .nodes)) (f .blocks) (z .rules .blocks))
-    (rules-enter (endOf (f .nodes)) (f .blocks) (treeFrom (f .nodes)) (z .rules .blocks) (z .rules .entries)))
+    let halves : Rule21 (f .nodes) = rule21-decides (f .nodes) .yes (z .rules .halves) in
+    let blocks : Rule22 (endOf (f .nodes)) (f .blocks) = rule22-decides (endOf (f .nodes)) (f .blocks) .yes (z .rules .blocks) in
+    rw (z .same) (written-read file small at f next (z .read) halves (blocks .some-block) (rules-enter (f .nodes) (f .blocks) halves blocks (z .rules .entries)))

@@ -4,15 +4,15 @@ use mathlib.Core.Logic.{⊎-elim, inl, inr}
 use mathlib.Core.Bool.{Bool, true, false, cond, false≢true}
 use mathlib.Core.Option.{none, Option, Option·elim}
 use mathlib.Core.List.{List, [], map, filterMap, _∷_}
-use Prim.Native.Nat.{ℕ, _≤_, _<_, _+_, _-_, zero, suc}
+use Prim.Native.Nat.{ℕ, _<_, _≤_, _+_, _-_, zero, suc}
 use native.Mathlib.Omega.{arith}
 use lib.ListN.{length, getD}
 use lib.Dec.{eqb}
 use borrow.Author.Tests.{eq-eqb, ne-eqb}
-use Rattle.lists.specs.Lists.{All, all-nil, has, countFrom, sumOf, all-cons, Pairs, pairs-nil, pairs-cons, Ascending}
+use Rattle.lists.specs.Lists.{All, all-nil, has, countFrom, sumOf, Ascending, all-cons, Pairs, pairs-nil, pairs-cons}
 use Rattle.lists.proofs.Lists.{all-at}
 use Rattle.lists.proofs.Numbers.{eq-or-ne}
-use Rattle.history.specs.File.{placeIn, thoseWith, many}
+use Rattle.history.specs.File.{placeIn, many, thoseWith}
 use Rattle.history.proofs.FileLists.{or-true, has-cons}
 
 -- ── numbers with an entry ──

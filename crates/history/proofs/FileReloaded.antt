@@ -3,22 +3,22 @@
 use mathlib.Core.Path.{_≡_, refl, _∙_, ap}
 use mathlib.Core.Bool.{true}
 use mathlib.Core.List.{List, map, _++_}
-use Prim.Native.Nat.{ℕ, _≤_, _<_, _+_}
+use Prim.Native.Nat.{ℕ, _<_, _≤_, _+_}
 use native.Mathlib.Omega.{arith}
 use lib.ListN.{length}
-use borrow.Author.Tests.{le-leb}
-use Rattle.lists.specs.Lists.{countFrom, sumOf, count}
+use Rattle.lists.specs.Lists.{countFrom, count, sumOf}
 use Rattle.lists.proofs.Lists.{all-map}
 use Rattle.lists.proofs.Maps.{length-of-map}
 use Rattle.history.specs.Words.{Block, size}
-use Rattle.history.specs.Lent.{Lent, blockRows, nodeRows, entryRows}
-use Rattle.history.specs.Tree.{Tree, halves, blockAt, nodeCount, entryCount, entriesIn}
-use Rattle.history.specs.File.{nodesOf, contents, treeFrom, rule20, written, writtenBlocks, renumbered, fileOf, got, Loaded, load, endOf, loadedFrom, newNumber}
+use Rattle.history.specs.Tree.{Tree, halves, blockAt, entriesIn, nodeCount, entryCount}
+use Rattle.history.specs.File.{written, writtenBlocks, renumbered, newNumber, fileOf, contents, nodesOf, got, rule20, Loaded, load, endOf, loadedFrom}
 use Rattle.history.specs.Rules.{filled}
-use Rattle.history.proofs.RulesLaws.{filled-decides}
+use Rattle.history.specs.Lent.{Lent, blockRows, nodeRows, entryRows}
+use Rattle.history.proofs.RulesLaws.{decided, filled-decides}
 use Rattle.history.proofs.FileRoundTrip.{BlockFits}
 use Rattle.history.proofs.FileLists.{map-map}
 use Rattle.history.proofs.FilePlaces.{thoseWith-sum}
+use Rattle.history.proofs.FileRules.{rule20-decides}
 use Rattle.history.proofs.FileIntervals.{treeFrom-nodesOf, endOf-nodesOf}
 use Rattle.history.proofs.FileRenumbered.{mapTree-nodeCount, mapTree-entryCount}
 use Rattle.history.proofs.FileContents.{map-blockAt, IndexFits}
@@ -36,14 +36,16 @@ bytes-written bs tree =
 -- tables in which the index stands have room for what is written of it
 pub room-written : (n : Lent) (kind e : ℕ) (bs : List Block) (tree : Tree) → length bs ≤ blockRows n → nodeCount tree ≤ nodeRows n → entryCount tree ≤ entryRows n
     → sumOf (map (λ b. size (b .stretch)) bs) ≤ n .store → rule20 n (contents kind e bs tree) ≡ true
-unfolding rule20 contents
+unfolding contents
 room-written n kind e bs tree a b c d =
     let new : Tree = renumbered bs tree in
-    let few : length (writtenBlocks bs tree) ≤ blockRows n = rw (length-of-map (blockAt bs) (written bs tree)) (omega (arith, written-few bs tree)) in
-    let nodes : nodeCount (treeFrom (nodesOf 0 e new)) ≤ nodeRows n = rw (treeFrom-nodesOf 0 e new, mapTree-nodeCount (newNumber bs tree) tree) b in
-    let entries : entryCount (treeFrom (nodesOf 0 e new)) ≤ entryRows n = rw (treeFrom-nodesOf 0 e new, mapTree-entryCount (newNumber bs tree) tree) c in
-    let bytes : sumOf (map (λ b. size (b .stretch)) (writtenBlocks bs tree)) ≤ n .store = omega (arith, bytes-written bs tree) in
-    rw (le-leb _ _ few, le-leb _ _ nodes, le-leb _ _ entries, le-leb _ _ bytes) refl
+    decided (rule20 n (contents kind e bs tree)) (rule20-decides n (contents kind e bs tree))
+    (record {
+      blocks = rw (length-of-map (blockAt bs) (written bs tree)) (omega (arith, written-few bs tree));
+      nodes = rw (treeFrom-nodesOf 0 e new, mapTree-nodeCount (newNumber bs tree) tree) b;
+      entries = rw (treeFrom-nodesOf 0 e new, mapTree-entryCount (newNumber bs tree) tree) c;
+      bytes = omega (arith, bytes-written bs tree);
+    })
 
 -- ── written and loaded ──
 

@@ -3,14 +3,14 @@ use mathlib.Core.Path.{_≡_, refl, _∙_, ap}
 use mathlib.Core.Bool.{true}
 use mathlib.Core.Option.{none}
 use mathlib.Core.List.{List, [], flatten, _++_, append-nil}
-use Prim.Native.Nat.{ℕ, _≤_, _<_, _^_, _+_, zero, suc}
+use Prim.Native.Nat.{ℕ, _<_, _≤_, _^_, _+_, zero, suc}
 use native.Mathlib.Omega.{arith}
 use lib.ListN.{length, length-append}
 use lib.Dec.{eqb, leb}
 use borrow.Author.Tests.{le-leb, eqb-true, eq-eqb, leb-true, eqb-false}
 use Rattle.lists.specs.Lists.{All}
 use Rattle.lists.proofs.Lists.{all-map}
-use Rattle.history.specs.Words.{Block, size, firstCell}
+use Rattle.history.specs.Words.{Block, firstCell, size}
 use Rattle.history.specs.File.{fileBytes, blockBytes, nodeBytes, bytesOf, number, readBlock, readNodes, readRoot, readFile, Nodes, absent, present, File}
 use Rattle.history.proofs.FileNumbers.{bytesOf-length, Bytes}
 use Rattle.history.proofs.FileReads.{stands-fits, reads-give, reads-bind, reads-check, reads-field, reads-number, reads-many, fault-got, yields-give, yields-check, yields-cond, yields-bind, gives-field, gives-many, gives-number, Gives, Reads}

@@ -31,9 +31,9 @@ pub mod FileNumbers
 pub mod FileReads
 pub mod FileRoundTrip
 pub mod FilePlaces
+pub mod FileRules
 pub mod FileIntervals
 pub mod FileRenumbered
-pub mod FileEntered
 pub mod FileContents
 pub mod FileLoad
 pub mod FileKept
