@@ -15,13 +15,13 @@ use Rattle.history.specs.Words.{Block}
 use Rattle.history.specs.Tree.{Tree, hole, node, mid, blockAt, entriesIn, entryCount, noBlock}
 use Rattle.history.specs.File.{written, contents, placeIn, mapTree, nodesOf, treeFrom, Nodes, endOf}
 use Rattle.history.specs.Rules.{rule23}
-use Rattle.history.proofs.RulesLaws.{rule23-decides, numbered-decides}
+use Rattle.history.proofs.RulesLaws.{numbered-decides, rule23-decides}
+use Rattle.history.proofs.TreeEntries.{entry-life}
 use Rattle.history.proofs.FileRoundTrip.{BlockFits, NodesFit, FileFits, absent-fits, present-fits}
 use Rattle.history.proofs.FileLists.{countFrom-below}
 use Rattle.history.proofs.FilePlaces.{thoseWith-all, thoseWith-length, thoseWith-same, placeIn-below, placeIn-countFrom}
 use Rattle.history.proofs.FileRules.{Rule21, Rule22}
 use Rattle.history.proofs.FileRenumbered.{mapTree-same}
-use Rattle.history.proofs.TreeEntries.{entry-life}
 
 -- ── every block has an entry ──
 

@@ -8,23 +8,23 @@ use Prim.Native.Nat.{ℕ, _<_, _≤_, _^_, _-_}
 use native.Mathlib.Omega.{arith}
 use lib.ListN.{length, getD}
 use lib.Dec.{ltb, eqb}
-use borrow.Author.Tests.{eq-eqb, lt-ltb, ne-eqb, ltb-true}
+use borrow.Author.Tests.{lt-ltb, eq-eqb, ne-eqb, ltb-true}
 use Rattle.lists.specs.Lists.{All, has, countFrom, Ascending}
 use Rattle.lists.proofs.Lists.{all-map, count-from-length, all-at, all-of-map, all-both, all-of-mem, all-mem, pairs-at}
 use Rattle.lists.proofs.Numbers.{eq-or-ne}
 use Rattle.lists.proofs.Maps.{length-of-map, getD-of-map}
 use Rattle.lists.proofs.Counting.{has-decides}
-use Rattle.history.specs.Words.{Block, life, firstCell, size, ends}
+use Rattle.history.specs.Words.{Block, firstCell, ends, life, size}
 use Rattle.history.specs.Tree.{Tree, blockAt, keyIn, entriesIn, entryCount, widths, noBlock}
 use Rattle.history.specs.File.{written, writtenBlocks, renumbered, newNumber, placeIn, nodesOf, rule21, rule22}
-use Rattle.history.specs.Rules.{rule23, halved, filled, apart, isHole, Apart}
-use Rattle.history.proofs.RulesLaws.{rule23-decides, Rule23, numbered-decides, decided, apart-decides, filled-decides}
+use Rattle.history.specs.Rules.{halved, filled, rule23, apart, isHole, Apart}
+use Rattle.history.proofs.RulesLaws.{numbered-decides, rule23-decides, decided, Rule23, apart-decides, filled-decides}
+use Rattle.history.proofs.TreeEntries.{entry-life}
 use Rattle.history.proofs.FileLists.{pairs-of-map, countFrom-below, has-countFrom, countFrom-pairs}
 use Rattle.history.proofs.FilePlaces.{thoseWith-all, thoseWith-has, has-thoseWith, thoseWith-pairs, thoseWith-length, placeIn-inside, placeIn-found, placeIn-at}
 use Rattle.history.proofs.FileRules.{rule22-decides, LivingBlock}
 use Rattle.history.proofs.FileIntervals.{nodesOf-rule21}
 use Rattle.history.proofs.FileRenumbered.{mapTree-isHole, mapTree-halved, mapTree-numbered, mapTree-placed, mapTree-sorted, mapTree-widths}
-use Rattle.history.proofs.TreeEntries.{entry-life}
 
 -- ── an index that can be written ──
 

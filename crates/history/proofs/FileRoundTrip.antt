@@ -3,11 +3,11 @@ use mathlib.Core.Path.{_≡_, refl, _∙_, ap}
 use mathlib.Core.Bool.{true}
 use mathlib.Core.Option.{none}
 use mathlib.Core.List.{List, [], flatten, _++_, append-nil}
-use Prim.Native.Nat.{ℕ, _<_, _≤_, _^_, _+_, zero, suc}
+use Prim.Native.Nat.{ℕ, _<_, _≤_, _^_, _+_, zero, suc, min}
 use native.Mathlib.Omega.{arith}
 use lib.ListN.{length, length-append}
 use lib.Dec.{eqb, leb}
-use borrow.Author.Tests.{le-leb, eqb-true, eq-eqb, leb-true, eqb-false}
+use borrow.Author.Tests.{eqb-true, eq-eqb, le-leb, leb-true, eqb-false}
 use Rattle.lists.specs.Lists.{All}
 use Rattle.lists.proofs.Lists.{all-map}
 use Rattle.history.specs.Words.{Block, firstCell, size}

@@ -39,4 +39,5 @@ pub mod FileLoad
 pub mod FileKept
 pub mod FileReloaded
 pub mod FileAlike
+pub mod FileSound
 pub mod FileBoards
