@@ -1,12 +1,11 @@
 -- The nodes of a tree with their intervals, as they are written, and rule 21. Assumes nothing.
 use mathlib.Core.Path.{_≡_, refl, ap₂}
 use mathlib.Core.Bool.{Bool, true, false, _&&_, true≢false}
-use Prim.Native.Nat.{ℕ, _<_, _≤_, _^_, min}
+use Prim.Native.Nat.{ℕ, _<_, _≤_, _^_}
 use lib.Dec.{eqb}
 use borrow.Author.Tests.{eqb-true, eq-eqb}
 use Rattle.lists.proofs.Numbers.{and-right, and-left}
-use Rattle.history.specs.Words.{ends}
-use Rattle.history.specs.Tree.{Tree, hole, node, mid, halves}
+use Rattle.history.specs.Tree.{Tree, hole, node, mid}
 use Rattle.history.specs.File.{nodesOf, treeFrom, rule21, Nodes, endOf, absent, present, placedIn}
 use Rattle.history.specs.Rules.{halved, isHole}
 use Rattle.history.proofs.RulesLaws.{decided}

@@ -8,11 +8,10 @@ use Prim.Native.Nat.{ℕ, _<_, _≤_, _+_, zero, suc}
 use native.Mathlib.Omega.{arith}
 use lib.Dec.{ltb, eqb}
 use borrow.Author.Tests.{ne-eqb}
-use Rattle.lists.specs.Lists.{All, all-nil, has, countFrom, count, all-cons, Pairs, pairs-nil, pairs-cons, here}
+use Rattle.lists.specs.Lists.{All, all-nil, has, countFrom, count, all-cons, Pairs, pairs-nil, pairs-cons}
 use Rattle.lists.proofs.Lists.{all-map, all-of-map}
 use Rattle.lists.proofs.Numbers.{eq-or-ne}
 use Rattle.lists.proofs.Counting.{has-decides, count-mem, count-from-count}
-use Rattle.history.specs.File.{many}
 use Rattle.history.specs.Rules.{every, ascends}
 use Rattle.history.proofs.RulesLaws.{decided}
 

@@ -9,9 +9,8 @@ use lib.ListN.{length, take, drop, length-append, length-drop, take-append-drop}
 use lib.Dec.{leb}
 use lib.Seq.{take-at, drop-at, length-take-le}
 use borrow.Author.Tests.{le-leb, leb-true}
-use Rattle.lists.specs.Lists.{All, all-nil, count, all-cons}
+use Rattle.lists.specs.Lists.{All, all-nil, all-cons}
 use Rattle.lists.proofs.Lists.{all-left, all-right}
-use Rattle.history.specs.Words.{size}
 use Rattle.history.specs.File.{bytesOf, numberOf, Read, got, fault, _>>=_, onward, give, refuse_unless_, field, number, many, Reader, _>>_}
 use Rattle.history.proofs.FileNumbers.{bytesOf-length, numberOf-bytesOf, numberOf-below, bytesOf-numberOf, Bytes}
 

@@ -6,13 +6,12 @@ use mathlib.Core.List.{List, map, _++_}
 use Prim.Native.Nat.{ℕ, _<_, _≤_, _+_}
 use native.Mathlib.Omega.{arith}
 use lib.ListN.{length}
-use Rattle.lists.specs.Lists.{countFrom, count, sumOf}
+use Rattle.lists.specs.Lists.{countFrom, sumOf}
 use Rattle.lists.proofs.Lists.{all-map}
 use Rattle.lists.proofs.Maps.{length-of-map}
 use Rattle.history.specs.Words.{Block, size}
-use Rattle.history.specs.Tree.{Tree, halves, blockAt, entriesIn, nodeCount, entryCount}
+use Rattle.history.specs.Tree.{Tree, blockAt, entriesIn, nodeCount, entryCount}
 use Rattle.history.specs.File.{written, writtenBlocks, renumbered, newNumber, fileOf, contents, nodesOf, got, rule20, Loaded, load, endOf, loadedFrom}
-use Rattle.history.specs.Rules.{filled}
 use Rattle.history.specs.Lent.{Lent, blockRows, nodeRows, entryRows}
 use Rattle.history.proofs.RulesLaws.{decided, filled-decides}
 use Rattle.history.proofs.FileRoundTrip.{BlockFits}

@@ -1,9 +1,8 @@
 -- A file that is written and read is the file, and the bytes of a file that was read are those read: block, nodes, file. Assumes nothing.
 use mathlib.Core.Path.{_≡_, refl, _∙_, ap}
 use mathlib.Core.Bool.{true}
-use mathlib.Core.Option.{none}
 use mathlib.Core.List.{List, [], flatten, _++_, append-nil}
-use Prim.Native.Nat.{ℕ, _<_, _≤_, _^_, _+_, zero, suc, min}
+use Prim.Native.Nat.{ℕ, _<_, _≤_, _^_, _+_, zero, suc}
 use native.Mathlib.Omega.{arith}
 use lib.ListN.{length, length-append}
 use lib.Dec.{eqb, leb}

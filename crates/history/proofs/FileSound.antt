@@ -4,14 +4,14 @@ use mathlib.Core.Path.{_≡_, refl, sym, _∙_, ap}
 use mathlib.Core.Bool.{false}
 use mathlib.Core.Option.{some}
 use mathlib.Core.List.{List, [], map, _∷_, flatMap, _++_, append-assoc}
-use Prim.Native.Nat.{ℕ, _<_, _^_, _+_, min}
+use Prim.Native.Nat.{ℕ, _<_, _^_, _+_}
 use native.Mathlib.Omega.{arith}
 use lib.ListN.{length, take, length-append}
 use lib.Seq.{take-append-seam, drop-append-seam}
-use Rattle.lists.specs.Lists.{All, all-nil, count, sumOf, all-cons, pairs-nil}
+use Rattle.lists.specs.Lists.{All, all-nil, sumOf, all-cons, pairs-nil}
 use Rattle.lists.proofs.Lists.{all-map, all-both}
 use Rattle.history.specs.Words.{Block, size}
-use Rattle.history.specs.Tree.{Tree, halves}
+use Rattle.history.specs.Tree.{Tree}
 use Rattle.history.specs.Find.{visited}
 use Rattle.history.specs.Reads.{findBy, cellsBy}
 use Rattle.history.specs.File.{writtenBlocks, renumbered, newNumber, fileBytes, got, treeFrom, Loaded, load, Nodes, endOf, absent, present, File, loadedFrom}
