@@ -11,11 +11,11 @@ use borrow.Author.Tests.{lt-leb}
 use Rattle.lists.proofs.Numbers.{le-or-lt}
 use Rattle.history.specs.Words.{Block}
 use Rattle.history.specs.Tree.{Tree}
-use Rattle.history.specs.File.{fileOf, contents, fileBytes, Read, got, fault, _>>=_, onward, give, refuse_unless_, field, number, readFile, treeFrom, rule20, rule21, rule22, Loaded, load, endOf, File, loadedFrom}
+use Rattle.history.specs.File.{fileOf, contents, fileBytes, got, _>>=_, onward, give, refuse_unless_, field, number, readFile, treeFrom, rule20, rule21, rule22, load, endOf, Read, fault, Loaded, File, loadedFrom}
 use Rattle.history.specs.Rules.{rule23, apart}
 use Rattle.history.specs.Lent.{Lent}
 use Rattle.history.proofs.FileNumbers.{Bytes}
-use Rattle.history.proofs.FileReads.{spans-taken, got-value, got-next, fault-got, Yielded}
+use Rattle.history.proofs.FileYields.{spans-taken, got-value, got-next, fault-got, Yielded}
 use Rattle.history.proofs.FileRoundTrip.{reads-file, gives-file, FileFits}
 use Rattle.history.proofs.FileRules.{rule21-decides, rule22-decides, Rule21, Rule22}
 use Rattle.history.proofs.FileIntervals.{nodesOf-treeFrom}

@@ -11,7 +11,7 @@ use Rattle.lists.proofs.Lists.{all-map}
 use Rattle.lists.proofs.Maps.{length-of-map}
 use Rattle.history.specs.Words.{Block, size}
 use Rattle.history.specs.Tree.{Tree, blockAt, entriesIn, nodeCount, entryCount}
-use Rattle.history.specs.File.{written, writtenBlocks, renumbered, newNumber, fileOf, contents, nodesOf, got, rule20, Loaded, load, endOf, loadedFrom}
+use Rattle.history.specs.File.{written, writtenBlocks, renumbered, newNumber, fileOf, contents, nodesOf, got, rule20, load, endOf, Loaded, loadedFrom}
 use Rattle.history.specs.Lent.{Lent, blockRows, nodeRows, entryRows}
 use Rattle.history.proofs.RulesLaws.{decided, filled-decides}
 use Rattle.history.proofs.FileRoundTrip.{BlockFits}

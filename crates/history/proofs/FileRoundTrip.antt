@@ -12,7 +12,8 @@ use Rattle.lists.proofs.Lists.{all-map}
 use Rattle.history.specs.Words.{Block, firstCell, size}
 use Rattle.history.specs.File.{fileBytes, blockBytes, nodeBytes, bytesOf, number, readBlock, readNodes, readRoot, readFile, Nodes, absent, present, File}
 use Rattle.history.proofs.FileNumbers.{bytesOf-length, Bytes}
-use Rattle.history.proofs.FileReads.{stands-fits, reads-give, reads-bind, reads-check, reads-field, reads-number, reads-many, fault-got, yields-give, yields-check, yields-cond, yields-bind, gives-field, gives-many, gives-number, Gives, Reads}
+use Rattle.history.proofs.FileReads.{stands-fits, reads-give, reads-bind, reads-check, reads-field, reads-number, reads-many, Reads}
+use Rattle.history.proofs.FileYields.{fault-got, yields-give, yields-check, yields-cond, yields-bind, gives-field, gives-many, gives-number, Gives}
 
 -- ── every number fits its field ──
 

@@ -14,14 +14,14 @@ use Rattle.history.specs.Words.{Block, size}
 use Rattle.history.specs.Tree.{Tree}
 use Rattle.history.specs.Find.{visited}
 use Rattle.history.specs.Reads.{findBy, cellsBy}
-use Rattle.history.specs.File.{writtenBlocks, renumbered, newNumber, fileBytes, got, treeFrom, Loaded, load, Nodes, endOf, absent, present, File, loadedFrom}
+use Rattle.history.specs.File.{writtenBlocks, renumbered, newNumber, fileBytes, got, treeFrom, load, Nodes, endOf, absent, present, Loaded, File, loadedFrom}
 use Rattle.history.specs.Rules.{filled, isHole}
 use Rattle.history.specs.Lent.{Lent}
 use Rattle.history.specs.Ledger.{Ledger}
 use Rattle.history.specs.Sound.{Stored, SoundBlock, Sound, isEmpty, SoundBoard, SoundClosed}
 use Rattle.history.proofs.RulesLaws.{rule23-decides, decided, Rule23, apart-decides, filled-decides}
 use Rattle.history.proofs.FileNumbers.{Bytes}
-use Rattle.history.proofs.FileReads.{Yielded}
+use Rattle.history.proofs.FileYields.{Yielded}
 use Rattle.history.proofs.FileRoundTrip.{gives-file, BlockFits, FileFits}
 use Rattle.history.proofs.FileRules.{rule20-decides, rule21-decides, rule22-decides, Rule20, Rule21, LivingBlock, Rule22}
 use Rattle.history.proofs.FileContents.{nodes-fit}

@@ -29,6 +29,8 @@ pub mod FindSound
 pub mod FileLists
 pub mod FileNumbers
 pub mod FileReads
+pub mod FileYields
+pub mod FileFuel
 pub mod FileRoundTrip
 pub mod FilePlaces
 pub mod FileRules

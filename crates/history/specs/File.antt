@@ -172,10 +172,9 @@ readBlock kind = do
   bytes ← field cells
   give (record { kind = own; stretch = record { first = first; bytes = bytes }; created = created; destroyed = destroyed })
 
--- 19: a presence byte other than 0 or 1. Each node takes a byte: with as much fuel as bytes are left, none is left when it is spent.
-unfoldable pub readNodes : (fuel : ℕ) → Reader Nodes
-readNodes zero = λ file at. fault 17
-readNodes (suc fuel) = do
+-- a node, whose children are read by `child`. 19: a presence byte other than 0 or 1.
+abbrev pub readNode : (child : Reader Nodes) → Reader Nodes
+readNode child = do
   presence ← number 1
   refuse 19 unless (leb presence 1)
   let node = do
@@ -184,10 +183,15 @@ readNodes (suc fuel) = do
     middle ← number 8
     count ← number 8
     entries ← many (number 8) count
-    left ← readNodes fuel
-    right ← readNodes fuel
+    left ← child
+    right ← child
     give (present min max middle entries left right)
   cond (eqb presence 0) (give absent) node
+
+-- Each node takes a byte: with as much fuel as bytes are left, none is left when it is spent.
+unfoldable pub readNodes : (fuel : ℕ) → Reader Nodes
+readNodes zero = λ file at. fault 17
+readNodes (suc fuel) = readNode (λ file at. readNodes fuel file at)
 
 -- no more nodes than the file has bytes
 unfoldable pub readRoot : Reader Nodes
