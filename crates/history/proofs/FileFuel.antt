@@ -8,10 +8,10 @@ use Prim.Native.Nat.{ℕ, _<_, _≤_, _+_, zero, suc}
 use native.Mathlib.Omega.{arith}
 use lib.ListN.{length}
 use lib.Dec.{eqb, leb}
-use borrow.Author.Tests.{lt-leb}
 use Rattle.lists.proofs.Numbers.{lt-or-le}
-use Rattle.history.specs.File.{nodeBytes, got, _>>=_, onward, give, refuse_unless_, field, number, many, readNodes, readRoot, Nodes, absent, Read, fault, Reader, _>>_, readNode}
+use Rattle.history.specs.File.{nodeBytes, got, _>>=_, onward, give, refuse_unless_, number, many, readNodes, readRoot, Nodes, absent, Read, fault, Reader, _>>_, readNode}
 use Rattle.history.proofs.FileNumbers.{bytesOf-length, Bytes}
+use Rattle.history.proofs.FileReads.{number-cut}
 use Rattle.history.proofs.FileYields.{spans-fits, gives-many, gives-number, Gives, Yielded}
 use Rattle.history.proofs.FileRoundTrip.{gives-nodes, gives-root, NodesFit}
 
@@ -43,8 +43,8 @@ module _ {A : Type 0} where
 
 -- past the end there is no node
 node-past : (c : Reader Nodes) (file : List ℕ) (at : ℕ) → length file ≤ at → readNode c file at ≡ fault 17
-unfolding number field _>>=_ onward
-node-past c file at h = rw (lt-leb (at + 1) (length file) (omega arith)) refl
+unfolding _>>=_ onward
+node-past c file at h = rw (number-cut 1 file at (omega arith)) refl
 
 nodes-past : (file : List ℕ) (fuel at : ℕ) → length file ≤ at → readNodes fuel file at ≡ fault 17
 unfolding readNodes

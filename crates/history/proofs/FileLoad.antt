@@ -7,14 +7,14 @@ use mathlib.Core.List.{List, [], _∷_, _++_}
 use Prim.Native.Nat.{ℕ, _<_, _≤_, _+_, _-_}
 use native.Mathlib.Omega.{arith}
 use lib.ListN.{length, take, drop}
-use borrow.Author.Tests.{lt-leb}
 use Rattle.lists.proofs.Numbers.{le-or-lt}
 use Rattle.history.specs.Words.{Block}
 use Rattle.history.specs.Tree.{Tree}
-use Rattle.history.specs.File.{fileOf, contents, fileBytes, got, _>>=_, onward, give, refuse_unless_, field, number, readFile, treeFrom, rule20, rule21, rule22, load, endOf, Read, fault, Loaded, File, loadedFrom}
+use Rattle.history.specs.File.{fileOf, contents, fileBytes, got, _>>=_, onward, give, refuse_unless_, readFile, treeFrom, rule20, rule21, rule22, load, endOf, Read, fault, Loaded, File, loadedFrom}
 use Rattle.history.specs.Rules.{rule23, apart}
 use Rattle.history.specs.Lent.{Lent}
 use Rattle.history.proofs.FileNumbers.{Bytes}
+use Rattle.history.proofs.FileReads.{number-cut}
 use Rattle.history.proofs.FileYields.{spans-taken, got-value, got-next, fault-got, Yielded}
 use Rattle.history.proofs.FileRoundTrip.{reads-file, gives-file, FileFits}
 use Rattle.history.proofs.FileRules.{rule21-decides, rule22-decides, Rule21, Rule22}
@@ -114,9 +114,9 @@ load-accepted n file at x next e =
 
 -- what was read began inside the file
 pub read-inside : (file : List ℕ) (at : ℕ) (f : File) (next : ℕ) → readFile file at ≡ got f next → at ≤ length file
-unfolding readFile number field _>>=_ onward
+unfolding readFile _>>=_ onward
 read-inside file at f next e =
-    ⊎-elim (λ h. h) (λ h. absurd (fault-got (rw (lt-leb (at + 1) (length file) (omega arith)) at e))) (le-or-lt at (length file))
+    ⊎-elim (λ h. h) (λ h. absurd (fault-got (rw (number-cut 1 file at (omega arith)) at e))) (le-or-lt at (length file))
 
 -- What was read, written again, is the bytes read, if rule 21 holds and every block has an entry.
 pub written-read : (file : List ℕ) → Bytes file → (at : ℕ) (f : File) (next : ℕ) → readFile file at ≡ got f next

@@ -4,7 +4,7 @@ use mathlib.Core.Logic.{⊎-elim, inl, inr}
 use mathlib.Core.Bool.{Bool, true, false, cond, false≢true}
 use mathlib.Core.Option.{none, Option, Option·elim}
 use mathlib.Core.List.{List, [], map, filterMap, _∷_}
-use Prim.Native.Nat.{ℕ, _<_, _≤_, _+_, _-_, zero, suc}
+use Prim.Native.Nat.{ℕ, _<_, _≤_, _+_, zero, suc, _-_}
 use native.Mathlib.Omega.{arith}
 use lib.ListN.{length, getD}
 use lib.Dec.{eqb}

@@ -4,13 +4,37 @@ use mathlib.Core.Bool.{Bool, true}
 use mathlib.Core.List.{List, [], _∷_, flatMap, _++_, append-assoc}
 use Prim.Native.Nat.{ℕ, _<_, _≤_, _^_, _+_}
 use native.Mathlib.Omega.{arith}
-use lib.ListN.{length, take, drop, length-append}
-use lib.Seq.{take-at, drop-at}
-use borrow.Author.Tests.{le-leb}
+use lib.ListN.{length, getD, take, drop, length-append}
+use lib.Seq.{take-at, drop-at, drop-cons}
+use borrow.Author.Tests.{lt-leb, le-leb}
 use Rattle.lists.specs.Lists.{All, all-nil, all-cons}
 use Rattle.lists.proofs.Lists.{all-left, all-right}
-use Rattle.history.specs.File.{bytesOf, numberOf, got, _>>=_, onward, give, refuse_unless_, field, number, many, Reader, _>>_}
+use Rattle.history.specs.File.{bytesOf, numberOf, got, _>>=_, onward, give, refuse_unless_, field, number, many, fault, Reader, _>>_}
 use Rattle.history.proofs.FileNumbers.{bytesOf-length, numberOf-bytesOf, Bytes}
+
+-- ── a field at a position ──
+
+module _ (width : ℕ) (file : List ℕ) (at : ℕ) where
+  pub field-read : at + width ≤ length file → field width file at ≡ got (take width (drop at file)) (at + width)
+  unfolding field
+  field-read h = rw (le-leb (at + width) (length file) h) refl
+
+  pub field-cut : length file < at + width → field width file at ≡ fault 17
+  unfolding field
+  field-cut h = rw (lt-leb (at + width) (length file) h) refl
+
+  pub number-read : at + width ≤ length file → number width file at ≡ got (numberOf (take width (drop at file))) (at + width)
+  unfolding number _>>=_ onward give
+  number-read h = rw (field-read h) refl
+
+  pub number-cut : length file < at + width → number width file at ≡ fault 17
+  unfolding number _>>=_ onward
+  number-cut h = rw (field-cut h) refl
+
+-- a byte
+pub byte-read : (file : List ℕ) (at : ℕ) → at < length file → number 1 file at ≡ got (getD file at 0) (at + 1)
+unfolding numberOf
+byte-read file at h = number-read 1 file at (omega arith) ∙ rw (drop-cons file at 0 h) (ap (λ (b : ℕ). got b (at + 1)) (omega arith))
 
 -- ── bytes in a file ──
 
@@ -95,9 +119,8 @@ module _ {A B : Type 0} where
   reads-map f p = record { gives = λ file at s. rw (p .gives file at s) refl }
 
 pub reads-field : (width : ℕ) (bytes : List ℕ) → length bytes ≡ width → Reads (field width) bytes bytes
-unfolding field
 reads-field width w e =
-    rw (← e) (record { gives = λ file at s. rw (le-leb (at + length w) (length file) (stands-fits s), stands-taken s) refl })
+    rw (← e) (record { gives = λ file at s. rw (field-read (length w) file at (stands-fits s), stands-taken s) refl })
 
 pub reads-number : (width n : ℕ) → n < 256 ^ width → Reads (number width) (bytesOf width n) n
 unfolding number

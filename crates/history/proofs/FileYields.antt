@@ -2,7 +2,7 @@
 use mathlib.Core.Path.{_≡_, refl, sym, _∙_, ap}
 use mathlib.Core.Bool.{Bool, true, false, cond}
 use mathlib.Core.List.{List, [], _∷_, flatMap, _++_, append-nil}
-use Prim.Native.Nat.{ℕ, _<_, _≤_, _^_, _+_, _-_, zero, suc}
+use Prim.Native.Nat.{ℕ, _<_, _≤_, _^_, _+_, zero, suc, _-_}
 use native.Mathlib.Omega.{arith}
 use lib.ListN.{length, take, drop, length-append, length-drop, take-append-drop}
 use lib.Dec.{leb}
