@@ -42,7 +42,7 @@ module _ {A : Type 0} where
 -- ── positions ──
 
 -- past the end there is no node
-node-past : (c : Reader Nodes) (file : List ℕ) (at : ℕ) → length file ≤ at → readNode c file at ≡ fault 17
+pub node-past : (c : Reader Nodes) (file : List ℕ) (at : ℕ) → length file ≤ at → readNode c file at ≡ fault 17
 unfolding _>>=_ onward
 node-past c file at h = rw (number-cut 1 file at (omega arith)) refl
 

@@ -31,6 +31,7 @@ pub mod FileNumbers
 pub mod FileReads
 pub mod FileYields
 pub mod FileFuel
+pub mod FileForest
 pub mod FileRoundTrip
 pub mod FilePlaces
 pub mod FileRules
