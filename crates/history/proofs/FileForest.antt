@@ -1,49 +1,18 @@
 -- The nodes as a loop meets them: so many subtrees still to come, and the first byte of the next decides. A present node leaves two more to come.
 -- Assumes nothing.
-use mathlib.Core.Path.{_≡_, refl, _∙_, ap}
-use mathlib.Core.Logic.{inl, inr}
+use mathlib.Core.Path.{_≡_, refl, _∙_}
 use mathlib.Core.List.{List, [], _∷_}
-use Prim.Native.Nat.{ℕ, _<_, _≤_, _+_, zero, suc, _*_}
+use Prim.Native.Nat.{ℕ, _<_, _≤_, _+_, suc, _*_}
 use native.Mathlib.Omega.{arith}
-use native.Mathlib.Nat.{mul-suc, mul-zero}
-use lib.ListN.{length, getD, take, drop}
+use lib.ListN.{length, getD}
 use borrow.Author.Tests.{lt-leb}
-use Rattle.lists.proofs.Numbers.{le-or-lt}
-use Rattle.history.specs.File.{numberOf, got, _>>=_, onward, give, refuse_unless_, number, many, readRoot, Nodes, absent, Read, fault, Reader, readNode, present}
+use Rattle.history.specs.File.{got, _>>=_, onward, give, refuse_unless_, number, many, readRoot, Nodes, absent, Read, fault, Reader, readNode, present}
 use Rattle.history.proofs.FileNumbers.{Bytes}
-use Rattle.history.proofs.FileReads.{number-read, number-cut, byte-read}
+use Rattle.history.proofs.FileReads.{byte-read}
+use Rattle.history.proofs.FileFields.{numbers-read, numbers-cut, four-read, four-cut, numberAt, numbersAt}
 use Rattle.history.proofs.FileFuel.{node-past, readRoot-node}
 
--- ── so many numbers ──
-
--- the numbers that stand at a position, of a fixed width
-unfoldable pub numbersAt : (width : ℕ) (file : List ℕ) (at count : ℕ) → List ℕ
-numbersAt width file at zero = []
-numbersAt width file at (suc n) = numberOf (take width (drop at file)) ∷ numbersAt width file (at + width) n
-
-module _ (width : ℕ) (file : List ℕ) where
-  pub numbers-read : (n at : ℕ) → at + width * n ≤ length file → many (number width) n file at ≡ got (numbersAt width file at n) (at + width * n)
-  unfolding many _>>=_ onward give numbersAt
-  numbers-read zero at h = ap (got []) (simp mul-zero (omega arith))
-  numbers-read (suc n) at h =
-      let more : width * suc n ≡ width * n + width = mul-suc width n in
-      rw (number-read width file at (omega arith), numbers-read n (at + width) (omega arith)) (ap (got (numbersAt width file at (suc n))) (omega arith))
-
-  pub numbers-cut : (n at : ℕ) → length file < at + width * n → at ≤ length file → many (number width) n file at ≡ fault 17
-  unfolding many _>>=_ onward
-  numbers-cut zero at h z = absurd (let none : width * 0 ≡ 0 = mul-zero width in omega arith)
-  numbers-cut (suc n) at h z =
-      let more : width * suc n ≡ width * n + width = mul-suc width n in
-      elim (le-or-lt (at + width) (length file)) [
-        | inl fits ↦ rw (number-read width file at fits, numbers-cut n (at + width) (omega arith) fits) refl
-        | inr cut ↦ rw (number-cut width file at cut) refl
-      ]
-
 -- ── a node, whatever its children are read by ──
-
--- the number at a position
-abbrev pub numberAt : (file : List ℕ) (at : ℕ) → ℕ
-numberAt file at = numberOf (take 8 (drop at file))
 
 -- a present node's head: the presence byte, min, max, mid and the entry count
 abbrev pub nodeHeadBytes : ℕ
@@ -57,9 +26,6 @@ childAt file at = at + nodeHeadBytes + 8 * numberAt file (at + 25)
 abbrev pub nodeAt : (file : List ℕ) (at : ℕ) (left right : Nodes) → Nodes
 nodeAt file at = present (numberAt file (at + 1)) (numberAt file (at + 9)) (numberAt file (at + 17)) (numbersAt 8 file (at + nodeHeadBytes) (numberAt file (at + 25)))
 
-number-to : (file : List ℕ) (at m : ℕ) → at + 8 ≡ m → m ≤ length file → number 8 file at ≡ got (numberAt file at) m
-number-to file at m e h = number-read 8 file at (omega arith) ∙ ap (got (numberAt file at)) e
-
 module _ (child : Reader Nodes) (file : List ℕ) (at : ℕ) (inside : at < length file) where
   pub node-absent : getD file at 0 ≡ 0 → readNode child file at ≡ got absent (at + 1)
   unfolding _>>=_ onward refuse_unless_ give
@@ -70,51 +36,30 @@ module _ (child : Reader Nodes) (file : List ℕ) (at : ℕ) (inside : at < leng
   node-wrong h = rw (byte-read file at inside, lt-leb (getD file at 0) 1 h) refl
 
   module _ (e : getD file at 0 ≡ 1) where
+    -- behind the presence byte: the four numbers, the entries, the children
+    abbrev behind : ℕ → ℕ → ℕ → ℕ → Reader Nodes
+    behind low high middle n = many (number 8) n >>= (λ es. child >>= (λ l. child >>= (λ r. give (present low high middle es l r))))
+
     pub node-short : length file < at + nodeHeadBytes → readNode child file at ≡ fault 17
     unfolding _>>=_ onward refuse_unless_
     node-short h =
         rw (byte-read file at inside, e)
-        (elim (le-or-lt (at + 9) (length file)) [
-          | inr cut ↦ rw (number-cut 8 file (at + 1) (omega arith)) refl
-          | inl a ↦
-              rw (number-to file (at + 1) (at + 9) (omega arith) a)
-              (elim (le-or-lt (at + 17) (length file)) [
-                | inr cut ↦ rw (number-cut 8 file (at + 9) (omega arith)) refl
-                | inl b ↦
-                    rw (number-to file (at + 9) (at + 17) (omega arith) b)
-                    (elim (le-or-lt (at + 25) (length file)) [
-                      | inr cut ↦ rw (number-cut 8 file (at + 17) (omega arith)) refl
-                      | inl c ↦ rw (number-to file (at + 17) (at + 25) (omega arith) c, number-cut 8 file (at + 25) (omega arith)) refl
-                    ])
-              ])
-        ])
+        (four-cut behind file (at + 1) (at + 9) (at + 17) (at + 25) (at + 33) (omega arith) (omega arith) (omega arith) (omega arith) h)
 
     pub node-few : at + nodeHeadBytes ≤ length file → length file < childAt file at → readNode child file at ≡ fault 17
     unfolding _>>=_ onward refuse_unless_
     node-few h z =
-        rw (
-          byte-read file at inside,
-          e,
-          number-to file (at + 1) (at + 9) (omega arith) (omega arith),
-          number-to file (at + 9) (at + 17) (omega arith) (omega arith),
-          number-to file (at + 17) (at + 25) (omega arith) (omega arith),
-          number-to file (at + 25) (at + 33) (omega arith) (omega arith),
-          numbers-cut 8 file (numberAt file (at + 25)) (at + 33) z h,
-        ) refl
+        rw (byte-read file at inside, e)
+        (four-read behind file (at + 1) (at + 9) (at + 17) (at + 25) (at + 33) (omega arith) (omega arith) (omega arith) (omega arith) h
+        ∙ rw (numbers-cut 8 file (numberAt file (at + 25)) (at + 33) z h) refl)
 
     pub node-whole : childAt file at ≤ length file
         → readNode child file at ≡ onward (child file (childAt file at)) (λ l m. onward (child file m) (λ r n. got (nodeAt file at l r) n))
     unfolding _>>=_ onward refuse_unless_ give
     node-whole h =
-        rw (
-          byte-read file at inside,
-          e,
-          number-to file (at + 1) (at + 9) (omega arith) (omega arith),
-          number-to file (at + 9) (at + 17) (omega arith) (omega arith),
-          number-to file (at + 17) (at + 25) (omega arith) (omega arith),
-          number-to file (at + 25) (at + 33) (omega arith) (omega arith),
-          numbers-read 8 file (numberAt file (at + 25)) (at + 33) h,
-        ) refl
+        rw (byte-read file at inside, e)
+        (four-read behind file (at + 1) (at + 9) (at + 17) (at + 25) (at + 33) (omega arith) (omega arith) (omega arith) (omega arith) (omega arith)
+        ∙ rw (numbers-read 8 file (numberAt file (at + 25)) (at + 33) h) refl)
 
 -- ── subtrees still to come ──
 

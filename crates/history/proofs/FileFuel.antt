@@ -9,7 +9,7 @@ use native.Mathlib.Omega.{arith}
 use lib.ListN.{length}
 use lib.Dec.{eqb, leb}
 use Rattle.lists.proofs.Numbers.{lt-or-le}
-use Rattle.history.specs.File.{nodeBytes, got, _>>=_, onward, give, refuse_unless_, number, many, readNodes, readRoot, Nodes, absent, Read, fault, Reader, _>>_, readNode}
+use Rattle.history.specs.File.{nodeBytes, got, _>>=_, onward, give, refuse_unless_, number, many, readNodes, readRoot, Nodes, absent, Read, fault, Reader, readNode, _>>_}
 use Rattle.history.proofs.FileNumbers.{bytesOf-length, Bytes}
 use Rattle.history.proofs.FileReads.{number-cut}
 use Rattle.history.proofs.FileYields.{spans-fits, gives-many, gives-number, Gives, Yielded}

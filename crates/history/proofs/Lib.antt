@@ -30,8 +30,10 @@ pub mod FileLists
 pub mod FileNumbers
 pub mod FileReads
 pub mod FileYields
+pub mod FileFields
 pub mod FileFuel
 pub mod FileForest
+pub mod FileBlocks
 pub mod FileRoundTrip
 pub mod FilePlaces
 pub mod FileRules
