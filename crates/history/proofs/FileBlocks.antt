@@ -29,11 +29,13 @@ blockIn file at =
     }
 
 module _ (kind : ℕ) (file : List ℕ) (at : ℕ) where
+  -- no kind byte
   pub block-past : length file ≤ at → readBlock kind file at ≡ fault 17
   unfolding readBlock _>>=_ onward
   block-past h = rw (number-cut 1 file at (omega arith)) refl
 
   module _ (inside : at < length file) where
+    -- 18
     pub block-unlike : (getD file at 0 ≡ kind → ⊥) → readBlock kind file at ≡ fault 18
     unfolding readBlock _>>=_ onward refuse_unless_
     block-unlike h = rw (byte-read file at inside, ne-eqb (getD file at 0) kind h) refl
@@ -44,12 +46,14 @@ module _ (kind : ℕ) (file : List ℕ) (at : ℕ) where
       behind first cells born died =
           field cells >>= (λ bs. give (record { kind = getD file at 0; stretch = record { first = first; bytes = bs }; created = born; destroyed = died }))
 
+      -- cut in the head
       pub block-short : length file < at + blockHeadBytes → readBlock kind file at ≡ fault 17
       unfolding readBlock _>>=_ onward refuse_unless_
       block-short h =
           rw (byte-read file at inside, eq-eqb (getD file at 0) kind e)
           (four-cut behind file (at + 1) (at + 9) (at + 17) (at + 25) (at + 33) (omega arith) (omega arith) (omega arith) (omega arith) h)
 
+      -- cut in the bytes
       pub block-few : at + blockHeadBytes ≤ length file → length file < blockEnd file at → readBlock kind file at ≡ fault 17
       unfolding readBlock _>>=_ onward refuse_unless_
       block-few h z =
@@ -57,6 +61,7 @@ module _ (kind : ℕ) (file : List ℕ) (at : ℕ) where
           (four-read behind file (at + 1) (at + 9) (at + 17) (at + 25) (at + 33) (omega arith) (omega arith) (omega arith) (omega arith) h
           ∙ rw (field-cut (numberAt file (at + 9)) file (at + 33) z) refl)
 
+      -- whole
       pub block-whole : blockEnd file at ≤ length file → readBlock kind file at ≡ got (blockIn file at) (blockEnd file at)
       unfolding readBlock _>>=_ onward refuse_unless_ give
       block-whole h =

@@ -46,6 +46,7 @@ earlyFile =
     ∷ (0 ∷ [])
     ∷ [])
 
+-- its bytes
 pub early-written : fileOf 3 2 early (treeOf 2 early) ≡ earlyFile
 unfolding fileOf contents fileBytes blockBytes nodeBytes bytesOf thoseWith placeIn mapTree nodesOf flatten flatMap has countFrom treeOf addAll addLocation insert entriesIn
 early-written = refl

@@ -30,6 +30,7 @@ pub record Entered (bs : List Block) (tree : Tree) : Type 0 where
   pub entered : All (λ k. has k (entriesIn tree) ≡ true) (countFrom 0 (length bs))
   pub numbers : All (λ k. k < length bs) (entriesIn tree)
 
+-- rules 21 to 23 give that: a block that lives has an entry
 pub rules-enter : (t : Nodes) (bs : List Block) → Rule21 t → Rule22 (endOf t) bs → rule23 (endOf t) bs (treeFrom t) ≡ true → Entered bs (treeFrom t)
 rules-enter t bs h r z =
     record {
@@ -70,6 +71,7 @@ contents-same kind e bs tree h =
 
 -- ── every number fits its field ──
 
+-- the nodes of a tree, under numbers below 2^64
 pub nodes-fit : (f : ℕ → ℕ) → ((k : ℕ) → f k < 2 ^ 64) → (lo hi : ℕ) → lo < 2 ^ 64 → hi < 2 ^ 64
     → (t : Tree) → entryCount t < 2 ^ 64 → NodesFit (nodesOf lo hi (mapTree f t))
 unfolding nodesOf mapTree entryCount
@@ -87,6 +89,7 @@ pub record IndexFits (kind end : ℕ) (bs : List Block) (tree : Tree) : Type 0 w
   pub entries : entryCount tree < 2 ^ 64
   pub blocks : All (BlockFits kind) bs
 
+-- so reading gives them back
 pub contents-fits : (kind e : ℕ) (bs : List Block) (tree : Tree) → IndexFits kind e bs tree → FileFits (contents kind e bs tree)
 unfolding contents
 contents-fits kind e bs tree h =

@@ -18,6 +18,7 @@ use Rattle.history.proofs.FileReads.{number-read, number-cut}
 abbrev pub numberAt : (file : List ℕ) (at : ℕ) → ℕ
 numberAt file at = numberOf (take 8 (drop at file))
 
+-- with the next position given
 pub number-to : (file : List ℕ) (at m : ℕ) → at + 8 ≡ m → m ≤ length file → number 8 file at ≡ got (numberAt file at) m
 number-to file at m e h = number-read 8 file at (omega arith) ∙ ap (got (numberAt file at)) e
 
@@ -29,6 +30,7 @@ numbersAt width file at zero = []
 numbersAt width file at (suc n) = numberOf (take width (drop at file)) ∷ numbersAt width file (at + width) n
 
 module _ (width : ℕ) (file : List ℕ) where
+  -- all of them
   pub numbers-read : (n at : ℕ) → at + width * n ≤ length file → many (number width) n file at ≡ got (numbersAt width file at n) (at + width * n)
   unfolding many _>>=_ onward give numbersAt
   numbers-read zero at h = ap (got []) (simp mul-zero (omega arith))
@@ -36,6 +38,7 @@ module _ (width : ℕ) (file : List ℕ) where
       let more : width * suc n ≡ width * n + width = mul-suc width n in
       rw (number-read width file at (omega arith), numbers-read n (at + width) (omega arith)) (ap (got (numbersAt width file at (suc n))) (omega arith))
 
+  -- or the bytes end inside one
   pub numbers-cut : (n at : ℕ) → length file < at + width * n → at ≤ length file → many (number width) n file at ≡ fault 17
   unfolding many _>>=_ onward
   numbers-cut zero at h z = absurd (let none : width * 0 ≡ 0 = mul-zero width in omega arith)
@@ -53,11 +56,13 @@ module _ {A : Type 0} (k : (a b c d : ℕ) → Reader A) (file : List ℕ) (m₀
   abbrev four : Reader A
   four = number 8 >>= (λ a. number 8 >>= (λ b. number 8 >>= (λ c. number 8 >>= (λ d. k a b c d))))
 
+  -- all four
   pub four-read : m₄ ≤ length file → four file m₀ ≡ k (numberAt file m₀) (numberAt file m₁) (numberAt file m₂) (numberAt file m₃) file m₄
   unfolding _>>=_ onward
   four-read h =
       rw (number-to file m₀ m₁ e₁ (omega arith), number-to file m₁ m₂ e₂ (omega arith), number-to file m₂ m₃ e₃ (omega arith), number-to file m₃ m₄ e₄ h) refl
 
+  -- or the bytes end inside one of them
   pub four-cut : length file < m₄ → four file m₀ ≡ fault 17
   unfolding _>>=_ onward
   four-cut h =

@@ -27,10 +27,12 @@ abbrev pub nodeAt : (file : List ℕ) (at : ℕ) (left right : Nodes) → Nodes
 nodeAt file at = present (numberAt file (at + 1)) (numberAt file (at + 9)) (numberAt file (at + 17)) (numbersAt 8 file (at + nodeHeadBytes) (numberAt file (at + 25)))
 
 module _ (child : Reader Nodes) (file : List ℕ) (at : ℕ) (inside : at < length file) where
+  -- byte 0
   pub node-absent : getD file at 0 ≡ 0 → readNode child file at ≡ got absent (at + 1)
   unfolding _>>=_ onward refuse_unless_ give
   node-absent e = rw (byte-read file at inside, e) refl
 
+  -- 19: neither 0 nor 1
   pub node-wrong : 1 < getD file at 0 → readNode child file at ≡ fault 19
   unfolding _>>=_ onward refuse_unless_
   node-wrong h = rw (byte-read file at inside, lt-leb (getD file at 0) 1 h) refl
@@ -40,12 +42,14 @@ module _ (child : Reader Nodes) (file : List ℕ) (at : ℕ) (inside : at < leng
     abbrev behind : ℕ → ℕ → ℕ → ℕ → Reader Nodes
     behind low high middle n = many (number 8) n >>= (λ es. child >>= (λ l. child >>= (λ r. give (present low high middle es l r))))
 
+    -- cut in the head
     pub node-short : length file < at + nodeHeadBytes → readNode child file at ≡ fault 17
     unfolding _>>=_ onward refuse_unless_
     node-short h =
         rw (byte-read file at inside, e)
         (four-cut behind file (at + 1) (at + 9) (at + 17) (at + 25) (at + 33) (omega arith) (omega arith) (omega arith) (omega arith) h)
 
+    -- cut in the entries
     pub node-few : at + nodeHeadBytes ≤ length file → length file < childAt file at → readNode child file at ≡ fault 17
     unfolding _>>=_ onward refuse_unless_
     node-few h z =
@@ -53,6 +57,7 @@ module _ (child : Reader Nodes) (file : List ℕ) (at : ℕ) (inside : at < leng
         (four-read behind file (at + 1) (at + 9) (at + 17) (at + 25) (at + 33) (omega arith) (omega arith) (omega arith) (omega arith) h
         ∙ rw (numbers-cut 8 file (numberAt file (at + 25)) (at + 33) z h) refl)
 
+    -- whole: the two children follow
     pub node-whole : childAt file at ≤ length file
         → readNode child file at ≡ onward (child file (childAt file at)) (λ l m. onward (child file m) (λ r n. got (nodeAt file at l r) n))
     unfolding _>>=_ onward refuse_unless_ give
@@ -70,24 +75,29 @@ nodeOver file at (l ∷ []) = []
 nodeOver file at (l ∷ r ∷ ts) = nodeAt file at l r ∷ ts
 
 module _ (file : List ℕ) (bytes : Bytes file) (p at : ℕ) where
+  -- no presence byte
   pub forest-cut : length file ≤ at → many readRoot (suc p) file at ≡ fault 17
   unfolding many _>>=_ onward
   forest-cut h = rw (readRoot-node file bytes at, node-past readRoot file at h) refl
 
   module _ (inside : at < length file) where
+    -- byte 0: one fewer to come
     pub forest-absent : getD file at 0 ≡ 0 → many readRoot (suc p) file at ≡ onward (many readRoot p file (at + 1)) (λ ts n. got (absent ∷ ts) n)
     unfolding many _>>=_ onward give
     forest-absent e = rw (readRoot-node file bytes at, node-absent readRoot file at inside e) refl
 
+    -- 19: neither 0 nor 1
     pub forest-wrong : 1 < getD file at 0 → many readRoot (suc p) file at ≡ fault 19
     unfolding many _>>=_ onward
     forest-wrong h = rw (readRoot-node file bytes at, node-wrong readRoot file at inside h) refl
 
     module _ (e : getD file at 0 ≡ 1) where
+      -- cut in the head
       pub forest-short : length file < at + nodeHeadBytes → many readRoot (suc p) file at ≡ fault 17
       unfolding many _>>=_ onward
       forest-short h = rw (readRoot-node file bytes at, node-short readRoot file at inside e h) refl
 
+      -- cut in the entries
       pub forest-few : at + nodeHeadBytes ≤ length file → length file < childAt file at → many readRoot (suc p) file at ≡ fault 17
       unfolding many _>>=_ onward
       forest-few h z = rw (readRoot-node file bytes at, node-few readRoot file at inside e h z) refl

@@ -83,6 +83,7 @@ module _ (file : List ℕ) (bytes : Bytes file) where
 
   -- ── fuel ──
 
+  -- as much as bytes are left is enough
   pub nodes-fuel : (a b at : ℕ) → length file ≤ at + a → length file ≤ at + b → readNodes a file at ≡ readNodes b file at
   unfolding readNodes
   nodes-fuel zero b at h z = sym (nodes-past file b at (omega arith))

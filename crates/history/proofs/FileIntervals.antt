@@ -11,11 +11,13 @@ use Rattle.history.specs.Rules.{halved, isHole}
 use Rattle.history.proofs.RulesLaws.{decided}
 use Rattle.history.proofs.FileRules.{rule21-decides}
 
+-- the tree without its intervals is the tree
 pub treeFrom-nodesOf : (lo hi : ℕ) (t : Tree) → treeFrom (nodesOf lo hi t) ≡ t
 unfolding treeFrom nodesOf
 treeFrom-nodesOf lo hi hole = refl
 treeFrom-nodesOf lo hi (node es l r) = ap₂ (node es) (treeFrom-nodesOf lo (mid lo hi) l) (treeFrom-nodesOf (mid lo hi) hi r)
 
+-- the intervals are those that they should be
 pub placedIn-nodesOf : (lo hi : ℕ) (t : Tree) → placedIn lo hi (nodesOf lo hi t) ≡ true
 unfolding placedIn nodesOf
 placedIn-nodesOf lo hi hole = refl
@@ -37,6 +39,7 @@ nodesOf-treeFrom lo hi (present min max middle es l r) h =
     both : (s t : Bool) → (s && t) ≡ true → (s ≡ true) × (t ≡ true)
     both s t e = (and-left s t e, and-right s t e)
 
+-- E is the root's max
 pub endOf-nodesOf : (lo hi : ℕ) (t : Tree) → isHole t ≡ false → endOf (nodesOf lo hi t) ≡ hi
 unfolding nodesOf
 endOf-nodesOf lo hi hole h = absurd (true≢false h)

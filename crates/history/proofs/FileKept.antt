@@ -98,6 +98,7 @@ module _ (kind e : ℕ) (bs : List Block) (tree : Tree) (w : Writable kind e bs 
   pub renumbered-root : isHole (renumbered bs tree) ≡ false
   renumbered-root = mapTree-isHole (newNumber bs tree) tree ∙ w .rooted
 
+  -- 21
   pub written-rule21 : rule21 (nodesOf 0 e (renumbered bs tree)) ≡ true
   written-rule21 = nodesOf-rule21 e (renumbered bs tree) (w .some-tick) (w .end-most) renumbered-root (mapTree-halved (newNumber bs tree) 0 e tree ∙ w .halves)
 
@@ -105,9 +106,11 @@ module _ (kind e : ℕ) (bs : List Block) (tree : Tree) (w : Writable kind e bs 
   pub entered-lives : (k : ℕ) → k < length bs → has k (entriesIn tree) ≡ ltb (blockAt bs k .created) (blockAt bs k .destroyed)
   entered-lives k less = entry-life e bs tree (w .some-tick) (w .halves) (w .rule-23) k less
 
+  -- so one that lives is
   pub living-written : (k : ℕ) → k < length bs → blockAt bs k .created < blockAt bs k .destroyed → has k (written bs tree) ≡ true
   living-written k less lives = entry-written bs tree k less (entered-lives k less ∙ lt-ltb (blockAt bs k .created) (blockAt bs k .destroyed) lives)
 
+  -- 22, if any block is written
   pub written-rule22 : 0 < length (written bs tree) → rule22 e (writtenBlocks bs tree) ≡ true
   written-rule22 h =
       decided (rule22 e (writtenBlocks bs tree)) (rule22-decides e (writtenBlocks bs tree))
@@ -134,6 +137,7 @@ module _ (kind e : ℕ) (bs : List Block) (tree : Tree) (w : Writable kind e bs 
       ∙ rules .sums (getD (written bs tree) j 0) (all-at 0 (written-below bs tree) j less)
       ∙ ap life (sym (written-at bs tree j less))
 
+  -- 23
   pub written-rule23 : rule23 e (writtenBlocks bs tree) (renumbered bs tree) ≡ true
   written-rule23 =
       decided (rule23 e (writtenBlocks bs tree) (renumbered bs tree)) (rule23-decides e (writtenBlocks bs tree) (renumbered bs tree))
@@ -150,6 +154,7 @@ module _ (kind e : ℕ) (bs : List Block) (tree : Tree) (w : Writable kind e bs 
       inside : All (λ k. newNumber bs tree k < length (writtenBlocks bs tree)) (entriesIn tree)
       inside = all-map (λ k z. rw (length-of-map (blockAt bs) (written bs tree)) (placeIn-inside (written bs tree) k z)) known
 
+  -- 24
   pub written-apart : apart (writtenBlocks bs tree) ≡ true
   written-apart =
       decided (apart (writtenBlocks bs tree)) (apart-decides (writtenBlocks bs tree))

@@ -24,11 +24,13 @@ or-true false b e = e
 -- ── maps ──
 
 module _ {A : Type 0} where
+  -- a function that changes nothing
   pub map-same : (f : A → A) {xs : List A} → All (λ x. f x ≡ x) xs → map f xs ≡ xs
   map-same f all-nil = refl
   map-same f (all-cons p ps) = ap₂ (λ (y : A) (ys : List A). y ∷ ys) p (map-same f ps)
 
 module _ {A B C : Type 0} where
+  -- one after the other
   pub map-map : (g : B → C) (f : A → B) (xs : List A) → map g (map f xs) ≡ map (λ (x : A). g (f x)) xs
   map-map g f [] = refl
   map-map g f (x ∷ xs) = ap (λ (r : List C). g (f x) ∷ r) (map-map g f xs)
@@ -39,6 +41,7 @@ module _ {A B C : Type 0} where
   filterMap-map g f (x ∷ xs) = ap (λ (r : List C). Option·elim (g (f x)) r (λ c. c ∷ r)) (filterMap-map g f xs)
 
 module _ {A B : Type 0} where
+  -- of a choice
   pub map-cond : (f : A → B) (t : Bool) (xs ys : List A) → map f (cond t xs ys) ≡ cond t (map f xs) (map f ys)
   map-cond f true xs ys = refl
   map-cond f false xs ys = refl
@@ -56,6 +59,7 @@ has-cons k x xs h = ⊎-elim (λ e. inl e) (λ e. inr (e, rw (ne-eqb k x e) at h
 
 -- ── numbers that follow one another ──
 
+-- they are in their range
 pub countFrom-below : (n many : ℕ) → All (λ k. (n ≤ k) × (k < n + many)) (countFrom n many)
 unfolding countFrom
 countFrom-below n zero = all-nil
@@ -63,10 +67,12 @@ countFrom-below n (suc many) =
     let here : (n ≤ n) × (n < n + suc many) = omega arith in
     all-cons here (all-map (λ k p. (omega arith, omega arith)) (countFrom-below (suc n) many))
 
+-- and all that are
 pub has-countFrom : (k n many : ℕ) → n ≤ k → k < n + many → has k (countFrom n many) ≡ true
 has-countFrom k n many a b =
     decided (has k (countFrom n many)) (has-decides k (countFrom n many)) (count-mem k (countFrom n many) (omega (arith, count-from-count k n many a b)))
 
+-- and ascend
 pub countFrom-pairs : {R : ℕ → ℕ → Type 0} (n many : ℕ) → ((i j : ℕ) → n ≤ i → i < j → j < n + many → R i j) → Pairs R (countFrom n many)
 unfolding countFrom
 countFrom-pairs n zero f = pairs-nil
@@ -77,11 +83,13 @@ countFrom-pairs n (suc many) f =
 -- ── tests of a mapped list ──
 
 module _ {A B : Type 0} where
+  -- a test of what a function makes of the elements
   pub every-map : (f : A → B) (p : B → Bool) (q : A → Bool) {xs : List A} → All (λ x. p (f x) ≡ q x) xs → every p (map f xs) ≡ every q xs
   unfolding every
   every-map f p q all-nil = refl
   every-map f p q (all-cons e es) = ap₂ (λ (a b : Bool). a && b) e (every-map f p q es)
 
+-- keys that are kept
 pub ascends-map : (f : ℕ → ℕ) (key′ key : ℕ → ℕ) {xs : List ℕ} → All (λ x. key′ (f x) ≡ key x) xs → ascends key′ (map f xs) ≡ ascends key xs
 unfolding ascends
 ascends-map f key′ key all-nil = refl
@@ -90,6 +98,7 @@ ascends-map f key′ key (all-cons {x} {xs} e es) =
     (every-map f (λ y. ltb (key′ (f x)) (key′ y)) (λ y. ltb (key x) (key y)) (all-map (λ y d. ap₂ ltb e d) es))
     (ascends-map f key′ key es)
 
+-- a number that one number alone is mapped to
 pub count-map : (f : ℕ → ℕ) (j i : ℕ) {xs : List ℕ} → All (λ x. eqb j (f x) ≡ eqb i x) xs → count j (map f xs) ≡ count i xs
 unfolding count
 count-map f j i all-nil = refl

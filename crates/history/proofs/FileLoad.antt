@@ -47,33 +47,40 @@ pub record Accepted (n : Lent) (f : File) : Type 0 where
   pub disjoint : apart (f .blocks) ≡ true
 
 module _ (n : Lent) (file : List ℕ) (at : ℕ) where
+  -- 17, 18, 19: whichever comes first in the file
   pub load-fault : (i : ℕ) → readFile file at ≡ fault i → load n file at ≡ fault i
   unfolding load _>>=_ onward
   load-fault i e = rw e refl
 
   module _ (f : File) (next : ℕ) (read : readFile file at ≡ got f next) where
+    -- 20
     pub load-room : rule20 n f ≡ false → load n file at ≡ fault 20
     unfolding load _>>=_ onward refuse_unless_
     load-room a = rw (read, a) refl
 
+    -- 21
     pub load-halves : rule20 n f ≡ true → rule21 (f .nodes) ≡ false → load n file at ≡ fault 21
     unfolding load _>>=_ onward refuse_unless_
     load-halves a b = rw (read, a, b) refl
 
+    -- 22
     pub load-blocks : rule20 n f ≡ true → rule21 (f .nodes) ≡ true → rule22 (endOf (f .nodes)) (f .blocks) ≡ false → load n file at ≡ fault 22
     unfolding load _>>=_ onward refuse_unless_
     load-blocks a b c = rw (read, a, b, c) refl
 
+    -- 23
     pub load-entries : rule20 n f ≡ true → rule21 (f .nodes) ≡ true → rule22 (endOf (f .nodes)) (f .blocks) ≡ true
         → rule23 (endOf (f .nodes)) (f .blocks) (treeFrom (f .nodes)) ≡ false → load n file at ≡ fault 23
     unfolding load _>>=_ onward refuse_unless_
     load-entries a b c d = rw (read, a, b, c, d) refl
 
+    -- 24
     pub load-disjoint : rule20 n f ≡ true → rule21 (f .nodes) ≡ true → rule22 (endOf (f .nodes)) (f .blocks) ≡ true
         → rule23 (endOf (f .nodes)) (f .blocks) (treeFrom (f .nodes)) ≡ true → apart (f .blocks) ≡ false → load n file at ≡ fault 24
     unfolding load _>>=_ onward refuse_unless_
     load-disjoint a b c d e = rw (read, a, b, c, d, e) refl
 
+    -- else it is taken
     pub load-taken : Accepted n f → load n file at ≡ got (loadedFrom f) next
     unfolding load _>>=_ onward refuse_unless_ give
     load-taken h = rw (read, h .room, h .halves, h .blocks, h .entries, h .disjoint) refl
@@ -99,6 +106,7 @@ unfolding refuse_unless_ onward
 refuse-got i true file at k e f = f refl e
 refuse-got i false file at k e f = absurd (fault-got e)
 
+-- an index that was loaded passed every rule
 pub load-accepted : (n : Lent) (file : List ℕ) (at : ℕ) (x : Loaded) (next : ℕ) → load n file at ≡ got x next → LoadedOf n file at x next
 unfolding load _>>=_ give
 load-accepted n file at x next e =

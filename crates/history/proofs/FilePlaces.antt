@@ -17,6 +17,7 @@ use Rattle.history.proofs.FileLists.{or-true, has-cons}
 
 -- ── numbers with an entry ──
 
+-- what holds of all holds of those
 pub thoseWith-all : {P : ℕ → Type 0} (es : List ℕ) {ks : List ℕ} → All P ks → All P (thoseWith es ks)
 unfolding thoseWith
 thoseWith-all es all-nil = all-nil
@@ -36,6 +37,7 @@ thoseWith-has es (k ∷ ks) = go (has k es) refl (thoseWith-has es ks)
     go true h q = all-cons h q
     go false h q = q
 
+-- one that has an entry is among them
 pub has-thoseWith : (es : List ℕ) (k : ℕ) (ks : List ℕ) → has k ks ≡ true → has k es ≡ true → has k (thoseWith es ks) ≡ true
 unfolding has thoseWith
 has-thoseWith es k [] h z = absurd (false≢true h)
@@ -49,6 +51,7 @@ has-thoseWith es k (x ∷ xs) h z =
     later true r = or-true (eqb k x) (has k (thoseWith es xs)) r
     later false r = r
 
+-- they keep their order
 pub thoseWith-pairs : {R : ℕ → ℕ → Type 0} (es : List ℕ) {ks : List ℕ} → Pairs R ks → Pairs R (thoseWith es ks)
 unfolding thoseWith
 thoseWith-pairs es pairs-nil = pairs-nil
@@ -58,6 +61,7 @@ thoseWith-pairs {R} es (pairs-cons {x} {xs} a p) = go (has x es) (thoseWith-pair
     go true q = pairs-cons (thoseWith-all es a) q
     go false q = q
 
+-- and are no more
 pub thoseWith-length : (es ks : List ℕ) → length (thoseWith es ks) ≤ length ks
 unfolding thoseWith
 thoseWith-length es [] = omega arith
@@ -67,6 +71,7 @@ thoseWith-length es (k ∷ ks) = go (has k es) (thoseWith-length es ks)
     go true q = omega arith
     go false q = omega arith
 
+-- nor sum to more
 pub thoseWith-sum : (g : ℕ → ℕ) (es ks : List ℕ) → sumOf (map g (thoseWith es ks)) ≤ sumOf (map g ks)
 unfolding thoseWith sumOf
 thoseWith-sum g es [] = omega arith
@@ -96,6 +101,7 @@ thoseWith-filterMap {A} g es (all-cons {x} {xs} p ps) = go (has x es) refl (thos
 
 -- ── places ──
 
+-- a place is at most the length
 pub placeIn-below : (ks : List ℕ) (k : ℕ) → placeIn ks k ≤ length ks
 unfolding placeIn
 placeIn-below [] k = omega arith
@@ -105,6 +111,7 @@ placeIn-below (x ∷ xs) k = go (eqb k x) (placeIn-below xs k)
     go true q = omega arith
     go false q = omega arith
 
+-- of numbers that follow one another
 pub placeIn-countFrom : (n many k : ℕ) → n ≤ k → k < n + many → placeIn (countFrom n many) k ≡ k - n
 unfolding placeIn countFrom
 placeIn-countFrom n zero k a b = absurd (omega arith)

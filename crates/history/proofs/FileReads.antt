@@ -15,10 +15,12 @@ use Rattle.history.proofs.FileNumbers.{bytesOf-length, numberOf-bytesOf
 -- ── a field at a position ──
 
 module _ (width : ℕ) (file : List ℕ) (at : ℕ) where
+  -- all of it
   pub field-read : at + width ≤ length file → field width file at ≡ got (take width (drop at file)) (at + width)
   unfolding field
   field-read h = rw (le-leb (at + width) (length file) h) refl
 
+  -- 17: bytes end inside it
   pub field-cut : length file < at + width → field width file at ≡ fault 17
   unfolding field
   field-cut h = rw (lt-leb (at + width) (length file) h) refl
@@ -46,10 +48,12 @@ pub record Stands (file : List ℕ) (at : ℕ) (bytes : List ℕ) : Type 0 where
   pub whole : file ≡ before ++ (bytes ++ behind)
 
 module _ {file : List ℕ} {at : ℕ} where
+  -- the first of two parts
   pub stands-left : (u v : List ℕ) → Stands file at (u ++ v) → Stands file at u
   stands-left u v s =
       record { before = s .before; behind = v ++ s .behind; place = s .place; whole = s .whole ∙ ap (λ (r : List ℕ). s .before ++ r) (append-assoc u v (s .behind)) }
 
+  -- and the second, behind it
   pub stands-right : (u v : List ℕ) → Stands file at (u ++ v) → Stands file (at + length u) v
   stands-right u v s =
       record {
@@ -64,9 +68,11 @@ module _ {file : List ℕ} {at : ℕ} where
   stands-fits {w} s =
       rw (s .whole, ← (s .place)) (simp length-append (omega arith))
 
+  -- they are what lies there
   pub stands-taken : {w : List ℕ} → Stands file at w → take (length w) (drop at file) ≡ w
   stands-taken {w} s = rw (s .whole, drop-at (s .before) (w ++ s .behind) at (s .place)) (take-at w (s .behind) (length w) refl)
 
+  -- in a file of bytes they are bytes
   pub stands-bytes : {w : List ℕ} → Stands file at w → Bytes file → Bytes w
   stands-bytes {w} s h =
       let all : Bytes (s .before ++ (w ++ s .behind)) = rw (s .whole) at h in
@@ -94,11 +100,13 @@ pub record Reads {A : Type 0} (r : Reader A) (bytes : List ℕ) (x : A) : Type 0
   pub gives : (file : List ℕ) (at : ℕ) → Stands file at bytes → r file at ≡ got x (at + length bytes)
 
 module _ {A : Type 0} where
+  -- a value without bytes
   pub reads-give : (x : A) → Reads (give x) [] x
   unfolding give
   reads-give x = record { gives = λ file at s. ap (got x) (omega arith) }
 
 module _ {A B : Type 0} where
+  -- one after the other
   pub reads-bind : (k : A → Reader B) {r : Reader A} {u v : List ℕ} {x : A} {y : B} → Reads r u x → Reads (k x) v y → Reads (r >>= k) (u ++ v) y
   unfolding _>>=_ onward
   reads-bind k {r} {u} {v} {x} {y} p q =
@@ -108,6 +116,7 @@ module _ {A B : Type 0} where
       }
 
 module _ {A : Type 0} where
+  -- a test that holds takes no bytes
   pub reads-check : (number : ℕ) (t : Bool) {s : Reader A} {v : List ℕ} {y : A} → t ≡ true → Reads s v y → Reads (refuse number unless t >> s) v y
   unfolding _>>=_ onward refuse_unless_
   reads-check i t e q = record { gives = λ file at z. rw e (q .gives file at z) }
@@ -118,15 +127,18 @@ module _ {A B : Type 0} where
   unfolding _>>=_ onward give
   reads-map f p = record { gives = λ file at s. rw (p .gives file at s) refl }
 
+-- a field
 pub reads-field : (width : ℕ) (bytes : List ℕ) → length bytes ≡ width → Reads (field width) bytes bytes
 reads-field width w e =
     rw (← e) (record { gives = λ file at s. rw (field-read (length w) file at (stands-fits s), stands-taken s) refl })
 
+-- a number that fits
 pub reads-number : (width n : ℕ) → n < 256 ^ width → Reads (number width) (bytesOf width n) n
 unfolding number
 reads-number width n h = rw (numberOf-bytesOf width n h) at (reads-map numberOf (reads-field width (bytesOf width n) (bytesOf-length width n)))
 
 module _ {A : Type 0} where
+  -- a list
   pub reads-many : (r : Reader A) (bytes : A → List ℕ) {xs : List A} → All (λ x. Reads r (bytes x) x) xs → Reads (many r (length xs)) (flatMap bytes xs) xs
   unfolding many flatMap
   reads-many r bytes all-nil = reads-give []

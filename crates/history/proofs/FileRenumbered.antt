@@ -34,6 +34,7 @@ module _ {P : ℕ → Type 0} (es : List ℕ) (l r : Tree) where
 -- ── the tree with numbers mapped ──
 
 module _ (f : ℕ → ℕ) where
+  -- the entries, mapped
   pub mapTree-entries : (t : Tree) → entriesIn (mapTree f t) ≡ map f (entriesIn t)
   unfolding mapTree entriesIn
   mapTree-entries hole = refl
@@ -55,15 +56,18 @@ module _ (f : ℕ → ℕ) where
   mapTree-isHole hole = refl
   mapTree-isHole (node es l r) = refl
 
+  -- 21
   pub mapTree-halved : (lo hi : ℕ) (t : Tree) → halved lo hi (mapTree f t) ≡ halved lo hi t
   unfolding mapTree halved
   mapTree-halved lo hi hole = refl
   mapTree-halved lo hi (node es l r) =
       rw (mapTree-isHole l, mapTree-isHole r, mapTree-halved lo (mid lo hi) l, mapTree-halved (mid lo hi) hi r) refl
 
+  -- 23: no number too high
   pub mapTree-numbered : (n : ℕ) (t : Tree) → All (λ k. f k < n) (entriesIn t) → numbered n (mapTree f t) ≡ true
   mapTree-numbered n t h = decided (numbered n (mapTree f t)) (numbered-decides n (mapTree f t)) (rw (mapTree-entries t) (all-of-map f h))
 
+  -- 23: each entry covers its node and not the parent
   pub mapTree-placed : (at′ at : ℕ → Block) (above′ above : ℕ → Bool) (lo hi : ℕ) (t : Tree) → All (λ k. at′ (f k) ≡ at k) (entriesIn t)
       → All (λ k. above′ (f k) ≡ above k) (entriesIn t) → placed at′ above′ lo hi (mapTree f t) ≡ placed at above lo hi t
   unfolding mapTree placed
@@ -77,12 +81,14 @@ module _ (f : ℕ → ℕ) where
       (mapTree-placed at′ at _ _ lo (mid lo hi) l (entries-left es l r h) (over _ (entries-left es l r h)))
       (mapTree-placed at′ at _ _ (mid lo hi) hi r (entries-right es l r h) (over _ (entries-right es l r h))))
 
+  -- 23: first cells ascend
   pub mapTree-sorted : (key′ key : ℕ → ℕ) (t : Tree) → All (λ k. key′ (f k) ≡ key k) (entriesIn t) → sorted key′ (mapTree f t) ≡ sorted key t
   unfolding mapTree sorted
   mapTree-sorted key′ key hole h = refl
   mapTree-sorted key′ key (node es l r) h =
       rw (ascends-map f key′ key (entries-here es l r h), mapTree-sorted key′ key l (entries-left es l r h), mapTree-sorted key′ key r (entries-right es l r h)) refl
 
+  -- 23: a block's widths
   pub mapTree-widths : (j i lo hi : ℕ) (t : Tree) → All (λ k. eqb j (f k) ≡ eqb i k) (entriesIn t) → widths j lo hi (mapTree f t) ≡ widths i lo hi t
   unfolding mapTree widths
   mapTree-widths j i lo hi hole h = refl
@@ -91,6 +97,7 @@ module _ (f : ℕ → ℕ) where
 
   -- ── find ──
 
+  -- the way down
   pub mapTree-path : (t lo hi : ℕ) (T : Tree) → path t lo hi (mapTree f T) ≡ map f (path t lo hi T)
   unfolding mapTree path
   mapTree-path t lo hi hole = refl
@@ -102,11 +109,13 @@ module _ (f : ℕ → ℕ) where
       rw (mapTree-path t lo (mid lo hi) l, mapTree-path t (mid lo hi) hi r)
       (sym (map-append f es (cond (halves lo hi) (cond (ltb t (mid lo hi)) a b) []) ∙ ap (λ (v : List ℕ). map f es ++ v) below))
 
+  -- as many nodes
   pub mapTree-visited : (t lo hi : ℕ) (T : Tree) → visited t lo hi (mapTree f T) ≡ visited t lo hi T
   unfolding mapTree visited
   mapTree-visited t lo hi hole = refl
   mapTree-visited t lo hi (node es l r) = rw (mapTree-visited t lo (mid lo hi) l, mapTree-visited t (mid lo hi) hi r) refl
 
+  -- the same first cells in the window
   pub window-map : (key′ key : ℕ → ℕ) (s e : ℕ) {ks : List ℕ} → All (λ k. key′ (f k) ≡ key k) ks → window key′ s e (map f ks) ≡ map f (window key s e ks)
   unfolding window
   window-map key′ key s e all-nil = refl

@@ -16,6 +16,7 @@ use Rattle.history.proofs.RulesLaws.{filled-decides, lived-decides, dec
 
 -- ── 20 ──
 
+-- blocks, nodes, entries and bytes are within the tables
 pub record Rule20 (n : Lent) (f : File) : Type 0 where
   pub blocks : length (f .blocks) ≤ blockRows n
   pub nodes : nodeCount (treeFrom (f .nodes)) ≤ nodeRows n
@@ -32,6 +33,7 @@ rule20-decides n f =
 
 -- ── 21 ──
 
+-- a root from 0 to E, E from 1 to 2^63, halves and mids as they should be
 pub record Rule21 (t : Nodes) : Type 0 where
   pub some-tick : 0 < endOf t
   pub end-most : endOf t ≤ 2 ^ 63
@@ -58,6 +60,7 @@ pub record LivingBlock (end : ℕ) (b : Block) : Type 0 where
   pub lives : b .created < b .destroyed
   pub by-end : b .destroyed ≤ end
 
+-- some block, and each living
 pub record Rule22 (end : ℕ) (bs : List Block) : Type 0 where
   pub some-block : 0 < length bs
   pub blocks : All (LivingBlock end) bs

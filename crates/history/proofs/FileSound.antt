@@ -112,6 +112,7 @@ accepted-sound n f fits rules =
           own-kind = z .0 .own;
         }
 
+-- so is whatever load gives
 pub loaded-sound : (n : Lent) (file : List ℕ) → Bytes file → (at : ℕ) (x : Loaded) (next : ℕ) → load n file at ≡ got x next → Sound (ledgerOf n x)
 loaded-sound n file small at x next e =
     let z : LoadedOf n file at x next = load-accepted n file at x next e in

@@ -21,6 +21,7 @@ pub record Spans (file : List ℕ) (at to : ℕ) (bytes : List ℕ) : Type 0 whe
   pub next : to ≡ at + length bytes
 
 module _ {file : List ℕ} where
+  -- one part after the other
   pub spans-append : (u v : List ℕ) {at m n : ℕ} → Spans file at m u → Spans file m n v → Spans file at n (u ++ v)
   spans-append u v {at} {m} {n} p q =
       record {
@@ -28,6 +29,7 @@ module _ {file : List ℕ} where
         next = rw (length-append u v) (omega (arith, p .next, q .next));
       }
 
+  -- nothing, inside the file
   pub spans-nil : (at : ℕ) → at ≤ length file → Spans file at at []
   spans-nil at h =
       record {
@@ -35,6 +37,7 @@ module _ {file : List ℕ} where
         next = omega arith;
       }
 
+  -- the next position is inside the file
   pub spans-fits : {w : List ℕ} {at n : ℕ} → Spans file at n w → n ≤ length file
   spans-fits p = omega (arith, stands-fits (p .stands), p .next)
 
@@ -45,12 +48,14 @@ module _ {file : List ℕ} where
       rw e (stands-taken (p .stands))
 
 module _ {A : Type 0} where
+  -- a success has one value and one next position
   pub got-value : {x y : A} {m n : ℕ} → got x m ≡ got y n → x ≡ y
   got-value e = cc
 
   pub got-next : {x y : A} {m n : ℕ} → got x m ≡ got y n → m ≡ n
   got-next e = cc
 
+  -- a fault is no success
   pub fault-got : {i : ℕ} {y : A} {n : ℕ} → _≡_ {A = Read A} (fault i) (got y n) → ⊥
   fault-got e = let z : _≡_ {A = ℕ} 0 1 = cc in omega arith
 
@@ -70,21 +75,25 @@ module _ (file : List ℕ) where
   Gives r write P = Yields r (λ x w. P x × (w ≡ write x))
 
   module _ {A : Type 0} where
+    -- a value takes no bytes
     pub yields-give : {Q : A → List ℕ → Type 0} (x : A) → Q x [] → Yields (give x) Q
     unfolding give
     yields-give x q =
         record { yields = λ at y n h e. rw (← (got-value e), ← (got-next e)) (record { bytes = []; says = q; spans = spans-nil at h }) }
 
+    -- the test held
     pub yields-check : {Q : A → List ℕ → Type 0} (i : ℕ) (t : Bool) {s : Reader A} → (t ≡ true → Yields s Q) → Yields (refuse i unless t >> s) Q
     unfolding _>>=_ onward refuse_unless_
     yields-check i true f = record { yields = λ at y n h e. (f refl) .yields at y n h e }
     yields-check i false f = record { yields = λ at y n h e. absurd (fault-got e) }
 
+    -- a choice
     pub yields-cond : {Q : A → List ℕ → Type 0} (t : Bool) {a b : Reader A} → (t ≡ true → Yields a Q) → (t ≡ false → Yields b Q) → Yields (cond t a b) Q
     yields-cond true f g = f refl
     yields-cond false f g = g refl
 
   module _ {A B : Type 0} where
+    -- one after the other
     pub yields-bind : {Q : B → List ℕ → Type 0} {P : A → Type 0} {write : A → List ℕ} (k : A → Reader B) {r : Reader A} → Gives r write P
         → ((x : A) → P x → Yields (k x) (λ y v. Q y (write x ++ v))) → Yields (r >>= k) Q
     unfolding _>>=_ onward
@@ -104,6 +113,7 @@ module _ (file : List ℕ) where
         → ((x : A) → P x → R (f x) × (write x ≡ write′ (f x))) → Gives (r >>= (λ x. give (f x))) write′ R
     gives-map {P} {R} {write} {write′} f g h = yields-bind _ g (λ x p. yields-give (f x) (h x p .0, append-nil (write x) ∙ h x p .1))
 
+  -- a field
   pub gives-field : (width : ℕ) → Gives (field width) (λ w. w) (λ w. length w ≡ width)
   unfolding field
   gives-field width = record { yields = λ at x n h e. go at x n (leb (at + width) (length file)) refl e }
@@ -127,6 +137,7 @@ module _ (file : List ℕ) where
       go at w n false h e = absurd (fault-got e)
 
   module _ {A : Type 0} where
+    -- a list
     pub gives-many : (r : Reader A) {P : A → Type 0} {write : A → List ℕ} → Gives r write P
         → (count : ℕ) → Gives (many r count) (flatMap write) (λ xs. (length xs ≡ count) × All P xs)
     unfolding many flatMap
@@ -149,6 +160,7 @@ module _ (file : List ℕ) (bytes : Bytes file) where
             record { bytes = y .bytes; says = ((y .says .0, small), y .says .1); spans = y .spans };
       }
 
+  -- a number, which fits
   pub gives-number : (width : ℕ) → Gives file (number width) (bytesOf width) (λ n. n < 256 ^ width)
   unfolding number
   gives-number width =

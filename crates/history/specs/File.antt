@@ -91,6 +91,7 @@ mapTree f (node es l r) = node (map f es) (mapTree f l) (mapTree f r)
 abbrev pub newNumber : List Block → Tree → (k : ℕ) → ℕ
 newNumber bs tree = placeIn (written bs tree)
 
+-- the tree with the new numbers
 abbrev pub renumbered : List Block → Tree → Tree
 renumbered bs tree = mapTree (newNumber bs tree) tree
 
