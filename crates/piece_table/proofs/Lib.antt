@@ -6,3 +6,4 @@ pub mod Writing
 pub mod Seeing
 pub mod Held
 pub mod Showing
+pub mod Testing
