@@ -1,0 +1,4 @@
+pub mod NodeRows
+pub mod Growing
+pub mod Reaching
+pub mod Adding

@@ -1,0 +1,105 @@
+// Building the tree in the node table: each life goes down from its root, nodes are made, entries are counted.
+ghost use mathlib.Core.Path.{_≡_};
+ghost use Prim.Native.Nat.{ℕ, _+_, _*_};
+ghost use lib.ListN.{set};
+ghost use Rattle.history.specs.Lent.{rowWidth};
+ghost use Rattle.tables.specs.Columns.{nodeEntries};
+ghost use Rattle.segment_table.specs.Closed.{countAt};
+ghost use Rattle.segment_tree.specs.Count.{plusUpTo, spot, aLife, Reached, Added};
+
+// One entry more in the node of `link`.
+fn bump(nodes: &mut [u64], link: u64)
+    ensures { λ _. ⌜ now (nodes .exit) ≡ set (now (nodes .entry)) (rowWidth * link + nodeEntries) (plusUpTo (countAt (now (nodes .entry)) link) 1) ⌝ }
+{
+    let count = tables::get(nodes, link, tables::node::ENTRIES);
+    tables::put(nodes, link, tables::node::ENTRIES, crate::plus(count, 1));
+}
+
+// The node [min, max) in column `col` of the row of `parent`, made where there is none; 0 if the rows are spent.
+fn reach(nodes: &mut [u64], parent: u64, col: usize, min: u64, max: u64, kind: u64) -> u64
+    ensures { λ r. ⌜ Reached (now (nodes .entry)) (now (nodes .exit)) (spot kind parent col min max) r ⌝ }
+{
+    let there = tables::get(nodes, parent, col);
+    if there != 0 {
+        return there;
+    }
+    let used = tables::get(nodes, 0, tables::node::COUNT);
+    if crate::rows(nodes) <= used {
+        return 0;
+    }
+    let link = used + 1;
+    tables::put(nodes, 0, tables::node::COUNT, link);
+    tables::put(nodes, parent, col, link);
+    tables::put(nodes, link, tables::node::MIN, min);
+    tables::put(nodes, link, tables::node::MAX, max);
+    tables::put(nodes, link, tables::node::KIND, kind);
+    link
+}
+
+// Adds the life [created, destroyed) to the node [min, max) that hangs in column `col` of the row of `parent`: one entry more in each node
+// that it covers, and nodes where there are none. False if the rows are spent. At most 65 deep: each call halves the width.
+pub fn add_location(
+    nodes: &mut [u64],
+    parent: u64,
+    col: usize,
+    min: u64,
+    max: u64,
+    created: u64,
+    destroyed: u64,
+    kind: u64,
+) -> bool
+    ensures { λ r. ⌜ Added (now (nodes .entry)) (now (nodes .exit)) (spot kind parent col min max) (aLife created destroyed) r ⌝ }
+{
+    let link = reach(nodes, parent, col, min, max, kind);
+    if link == 0 {
+        return false;
+    }
+    if crate::covers_node(created, destroyed, min, max) {
+        bump(nodes, link);
+        return true;
+    }
+    if !crate::has_halves(min, max) {
+        return true;
+    }
+    let mid = min + (max - min) / 2;
+    if mid <= created {
+        if destroyed <= mid {
+            return true;
+        }
+        return add_location(
+            nodes,
+            link,
+            tables::node::RIGHT,
+            mid,
+            max,
+            created,
+            destroyed,
+            kind,
+        );
+    }
+    if !add_location(
+        nodes,
+        link,
+        tables::node::LEFT,
+        min,
+        mid,
+        created,
+        destroyed,
+        kind,
+    ) {
+        return false;
+    }
+    if destroyed <= mid {
+        return true;
+    }
+    add_location(
+        nodes,
+        link,
+        tables::node::RIGHT,
+        mid,
+        max,
+        created,
+        destroyed,
+        kind,
+    )
+}
