@@ -132,7 +132,7 @@ add-spent {t} {t₁} {s} {life} (no-row a b c e) z = record { done = λ key n x 
 -- ── one step after another ──
 
 -- what comes after what was added
-outcome-after : (t t₁ t₂ : List ℕ) (s : Spot) (T X Y : Tree) (r : Bool) → Standing t s T → Grown t t₁ s T X → Outcome t₁ t₂ s r X Y → Outcome t t₂ s r T Y
+pub outcome-after : (t t₁ t₂ : List ℕ) (s : Spot) (T X Y : Tree) (r : Bool) → Standing t s T → Grown t t₁ s T X → Outcome t₁ t₂ s r X Y → Outcome t t₂ s r T Y
 outcome-after t t₁ t₂ s T X Y r stands g o = record {
   added = λ e. grown-trans t s T stands t₁ X g t₂ Y (o .added e);
   spent = λ e. omega (arith, o .spent e, g .rows, g .long);

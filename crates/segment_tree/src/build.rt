@@ -1,11 +1,14 @@
 // Building the tree in the node table: each life goes down from its root, nodes are made, entries are counted.
 ghost use mathlib.Core.Path.{_≡_};
+ghost use mathlib.Core.List.{map};
+ghost use Rattle.lists.specs.Lists.{countFrom};
 ghost use Prim.Native.Nat.{ℕ, _+_, _*_};
 ghost use lib.ListN.{set};
 ghost use Rattle.history.specs.Lent.{rowWidth};
 ghost use Rattle.tables.specs.Columns.{nodeEntries};
 ghost use Rattle.segment_table.specs.Closed.{countAt};
 ghost use Rattle.segment_tree.specs.Count.{plusUpTo, spot, aLife, Reached, Added};
+ghost use Rattle.segment_tree.specs.Lives.{blockLife, pieceLife, AddedRows};
 
 // One entry more in the node of `link`.
 fn bump(nodes: &mut [u64], link: u64)
@@ -102,4 +105,36 @@ pub fn add_location(
         destroyed,
         kind,
     )
+}
+
+// Adds the lives of the blocks 1 to n. False if the rows are spent.
+fn add_blocks(nodes: &mut [u64], blocks: &[u64], n: u64, end: u64, kind: u64) -> bool
+    ensures { λ r. ⌜ AddedRows (now (nodes .entry)) (now (nodes .exit)) kind end (map (blockLife (now (blocks .entry))) (countFrom 1 n)) r ⌝ }
+{
+    let mut j = 0;
+    while j < n {
+        let link = j + 1;
+        let created = tables::block::get(blocks, link, tables::block::CREATED);
+        let destroyed = tables::block::get(blocks, link, tables::block::DESTROYED);
+        if !add_location(nodes, 0, kind as usize, 0, end, created, destroyed, kind) {
+            return false;
+        }
+        j += 1;
+    }
+    true
+}
+
+// Adds the lives of the pieces 1 to n, which last to the end. False if the rows are spent.
+fn add_pieces(nodes: &mut [u64], pieces: &[u64], n: u64, end: u64, kind: u64) -> bool
+    ensures { λ r. ⌜ AddedRows (now (nodes .entry)) (now (nodes .exit)) kind end (map (pieceLife (now (pieces .entry)) end) (countFrom 1 n)) r ⌝ }
+{
+    let mut j = 0;
+    while j < n {
+        let created = tables::get(pieces, j + 1, tables::piece::WRITTEN);
+        if !add_location(nodes, 0, kind as usize, 0, end, created, end, kind) {
+            return false;
+        }
+        j += 1;
+    }
+    true
 }
