@@ -17,7 +17,7 @@ use Rattle.segment_tree.proofs.Growing.{grown-none, standing-grown}
 use Rattle.segment_tree.proofs.Adding.{fullest-grows, outcome-after}
 
 -- adding takes no node away
-nodes-lives : (e : ℕ) (lives : List Life) (T : Tree) → nodeCount T ≤ nodeCount (addLives e lives T)
+pub nodes-lives : (e : ℕ) (lives : List Life) (T : Tree) → nodeCount T ≤ nodeCount (addLives e lives T)
 unfolding addLives
 nodes-lives e [] T = omega arith
 nodes-lives e (life ∷ lives) T =

@@ -12,9 +12,10 @@ use borrow.Author.Tests.{lt-ltb, le-ltb}
 use Rattle.lists.proofs.Numbers.{eq-or-ne, lt-or-le}
 use Rattle.history.specs.Lent.{rowWidth, nodeHead}
 use Rattle.history.specs.Tree.{Tree, hole, node, mid, halves}
-use Rattle.tables.specs.Columns.{column, nodeMin, nodeMax, nodeLeft, nodeRight, nodeEntries, nodeKind, nodesCount}
+use Rattle.tables.specs.Columns.{column, nodeMin, nodeMax, nodeLeft, nodeRight, nodeFirst, nodeEntries, nodeKind, nodesCount}
 use Rattle.segment_table.specs.Closed.{nodesUsed, leftAt, rightAt, countAt}
 use Rattle.segment_tree.specs.Count.{rowsIn, minAt, maxAt, kindAt, entriesTo, CountRow, CountAt}
+use Rattle.segment_tree.specs.Runs.{LikeButRuns}
 
 -- ── widths ──
 
@@ -82,7 +83,39 @@ unfolding CountAt
 hole-stays t t′ kind link lo hi hole z g = g
 hole-stays t t′ kind link lo hi (node xs l r) z g = absurd (omega (arith, g .0 .some))
 
+-- a tree with its counts does not look at the starts of runs
+pub count-like : (t t′ : List ℕ) → LikeButRuns t t′ → (kind link lo hi : ℕ) (T : Tree) → CountAt t kind link lo hi T → CountAt t′ kind link lo hi T
+unfolding CountAt
+count-like t t′ like kind link lo hi hole g = g
+count-like t t′ like kind link lo hi (node xs l r) g =
+    let row : CountRow t kind link lo hi (length xs) = g .0 in
+    let at : (k j : ℕ) → j < rowWidth → (j ≡ nodeFirst → ⊥) → column t′ k j ≡ column t k j = λ k j h e. like .same k j h (inr e) in
+    let lefts : leftAt t′ link ≡ leftAt t link = at link nodeLeft (omega arith) (omega arith) in
+    let rights : rightAt t′ link ≡ rightAt t link = at link nodeRight (omega arith) (omega arith) in (
+      record {
+        some = row .some;
+        used = let u : nodesUsed t′ ≡ nodesUsed t = like .same 0 nodesCount (omega arith) (inl refl) in omega (arith, row .used);
+        low = at link nodeMin (omega arith) (omega arith) ∙ row .low;
+        high = at link nodeMax (omega arith) (omega arith) ∙ row .high;
+        own-kind = at link nodeKind (omega arith) (omega arith) ∙ row .own-kind;
+        wide = row .wide;
+        narrow = λ w. (lefts ∙ row .narrow w .0, rights ∙ row .narrow w .1);
+        counted = at link nodeEntries (omega arith) (omega arith) ∙ row .counted;
+      },
+      rw lefts (count-like t t′ like kind (leftAt t link) lo (mid lo hi) l (g .1)),
+      rw rights (count-like t t′ like kind (rightAt t link) (mid lo hi) hi r (g .2)),
+    )
+
 -- ── the sum of counts ──
+
+pub entries-most : (t : List ℕ) (k n : ℕ) → k ≤ n → entriesTo t k ≤ entriesTo t n
+unfolding entriesTo
+entries-most t k zero h = let e : k ≡ 0 = omega arith in rw e (omega arith)
+entries-most t k (suc n) h =
+    elim (eq-or-ne k (suc n)) [
+      | inl e ↦ rw e (omega arith)
+      | inr e ↦ omega (arith, entries-most t k n (omega arith))
+    ]
 
 pub entries-same : (t t′ : List ℕ) (n : ℕ) → ((k : ℕ) → 0 < k → k ≤ n → countAt t′ k ≡ countAt t k) → entriesTo t′ n ≡ entriesTo t n
 unfolding entriesTo

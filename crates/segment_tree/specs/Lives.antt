@@ -48,3 +48,42 @@ rootSpot kind e = spot kind 0 kind 0 e
 pub record AddedRows (nodes nodes′ : List ℕ) (kind e : ℕ) (lives : List Life) (room : Bool) : Type 0 where
   pub done : (T : Tree) → e ≤ 2 ^ 63 → fullest T + length lives < most → Standing nodes (rootSpot kind e) T
       → Outcome nodes nodes′ (rootSpot kind e) room T (addLives e lives T)
+
+-- ── the counted table ──
+
+-- how many rows the entry table has past its head
+abbrev pub entryRowsIn : (entries : List ℕ) → ℕ
+entryRowsIn entries = (length entries - entryHead) / entryWidth
+
+-- the nodes of the tree are made and its entries counted, and each row has the start of its run
+pub record Counted (nodes : List ℕ) (kind e : ℕ) (T : Tree) : Type 0 where
+  pub stands : Standing nodes (rootSpot kind e) T
+  pub rows : nodesUsed nodes ≡ nodeCount T
+  pub entries : allEntries nodes ≡ entryCount T
+  pub other-kinds : (k : ℕ) → k < nodesCount → (k ≡ kind → ⊥) → column nodes 0 k ≡ 0
+  pub runs : (k : ℕ) → k < nodesUsed nodes → firstAt nodes (suc k) ≡ entriesTo nodes k
+
+-- Refusals 12 and 13 go by the tree of all blocks: more nodes are needed than there are rows, or more entries; 0 if neither.
+abbrev pub roomFor : (nodeRows entryRows : ℕ) (T : Tree) → ℕ
+roomFor nodeRows entryRows T = cond (ltb nodeRows (nodeCount T)) 12 (cond (ltb entryRows (entryCount T)) 13 0)
+
+-- What finish counts: recorded blocks bs, and pieces that become the blocks ps. The rows of the pieces, in the order of ps, are `links`, which are all
+-- rows in some order. The node table is zeros, as it is in an open index.
+pub record Countable (nodes blocks pieces : List ℕ) (n m e kind : ℕ) (bs ps : List Block) (links : List ℕ) : Type 0 where
+  pub zeros : nodes ≡ replicate (length nodes) 0
+  pub some : 0 < e
+  pub small : e ≤ 2 ^ 63
+  pub a-kind : kind < nodesCount
+  pub few : n + m < most
+  pub blocks-are : map (blockLife blocks) (countFrom 1 n) ≡ map lifeOf bs
+  pub pieces-are : map (pieceLife pieces e) links ≡ map lifeOf ps
+  pub all-pieces : (k : ℕ) → count k links ≡ count k (countFrom 1 m)
+
+-- the refusal is the tree's; the tree is counted, or the table is as it was
+pub record CountedAs (nodes nodes′ entries : List ℕ) (kind e : ℕ) (T : Tree) (r : ℕ) : Type 0 where
+  pub answer : r ≡ roomFor (rowsIn nodes) (entryRowsIn entries) T
+  pub counted : r ≡ 0 → Counted nodes′ kind e T
+  pub refused : (r ≡ 0 → ⊥) → nodes′ ≡ nodes
+
+pub record CountedTree (nodes nodes′ entries blocks pieces : List ℕ) (n m e kind r : ℕ) : Type 0 where
+  pub done : (bs ps : List Block) (links : List ℕ) → Countable nodes blocks pieces n m e kind bs ps links → CountedAs nodes nodes′ entries kind e (treeOf e (bs ++ ps)) r

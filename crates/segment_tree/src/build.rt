@@ -8,7 +8,7 @@ ghost use Rattle.history.specs.Lent.{rowWidth};
 ghost use Rattle.tables.specs.Columns.{nodeEntries};
 ghost use Rattle.segment_table.specs.Closed.{countAt};
 ghost use Rattle.segment_tree.specs.Count.{plusUpTo, spot, aLife, Reached, Added};
-ghost use Rattle.segment_tree.specs.Lives.{blockLife, pieceLife, AddedRows};
+ghost use Rattle.segment_tree.specs.Lives.{blockLife, pieceLife, AddedRows, CountedTree};
 
 // One entry more in the node of `link`.
 fn bump(nodes: &mut [u64], link: u64)
@@ -137,4 +137,42 @@ fn add_pieces(nodes: &mut [u64], pieces: &[u64], n: u64, end: u64, kind: u64) ->
         j += 1;
     }
     true
+}
+
+// What is refused where room is too little: more nodes are needed than there are rows, or more entries.
+pub const NODES_SPENT: u64 = 12;
+
+pub const ENTRIES_SPENT: u64 = 13;
+
+pub const ENOUGH: u64 = 0;
+
+// Counts the tree of n blocks, and of m pieces that live up to the end, in a node table of zeros. Where the nodes or the entries do not fit, the
+// table is zeros again.
+pub fn count_tree(
+    nodes: &mut [u64],
+    entries: &[u64],
+    blocks: &[u64],
+    n: u64,
+    pieces: &[u64],
+    m: u64,
+    end: u64,
+    kind: u64,
+) -> u64
+    ensures { λ r. ⌜ CountedTree (now (nodes .entry)) (now (nodes .exit)) (now (entries .entry)) (now (blocks .entry)) (now (pieces .entry)) n m end kind r ⌝ }
+{
+    if !add_blocks(nodes, blocks, n, end, kind) {
+        tables::zero(nodes);
+        return NODES_SPENT;
+    }
+    if !add_pieces(nodes, pieces, m, end, kind) {
+        tables::zero(nodes);
+        return NODES_SPENT;
+    }
+    let used = tables::get(nodes, 0, tables::node::COUNT);
+    let total = crate::close::assign_runs(nodes, used);
+    if crate::entry_rows(entries) < total {
+        tables::zero(nodes);
+        return ENTRIES_SPENT;
+    }
+    ENOUGH
 }
