@@ -2,9 +2,10 @@
 ghost use mathlib.Core.Path.{_≡_};
 ghost use Prim.Native.Nat.{_+_, _-_};
 ghost use lib.Seq.{sets};
-ghost use Rattle.segment_table.specs.Closed.{run};
-ghost use Rattle.segment_find.specs.Walking.{rootAt, halfAt, rowsAt, blocksIn, Lower};
+ghost use Rattle.segment_table.specs.Closed.{blockIn};
+ghost use Rattle.segment_find.specs.Walking.{rootAt, halfAt, rowsAt, blocksIn, keyAt, Lower};
 ghost use Rattle.segment_find.specs.Listing.{InWindow, Searched, Finds};
+ghost use Rattle.segment_find.specs.Neighbours.{OwnNeighbour, Nearer, NearestBelow, NearestLive};
 
 // A node of the tree, [min, max), by the link of its row.
 pub struct Node {
@@ -30,6 +31,18 @@ pub struct Query {
 pub enum Found {
     Listed { count: usize, visited: usize },
     TooSmall,
+}
+
+// Where a neighbour of a place is looked for: among the blocks that start at it or after it, or among those that start before it.
+pub enum Side {
+    From,
+    Before,
+}
+
+// A block next to a place, with its first cell; or none.
+pub enum Neighbour {
+    Block { number: u64, first: u64 },
+    Nothing,
 }
 
 // The half of a node that has the tick: left if it is below mid. A node of width 1 has none.
@@ -218,4 +231,131 @@ pub fn find(
         stop: stop,
     };
     search(nodes, entries, node, query, answer, 0)
+}
+
+// The block of a row.
+fn block_in(entries: &[u64], row: u64) -> Neighbour
+    ensures { λ r. ⌜ r ≡ Neighbour.Block (blockIn (now (entries .entry)) row) (keyAt (now (entries .entry)) row) ⌝ }
+{
+    let number = tables::entry::get(entries, row, tables::entry::BLOCK);
+    let first = tables::entry::get(entries, row, tables::entry::KEY);
+    Neighbour::Block {
+        number: number,
+        first: first,
+    }
+}
+
+// The neighbour of a place among the rows of one node.
+fn own_neighbour(entries: &[u64], rows: Rows, side: Side, place: u64) -> Neighbour
+    ensures { λ r. ⌜ OwnNeighbour (now (entries .entry)) rows side place r ⌝ }
+{
+    let row = lower(entries, rows, place);
+    match side {
+        Side::From => {
+            if row < rows.to {
+                return block_in(entries, row);
+            }
+            Neighbour::Nothing
+        }
+        Side::Before => {
+            if rows.from < row {
+                return block_in(entries, row - 1);
+            }
+            Neighbour::Nothing
+        }
+    }
+}
+
+// The nearer one of two.
+fn nearer(side: Side, own: Neighbour, below: Neighbour) -> Neighbour
+    ensures { λ r. ⌜ Nearer side own below r ⌝ }
+{
+    let Neighbour::Block { number: _, first } = own else {
+        return below;
+    };
+    let Neighbour::Block {
+        number: _,
+        first: other,
+    } = below
+    else {
+        return own;
+    };
+    match side {
+        Side::From => {
+            if other < first {
+                return below;
+            }
+            own
+        }
+        Side::Before => {
+            if first < other {
+                return below;
+            }
+            own
+        }
+    }
+}
+
+// The neighbour of a place on the way down to the tick from a node. The width falls at each call: at most 64 calls.
+fn nearest(
+    nodes: &[u64],
+    entries: &[u64],
+    node: Node,
+    tick: u64,
+    side: Side,
+    place: u64,
+) -> Neighbour
+    ensures { λ r. ⌜ NearestBelow (now (nodes .entry)) (now (entries .entry)) node tick side place r ⌝ }
+{
+    if node.link == 0 {
+        return Neighbour::Nothing;
+    }
+    if node.max <= node.min {
+        return Neighbour::Nothing;
+    }
+    let own = own_neighbour(entries, rows_of(nodes, entries, node.link), side, place);
+    let below = nearest(nodes, entries, half(nodes, node, tick), tick, side, place);
+    nearer(side, own, below)
+}
+
+// The first block of a kind that is live at the tick and starts at the place or after it.
+pub fn first_from(
+    nodes: &[u64],
+    entries: &[u64],
+    kind: u64,
+    end: u64,
+    tick: u64,
+    place: u64,
+) -> Neighbour
+    ensures { λ r. ⌜ NearestLive (now (nodes .entry)) (now (entries .entry)) kind end tick Side.From place r ⌝ }
+{
+    nearest(
+        nodes,
+        entries,
+        root(nodes, kind, end),
+        tick,
+        Side::From,
+        place,
+    )
+}
+
+// The last block of a kind that is live at the tick and starts before the place.
+pub fn last_before(
+    nodes: &[u64],
+    entries: &[u64],
+    kind: u64,
+    end: u64,
+    tick: u64,
+    place: u64,
+) -> Neighbour
+    ensures { λ r. ⌜ NearestLive (now (nodes .entry)) (now (entries .entry)) kind end tick Side.Before place r ⌝ }
+{
+    nearest(
+        nodes,
+        entries,
+        root(nodes, kind, end),
+        tick,
+        Side::Before,
+        place,
+    )
 }
