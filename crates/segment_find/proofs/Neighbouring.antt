@@ -20,7 +20,7 @@ use Rattle.segment_find.specs.declared.Neighbour.the-variants.{Block, No
 use Rattle.segment_find.specs.Walking.{Stands, Rooted, rootAt, halfAt, rowsAt, keyAt, RunOf, Lower}
 use Rattle.segment_find.specs.Neighbours.{Beside, AsNear, Nearest, Neighbours, OwnNeighbour, Nearer, NearestBelow, NearestLive}
 use Rattle.segment_find.proofs.Halving.{Down, down}
-use Rattle.segment_find.proofs.Windows.{rows-order, run-of}
+use Rattle.segment_find.proofs.Windows.{run-of}
 
 -- ── answers ──
 
@@ -41,10 +41,10 @@ module _ {entries : List ℕ} {rows : Rows} {place row : ℕ} (l : Lower entries
   own-from : {r : Neighbour} → row < rows .to → r ≡ Block (blockIn entries row) (keyAt entries row) → OwnNeighbour entries rows From place r
   own-from {r} inside e = record { of-run = go }
     where
-      go : (blocks xs : List ℕ) → rows .from ≤ rows .to → RunOf blocks entries rows xs → Neighbours From (firstCellIn blocks) place xs r
-      go blocks xs order own =
-          let low : rows .from ≤ row = l .inside order .0 in
-          let p = l .parts (own .ordered) in
+      go : (blocks xs : List ℕ) → RunOf blocks entries rows xs → Neighbours From (firstCellIn blocks) place xs r
+      go blocks xs own =
+          let low : rows .from ≤ row = l .inside (own .order) .0 in
+          let p = l .parts (own .room) (own .ordered) in
           let key : keyAt entries row ≡ firstCellIn blocks (blockIn entries row) = own .keyed row low inside in
           rw (← own .lists)
           (some-block e
@@ -62,8 +62,8 @@ module _ {entries : List ℕ} {rows : Rows} {place row : ℕ} (l : Lower entries
   own-from-none : rows .to ≤ row → OwnNeighbour entries rows From place Nothing
   own-from-none past =
       record {
-        of-run = λ blocks xs order own.
-            let p = l .parts (own .ordered) in
+        of-run = λ blocks xs own.
+            let p = l .parts (own .room) (own .ordered) in
             rw (← own .lists)
             (no-block (run-all entries (rows .from) (rows .to - rows .from) (λ i a b from. omega (arith, own .keyed i a (omega arith), p .below i a (omega arith)))));
       }
@@ -71,10 +71,10 @@ module _ {entries : List ℕ} {rows : Rows} {place row : ℕ} (l : Lower entries
   own-before : {r : Neighbour} → rows .from < row → r ≡ Block (blockIn entries (row - 1)) (keyAt entries (row - 1)) → OwnNeighbour entries rows Before place r
   own-before {r} inside e = record { of-run = go }
     where
-      go : (blocks xs : List ℕ) → rows .from ≤ rows .to → RunOf blocks entries rows xs → Neighbours Before (firstCellIn blocks) place xs r
-      go blocks xs order own =
-          let high : row ≤ rows .to = l .inside order .1 in
-          let p = l .parts (own .ordered) in
+      go : (blocks xs : List ℕ) → RunOf blocks entries rows xs → Neighbours Before (firstCellIn blocks) place xs r
+      go blocks xs own =
+          let high : row ≤ rows .to = l .inside (own .order) .1 in
+          let p = l .parts (own .room) (own .ordered) in
           let key : keyAt entries (row - 1) ≡ firstCellIn blocks (blockIn entries (row - 1)) = own .keyed (row - 1) (omega arith) (omega arith) in
           rw (← own .lists)
           (some-block e
@@ -92,8 +92,8 @@ module _ {entries : List ℕ} {rows : Rows} {place row : ℕ} (l : Lower entries
   own-before-none : row ≤ rows .from → OwnNeighbour entries rows Before place Nothing
   own-before-none first =
       record {
-        of-run = λ blocks xs order own.
-            let p = l .parts (own .ordered) in
+        of-run = λ blocks xs own.
+            let p = l .parts (own .room) (own .ordered) in
             rw (← own .lists)
             (no-block (run-all entries (rows .from) (rows .to - rows .from) (λ i a b before. omega (arith, own .keyed i a (omega arith), p .above i (omega arith) (omega arith)))));
       }
@@ -209,10 +209,9 @@ module _ {nodes entries : List ℕ} {n : Node} {tick : ℕ} {side : Side} {place
       go blocks kind hole s = absurd (some (s .stood))
       go blocks kind (node xs l r′) s =
           let d : Down blocks nodes entries kind tick n h xs (node xs l r′) = down blocks nodes entries kind tick n xs l r′ s h half in
-          let order : rows .from ≤ rows .to = rw e (rows-order nodes entries (n .link)) in
           let run : RunOf blocks entries rows xs = rw e (run-of blocks nodes entries kind n xs l r′ s) in
           rw (d .way)
-          (both .of-both (firstCellIn blocks) place xs (path tick (h .min) (h .max) (d .below)) (here .of-run blocks xs order run)
+          (both .of-both (firstCellIn blocks) place xs (path tick (h .min) (h .max) (d .below)) (here .of-run blocks xs run)
           (there .of-way blocks kind (d .below) (d .stands)))
 
 pub ruleset approaching = (nearest-none, nearest-flat, nearest-both)

@@ -42,7 +42,7 @@ pub record Neighbours (side : Side) (key : ℕ → ℕ) (place : ℕ) (list : Li
 
 -- of the rows of a node
 pub record OwnNeighbour (entries : List ℕ) (rows : Rows) (side : Side) (place : ℕ) (r : Neighbour) : Type 0 where
-  pub of-run : (blocks xs : List ℕ) → rows .from ≤ rows .to → RunOf blocks entries rows xs → Neighbours side (firstCellIn blocks) place xs r
+  pub of-run : (blocks xs : List ℕ) → RunOf blocks entries rows xs → Neighbours side (firstCellIn blocks) place xs r
 
 -- of two lists, of which a and b are the neighbours
 pub record Nearer (side : Side) (a b r : Neighbour) : Type 0 where
