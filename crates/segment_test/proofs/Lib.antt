@@ -1,2 +1,4 @@
 pub mod Running
 pub mod Walking
+pub mod Sums
+pub mod Totalling

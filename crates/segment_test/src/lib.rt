@@ -10,4 +10,5 @@ ghost use mathlib.Core.Path.{_≡_};
 ghost use Prim.Native.Nat.{ℕ, _<_, _≤_};
 
 mod run;
+mod total;
 mod walk;
