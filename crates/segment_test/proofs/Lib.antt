@@ -2,3 +2,4 @@ pub mod Running
 pub mod Walking
 pub mod Sums
 pub mod Totalling
+pub mod Ruling
