@@ -3,3 +3,4 @@ pub mod Walking
 pub mod Sums
 pub mod Totalling
 pub mod Ruling
+pub mod Links
