@@ -4,3 +4,4 @@ pub mod Sums
 pub mod Totalling
 pub mod Ruling
 pub mod Links
+pub mod Widths

@@ -18,82 +18,8 @@ use Rattle.history.specs.Tree.{Tree, hole, node, mid, nodeCount, entryCount}
 use Rattle.tables.specs.Columns.{column, nodeMin, nodeMax}
 use Rattle.segment_table.specs.Closed.{Tables, nodesUsed, leftAt, rightAt, firstAt, countAt, run, NodeRow, TreeAt}
 use Rattle.segment_test.specs.Total.{sumTo, entriesOfRow, widthAt, widthsOfRow, allWidths}
-use Rattle.segment_test.proofs.Sums.{sum-add, sum-none, sum-same, sum-tight}
+use Rattle.segment_test.proofs.Sums.{distinct-append, mem-none, sum-all}
 use Rattle.segment_test.proofs.Ruling.{run-length}
-
--- ── lists ──
-
-module _ {A : Type 0} where
-  pub distinct-append : (xs ys : List A) → Distinct xs → Distinct ys → ((k : A) → Mem k xs → Mem k ys → ⊥) → Distinct (xs ++ ys)
-  distinct-append [] ys d e f = e
-  distinct-append (x ∷ xs) ys d e f =
-      ((λ m. ⊎-elim (d .0) (λ z. f x (here refl) z) (mem-split xs ys m)), distinct-append xs ys (d .1) e (λ k m z. f k (there m) z))
-
-mem-none : (k : ℕ) (xs : List ℕ) → length xs ≡ 0 → Mem k xs → ⊥
-mem-none k (x ∷ xs) h m = omega arith
-
-count-none : (k : ℕ) (xs : List ℕ) → (Mem k xs → ⊥) → count k xs ≡ 0
-unfolding count
-count-none k [] h = refl
-count-none k (x ∷ xs) h = rw (ne-eqb k x (λ e. h (here e))) (omega (arith, count-none k xs (λ m. h (there m))))
-
-pub count-distinct : (k : ℕ) (xs : List ℕ) → Distinct xs → count k xs ≤ 1
-unfolding count
-count-distinct k [] d = omega arith
-count-distinct k (x ∷ xs) d =
-    elim (eq-or-ne k x) [
-      | inl e ↦ rw (eq-eqb k x e) (omega (arith, count-none k xs (rw (← e) at (d .0))))
-      | inr e ↦ rw (ne-eqb k x e) (omega (arith, count-distinct k xs (d .1)))
-    ]
-
--- of the numbers 1 to n, the one that is x
-sum-pick : (g : ℕ → ℕ) (x n : ℕ) → 0 < x → x ≤ n → sumTo (λ k. cond (eqb (suc k) x) 1 0 * g (suc k)) n ≡ g x
-unfolding sumTo
-sum-pick g x zero h z = absurd (omega arith)
-sum-pick g x (suc n) h z =
-    elim (eq-or-ne (suc n) x) [
-      | inl e ↦
-          let rest : sumTo (λ k. cond (eqb (suc k) x) 1 0 * g (suc k)) n ≡ 0 =
-          sum-none (λ k. cond (eqb (suc k) x) 1 0 * g (suc k)) n (λ k l. rw (ne-eqb (suc k) x (omega arith)) (omega arith)) in
-          rw (eq-eqb (suc n) x e, rest, ← e) (omega arith)
-      | inr e ↦ rw (ne-eqb (suc n) x e) (omega (arith, sum-pick g x n h (omega arith)))
-    ]
-
--- a sum over a list of numbers from 1 to n, by how often each stands in it
-sum-counts : (f : ℕ → ℕ) (n : ℕ) (xs : List ℕ) → All (λ k. (0 < k) × (k ≤ n)) xs → sumOf (map f xs) ≡ sumTo (λ k. count (suc k) xs * f (suc k)) n
-unfolding sumOf count
-sum-counts f n [] all-nil = sym (sum-none (λ k. 0 * f (suc k)) n (λ k l. omega arith))
-sum-counts f n (x ∷ xs) (all-cons p ps) =
-    let split : sumTo (λ k. (cond (eqb (suc k) x) 1 0 + count (suc k) xs) * f (suc k)) n ≡ sumTo (λ k. cond (eqb (suc k) x) 1 0 * f (suc k) + count (suc k) xs * f (suc k)) n =
-    sum-same (λ k. (cond (eqb (suc k) x) 1 0 + count (suc k) xs) * f (suc k)) (λ k. cond (eqb (suc k) x) 1 0 * f (suc k) + count (suc k) xs * f (suc k)) n
-    (λ k l. add-mul (cond (eqb (suc k) x) 1 0) (count (suc k) xs) (f (suc k))) in
-    omega (
-      arith,
-      split,
-      sum-add (λ k. cond (eqb (suc k) x) 1 0 * f (suc k)) (λ k. count (suc k) xs * f (suc k)) n,
-      sum-pick f x n (p .0) (p .1),
-      sum-counts f n xs ps,
-    )
-
-sum-ones : (xs : List ℕ) → sumOf (map (λ (k : ℕ). 1) xs) ≡ length xs
-unfolding sumOf
-sum-ones [] = refl
-sum-ones (x ∷ xs) = omega (arith, sum-ones xs)
-
-sum-count : (n : ℕ) → sumTo (λ k. 1) n ≡ n
-unfolding sumTo
-sum-count zero = refl
-sum-count (suc n) = omega (arith, sum-count n)
-
--- n distinct numbers from 1 to n are all of them: a sum over the list is the sum over them
-pub sum-all : (f : ℕ → ℕ) (n : ℕ) (xs : List ℕ) → All (λ k. (0 < k) × (k ≤ n)) xs → Distinct xs → length xs ≡ n → sumOf (map f xs) ≡ sumTo (λ k. f (suc k)) n
-sum-all f n xs within distinct full =
-    sum-counts f n xs within ∙ sum-same (λ k. count (suc k) xs * f (suc k)) (λ k. f (suc k)) n (λ k l. rw (once k l) (omega arith))
-  where
-    once : (k : ℕ) → k < n → count (suc k) xs ≡ 1
-    once =
-        sum-tight (λ k. count (suc k) xs) (λ k. 1) n (λ k l. count-distinct (suc k) xs distinct)
-        (sum-same (λ k. count (suc k) xs) (λ k. count (suc k) xs * 1) n (λ k l. omega arith) ∙ sym (sum-counts (λ k. 1) n xs within) ∙ sum-ones xs ∙ full ∙ sym (sum-count n))
 
 -- ── the links of a tree ──
 
@@ -193,7 +119,8 @@ module _ (t : Tables) (kind : ℕ) where
   module _ (link e : ℕ) (T : Tree) (stands : TreeAt t kind link 0 e T) (all-rows : nodesUsed (t .nodes) ≡ nodeCount T) where
     sum-rows : (f : ℕ → ℕ) → sumOf (map f (linksOf (t .nodes) link T)) ≡ sumTo (λ k. f (suc k)) (nodesUsed (t .nodes))
     sum-rows f =
-        sum-all f (nodesUsed (t .nodes)) (linksOf (t .nodes) link T) (links-used link 0 e T stands) (links-distinct link 0 e T stands) (links-length (t .nodes) link T ∙ sym all-rows)
+        sum-all suc (λ j k e. omega arith) f (nodesUsed (t .nodes)) (linksOf (t .nodes) link T)
+        (all-map (λ k h. (k - 1, omega (arith, h), omega (arith, h))) (links-used link 0 e T stands)) (links-distinct link 0 e T stands) (links-length (t .nodes) link T ∙ sym all-rows)
 
     -- the entries of all rows are the tree's
     pub rows-entries : sumTo (entriesOfRow (t .nodes)) (nodesUsed (t .nodes)) ≡ entryCount T
