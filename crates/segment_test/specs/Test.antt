@@ -6,13 +6,13 @@ use mathlib.Core.List.{List, [], _∷_}
 use Prim.Native.Nat.{ℕ, zero, suc, _+_, _*_, _≤_, _<_}
 use lib.ListN.{length, getD}
 use lib.Dec.{ltb, eqb}
-use Rattle.history.specs.Lent.{rowWidth, entryWidth, blockHead, entryHead}
+use Rattle.history.specs.Lent.{rowWidth, entryWidth, blockHead, nodeHead, entryHead}
 use Rattle.history.specs.Words.{Block, firstCell}
 use Rattle.history.specs.Tree.{Tree, hole, node, mid, covers, blockAt, keyIn, nodeCount}
 use Rattle.history.specs.Rules.{isHole, every, numbered, placed, ascends, sorted, rule23}
 use Rattle.tables.specs.Columns.{column, blockColumn, entryColumn, blockFirst, blockCreated, blockDestroyed, nodeMin, nodeMax, nodeKind, nodesCount, entryKey}
 use Rattle.segment_table.specs.Closed.{Tables, nodesUsed, entriesUsed, leftAt, rightAt, firstAt, countAt, blockIn, firstCellIn, run, NodeRow, TreeAt, Closed}
-use Rattle.segment_test.specs.Total.{sumTo, entriesOfRow}
+use Rattle.segment_test.specs.Total.{sumTo, entriesOfRow, widthsOfRow, lifeIn}
 
 -- ── what is decided ──
 
@@ -112,6 +112,25 @@ pub record Walked (t : Tables) (n kind link lo hi from to budget rest : ℕ) : T
   pub stood : 0 < rest → (tree : Tree) × TreeStands t n kind link lo hi from to tree × (budget ≡ rest + nodeCount tree)
   pub wrong : rest ≡ 0 → (tree : Tree) → TreeStands t n kind link lo hi from to tree → nodeCount tree < budget → ⊥
 
+-- ── the head ──
+
+-- a table has room for its head and this many rows
+pub record Room (table : List ℕ) (head rows : ℕ) : Type 0 where
+  pub fits : head + rowWidth * rows ≤ length table
+
+-- kind k has no root, unless it is this kind
+pub record Unrooted (nodes : List ℕ) (kind k : ℕ) : Type 0 where
+  pub none : (k ≡ kind → ⊥) → column nodes 0 k ≡ 0
+
+-- no kind but this has a root
+pub record OtherKinds (nodes : List ℕ) (kind many : ℕ) : Type 0 where
+  pub each : (k : ℕ) → k < many → Unrooted nodes kind k
+
+-- an index without blocks has no root, and one with blocks has one
+pub record Rooted (root n : ℕ) : Type 0 where
+  pub empty : n ≡ 0 → root ≡ 0
+  pub some : root ≡ 0 → n ≡ 0
+
 -- ── all rows ──
 
 -- runs begin where those before end, and end with the entry count
@@ -119,6 +138,16 @@ pub record Tiled (nodes entries : List ℕ) : Type 0 where
   pub begins : (k : ℕ) → k < nodesUsed nodes → firstAt nodes (suc k) ≡ sumTo (entriesOfRow nodes) k
   pub total : sumTo (entriesOfRow nodes) (nodesUsed nodes) ≡ entriesUsed entries
 
--- no kind but this has a root
-pub record OtherKinds (nodes : List ℕ) (kind below : ℕ) : Type 0 where
-  pub none : (k : ℕ) → k < below → (k ≡ kind → ⊥) → column nodes 0 k ≡ 0
+-- ── all of it, of the tables alone ──
+
+-- What the tests of the tables say together; n blocks are in the block table.
+pub record TreeTables (t : Tables) (n kind e : ℕ) : Type 0 where
+  pub block-room : Room (t .blocks) blockHead n
+  pub node-room : Room (t .nodes) nodeHead (nodesUsed (t .nodes))
+  pub others : OtherKinds (t .nodes) kind nodesCount
+  pub rooted : Rooted (column (t .nodes) 0 kind) n
+  pub tiled : Tiled (t .nodes) (t .entries)
+  pub tree : Tree
+  pub stands : TreeStands t n kind (column (t .nodes) 0 kind) 0 e 0 0 tree
+  pub all-rows : nodesUsed (t .nodes) ≡ nodeCount tree
+  pub summed : sumTo (widthsOfRow (t .nodes)) (nodesUsed (t .nodes)) ≡ sumTo (lifeIn (t .blocks)) n
