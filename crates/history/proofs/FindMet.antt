@@ -5,25 +5,26 @@
 -- the part there, and at the end of the way to a tick of its life a node lists it.
 use mathlib.Core.Path.{_≡_, refl, ap, sym, _∙_}
 use mathlib.Core.Logic.{_⊎_, inl, inr}
-use mathlib.Core.Bool.{Bool, true, false, true≢false, cond, _&&_}
-use mathlib.Core.List.{List, [], _∷_, _++_}
-use Prim.Native.Nat.{ℕ, zero, suc, _+_, _-_, _*_, _/_, _≤_, _<_, min, max}
+use mathlib.Core.Bool.{Bool, true, false, true≢false, cond}
+use mathlib.Core.List.{List}
+use Prim.Native.Nat.{ℕ, _+_, _-_, _*_, _≤_, _<_}
 use native.Mathlib.Nat.{zero-add}
 use native.Mathlib.Omega.{arith}
-use lib.ListN.{length, getD}
-use lib.Dec.{leb, ltb, eqb}
-use borrow.Author.Tests.{eqb-true}
-use Rattle.lists.specs.Lists.{All, all-cons, Ascending, pairs-nil, pairs-cons, count}
-use Rattle.lists.proofs.Numbers.{bool-cases, le-or-lt, lt-or-le}
-use Rattle.lists.proofs.Lists.{count-append, all-at}
+use lib.ListN.{length}
+use borrow.Author.Tests.{eq-eqb, ne-eqb}
+use Rattle.lists.specs.Lists.{All, Ascending, pairs-nil, pairs-cons, count}
+use Rattle.lists.proofs.Numbers.{le-or-lt, lt-or-le, eq-or-ne}
+use Rattle.lists.proofs.Lists.{count-append, all-at, all-map}
+use Rattle.lists.proofs.Counting.{count-none}
 use Rattle.history.specs.Words.{within, Block, live, life}
 use Rattle.history.specs.Tree.{Tree, hole, node, mid, covers, noBlock, blockAt, keyIn, widths}
 use Rattle.history.specs.Find.{path}
 use Rattle.history.specs.Rules.{halved, placed, sorted, rule23}
+use Rattle.history.proofs.Within.{within-in, within-low, within-high}
 use Rattle.history.proofs.RulesLaws.{halved-left, halved-right, halved-narrow, coversNode, placed-left, placed-right, placed-covers, placed-above, ascends-decides, sorted-here, sorted-left, sorted-right, Rule23, rule23-decides}
 use Rattle.history.proofs.TreeAdding.{covers-yes, covers-inside}
-use Rattle.history.proofs.TreePath.{within-yes, within-low, within-high, block-none, pathBelow, path-node, path-below-left, path-below-right, path-below-none}
-use Rattle.history.proofs.TreeWidths.{overlap, overlap-split, widths-node}
+use Rattle.history.proofs.TreePath.{block-none, pathBelow, path-below-left, path-below-right, path-below-none}
+use Rattle.history.proofs.TreeWidths.{overlap, overlap-split}
 
 -- ── no repetition in a node ──
 
@@ -32,18 +33,10 @@ pub ascending-once : (key : ℕ → ℕ) (k : ℕ) {xs : List ℕ} → Ascending
 unfolding count
 ascending-once key k pairs-nil = omega arith
 ascending-once key k (pairs-cons {x} {xs} a p) =
-    elim (bool-cases (eqb k x)) [
-      | inl e ↦ rw e (omega (arith, above-none k xs (rw (eqb-true k x e) a)))
-      | inr e ↦ rw e (omega (arith, ascending-once key k p))
+    elim (eq-or-ne k x) [
+      | inl e ↦ rw (eq-eqb k x e) (omega (arith, count-none k (all-map (λ y l q. omega (arith, ap key e, ap key q)) a)))
+      | inr n ↦ rw (ne-eqb k x n) (omega (arith, ascending-once key k p))
     ]
-  where
-    above-none : (k : ℕ) (ys : List ℕ) → All (λ y. key k < key y) ys → count k ys ≡ 0
-    above-none k [] h = refl
-    above-none k (y ∷ ys) (all-cons h hs) =
-        elim (bool-cases (eqb k y)) [
-          | inl e ↦ absurd (omega (arith, ap key (eqb-true k y e)))
-          | inr e ↦ rw e (omega (arith, above-none k ys hs))
-        ]
 
 -- ── below a node ──
 
@@ -210,7 +203,7 @@ module _ (at : ℕ → Block) (key : ℕ → ℕ) where
             below-by k t lo hi l r 0
             (λ v h. path-under t (coversNode at lo hi) lo (mid lo hi) l (omega arith) here (in-life .0) (omega (arith, in-life .1)) (lefts .places))
             (λ v h. path-under t (coversNode at lo hi) (mid lo hi) hi r (omega arith) here (omega (arith, in-life .0)) (in-life .1) (rights .places)) (λ v. refl) in
-            rw (below, within-yes c d t (omega (arith, in-life .0)) (omega (arith, in-life .1)))
+            rw (below, within-in c d t (omega (arith, in-life .0)) (omega (arith, in-life .1)))
 
 -- ── a sound tree ──
 

@@ -1,18 +1,18 @@
 -- The tests of specs/Rules decide what document 01 says: each turned into a fact, and back. Assumes nothing.
 use mathlib.Core.Path.{_≡_, refl, sym, _∙_}
-use mathlib.Core.Logic.{_⊎_, inl, inr, ⊎-elim}
+use mathlib.Core.Logic.{inl, inr}
 use mathlib.Core.Bool.{Bool, true, false, true≢false, false≢true, _&&_, _||_, not}
 use mathlib.Core.List.{List, [], _∷_, _++_}
-use Prim.Native.Nat.{ℕ, suc, _+_, _-_, _^_, _≤_, _<_, min, max}
+use Prim.Native.Nat.{ℕ, _+_, _-_, _^_, _≤_, _<_, min, max}
 use native.Mathlib.Omega.{arith}
 use lib.ListN.{length, getD}
 use lib.Dec.{leb, ltb, eqb}
-use borrow.Author.Tests.{leb-true, leb-false, ltb-true, ltb-false, eqb-true, eqb-false, le-leb, lt-ltb, eq-eqb, not-true, not-false}
+use borrow.Author.Tests.{leb-true, leb-false, ltb-true, ltb-false, eqb-true, eqb-false, not-true}
 use Rattle.lists.specs.Tests.{Decides}
-use Rattle.lists.specs.Lists.{All, all-nil, all-cons, Pairs, pairs-nil, pairs-cons, Ascending, Mem, count, countFrom}
+use Rattle.lists.specs.Lists.{All, all-nil, all-cons, pairs-nil, pairs-cons, Ascending, count, countFrom}
 use Rattle.lists.proofs.Numbers.{bool-cases, and-left, and-right, and-both, or-cases, confirm, refute, decides-iff}
-use Rattle.lists.proofs.Lists.{all-append, all-left, all-right, all-mem, all-at, all-of-at, count-from-length, count-from-at}
-use Rattle.history.specs.Words.{Stretch, size, ends, Block, life, HasCell, Holds}
+use Rattle.lists.proofs.Lists.{all-append, all-left, all-right, all-at, all-of-at, count-from-length, count-from-at}
+use Rattle.history.specs.Words.{Stretch, size, ends, Block, life, Holds}
 use Rattle.history.specs.Tree.{Tree, hole, node, mid, halves, covers, blockAt, keyIn, widths, entriesIn}
 use Rattle.history.specs.Rules.{every, isHole, halved, filled, lived, numbered, placed, ascends, sorted, summed, rule23, shares, apart, Apart}
 
@@ -39,6 +39,12 @@ decides-not false p = confirm (p .not refl)
 pub decided : {P : Type 0} (a : Bool) → Decides a P → P → a ≡ true
 decided true d p = refl
 decided false d p = absurd (d .not refl p)
+
+-- two tests of one statement are equal
+pub decides-same : {P : Type 0} (a b : Bool) → Decides a P → Decides b P → a ≡ b
+decides-same true b p q = sym (decided b q (p .yes refl))
+decides-same false true p q = absurd (p .not refl (q .yes refl))
+decides-same false false p q = refl
 
 -- ── every ──
 
@@ -164,7 +170,8 @@ module _ (at : ℕ → Block) (above : ℕ → Bool) (lo hi : ℕ) (es : List �
   abbrev placedRight : Bool
   placedRight = placed at (coversNode at lo hi) (mid lo hi) hi r
 
-  pub placed-node : every (λ k. coversNode at lo hi k && not (above k)) es ≡ true → placedLeft ≡ true → placedRight ≡ true → placed at above lo hi (node es l r) ≡ true
+  pub placed-node : every (λ k. coversNode at lo hi k && not (above k)) es ≡ true → placed at (coversNode at lo hi) lo (mid lo hi) l ≡ true → placed at (coversNode at lo hi) (mid lo hi) hi r ≡ true
+      → placed at above lo hi (node es l r) ≡ true
   unfolding placed
   placed-node a p q = and-both (every (λ k. coversNode at lo hi k && not (above k)) es) (placedLeft && placedRight) a (and-both placedLeft placedRight p q)
 

@@ -1,14 +1,14 @@
 -- What addLocation does at a node, and two inductions by which every law of adding is proved: over the nodes that one block meets, and over
 -- the blocks of a list. Assumes nothing.
 use mathlib.Core.Path.{_≡_, refl, ap, sym, _∙_}
-use mathlib.Core.Logic.{_⊎_, inl, inr, ⊎-elim}
+use mathlib.Core.Logic.{_⊎_, inl, inr}
 use mathlib.Core.Bool.{Bool, true, false, true≢false, cond, _&&_}
-use mathlib.Core.List.{List, [], _∷_, _++_}
-use Prim.Native.Nat.{ℕ, zero, suc, _+_, _-_, _/_, _^_, _≤_, _<_}
+use mathlib.Core.List.{List, [], _∷_}
+use Prim.Native.Nat.{ℕ, zero, suc, _+_, _-_, _^_, _≤_, _<_}
 use native.Mathlib.Nat.{two-pow-succ}
 use native.Mathlib.Omega.{arith}
 use lib.ListN.{length, getD}
-use lib.Dec.{leb, ltb, eqb}
+use lib.Dec.{ltb, eqb}
 use borrow.Author.Tests.{lt-ltb, le-ltb, le-leb, lt-leb, eq-eqb, ne-eqb, ltb-true, ltb-false}
 use Rattle.lists.proofs.Numbers.{le-or-lt, lt-or-le, eq-or-ne}
 use Rattle.history.specs.Words.{Block}
@@ -125,8 +125,12 @@ module _ (key : ℕ → ℕ) (b c d : ℕ) (P : (lo hi : ℕ) (before after : Tr
 
 -- ── all blocks: one after the other ──
 
+-- block k added from the root on
+abbrev pub addBlock : (at : ℕ → Block) (key : ℕ → ℕ) (end k : ℕ) → Tree → Tree
+addBlock at key e k T = addLocation key 63 k (at k .created) (at k .destroyed) 0 e T
+
 module _ (e : ℕ) (bs : List Block) (Q : (blocks : ℕ) → Tree → Type 0)
-    (step : (k : ℕ) (T : Tree) → k < length bs → Q k T → Q (suc k) (addLocation (keyIn bs) 63 k (blockAt bs k .created) (blockAt bs k .destroyed) 0 e T)) where
+    (step : (k : ℕ) (T : Tree) → k < length bs → Q k T → Q (suc k) (addBlock (blockAt bs) (keyIn bs) e k T)) where
   all-by : (n : ℕ) (cs : List Block) (T : Tree) → n + length cs ≡ length bs → ((j : ℕ) → j < length cs → blockAt bs (n + j) ≡ getD cs j noBlock)
       → Q n T → Q (length bs) (addAll (keyIn bs) e n cs T)
   unfolding addAll
@@ -143,14 +147,14 @@ module _ (e : ℕ) (bs : List Block) (Q : (blocks : ℕ) → Tree → Type 0)
 
 -- a number of the tree that grows by g k where block j is added, and by nothing where another is
 pub tree-sum : (e : ℕ) (bs : List Block) (f : Tree → ℕ) (g : ℕ → ℕ) (j : ℕ)
-    → ((k : ℕ) (T : Tree) → f (addLocation (keyIn bs) 63 k (blockAt bs k .created) (blockAt bs k .destroyed) 0 e T) ≡ f T + cond (eqb j k) (g k) 0)
+    → ((k : ℕ) (T : Tree) → f (addBlock (blockAt bs) (keyIn bs) e k T) ≡ f T + cond (eqb j k) (g k) 0)
     → f (treeOf e bs) ≡ f hole + cond (ltb j (length bs)) (g j) 0
 tree-sum e bs f g j grows = tree-by e bs Grown step (rw (le-ltb j 0 (omega arith)) (omega arith))
   where
     Grown : (n : ℕ) → Tree → Type 0
     Grown n T = f T ≡ f hole + cond (ltb j n) (g j) 0
 
-    step : (n : ℕ) (T : Tree) → n < length bs → Grown n T → Grown (suc n) (addLocation (keyIn bs) 63 n (blockAt bs n .created) (blockAt bs n .destroyed) 0 e T)
+    step : (n : ℕ) (T : Tree) → n < length bs → Grown n T → Grown (suc n) (addBlock (blockAt bs) (keyIn bs) e n T)
     step n T h q =
         rw grows
         (rw q

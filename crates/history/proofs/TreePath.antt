@@ -1,32 +1,24 @@
 -- The way down to a tick: which blocks it meets in the tree of all blocks, and how many nodes. Assumes nothing.
-use mathlib.Core.Path.{_≡_, refl, ap, sym, _∙_}
+use mathlib.Core.Path.{_≡_, refl, ap, _∙_}
 use mathlib.Core.Logic.{_⊎_, inl, inr}
-use mathlib.Core.Bool.{Bool, true, false, cond, _&&_, and-false}
+use mathlib.Core.Bool.{Bool, true, false, cond}
 use mathlib.Core.List.{List, [], _∷_, _++_}
-use Prim.Native.Nat.{ℕ, zero, suc, _+_, _-_, _/_, _^_, _≤_, _<_}
+use Prim.Native.Nat.{ℕ, zero, suc, _+_, _-_, _^_, _≤_, _<_}
 use native.Mathlib.Omega.{arith}
-use lib.ListN.{length, getD}
-use lib.Dec.{leb, ltb, eqb}
-use borrow.Author.Tests.{lt-ltb, le-ltb, le-leb, lt-leb, eq-eqb, ne-eqb}
+use lib.ListN.{length}
+use lib.Dec.{ltb, eqb}
+use borrow.Author.Tests.{lt-ltb, le-ltb}
 use Rattle.lists.specs.Lists.{count}
-use Rattle.lists.proofs.Numbers.{bool-cases, le-or-lt, lt-or-le, eq-or-ne, cond-same}
+use Rattle.lists.proofs.Numbers.{lt-or-le}
 use Rattle.lists.proofs.Lists.{count-append}
 use Rattle.history.specs.Words.{within, Block, live}
-use Rattle.history.specs.Tree.{Tree, hole, node, mid, halves, covers, entriesOf, leftOf, rightOf, insert, addLocation, noBlock, blockAt, keyIn, treeOf}
+use Rattle.history.specs.Tree.{Tree, hole, node, mid, halves, covers, entriesOf, leftOf, rightOf, addLocation, noBlock, blockAt, keyIn, treeOf}
 use Rattle.history.specs.Find.{path, visited}
+use Rattle.history.proofs.Within.{within-in, within-low, within-high}
 use Rattle.history.proofs.TreeInserting.{one, count-insert}
 use Rattle.history.proofs.TreeAdding.{half-left, half-right, Half, went, kept, made, listed, add-by, tree-sum}
 
--- ── live ──
-
-pub within-yes : (from to n : ℕ) → from ≤ n → n < to → within from to n ≡ true
-within-yes from to n p q = rw (le-leb from n p, lt-ltb n to q)
-
-pub within-low : (from to n : ℕ) → n < from → within from to n ≡ false
-within-low from to n p = rw (lt-leb from n p)
-
-pub within-high : (from to n : ℕ) → to ≤ n → within from to n ≡ false
-within-high from to n p = rw (le-ltb n to p) (and-false (leb from n))
+-- ── no block ──
 
 -- no block has a number that is too high
 pub block-none : (k : ℕ) (bs : List Block) → length bs ≤ k → blockAt bs k ≡ noBlock
@@ -75,7 +67,7 @@ module _ (key : ℕ → ℕ) (k b c d t : ℕ) where
 
   adds-here : (lo hi : ℕ) (T : Tree) → lo ≤ hi → c ≤ lo → hi ≤ d → covers c d lo hi ≡ true → Adds lo hi T (listed key b T)
   unfolding Adds
-  adds-here lo hi T w p q e a z = rw (within-yes c d t (omega arith) (omega arith), path-node, path-any t lo hi T) (simp (count-append, count-insert) (omega arith))
+  adds-here lo hi T w p q e a z = rw (within-in c d t (omega arith) (omega arith), path-node, path-any t lo hi T) (simp (count-append, count-insert) (omega arith))
 
   adds-stop : (lo hi : ℕ) (T : Tree) → lo ≤ hi → hi ≤ lo + 1 → (lo < c) ⊎ (d < hi) → Adds lo hi T (made T)
   unfolding Adds

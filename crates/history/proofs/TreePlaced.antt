@@ -1,24 +1,20 @@
--- The tree of all blocks keeps the rules: a node of width 1 has no child, no number is too high, each entry's block covers its node and not the
--- node's parent, and first cells ascend strictly in a node where no two blocks share a cell at a tick. Assumes nothing.
-use mathlib.Core.Path.{_≡_, refl, ap, sym, _∙_}
-use mathlib.Core.Logic.{_⊎_, inl, inr, _≢_}
-use mathlib.Core.Bool.{Bool, true, false, true≢false, cond, _&&_, not}
+-- The tree of all blocks keeps the rules: a root exactly where there is a block, no child of a node of width 1, no number too high, each entry's
+-- block covers its node and not the node's parent. (Strict ascent needs rule 24: TreeSorted.) Assumes nothing.
+use mathlib.Core.Path.{_≡_, refl}
+use mathlib.Core.Bool.{Bool, true, false, cond, _&&_, not}
 use mathlib.Core.List.{List, [], _∷_}
-use Prim.Native.Nat.{ℕ, zero, suc, _+_, _-_, _/_, _^_, _≤_, _<_}
+use Prim.Native.Nat.{ℕ, zero, suc, _+_, _-_, _^_, _≤_, _<_}
 use native.Mathlib.Omega.{arith}
-use lib.ListN.{length, getD}
-use lib.Dec.{leb, ltb}
+use lib.ListN.{length}
+use lib.Dec.{ltb}
 use borrow.Author.Tests.{lt-ltb, ltb-true}
-use Rattle.lists.specs.Lists.{All, all-nil, all-cons, Ascending}
-use Rattle.lists.proofs.Numbers.{and-left, and-both}
-use Rattle.lists.proofs.Lists.{all-map, all-both, all-at, pairs-at}
-use Rattle.history.specs.Words.{size, Block, HasCell, Holds}
-use Rattle.history.specs.Tree.{Tree, hole, node, mid, halves, covers, entriesOf, leftOf, rightOf, insert, addLocation, addAll, noBlock, blockAt, keyIn, treeOf}
-use Rattle.history.specs.Rules.{every, isHole, halved, numbered, placed, ascends, sorted, rule23, Apart}
-use Rattle.history.proofs.RulesLaws.{every-all, all-every, halved-node, halved-left, halved-right, halved-narrow, numbered-node, numbered-here, numbered-left, numbered-right, coversNode, placed-node, placed-here, placed-left, placed-right, ascends-decides, decided, sorted-node, sorted-here, sorted-left, sorted-right, Rule23, rule23-decides}
-use Rattle.history.proofs.TreeInserting.{insert-all, insert-ascending}
-use Rattle.history.proofs.TreeAdding.{covers-inside, Half, went, kept, half-keeps, made, listed, add-by, tree-by}
-use Rattle.history.proofs.TreeWidths.{widths-life}
+use Rattle.lists.proofs.Lists.{all-map}
+use Rattle.history.specs.Words.{Block}
+use Rattle.history.specs.Tree.{Tree, hole, node, mid, covers, entriesOf, leftOf, rightOf, insert, addLocation, addAll, blockAt, keyIn, treeOf}
+use Rattle.history.specs.Rules.{every, isHole, halved, numbered, placed}
+use Rattle.history.proofs.RulesLaws.{every-all, all-every, halved-node, halved-left, halved-right, numbered-node, numbered-here, numbered-left, numbered-right, coversNode, placed-node, placed-here, placed-left, placed-right}
+use Rattle.history.proofs.TreeInserting.{insert-all}
+use Rattle.history.proofs.TreeAdding.{Half, went, kept, half-keeps, made, listed, add-by, tree-by}
 
 -- a test that holds of a list and of b holds of the list with b put in
 every-insert : (f : ℕ → Bool) (key : ℕ → ℕ) (b : ℕ) (xs : List ℕ) → f b ≡ true → every f xs ≡ true → every f (insert key b xs) ≡ true
@@ -26,6 +22,7 @@ every-insert f key b xs p h = all-every f (insert-all {P = λ x. f x ≡ true} k
 
 -- ── there is a root ──
 
+-- a block makes nodes on its way, of no life too
 pub add-some : (key : ℕ → ℕ) (n b c d lo hi : ℕ) (T : Tree) → isHole (addLocation key n b c d lo hi T) ≡ false
 unfolding addLocation
 add-some key zero b c d lo hi T = choose (covers c d lo hi)

@@ -1,23 +1,23 @@
 -- Where no two live blocks share a cell, first cells ascend strictly in every node of the tree of all blocks: two blocks of one node are live
 -- together, so they differ in their first cells. With that the tree keeps rule 23. Assumes nothing.
-use mathlib.Core.Path.{_≡_, refl, ap, sym, _∙_}
-use mathlib.Core.Logic.{_⊎_, inl, inr, _≢_}
-use mathlib.Core.Bool.{Bool, true, false, cond, _&&_, not}
-use mathlib.Core.List.{List, [], _∷_}
-use Prim.Native.Nat.{ℕ, zero, suc, _+_, _-_, _/_, _^_, _≤_, _<_}
+use mathlib.Core.Path.{_≡_, refl}
+use mathlib.Core.Logic.{_≢_}
+use mathlib.Core.Bool.{Bool, true, false, _&&_, not}
+use mathlib.Core.List.{List}
+use Prim.Native.Nat.{ℕ, suc, _+_, _-_, _^_, _≤_, _<_}
 use native.Mathlib.Omega.{arith}
-use lib.ListN.{length, getD}
-use lib.Dec.{leb, ltb}
+use lib.ListN.{length}
+use lib.Dec.{ltb}
 use borrow.Author.Tests.{ltb-true}
-use Rattle.lists.specs.Lists.{All, all-nil, all-cons, Ascending}
-use Rattle.lists.proofs.Numbers.{and-left, lt-or-le}
+use Rattle.lists.specs.Lists.{All, Ascending}
+use Rattle.lists.proofs.Numbers.{and-left}
 use Rattle.lists.proofs.Lists.{all-both, all-at, pairs-at}
-use Rattle.history.specs.Words.{size, Block, HasCell, Holds}
-use Rattle.history.specs.Tree.{Tree, hole, node, mid, covers, entriesOf, leftOf, rightOf, insert, addLocation, noBlock, blockAt, keyIn, treeOf}
+use Rattle.history.specs.Words.{size, Block}
+use Rattle.history.specs.Tree.{Tree, hole, node, mid, entriesOf, leftOf, rightOf, insert, addLocation, noBlock, blockAt, keyIn, treeOf}
 use Rattle.history.specs.Rules.{every, numbered, placed, ascends, sorted, rule23, Apart}
-use Rattle.history.proofs.RulesLaws.{every-all, numbered-here, numbered-left, numbered-right, coversNode, placed-here, placed-left, placed-right, ascends-decides, decided, sorted-node, sorted-here, sorted-left, sorted-right, Rule23, rule23-decides}
+use Rattle.history.proofs.RulesLaws.{every-all, numbered-here, numbered-left, numbered-right, coversNode, placed-here, placed-left, placed-right, ascends-decides, decided, sorted-node, sorted-here, sorted-left, sorted-right, rule23-decides}
 use Rattle.history.proofs.TreeInserting.{insert-ascending}
-use Rattle.history.proofs.TreeAdding.{covers-inside, Half, went, kept, made, listed, add-by, tree-by}
+use Rattle.history.proofs.TreeAdding.{covers-inside, Half, went, kept, made, listed, add-by, tree-by, addBlock}
 use Rattle.history.proofs.TreePlaced.{numbered-made, numbered-more, numbered-add, treeOf-numbered, placed-made, placed-add, treeOf-placed}
 use Rattle.history.proofs.TreeWidths.{widths-life}
 
@@ -133,7 +133,7 @@ treeOf-sorted e bs some z apart filled = tree-by e bs Sound step (refl, refl, re
     Sound : (n : ℕ) → Tree → Type 0
     Sound n T = (numbered n T ≡ true) × (placed (blockAt bs) (λ k. false) 0 e T ≡ true) × (sorted (keyIn bs) T ≡ true)
 
-    step : (k : ℕ) (T : Tree) → k < length bs → Sound k T → Sound (suc k) (addLocation (keyIn bs) 63 k (blockAt bs k .created) (blockAt bs k .destroyed) 0 e T)
+    step : (k : ℕ) (T : Tree) → k < length bs → Sound k T → Sound (suc k) (addBlock (blockAt bs) (keyIn bs) e k T)
     step k T h q = (
       numbered-add (keyIn bs) k (blockAt bs k .created) (blockAt bs k .destroyed) (suc k) (omega arith) 63 0 e T (omega arith) (omega arith) (numbered-more k (suc k) T (omega arith) (q .0)),
       placed-add (blockAt bs) (keyIn bs) k 63 0 e T (omega arith) (omega arith) (λ k. false) refl (q .1),

@@ -1,0 +1,4 @@
+pub mod Piece
+pub mod Rep
+pub mod Calls
+pub mod Shown
