@@ -10,9 +10,9 @@ use borrow.Author.Tests.{leb-true, leb-false, eqb-true, eqb-false, not-true, not
 use borrow.Author.Count.{below-more}
 use Rattle.lists.specs.Tests.{Decides}
 use Rattle.lists.proofs.Numbers.{confirm, refute}
-use Rattle.history.specs.Lent.{rowWidth}
-use Rattle.tables.specs.Columns.{column, nodesCount}
-use Rattle.segment_test.specs.Test.{Room, Unrooted, OtherKinds, Rooted}
+use Rattle.history.specs.Lent.{rowWidth, blockHead, nodeHead, entryHead, entryWidth}
+use Rattle.tables.specs.Columns.{column, nodesCount, entriesCount}
+use Rattle.segment_test.specs.Test.{lent, Room, Inside, Unrooted, OtherKinds, Rooted, Heads}
 
 -- ── room ──
 
@@ -26,6 +26,24 @@ room-rest {table} {head} {rows} h = record {
 }
 
 pub ruleset testing-room = (room-head, room-rest)
+
+-- ── inside ──
+
+pub inside-head : {entries : List ℕ} {row n : ℕ} → length entries < entryHead → Decides false (Inside entries row n)
+inside-head h = refute (λ i. omega (arith, i .fits))
+
+pub inside-past : {entries : List ℕ} {row n rows : ℕ} → entryHead ≤ length entries → rows ≡ (length entries - entryHead) / entryWidth → rows < row
+    → Decides false (Inside entries row n)
+inside-past a e h = refute (λ i. omega (arith, i .fits))
+
+pub inside-rest : {entries : List ℕ} {row n rows : ℕ} → entryHead ≤ length entries → rows ≡ (length entries - entryHead) / entryWidth → row ≤ rows
+    → Decides (leb n (rows - row)) (Inside entries row n)
+inside-rest {entries} {row} {n} {rows} a e h = record {
+  yes = λ t. record { fits = omega (arith, leb-true n (rows - row) t) };
+  not = λ t i. omega (arith, leb-false n (rows - row) t, i .fits);
+}
+
+pub ruleset testing-inside = (inside-head, inside-past, inside-rest)
 
 -- ── unrooted, other_kinds ──
 
@@ -68,3 +86,38 @@ rooted-some {root} {n} z = record {
 }
 
 pub ruleset testing-root = (rooted-empty, rooted-some)
+
+-- ── test_heads ──
+
+module _ {blocks nodes entries : List ℕ} {n kind : ℕ} where
+  pub heads-blocks : {r : Bool} → Decides r (Room blocks blockHead n) → not r ≡ true → Decides false (Heads (lent blocks nodes entries) n kind)
+  heads-blocks {r} d f = refute (λ s. d .not (not-true r f) (s .block-room))
+
+  pub heads-nodes : {used : ℕ} {r : Bool} → used ≡ column nodes 0 nodesCount → Decides r (Room nodes nodeHead used) → not r ≡ true
+      → Decides false (Heads (lent blocks nodes entries) n kind)
+  heads-nodes {used} {r} e d f = refute (λ s. d .not (not-true r f) (rw e (s .node-room)))
+
+  pub heads-entries : {total : ℕ} {r : Bool} → total ≡ column entries 0 entriesCount → Decides r (Inside entries 0 total) → not r ≡ true
+      → Decides false (Heads (lent blocks nodes entries) n kind)
+  heads-entries {total} {r} e d f = refute (λ s. d .not (not-true r f) (rw e (s .entry-room)))
+
+  pub heads-others : {r : Bool} → Decides r (OtherKinds nodes kind nodesCount) → not r ≡ true → Decides false (Heads (lent blocks nodes entries) n kind)
+  heads-others {r} d f = refute (λ s. d .not (not-true r f) (s .others))
+
+  pub heads-rest : {used total root : ℕ} {a b c d r : Bool} → Decides a (Room blocks blockHead n) → not a ≡ false
+      → used ≡ column nodes 0 nodesCount → Decides b (Room nodes nodeHead used) → not b ≡ false
+      → total ≡ column entries 0 entriesCount → Decides c (Inside entries 0 total) → not c ≡ false
+      → Decides d (OtherKinds nodes kind nodesCount) → not d ≡ false → root ≡ column nodes 0 kind → Decides r (Rooted root n)
+      → Decides r (Heads (lent blocks nodes entries) n kind)
+  heads-rest {used} {total} {root} {a} {b} {c} {d} {r} da ea used-is db eb total-is dc ec dd ed root-is dr = record {
+    yes = λ e. record {
+      block-room = da .yes (not-false a ea);
+      node-room = rw used-is at (db .yes (not-false b eb));
+      entry-room = rw total-is at (dc .yes (not-false c ec));
+      others = dd .yes (not-false d ed);
+      rooted = rw root-is at (dr .yes e);
+    };
+    not = λ e s. dr .not e (rw root-is (s .rooted));
+  }
+
+pub ruleset testing-heads = (heads-blocks, heads-nodes, heads-entries, heads-others, heads-rest)

@@ -19,7 +19,7 @@ use Rattle.tables.specs.Columns.{column, nodeMin, nodeMax}
 use Rattle.segment_table.specs.Closed.{Tables, nodesUsed, leftAt, rightAt, firstAt, countAt, run, NodeRow, TreeAt}
 use Rattle.segment_test.specs.Total.{sumTo, entriesOfRow, widthAt, widthsOfRow, allWidths}
 use Rattle.segment_test.proofs.Sums.{distinct-append, mem-none, sum-all}
-use Rattle.segment_test.proofs.Ruling.{run-length}
+use Rattle.segment_table.proofs.Closed.{run-length}
 
 -- ── the links of a tree ──
 

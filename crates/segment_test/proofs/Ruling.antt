@@ -17,25 +17,15 @@ use Rattle.history.specs.Rules.{every, numbered, placed, ascends, sorted}
 use Rattle.history.proofs.RulesLaws.{every-all, all-every, decided, ascends-decides, coversNode, numbered-node, numbered-here, numbered-left, numbered-right, placed-node, placed-here, placed-left, placed-right, sorted-node, sorted-here, sorted-left, sorted-right}
 use Rattle.tables.specs.Columns.{column, entryColumn, entryKey}
 use Rattle.segment_table.specs.Closed.{Tables, leftAt, rightAt, firstAt, countAt, blockIn, firstCellIn, run, Keyed, NodeRow, TreeAt}
+use Rattle.segment_table.proofs.Closed.{run-length, run-at}
 use Rattle.segment_test.specs.Test.{createdIn, destroyedIn, coversAbove, BlockRows, EntryRow, Follows, RunRows, NodeStands, TreeStands}
 
 -- ── the list of a run ──
 
-pub run-length : (entries : List ℕ) (row many : ℕ) → length (run entries row many) ≡ many
-unfolding run
-run-length entries row zero = refl
-run-length entries row (suc many) = ap suc (run-length entries (suc row) many)
-
-pub run-at : (entries : List ℕ) (row many j : ℕ) → j < many → getD (run entries row many) j 0 ≡ blockIn entries (row + j)
-unfolding run
-run-at entries row zero j h = absurd (omega arith)
-run-at entries row (suc many) zero h = let e : row + 0 ≡ row = omega arith in rw e refl
-run-at entries row (suc many) (suc j) h = let e : row + suc j ≡ suc row + j = omega arith in rw e (run-at entries (suc row) many j (omega arith))
-
 module _ (entries : List ℕ) (row many : ℕ) where
   -- what holds of the block of each row holds of the list, and back
-  pub run-all : {P : ℕ → Type 0} → ((j : ℕ) → j < many → P (blockIn entries (row + j))) → All P (run entries row many)
-  run-all {P} f =
+  pub run-every : {P : ℕ → Type 0} → ((j : ℕ) → j < many → P (blockIn entries (row + j))) → All P (run entries row many)
+  run-every {P} f =
       all-of-at 0 (run entries row many) (λ j h. let z : j < many = rw (run-length entries row many) at h in rw (run-at entries row many j z) (f j z))
 
   pub run-each : {P : ℕ → Type 0} → All P (run entries row many) → (j : ℕ) → j < many → P (blockIn entries (row + j))
@@ -51,10 +41,10 @@ module _ (blocks entries : List ℕ) (n : ℕ) (bs : List Block) (known : BlockR
 
   module _ (rows : RunRows blocks entries n row many lo hi from to) where
     pub rows-numbered : every (λ k. ltb k n) (run entries row many) ≡ true
-    rows-numbered = all-every (λ k. ltb k n) (run-all entries row many (λ j h. lt-ltb _ n (rows .each j h .known)))
+    rows-numbered = all-every (λ k. ltb k n) (run-every entries row many (λ j h. lt-ltb _ n (rows .each j h .known)))
 
     pub rows-placed : every (λ k. coversNode (blockAt bs) lo hi k && not (above k)) (run entries row many) ≡ true
-    rows-placed = all-every (λ k. coversNode (blockAt bs) lo hi k && not (above k)) (run-all entries row many here)
+    rows-placed = all-every (λ k. coversNode (blockAt bs) lo hi k && not (above k)) (run-every entries row many here)
       where
         here : (j : ℕ) → j < many → (coversNode (blockAt bs) lo hi (blockIn entries (row + j)) && not (above (blockIn entries (row + j)))) ≡ true
         here j h =
@@ -120,7 +110,7 @@ unfolding TreeStands
 stands-hole t n kind lo hi from to hole s = refl
 stands-hole t n kind lo hi from to (node xs l r) s = absurd (omega (arith, s .1 .row .some))
 
-at-hole : (t : Tables) (kind lo hi : ℕ) (T : Tree) → TreeAt t kind 0 lo hi T → T ≡ hole
+pub at-hole : (t : Tables) (kind lo hi : ℕ) (T : Tree) → TreeAt t kind 0 lo hi T → T ≡ hole
 unfolding TreeAt
 at-hole t kind lo hi hole s = refl
 at-hole t kind lo hi (node xs l r) s = absurd (omega (arith, s .0 .some))

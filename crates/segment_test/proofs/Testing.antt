@@ -1,27 +1,28 @@
 -- What the tests of the tables say together is that they hold the tree of a closed index, both ways; a step for each return of `test_tree`. Assumes nothing.
 use mathlib.Core.Path.{_≡_, refl, sym, ap, _∙_}
 use mathlib.Core.Logic.{_⊎_, inl, inr}
-use mathlib.Core.Bool.{Bool, true, false, true≢false, false≢true}
+use mathlib.Core.Bool.{Bool, true, false, not, true≢false, false≢true}
 use mathlib.Core.List.{List, [], _∷_}
 use Prim.Native.Nat.{ℕ, zero, suc, _+_, _-_, _*_, _≤_, _<_}
 use native.Mathlib.Omega.{arith}
 use lib.ListN.{length, getD}
 use lib.Dec.{eqb}
-use borrow.Author.Tests.{eqb-true, eqb-false, eq-eqb, ne-eqb}
+use borrow.Author.Tests.{not-true, not-false}
 use Rattle.lists.specs.Tests.{Decides}
 use Rattle.lists.proofs.Numbers.{eq-or-ne, confirm, refute, decides-iff}
 use Rattle.history.specs.Lent.{rowWidth, blockHead, nodeHead}
 use Rattle.history.specs.Words.{Block, life}
 use Rattle.history.specs.Tree.{Tree, hole, node, mid, nodeCount, entryCount, blockAt, keyIn, widths}
-use Rattle.history.specs.Rules.{isHole, rule23}
-use Rattle.history.proofs.RulesLaws.{decided, Rule23, rule23-decides}
+use Rattle.history.specs.Rules.{isHole, halved, rule23}
+use Rattle.history.specs.Sound.{isEmpty}
+use Rattle.history.proofs.RulesLaws.{decided, halved-node, Rule23, rule23-decides}
 use Rattle.tables.specs.Columns.{column, nodesCount}
-use Rattle.segment_table.specs.Closed.{Tables, nodesUsed, entriesUsed, firstAt, countAt, TreeAt, Consecutive, Closed}
+use Rattle.segment_table.specs.Closed.{Tables, nodesUsed, entriesUsed, leftAt, rightAt, firstAt, countAt, TreeAt, Consecutive, Closed}
 use Rattle.segment_test.specs.Total.{sumTo, twoWords, entriesOfRow, widthsOfRow, lifeIn, Same}
-use Rattle.segment_test.specs.Test.{lent, BlockRows, ClosedTree, TreeStands, Walked, Room, OtherKinds, Rooted, Tiled, TreeTables}
+use Rattle.segment_test.specs.Test.{lent, BlockRows, ClosedTree, TreeStands, Walked, Rooted, Heads, Tiled, TreeTables}
 use Rattle.segment_test.proofs.Sums.{sum-same}
 use Rattle.segment_test.proofs.Walking.{stands-one}
-use Rattle.segment_test.proofs.Ruling.{RuledAt, stands-ruled, ruled-stands}
+use Rattle.segment_test.proofs.Ruling.{at-hole, RuledAt, stands-ruled, ruled-stands}
 use Rattle.segment_test.proofs.Links.{rows-entries, rows-widths}
 use Rattle.segment_test.proofs.Widths.{total-each, each-total}
 
@@ -43,15 +44,33 @@ begins-consecutive nodes f = record { begins = λ h. f 0 h; follows = follows }
 
 -- ── roots ──
 
-root-hole : (t : Tables) (n kind root e : ℕ) (T : Tree) → Rooted root n → TreeAt t kind root 0 e T → isHole T ≡ eqb n 0
+root-hole : (t : Tables) (kind root e : ℕ) (bs : List Block) (T : Tree) → Rooted root (length bs) → TreeAt t kind root 0 e T → isHole T ≡ isEmpty bs
 unfolding TreeAt
-root-hole t n kind root e hole r s = sym (eq-eqb n 0 (r .some s))
-root-hole t n kind root e (node xs a b) r s = sym (ne-eqb n 0 (λ z. omega (arith, r .empty z, s .0 .some)))
+root-hole t kind root e [] hole r s = refl
+root-hole t kind root e (b ∷ bs) hole r s = absurd (omega (arith, r .some s))
+root-hole t kind root e [] (node xs l u) r s = absurd (omega (arith, r .empty refl, s .0 .some))
+root-hole t kind root e (b ∷ bs) (node xs l u) r s = refl
 
-hole-root : (t : Tables) (n kind root e : ℕ) (T : Tree) → isHole T ≡ eqb n 0 → TreeAt t kind root 0 e T → Rooted root n
+hole-root : (t : Tables) (kind root e : ℕ) (bs : List Block) (T : Tree) → isHole T ≡ isEmpty bs → TreeAt t kind root 0 e T → Rooted root (length bs)
 unfolding TreeAt
-hole-root t n kind root e hole h s = record { empty = λ _. s; some = λ _. eqb-true n 0 (sym h) }
-hole-root t n kind root e (node xs a b) h s = record { empty = λ z. absurd (eqb-false n 0 (sym h) z); some = λ z. absurd (omega (arith, s .0 .some)) }
+hole-root t kind root e [] hole h s = record { empty = λ _. s; some = λ _. refl }
+hole-root t kind root e (b ∷ bs) hole h s = absurd (true≢false h)
+hole-root t kind root e [] (node xs l u) h s = absurd (false≢true h)
+hole-root t kind root e (b ∷ bs) (node xs l u) h s = record { empty = λ z. absurd (omega arith); some = λ z. absurd (omega (arith, s .0 .some)) }
+
+-- ── 21 ──
+
+-- the layout has no child of a node of width 1
+pub at-halved : (t : Tables) (kind link lo hi : ℕ) (T : Tree) → TreeAt t kind link lo hi T → halved lo hi T ≡ true
+unfolding TreeAt halved
+at-halved t kind link lo hi hole s = refl
+at-halved t kind link lo hi (node xs l r) s =
+    halved-node lo hi xs l r
+    (λ w. (none (leftAt (t .nodes) link) lo (mid lo hi) l (s .0 .narrow w .0) (s .1), none (rightAt (t .nodes) link) (mid lo hi) hi r (s .0 .narrow w .1) (s .2)))
+    (at-halved t kind (leftAt (t .nodes) link) lo (mid lo hi) l (s .1)) (at-halved t kind (rightAt (t .nodes) link) (mid lo hi) hi r (s .2))
+  where
+    none : (k a b : ℕ) (U : Tree) → k ≡ 0 → TreeAt t kind k a b U → U ≡ hole
+    none k a b U z u = at-hole t kind a b U (rw z at u)
 
 -- ── the tables and the index ──
 
@@ -64,17 +83,19 @@ module _ (t : Tables) (kind e : ℕ) (bs : List Block) (known : BlockRows (t .bl
   pub tables-closed : TreeTables t (length bs) kind e → ClosedTree t kind e bs
   tables-closed s = record {
     tree = s .tree;
-    block-room = s .block-room .fits;
+    block-room = s .heads .block-room .fits;
+    entry-room = omega (arith, s .heads .entry-room .fits);
     closed = record {
       stands = ruled .stands;
-      other-kinds = λ k h z. s .others .each k h .none z;
+      other-kinds = λ k h z. s .heads .others .each k h .none z;
       all-rows = s .all-rows;
-      room = omega (arith, s .node-room .fits);
+      room = omega (arith, s .heads .node-room .fits);
       all-entries = sym (s .tiled .total) ∙ rows-entries t kind root e (s .tree) (ruled .stands) (s .all-rows);
       consecutive = begins-consecutive (t .nodes) (s .tiled .begins);
     };
-    ruled = decided (rule23 e bs (s .tree)) (rule23-decides e bs (s .tree)) (record { numbers = ruled .numbers; places = ruled .places; order = ruled .order; sums = sums });
-    rooted = root-hole t (length bs) kind root e (s .tree) (s .rooted) (ruled .stands);
+    rule-23 = decided (rule23 e bs (s .tree)) (rule23-decides e bs (s .tree)) (record { numbers = ruled .numbers; places = ruled .places; order = ruled .order; sums = sums });
+    rooted = root-hole t kind root e bs (s .tree) (s .heads .rooted) (ruled .stands);
+    rule-21 = at-halved t kind root 0 e (s .tree) (ruled .stands);
   }
     where
       root : ℕ
@@ -88,10 +109,13 @@ module _ (t : Tables) (kind e : ℕ) (bs : List Block) (known : BlockRows (t .bl
 
   pub closed-tables : ClosedTree t kind e bs → TreeTables t (length bs) kind e
   closed-tables s = record {
-    block-room = record { fits = s .block-room };
-    node-room = record { fits = omega (arith, s .closed .room) };
-    others = record { each = λ k h. record { none = s .closed .other-kinds k h } };
-    rooted = hole-root t (length bs) kind root e (s .tree) (s .rooted) (s .closed .stands);
+    heads = record {
+      block-room = record { fits = s .block-room };
+      node-room = record { fits = omega (arith, s .closed .room) };
+      entry-room = record { fits = omega (arith, s .entry-room) };
+      others = record { each = λ k h. record { none = s .closed .other-kinds k h } };
+      rooted = hole-root t kind root e bs (s .tree) (s .rooted) (s .closed .stands);
+    };
     tiled = record { begins = consecutive-begins (t .nodes) (s .closed .consecutive); total = rows-entries t kind root e (s .tree) (s .closed .stands) (s .closed .all-rows) ∙ sym (s .closed .all-entries) };
     tree = s .tree;
     stands =
@@ -107,7 +131,7 @@ module _ (t : Tables) (kind e : ℕ) (bs : List Block) (known : BlockRows (t .bl
       root = column (t .nodes) 0 kind
 
       rules : Rule23 e bs (s .tree)
-      rules = rule23-decides e bs (s .tree) .yes (s .ruled)
+      rules = rule23-decides e bs (s .tree) .yes (s .rule-23)
 
 -- a test of the tables is a test of the index
 pub tested : {t : Tables} {n kind e : ℕ} {r : Bool} → Decides r (TreeTables t n kind e) → (bs : List Block) → BlockRows (t .blocks) n bs → Decides r (ClosedTree t kind e bs)
@@ -119,59 +143,45 @@ tested {t} {n} {kind} {e} {r} d bs known =
 -- ── test_tree ──
 
 module _ {blocks nodes entries : List ℕ} {n kind e : ℕ} where
-  pub tree-no-blocks : {r : Bool} → Decides r (Room blocks blockHead n) → r ≡ false → Decides false (TreeTables (lent blocks nodes entries) n kind e)
-  tree-no-blocks d f = refute (λ s. d .not f (s .block-room))
+  pub tree-heads : {r : Bool} → Decides r (Heads (lent blocks nodes entries) n kind) → not r ≡ true → Decides false (TreeTables (lent blocks nodes entries) n kind e)
+  tree-heads {r} d f = refute (λ s. d .not (not-true r f) (s .heads))
 
-  pub tree-others : {r : Bool} → Decides r (OtherKinds nodes kind nodesCount) → r ≡ false → Decides false (TreeTables (lent blocks nodes entries) n kind e)
-  tree-others d f = refute (λ s. d .not f (s .others))
+  pub tree-untiled : {r : Bool} → Decides r (Tiled nodes entries) → not r ≡ true → Decides false (TreeTables (lent blocks nodes entries) n kind e)
+  tree-untiled {r} d f = refute (λ s. d .not (not-true r f) (s .tiled))
 
-  pub tree-untiled : {r : Bool} → Decides r (Tiled nodes entries) → r ≡ false → Decides false (TreeTables (lent blocks nodes entries) n kind e)
-  tree-untiled d f = refute (λ s. d .not f (s .tiled))
+  module _ {used root rest : ℕ} (count : used ≡ column nodes 0 nodesCount) (top : root ≡ column nodes 0 kind)
+      (walk : Walked (lent blocks nodes entries) n kind root 0 e 0 0 (used + 1) rest) where
+    -- from the root of the kind, with one row more than are in use
+    walked : Walked (lent blocks nodes entries) n kind (column nodes 0 kind) 0 e 0 0 (nodesUsed nodes + 1) rest
+    walked = rw (count, top) at walk
 
-  module _ {used : ℕ} (count : used ≡ column nodes 0 nodesCount) where
-    pub tree-no-nodes : {r : Bool} → Decides r (Room nodes nodeHead used) → r ≡ false → Decides false (TreeTables (lent blocks nodes entries) n kind e)
-    tree-no-nodes d f = refute (λ s. d .not f (rw count (s .node-room)))
+    pub tree-wrong : (rest ≡ 1 → ⊥) → Decides false (TreeTables (lent blocks nodes entries) n kind e)
+    tree-wrong z = refute go
+      where
+        go : TreeTables (lent blocks nodes entries) n kind e → ⊥
+        go s =
+            elim (eq-or-ne rest 0) [
+              | inl none ↦ walked .wrong none (s .tree) (s .stands) (omega (arith, s .all-rows))
+              | inr some ↦
+                  let u = walked .stood (omega arith) in
+                  let same : u .0 ≡ s .tree = stands-one (lent blocks nodes entries) n kind (column nodes 0 kind) 0 e 0 0 (u .0) (s .tree) (u .1) (s .stands) in
+                  let left : nodesUsed nodes + 1 ≡ rest + nodeCount (s .tree) = rw same at (u .2) in
+                  z (omega (arith, s .all-rows))
+            ]
 
-    module _ {root : ℕ} (top : root ≡ column nodes 0 kind) where
-      pub tree-unrooted : {r : Bool} → Decides r (Rooted root n) → r ≡ false → Decides false (TreeTables (lent blocks nodes entries) n kind e)
-      tree-unrooted d f = refute (λ s. d .not f (rw top (s .rooted)))
+    pub tree-rest : {a b r : Bool} {x y : ℕ} → Decides a (Heads (lent blocks nodes entries) n kind) → not a ≡ false → Decides b (Tiled nodes entries) → not b ≡ false
+        → rest ≡ 1 → x ≡ sumTo (widthsOfRow nodes) (nodesUsed nodes) → y ≡ sumTo (lifeIn blocks) n
+        → Decides r (Same x y) → Decides r (TreeTables (lent blocks nodes entries) n kind e)
+    tree-rest {a} {b} {r} da ea db eb one wide lives same = record {
+      yes = λ t. (let u = walked .stood (omega arith) in record {
+        heads = da .yes (not-false a ea);
+        tiled = db .yes (not-false b eb);
+        tree = u .0;
+        stands = u .1;
+        all-rows = omega (arith, u .2);
+        summed = sym wide ∙ same .yes t .equal ∙ lives;
+      });
+      not = λ t s. same .not t (record { equal = wide ∙ s .summed ∙ sym lives });
+    }
 
-      pub tree-wrong : {rest : ℕ} → Walked (lent blocks nodes entries) n kind root 0 e 0 0 (used + 1) rest → (rest ≡ 1 → ⊥)
-          → Decides false (TreeTables (lent blocks nodes entries) n kind e)
-      tree-wrong {rest} w z = refute (λ s. go s (rw (count, top) at w))
-        where
-          go : (s : TreeTables (lent blocks nodes entries) n kind e) → Walked (lent blocks nodes entries) n kind (column nodes 0 kind) 0 e 0 0 (nodesUsed nodes + 1) rest → ⊥
-          go s walked =
-              elim (eq-or-ne rest 0) [
-                | inl none ↦ walked .wrong none (s .tree) (s .stands) (omega (arith, s .all-rows))
-                | inr some ↦
-                    let u = walked .stood (omega arith) in
-                    let same : u .0 ≡ s .tree = stands-one (lent blocks nodes entries) n kind (column nodes 0 kind) 0 e 0 0 (u .0) (s .tree) (u .1) (s .stands) in
-                    let left : nodesUsed nodes + 1 ≡ rest + nodeCount (s .tree) = rw same at (u .2) in
-                    z (omega (arith, s .all-rows))
-              ]
-
-      pub tree-rest : {a b c d f r : Bool} {rest x y : ℕ} → Decides a (Room blocks blockHead n) → a ≡ true → Decides b (Room nodes nodeHead used) → b ≡ true
-          → Decides c (OtherKinds nodes kind nodesCount) → c ≡ true → Decides d (Rooted root n) → d ≡ true → Decides f (Tiled nodes entries) → f ≡ true
-          → Walked (lent blocks nodes entries) n kind root 0 e 0 0 (used + 1) rest → rest ≡ 1
-          → x ≡ sumTo (widthsOfRow nodes) (nodesUsed nodes) → y ≡ sumTo (lifeIn blocks) n
-          → Decides r (Same x y) → Decides r (TreeTables (lent blocks nodes entries) n kind e)
-      tree-rest {r = r} {rest = rest} da a db b dc c dd d df f w one wide lives same = record {
-        yes = λ t. (let u = walked .stood (omega arith) in record {
-          block-room = da .yes a;
-          node-room = rw count at (db .yes b);
-          others = dc .yes c;
-          rooted = rw top at (dd .yes d);
-          tiled = df .yes f;
-          tree = u .0;
-          stands = u .1;
-          all-rows = omega (arith, u .2);
-          summed = sym wide ∙ same .yes t .equal ∙ lives;
-        });
-        not = λ t s. same .not t (record { equal = wide ∙ s .summed ∙ sym lives });
-      }
-        where
-          walked : Walked (lent blocks nodes entries) n kind (column nodes 0 kind) 0 e 0 0 (nodesUsed nodes + 1) rest
-          walked = rw (count, top) at w
-
-pub ruleset testing-tree = (tree-no-blocks, tree-others, tree-untiled, tree-no-nodes, tree-unrooted, tree-wrong, tree-rest)
+pub ruleset testing-tree = (tree-heads, tree-untiled, tree-wrong, tree-rest)

@@ -32,23 +32,14 @@ pub fn test_tree(
 ) -> bool
     ensures { λ r. ⌜ ((bs : List Block) → BlockRows (now (blocks .entry)) n bs → Decides r (ClosedTree (lent (now (blocks .entry)) (now (nodes .entry)) (now (entries .entry))) kind end bs)) ⌝ }
 {
-    if !head::room(blocks, tables::block::HEAD, n) {
-        return false;
-    }
-    let used = tables::get(nodes, 0, tables::node::COUNT);
-    if !head::room(nodes, tables::node::HEAD, used) {
-        return false;
-    }
-    if !head::other_kinds(nodes, kind) {
-        return false;
-    }
-    let root = tables::get(nodes, 0, kind as usize);
-    if !head::rooted(root, n) {
+    if !head::test_heads(blocks, nodes, entries, kind, n) {
         return false;
     }
     if !total::test_runs(nodes, entries) {
         return false;
     }
+    let used = tables::get(nodes, 0, tables::node::COUNT);
+    let root = tables::get(nodes, 0, kind as usize);
     if walk::walk(
         blocks,
         nodes,
