@@ -14,7 +14,7 @@ use Rattle.history.specs.Find.{path, visited}
 use Rattle.history.specs.Rules.{sorted, ascends}
 use Rattle.tables.specs.Columns.{column}
 use Rattle.segment_table.specs.Closed.{TreeAt, leftAt, rightAt, firstCellIn}
-use Rattle.segment_find.specs.declared.Node.{Node}
+use Rattle.segment_find.specs.declared.walk.Node.{Node}
 use Rattle.segment_find.specs.Walking.{Stands, rootAt, noNode, leftHalf, rightHalf, halfAt}
 
 pub root-at : (nodes : List ℕ) (kind end link : ℕ) → link ≡ column nodes 0 kind → record { link = link; min = 0; max = end } ≡ rootAt nodes kind end

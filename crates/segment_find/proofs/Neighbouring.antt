@@ -11,13 +11,14 @@ use Rattle.history.specs.Tree.{Tree, hole, node}
 use Rattle.history.specs.Find.{path}
 use Rattle.segment_table.specs.Closed.{TreeAt, run, blockIn, firstCellIn}
 use Rattle.segment_table.proofs.Closed.{run-all, run-mem}
-use Rattle.segment_find.specs.declared.Node.{Node}
-use Rattle.segment_find.specs.declared.Rows.{Rows}
-use Rattle.segment_find.specs.declared.Side.{Side}
-use Rattle.segment_find.specs.declared.Side.the-variants.{From, Before}
-use Rattle.segment_find.specs.declared.Neighbour.{Neighbour}
-use Rattle.segment_find.specs.declared.Neighbour.the-variants.{Block, Nothing}
-use Rattle.segment_find.specs.Walking.{Stands, Rooted, rootAt, halfAt, rowsAt, keyAt, RunOf, Lower}
+use Rattle.segment_find.specs.declared.walk.Node.{Node}
+use Rattle.segment_find.specs.declared.rows.Rows.{Rows}
+use Rattle.segment_find.specs.declared.neighbour.Side.{Side}
+use Rattle.segment_find.specs.declared.neighbour.Side.the-variants.{From, Before}
+use Rattle.segment_find.specs.declared.neighbour.Neighbour.{Neighbour}
+use Rattle.segment_find.specs.declared.neighbour.Neighbour.the-variants.{Block, Nothing}
+use Rattle.segment_find.specs.Walking.{Stands, Rooted, rootAt, halfAt}
+use Rattle.segment_find.specs.Rowing.{rowsAt, keyAt, RunOf, Lower}
 use Rattle.segment_find.specs.Neighbours.{Beside, AsNear, Nearest, Neighbours, OwnNeighbour, Nearer, NearestBelow, NearestLive}
 use Rattle.segment_find.proofs.Halving.{Down, down}
 use Rattle.segment_find.proofs.Windows.{run-of}

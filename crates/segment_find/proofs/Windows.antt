@@ -16,9 +16,10 @@ use Rattle.history.specs.Find.{window}
 use Rattle.history.specs.Rules.{every, ascends, sorted}
 use Rattle.segment_table.specs.Closed.{TreeAt, run, blockIn, firstAt, countAt, firstCellIn}
 use Rattle.segment_table.proofs.Closed.{run-length, run-split, run-at}
-use Rattle.segment_find.specs.declared.Node.{Node}
-use Rattle.segment_find.specs.declared.Rows.{Rows}
-use Rattle.segment_find.specs.Walking.{Stands, tableRows, rowsAt, blocksIn, keyAt, Ordered, RunOf, Parts, Lower}
+use Rattle.segment_find.specs.declared.walk.Node.{Node}
+use Rattle.segment_find.specs.declared.rows.Rows.{Rows}
+use Rattle.segment_find.specs.Walking.{Stands}
+use Rattle.segment_find.specs.Rowing.{tableRows, rowsAt, blocksIn, keyAt, Ordered, RunOf, Parts, Lower}
 use Rattle.segment_find.specs.Listing.{InWindow}
 
 -- ── a node's rows ──

@@ -10,7 +10,7 @@ use Rattle.segment_find.proofs.search.Reads as search′
 use Rattle.segment_find.proofs.search.Kinds as search-kinds
 use Rattle.segment_find.proofs.+search.Lts-search as search-lts
 use Rattle.segment_find.proofs.extend_from_self.Reads as extend-from-self-reads
-use Rattle.segment_find.proofs.half.Reads as half-reads
+use Rattle.segment_find.proofs.walk.half.Reads as half-reads
 use Rattle.segment_find.proofs.in_window.Reads as in-window-reads
 use Rattle.segment_find.proofs.+search.{statement}
 use Rattle.segment_find.proofs.+search.Tie.{close}

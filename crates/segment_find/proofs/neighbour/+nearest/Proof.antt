@@ -1,4 +1,4 @@
--- `segment_find::nearest` meets its contract: each return is one step of `approaching`; the node's width falls at each call. Assumes nothing.
+-- `segment_find::neighbour::nearest` meets its contract: each return is one step of `approaching`; the node's width falls at each call. Assumes nothing.
 use Prim.Native.Nat.{ℕ, _-_, _<_}
 use native.Mathlib.Omega.{arith}
 use borrow.Author.Needs.{needs}
@@ -6,15 +6,15 @@ use borrow.Fn.Kinds.{In}
 use borrow.Fn.PlainCycle.{Measures, is, falls, and}
 use Rattle.segment_find.proofs.Halving.{half-falls}
 use Rattle.segment_find.proofs.Neighbouring.{approaching}
-use Rattle.segment_find.proofs.nearest.Reads as nearest
-use Rattle.segment_find.proofs.nearest.Kinds as nearest-kinds
-use Rattle.segment_find.proofs.+nearest.Lts-nearest as nearest-lts
-use Rattle.segment_find.proofs.half.Reads as half-reads
-use Rattle.segment_find.proofs.nearer.Reads as nearer-reads
-use Rattle.segment_find.proofs.own_neighbour.Reads as own-neighbour-reads
-use Rattle.segment_find.proofs.rows_of.Reads as rows-of-reads
-use Rattle.segment_find.proofs.+nearest.{statement}
-use Rattle.segment_find.proofs.+nearest.Tie.{close}
+use Rattle.segment_find.proofs.neighbour.nearest.Reads as nearest
+use Rattle.segment_find.proofs.neighbour.nearest.Kinds as nearest-kinds
+use Rattle.segment_find.proofs.neighbour.+nearest.Lts-nearest as nearest-lts
+use Rattle.segment_find.proofs.walk.half.Reads as half-reads
+use Rattle.segment_find.proofs.neighbour.nearer.Reads as nearer-reads
+use Rattle.segment_find.proofs.neighbour.own_neighbour.Reads as own-neighbour-reads
+use Rattle.segment_find.proofs.rows.rows_of.Reads as rows-of-reads
+use Rattle.segment_find.proofs.neighbour.+nearest.{statement}
+use Rattle.segment_find.proofs.neighbour.+nearest.Tie.{close}
 
 -- the width of the node
 abbrev μ-nearest : Measures 2 nearest-kinds.ps ℕ
