@@ -1,0 +1,11 @@
+pub mod Links
+pub mod Order
+pub mod Ways
+pub mod Balance
+pub mod Heights
+pub mod Dense
+pub mod Frame
+pub mod Turns
+pub mod Inserting
+pub mod Removing
+pub mod Relinking

@@ -1,0 +1,9 @@
+pub mod Order
+pub mod Parts
+pub mod Removing
+pub mod Seeking
+pub mod Writing
+pub mod Seeing
+pub mod Held
+pub mod Showing
+pub mod Testing

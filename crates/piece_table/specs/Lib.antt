@@ -1,0 +1,5 @@
+pub mod Piece
+pub mod Rep
+pub mod Calls
+pub mod Shown
+pub mod Test
