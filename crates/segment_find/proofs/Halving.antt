@@ -11,7 +11,8 @@ use borrow.Author.Tests.{lt-ltb, le-ltb}
 use Rattle.lists.proofs.Numbers.{le-or-lt, lt-or-le, and-left, and-right}
 use Rattle.history.specs.Tree.{Tree, hole, node, mid, halves}
 use Rattle.history.specs.Find.{path, visited}
-use Rattle.history.specs.Rules.{sorted, ascends}
+use Rattle.history.specs.Rules.{sorted}
+use Rattle.history.proofs.RulesLaws.{sorted-left, sorted-right}
 use Rattle.tables.specs.Columns.{column}
 use Rattle.segment_table.specs.Closed.{TreeAt, leftAt, rightAt, firstCellIn}
 use Rattle.segment_find.specs.declared.walk.Node.{Node}
@@ -76,14 +77,6 @@ pub record Down (blocks nodes entries : List ℕ) (kind t : ℕ) (n h : Node) (x
   pub stands : Stands blocks nodes entries kind h below
   pub way : path t (n .min) (n .max) tree ≡ xs ++ path t (h .min) (h .max) below
   pub steps : visited t (n .min) (n .max) tree ≡ suc (visited t (h .min) (h .max) below)
-
-sorted-left : (key : ℕ → ℕ) (xs : List ℕ) (l r : Tree) → sorted key (node xs l r) ≡ true → sorted key l ≡ true
-unfolding sorted
-sorted-left key xs l r e = and-left (sorted key l) (sorted key r) (and-right (ascends key xs) (sorted key l && sorted key r) e)
-
-sorted-right : (key : ℕ → ℕ) (xs : List ℕ) (l r : Tree) → sorted key (node xs l r) ≡ true → sorted key r ≡ true
-unfolding sorted
-sorted-right key xs l r e = and-right (sorted key l) (sorted key r) (and-right (ascends key xs) (sorted key l && sorted key r) e)
 
 module _ (blocks nodes entries : List ℕ) (kind t : ℕ) (n : Node) (xs : List ℕ) (l r : Tree) (s : Stands blocks nodes entries kind n (node xs l r)) where
   down-narrow : n .max ≤ n .min + 1 → Down blocks nodes entries kind t n noNode xs (node xs l r)
