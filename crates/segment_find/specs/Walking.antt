@@ -2,7 +2,7 @@
 use mathlib.Core.Path.{_≡_}
 use mathlib.Core.Bool.{Bool, true, false, cond}
 use mathlib.Core.List.{List}
-use Prim.Native.Nat.{ℕ, _<_}
+use Prim.Native.Nat.{ℕ, _≤_, _<_}
 use lib.Dec.{ltb}
 use Rattle.history.specs.Tree.{Tree, mid, halves}
 use Rattle.history.specs.Rules.{sorted}
@@ -24,6 +24,14 @@ pub record Rooted (blocks nodes entries : List ℕ) (kind end : ℕ) (tree : Tre
   pub ascend : sorted (firstCellIn blocks) tree ≡ true
   pub some : 0 < end
 
+-- ── nodes ──
+
+-- there is no node: no row, or an interval without a tick, which no closed index has
+pub data Absent (n : Node) : Type 0 where
+  no-row : n .link ≡ 0 → Absent n
+  no-tick : n .max ≤ n .min → Absent n
+
+-- the root of a kind
 abbrev pub rootAt : (nodes : List ℕ) (kind end : ℕ) → Node
 rootAt nodes kind end = record { link = column nodes 0 kind; min = 0; max = end }
 

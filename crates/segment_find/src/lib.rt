@@ -78,13 +78,7 @@ fn search(
 ) -> Found
     ensures { λ r. ⌜ Searched (now (nodes .entry)) (now (entries .entry)) node query (now (answer .entry)) at (now (answer .exit)) r ⌝ }
 {
-    if node.link == 0 {
-        return Found::Listed {
-            count: at,
-            visited: 0,
-        };
-    }
-    if node.max <= node.min {
+    if walk::absent(node) {
         return Found::Listed {
             count: at,
             visited: 0,

@@ -89,10 +89,7 @@ fn nearest(
 ) -> Neighbour
     ensures { λ r. ⌜ NearestBelow (now (nodes .entry)) (now (entries .entry)) node tick side place r ⌝ }
 {
-    if node.link == 0 {
-        return Neighbour::Nothing;
-    }
-    if node.max <= node.min {
+    if super::walk::absent(node) {
         return Neighbour::Nothing;
     }
     let own = own_neighbour(

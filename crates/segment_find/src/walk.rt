@@ -1,6 +1,7 @@
 // The way down to a tick: from the root, at each node to the half that has the tick.
 ghost use mathlib.Core.Path.{_≡_};
-ghost use Rattle.segment_find.specs.Walking.{rootAt, halfAt};
+ghost use Rattle.lists.specs.Tests.{Decides};
+ghost use Rattle.segment_find.specs.Walking.{rootAt, Absent, halfAt};
 
 // A node of the tree, [min, max), by the link of its row; link 0 is no node.
 pub struct Node {
@@ -19,6 +20,16 @@ pub fn root(nodes: &[u64], kind: u64, end: u64) -> Node
         min: 0,
         max: end,
     }
+}
+
+// Whether there is no node.
+pub fn absent(node: Node) -> bool
+    ensures { λ r. ⌜ Decides r (Absent node) ⌝ }
+{
+    if node.link == 0 {
+        return true;
+    }
+    node.max <= node.min
 }
 
 // The half that has the tick: left if it is below mid. A node of width 1 has none.

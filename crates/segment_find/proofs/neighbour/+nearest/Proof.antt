@@ -4,11 +4,12 @@ use native.Mathlib.Omega.{arith}
 use borrow.Author.Needs.{needs}
 use borrow.Fn.Kinds.{In}
 use borrow.Fn.PlainCycle.{Measures, is, falls, and}
-use Rattle.segment_find.proofs.Halving.{half-falls}
+use Rattle.segment_find.proofs.Halving.{present, half-falls}
 use Rattle.segment_find.proofs.Neighbouring.{approaching}
 use Rattle.segment_find.proofs.neighbour.nearest.Reads as nearest
 use Rattle.segment_find.proofs.neighbour.nearest.Kinds as nearest-kinds
 use Rattle.segment_find.proofs.neighbour.+nearest.Lts-nearest as nearest-lts
+use Rattle.segment_find.proofs.walk.absent.Reads as absent-reads
 use Rattle.segment_find.proofs.walk.half.Reads as half-reads
 use Rattle.segment_find.proofs.neighbour.nearer.Reads as nearer-reads
 use Rattle.segment_find.proofs.neighbour.own_neighbour.Reads as own-neighbour-reads
@@ -30,14 +31,16 @@ pub +nearest-spec : {M : Type 1} → statement M
 +nearest-spec =
     close μ-nearest
     (λ t. nearest-lts.spec
-    (rows-of-reads.Asked, rows-of-reads.Learnt, own-neighbour-reads.Asked, own-neighbour-reads.Learnt, half-reads.Asked, half-reads.Learnt, nearest-below t, nearest.Post, nearer-reads.Asked, nearer-reads.Learnt)
+    (absent-reads.Asked, absent-reads.Learnt, rows-of-reads.Asked, rows-of-reads.Learnt, own-neighbour-reads.Asked, own-neighbour-reads.Learnt, half-reads.Asked, half-reads.Learnt, nearest-below t, nearest.Post, nearer-reads.Asked, nearer-reads.Learnt)
     (nearest-at t)
     nearest.Post
+    (λ c κs. search needs)
     (λ c. search approaching)
-    (λ c. search approaching)
     (λ c κs. search needs)
     (λ c κs. search needs)
     (λ c κs. search needs)
-    (λ c κs. (omega (arith, half-falls _ _ _ _ (c .before .before .before .if2 .left) (c .half .ensures), c .before .before .before .before .before .before .before .before .before .pre .0), tt))
+    (λ c κs.
+    let test = c .before .before .before in
+    (omega (arith, half-falls _ _ _ _ (present (test .before .absent .ensures) (test .if1 .left)) (c .half .ensures), test .before .before .before .before .pre .0), tt))
     (λ c κs. search needs)
     (λ c. search approaching))
