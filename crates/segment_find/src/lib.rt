@@ -51,15 +51,15 @@ fn extend_from_self(entries: &[u64], rows: Rows, answer: &mut [u64], at: usize)
     if rows::table_rows(entries) < to {
         return;
     }
-    let many = to - from;
-    if answer.len() < many {
+    let count = to - from;
+    if answer.len() < count {
         return;
     }
-    if answer.len() - many < at {
+    if answer.len() - count < at {
         return;
     }
     let mut i = 0;
-    while i < many {
+    while i < count {
         answer[at + i] = entries[tables::entry::HEAD
             + (tables::entry::WIDTH * (from + i) + tables::entry::BLOCK)];
         i += 1;

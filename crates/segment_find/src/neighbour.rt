@@ -92,20 +92,10 @@ fn nearest(
     if super::walk::absent(node) {
         return Neighbour::Nothing;
     }
-    let own = own_neighbour(
-        entries,
-        super::rows::rows_of(nodes, entries, node.link),
-        side,
-        place,
-    );
-    let below = nearest(
-        nodes,
-        entries,
-        super::walk::half(nodes, node, tick),
-        tick,
-        side,
-        place,
-    );
+    let rows = super::rows::rows_of(nodes, entries, node.link);
+    let own = own_neighbour(entries, rows, side, place);
+    let half = super::walk::half(nodes, node, tick);
+    let below = nearest(nodes, entries, half, tick, side, place);
     nearer(side, own, below)
 }
 
@@ -120,14 +110,8 @@ pub fn first_from(
 ) -> Neighbour
     ensures { λ r. ⌜ NearestLive (now (nodes .entry)) (now (entries .entry)) kind end tick Side.From place r ⌝ }
 {
-    nearest(
-        nodes,
-        entries,
-        super::walk::root(nodes, kind, end),
-        tick,
-        Side::From,
-        place,
-    )
+    let root = super::walk::root(nodes, kind, end);
+    nearest(nodes, entries, root, tick, Side::From, place)
 }
 
 // The last block of a kind that is live at the tick and starts before the place.
@@ -141,12 +125,6 @@ pub fn last_before(
 ) -> Neighbour
     ensures { λ r. ⌜ NearestLive (now (nodes .entry)) (now (entries .entry)) kind end tick Side.Before place r ⌝ }
 {
-    nearest(
-        nodes,
-        entries,
-        super::walk::root(nodes, kind, end),
-        tick,
-        Side::Before,
-        place,
-    )
+    let root = super::walk::root(nodes, kind, end);
+    nearest(nodes, entries, root, tick, Side::Before, place)
 }
