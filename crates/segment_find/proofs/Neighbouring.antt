@@ -1,11 +1,11 @@
 -- Neighbours of a place: in a run, in two lists, on the way down. One step for each return. Assumes nothing.
-use mathlib.Core.Path.{_≡_, refl, sym, _∙_, ap}
+use mathlib.Core.Path.{_≡_, refl}
 use mathlib.Core.Logic.{⊎-elim}
-use mathlib.Core.Bool.{Bool, true, false}
-use mathlib.Core.List.{List, [], _∷_, _++_}
-use Prim.Native.Nat.{ℕ, zero, suc, _+_, _-_, _≤_, _<_}
+use mathlib.Core.Bool.{Bool, true}
+use mathlib.Core.List.{List, _++_}
+use Prim.Native.Nat.{ℕ, _+_, _-_, _≤_, _<_}
 use native.Mathlib.Omega.{arith}
-use Rattle.lists.specs.Lists.{All, all-nil, all-cons, Mem}
+use Rattle.lists.specs.Lists.{All, all-nil}
 use Rattle.lists.proofs.Lists.{all-append, all-map, mem-left, mem-right}
 use Rattle.lists.specs.Tests.{Decides}
 use Rattle.lists.proofs.Numbers.{le-or-lt}
@@ -19,7 +19,7 @@ use Rattle.segment_find.specs.declared.neighbour.Side.{Side}
 use Rattle.segment_find.specs.declared.neighbour.Side.the-variants.{From, Before}
 use Rattle.segment_find.specs.declared.neighbour.Neighbour.{Neighbour}
 use Rattle.segment_find.specs.declared.neighbour.Neighbour.the-variants.{Block, Nothing}
-use Rattle.segment_find.specs.Walking.{Stands, Rooted, rootAt, Absent, halfAt}
+use Rattle.segment_find.specs.Walking.{Stands, rootAt, Absent, halfAt}
 use Rattle.segment_find.specs.Rowing.{rowsAt, keyAt, RunOf, Lower}
 use Rattle.segment_find.specs.Neighbours.{Beside, AsNear, Nearest, Neighbours, OwnNeighbour, Nearer, NearestBelow, NearestLive}
 use Rattle.segment_find.proofs.Halving.{Present, present, absent-hole, Down, down}

@@ -4,7 +4,7 @@ use mathlib.Core.List.{List}
 use Prim.Native.Nat.{ℕ, _+_, _≤_, _<_}
 use native.Mathlib.Omega.{arith}
 use Rattle.segment_find.specs.declared.rows.Rows.{Rows}
-use Rattle.segment_find.specs.Rowing.{tableRows, keyAt, Ordered, Parts, Lower}
+use Rattle.segment_find.specs.Rowing.{tableRows, keyAt, Ordered, Lower}
 
 -- rows before lo have keys below x, rows from hi on have not; between them nothing is settled
 pub record Between (entries : List ℕ) (rows : Rows) (x lo hi : ℕ) : Type 0 where

@@ -2,17 +2,16 @@
 -- Assumes nothing.
 use mathlib.Core.Path.{_≡_, refl, sym, _∙_, ap}
 use mathlib.Core.Logic.{⊎-elim}
-use mathlib.Core.Bool.{Bool, true, false, cond, _&&_}
+use mathlib.Core.Bool.{true, false}
 use mathlib.Core.List.{List, [], _∷_, _++_, append-nil}
-use Prim.Native.Nat.{ℕ, zero, suc, _+_, _-_, _*_, _≤_, _<_}
+use Prim.Native.Nat.{ℕ, zero, suc, _+_, _-_, _≤_, _<_}
 use native.Mathlib.Omega.{arith}
 use lib.ListN.{length, getD}
-use lib.Dec.{leb}
 use borrow.Author.Tests.{le-leb, lt-leb}
 use Rattle.lists.proofs.Numbers.{le-or-lt, lt-or-le}
 use Rattle.lists.proofs.Lists.{pairs-at}
 use Rattle.history.specs.Words.{within}
-use Rattle.history.specs.Tree.{Tree, hole, node}
+use Rattle.history.specs.Tree.{Tree, node}
 use Rattle.history.specs.Find.{window}
 use Rattle.history.specs.Rules.{ascends}
 use Rattle.history.proofs.Within.{within-low, within-in, within-high}
@@ -23,7 +22,7 @@ use Rattle.segment_table.proofs.Closed.{run-length, run-split, run-at}
 use Rattle.segment_find.specs.declared.walk.Node.{Node}
 use Rattle.segment_find.specs.declared.rows.Rows.{Rows}
 use Rattle.segment_find.specs.Walking.{Stands}
-use Rattle.segment_find.specs.Rowing.{tableRows, rowsAt, blocksIn, keyAt, Ordered, RunOf, Parts, Lower}
+use Rattle.segment_find.specs.Rowing.{tableRows, rowsAt, blocksIn, keyAt, RunOf, Parts, Lower}
 use Rattle.segment_find.specs.Listing.{InWindow}
 
 -- ── a node's rows ──

@@ -1,9 +1,9 @@
 -- What find answers: how many it lists and how many nodes it visits, or that the answer is too small; and what it leaves in the answer.
 -- Definitions alone.
 use mathlib.Core.Path.{_≡_}
-use mathlib.Core.Bool.{Bool, true, false, cond}
+use mathlib.Core.Bool.{cond}
 use mathlib.Core.List.{List}
-use Prim.Native.Nat.{ℕ, _+_, _-_, _≤_, _<_}
+use Prim.Native.Nat.{ℕ, _+_, _-_, _≤_}
 use lib.ListN.{length}
 use lib.Seq.{sets}
 use lib.Dec.{leb}

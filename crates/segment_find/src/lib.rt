@@ -1,11 +1,12 @@
 // Reads of a closed index's tree at a tick: what find lists (`search` and `extend_from_self` of segment_tree.rs), and the live block next to a place.
-// No table is tested here: on any contents these functions end, at most 64 calls deep, and on the tables of a closed index they answer as the
-// model of history does.
+// No table is tested here. On any contents these functions end, at most 66 calls deep: the width of a node, below 2^64, is halved at each call. On the
+// tables of a closed index they answer as the model of history does.
 //
-//   walk, specs/Walking          the way down by halves
-//   rows, specs/Rowing           a node's rows, and binary search in them
-//   lib, specs/Listing           find
-//   neighbour, specs/Neighbours  the block next to a place
+//   walk        specs/Walking     proofs/Halving            the way down by halves
+//   rows        specs/Rowing      proofs/Parting, Windows   a node's rows, and binary search in them
+//   lib         specs/Listing     proofs/Extending, Searching   find
+//   neighbour   specs/Neighbours  proofs/Neighbouring       the block next to a place
+//               proofs/Agreeing   for callers: by the blocks of the model; a neighbour is the only one
 ghost use Rattle.segment_find.specs.Listing.{InWindow, Extends, Searched, Finds};
 
 pub mod neighbour;
