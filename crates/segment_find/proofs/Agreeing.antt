@@ -78,7 +78,7 @@ module _ (key key′ : ℕ → ℕ) where
 module _ (t : Tables) (kind e : ℕ) (bs : List words.Block) (tree : Tree) (closed : Closed t kind e tree) (some : 0 < e)
     (order : sorted (keyIn bs) tree ≡ true) (keys : All (λ k. keyIn bs k ≡ firstCellIn (t .blocks) k) (entriesIn tree)) where
   rooted : Rooted (t .blocks) (t .nodes) (t .entries) kind e tree
-  rooted = record { stood = closed .stands; ascend = sorted-agree (keyIn bs) (firstCellIn (t .blocks)) tree keys order; some = some }
+  rooted = record { stood = closed .stands; ascend = sorted-agree (keyIn bs) (firstCellIn (t .blocks)) tree keys order; wide = λ _. some }
 
   back : {xs : List ℕ} → All (λ k. keyIn bs k ≡ firstCellIn (t .blocks) k) xs → All (λ k. firstCellIn (t .blocks) k ≡ keyIn bs k) xs
   back h = all-map (λ k p. sym p) h

@@ -216,6 +216,6 @@ pub nearest-live : {nodes entries : List ℕ} {kind end tick : ℕ} {side : Side
 nearest-live {nodes} {entries} {kind} {end} {tick} {side} {place} {root} {r} e below =
     record {
       of-tree = λ blocks tree s.
-          let st : Stands blocks nodes entries kind root tree = rw e (record { stood = s .stood; ascend = s .ascend; wide = λ _. s .some }) in
+          let st : Stands blocks nodes entries kind root tree = rw e s in
           rw e at (below .of-way blocks kind tree st);
     }

@@ -54,7 +54,7 @@ pub record Searched (nodes entries : List ℕ) (n : Node) (q : Query) (answer : 
 
 -- ── find ──
 
--- The list goes into the answer, or is too long for it: then nothing changes.
+-- The same from place 0 on.
 pub record Fills (list : List ℕ) (nodes : ℕ) (answer answer′ : List ℕ) (r : Found) : Type 0 where
   pub result : r ≡ cond (leb (length list) (length answer)) (Listed (length list) nodes) TooSmall
   pub left : answer′ ≡ cond (leb (length list) (length answer)) (sets answer 0 list) answer

@@ -18,12 +18,6 @@ pub record Stands (blocks nodes entries : List ℕ) (kind : ℕ) (n : Node) (tre
   pub ascend : sorted (firstCellIn blocks) tree ≡ true
   pub wide : 0 < n .link → n .min < n .max
 
--- The tree stands at the root of a kind, and first cells ascend strictly in each of its nodes.
-pub record Rooted (blocks nodes entries : List ℕ) (kind end : ℕ) (tree : Tree) : Type 0 where
-  pub stood : TreeAt (record { blocks = blocks; nodes = nodes; entries = entries }) kind (column nodes 0 kind) 0 end tree
-  pub ascend : sorted (firstCellIn blocks) tree ≡ true
-  pub some : 0 < end
-
 -- ── nodes ──
 
 -- there is no node: no row, or an interval without a tick, which no closed index has
@@ -34,6 +28,10 @@ pub data Absent (n : Node) : Type 0 where
 -- the root of a kind
 abbrev pub rootAt : (nodes : List ℕ) (kind end : ℕ) → Node
 rootAt nodes kind end = record { link = column nodes 0 kind; min = 0; max = end }
+
+-- the tree stands at the root of a kind
+abbrev pub Rooted : (blocks nodes entries : List ℕ) (kind end : ℕ) (tree : Tree) → Type 0
+Rooted blocks nodes entries kind end tree = Stands blocks nodes entries kind (rootAt nodes kind end) tree
 
 -- ── halves ──
 
