@@ -1,8 +1,8 @@
--- `segment_find::nearer` meets its contract: each return is one step of `nearing`. Assumes nothing.
+-- `segment_find::neighbour::nearer` meets its contract: each return is one step of `nearing`. Assumes nothing.
 use borrow.Author.Needs.{needs}
 use Rattle.segment_find.proofs.Neighbouring.{nearing}
-use Rattle.segment_find.proofs.nearer.Statement.{statement}
-use Rattle.segment_find.proofs.nearer.Tie as tie
+use Rattle.segment_find.proofs.neighbour.nearer.Statement.{statement}
+use Rattle.segment_find.proofs.neighbour.nearer.Tie as tie
 
 pub nearer-spec : {M : Type 1} → statement M
 nearer-spec =

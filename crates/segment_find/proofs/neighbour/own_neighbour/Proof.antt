@@ -1,8 +1,8 @@
--- `segment_find::own_neighbour` meets its contract: each return is one step of `owning`. Assumes nothing.
+-- `segment_find::neighbour::own_neighbour` meets its contract: each return is one step of `owning`. Assumes nothing.
 use borrow.Author.Needs.{needs}
 use Rattle.segment_find.proofs.Neighbouring.{owning}
-use Rattle.segment_find.proofs.own_neighbour.Statement.{statement}
-use Rattle.segment_find.proofs.own_neighbour.Tie as tie
+use Rattle.segment_find.proofs.neighbour.own_neighbour.Statement.{statement}
+use Rattle.segment_find.proofs.neighbour.own_neighbour.Tie as tie
 
 pub own-neighbour-spec : {M : Type 1} → statement M
 own-neighbour-spec =

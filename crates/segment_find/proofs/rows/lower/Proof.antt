@@ -1,10 +1,10 @@
--- `segment_find::lower` meets its contract: the bounds enclose the answer, and the row in the middle settles one side. Assumes nothing.
+-- `segment_find::rows::lower` meets its contract: the bounds enclose the answer, and the row in the middle settles one side. Assumes nothing.
 use mathlib.Core.Path.{refl}
 use Prim.Native.Nat.{_-_}
 use borrow.Author.Needs.{needs}
 use Rattle.segment_find.proofs.Parting.{Between, between-up, between-down, parting}
-use Rattle.segment_find.proofs.lower.Statement.{statement}
-use Rattle.segment_find.proofs.lower.Tie as tie
+use Rattle.segment_find.proofs.rows.lower.Statement.{statement}
+use Rattle.segment_find.proofs.rows.lower.Tie as tie
 
 abbrev Inv-loop : tie.InvT-loop
 Inv-loop entries key lo₀ hi₀ lo hi = Between entries (record { from = lo₀; to = hi₀ }) key lo hi

@@ -1,8 +1,8 @@
--- `segment_find::rows_of` meets its contract: each return is one step of `rowing`. Assumes nothing.
+-- `segment_find::rows::rows_of` meets its contract: each return is one step of `rowing`. Assumes nothing.
 use borrow.Author.Needs.{needs}
 use Rattle.segment_find.proofs.Windows.{rowing}
-use Rattle.segment_find.proofs.rows_of.Statement.{statement}
-use Rattle.segment_find.proofs.rows_of.Tie as tie
+use Rattle.segment_find.proofs.rows.rows_of.Statement.{statement}
+use Rattle.segment_find.proofs.rows.rows_of.Tie as tie
 
 pub rows-of-spec : {M : Type 1} → statement M
 rows-of-spec =
