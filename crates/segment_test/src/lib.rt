@@ -4,6 +4,7 @@
 //   specs/Test     what is decided, and the parts that inner tests decide
 //   specs/Total    sums
 //   head           counts inside the tables, roots
+//   read           numbers of rows that are known to lie in the tables
 //   run            one node's entries
 //   walk           every node, by halves
 //   total          runs one after the other; rule 23's sum, one total over all entries
@@ -15,6 +16,7 @@ ghost use Rattle.history.specs.Words.{Block};
 ghost use Rattle.segment_test.specs.Test.{lent, BlockRows, ClosedTree};
 
 mod head;
+mod read;
 mod run;
 mod total;
 mod walk;

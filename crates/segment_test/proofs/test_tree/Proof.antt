@@ -12,6 +12,12 @@ add-walk c =
     let here = c .before .before .before .before in
     omega (arith, here .before .test-heads .ensures .yes (not-false _ (here .if1 .left)) .node-room .fits)
 
+walk-requires : tie.Need-walk-requires
+walk-requires c κs =
+    let here = c .before .before .before .before in
+    let heads = here .before .test-heads .ensures .yes (not-false _ (here .if1 .left)) in
+    (omega arith, (heads .block-room, heads .node-room))
+
 -- the entry count is one number
 entry-widths-requires : tie.Need-entry-widths-requires
 entry-widths-requires c κs =
@@ -22,4 +28,4 @@ pub test-tree-spec : {M : Type 1} → statement M
 test-tree-spec =
     tie.close
     (tie.spec (λ c κs. search needs) (λ c. tested (search testing-tree)) (λ c κs. search needs) (λ c. tested (search testing-tree)) (λ c κs. search needs) (λ c κs. search needs)
-    add-walk (λ c κs. search needs) (λ c. tested (search testing-tree)) entry-widths-requires (λ c κs. search needs) (λ c κs. search needs) (λ c. tested (search testing-tree)))
+    add-walk walk-requires (λ c. tested (search testing-tree)) entry-widths-requires (λ c κs. search needs) (λ c κs. search needs) (λ c. tested (search testing-tree)))
