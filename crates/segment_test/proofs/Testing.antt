@@ -1,25 +1,23 @@
 -- What the tests of the tables say together is that they hold the tree of a closed index, both ways; a step for each return of `test_tree`. Assumes nothing.
-use mathlib.Core.Path.{_≡_, refl, sym, ap, _∙_}
-use mathlib.Core.Logic.{_⊎_, inl, inr}
+use mathlib.Core.Path.{_≡_, refl, sym, _∙_}
+use mathlib.Core.Logic.{inl, inr}
 use mathlib.Core.Bool.{Bool, true, false, not, true≢false, false≢true}
 use mathlib.Core.List.{List, [], _∷_}
-use Prim.Native.Nat.{ℕ, zero, suc, _+_, _-_, _*_, _≤_, _<_}
+use Prim.Native.Nat.{ℕ, zero, suc, _+_, _<_}
 use native.Mathlib.Omega.{arith}
-use lib.ListN.{length, getD}
-use lib.Dec.{eqb}
+use lib.ListN.{length}
 use borrow.Author.Tests.{not-true, not-false}
 use Rattle.lists.specs.Tests.{Decides}
-use Rattle.lists.proofs.Numbers.{eq-or-ne, confirm, refute, decides-iff}
-use Rattle.history.specs.Lent.{rowWidth, blockHead, nodeHead}
+use Rattle.lists.proofs.Numbers.{eq-or-ne, refute, decides-iff}
 use Rattle.history.specs.Words.{Block, life}
-use Rattle.history.specs.Tree.{Tree, hole, node, mid, nodeCount, entryCount, blockAt, keyIn, widths}
+use Rattle.history.specs.Tree.{Tree, hole, node, mid, nodeCount, blockAt, widths}
 use Rattle.history.specs.Rules.{isHole, halved, rule23}
 use Rattle.history.specs.Sound.{isEmpty}
 use Rattle.history.proofs.RulesLaws.{decided, halved-node, Rule23, rule23-decides}
 use Rattle.tables.specs.Columns.{column, nodesCount}
-use Rattle.segment_table.specs.Closed.{Tables, nodesUsed, entriesUsed, leftAt, rightAt, firstAt, countAt, TreeAt, Consecutive, Closed}
-use Rattle.segment_test.specs.Total.{sumTo, twoWords, entriesOfRow, widthsOfRow, lifeIn, Same}
-use Rattle.segment_test.specs.Test.{lent, BlockRows, ClosedTree, TreeStands, Walked, Rooted, Heads, Tiled, TreeTables}
+use Rattle.segment_table.specs.Closed.{Tables, nodesUsed, leftAt, rightAt, firstAt, countAt, TreeAt, Consecutive}
+use Rattle.segment_test.specs.Total.{sumTo, entriesOfRow, widthsOfRow, lifeIn, Same}
+use Rattle.segment_test.specs.Test.{lent, BlockRows, ClosedTree, Walked, Rooted, Heads, Tiled, TreeTables}
 use Rattle.segment_test.proofs.Sums.{sum-same}
 use Rattle.segment_test.proofs.Walking.{stands-one}
 use Rattle.segment_test.proofs.Ruling.{at-hole, RuledAt, stands-ruled, ruled-stands}

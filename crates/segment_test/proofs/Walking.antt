@@ -1,21 +1,19 @@
 -- The walk over all nodes: one tree at most stands at a link; a step for each return of the tests of `walk`. Assumes nothing.
-use mathlib.Core.Path.{_≡_, refl, sym, ap, ap₂, _∙_}
-use mathlib.Core.Bool.{Bool, true, false, true≢false, false≢true}
-use mathlib.Core.List.{List, [], _∷_}
-use Prim.Native.Nat.{ℕ, zero, suc, _+_, _-_, _*_, _/_, _≤_, _<_}
+use mathlib.Core.Path.{_≡_, refl, sym, _∙_}
+use mathlib.Core.Bool.{Bool, true, false}
+use mathlib.Core.List.{List}
+use Prim.Native.Nat.{ℕ, _+_, _-_, _/_, _≤_, _<_}
 use native.Mathlib.Omega.{arith}
-use lib.ListN.{length, getD}
-use lib.Dec.{leb, ltb, eqb}
+use lib.Dec.{eqb}
 use borrow.Author.Tests.{eqb-true, eqb-false}
 use Rattle.lists.specs.Tests.{Decides}
-use mathlib.Core.Logic.{_⊎_, inl, inr}
+use mathlib.Core.Logic.{inl, inr}
 use Rattle.lists.proofs.Numbers.{eq-or-ne, confirm, refute}
-use Rattle.history.specs.Lent.{entryHead, entryWidth}
 use Rattle.history.specs.Tree.{Tree, hole, node, mid, nodeCount}
-use Rattle.tables.specs.Columns.{column, entryColumn, nodeMin, nodeMax, nodeLeft, nodeRight, nodeFirst, nodeEntries, nodeKind, nodesCount}
-use Rattle.segment_table.specs.Closed.{Tables, nodesUsed, leftAt, rightAt, firstAt, countAt, run, Keyed, NodeRow, TreeAt}
+use Rattle.tables.specs.Columns.{column, nodeMin, nodeMax, nodeKind, nodesCount}
+use Rattle.segment_table.specs.Closed.{Tables, leftAt, rightAt, firstAt, countAt, TreeAt}
 use Rattle.segment_table.proofs.Closed.{tree-one}
-use Rattle.segment_test.specs.Test.{lent, EntryRow, RunRows, Inside, Bare, RowStands, NodeStands, TreeStands, Walked}
+use Rattle.segment_test.specs.Test.{lent, RunRows, Inside, Bare, RowStands, NodeStands, TreeStands, Walked}
 
 -- ── bare ──
 

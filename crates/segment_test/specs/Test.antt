@@ -1,18 +1,18 @@
 -- What the tests of a closed index's tree decide: the layout, the root and rule 23, for any tables; and the parts that inner tests decide.
 -- Definitions alone: their laws stand in proofs/.
 use mathlib.Core.Path.{_≡_}
-use mathlib.Core.Bool.{Bool, true, false, _&&_, not}
-use mathlib.Core.List.{List, [], _∷_}
-use Prim.Native.Nat.{ℕ, zero, suc, _+_, _*_, _≤_, _<_}
-use lib.ListN.{length, getD}
-use lib.Dec.{ltb, eqb}
+use mathlib.Core.Bool.{Bool, true, false, _&&_}
+use mathlib.Core.List.{List}
+use Prim.Native.Nat.{ℕ, suc, _+_, _*_, _≤_, _<_}
+use lib.ListN.{length}
+use lib.Dec.{ltb}
 use Rattle.history.specs.Lent.{rowWidth, entryWidth, blockHead, nodeHead, entryHead}
-use Rattle.history.specs.Words.{Block, firstCell}
+use Rattle.history.specs.Words.{Block}
 use Rattle.history.specs.Tree.{Tree, hole, node, mid, covers, blockAt, keyIn, nodeCount}
 use Rattle.history.specs.Rules.{isHole, halved, rule23}
 use Rattle.history.specs.Sound.{isEmpty}
-use Rattle.tables.specs.Columns.{column, blockColumn, entryColumn, blockFirst, blockCreated, blockDestroyed, nodeMin, nodeMax, nodeKind, nodesCount, entryKey}
-use Rattle.segment_table.specs.Closed.{Tables, nodesUsed, entriesUsed, leftAt, rightAt, firstAt, countAt, blockIn, firstCellIn, run, NodeRow, TreeAt, Closed}
+use Rattle.tables.specs.Columns.{column, blockColumn, entryColumn, blockCreated, blockDestroyed, nodeMin, nodeMax, nodeKind, nodesCount, entryKey}
+use Rattle.segment_table.specs.Closed.{Tables, nodesUsed, entriesUsed, leftAt, rightAt, firstAt, countAt, blockIn, firstCellIn, run, NodeRow, Closed}
 use Rattle.segment_test.specs.Total.{sumTo, entriesOfRow, widthsOfRow, lifeIn}
 
 -- ── what is decided ──

@@ -1,6 +1,6 @@
 // Numbers of rows that are known to lie in the tables: reads without a test.
 ghost use mathlib.Core.Path.{_≡_};
-ghost use Prim.Native.Nat.{ℕ, _+_, _*_, _≤_, _<_};
+ghost use Prim.Native.Nat.{_+_, _*_, _<_};
 ghost use lib.ListN.{length};
 ghost use Rattle.history.specs.Lent.{rowWidth, entryWidth, blockHead, entryHead};
 ghost use Rattle.tables.specs.Columns.{column, blockColumn, entryColumn};

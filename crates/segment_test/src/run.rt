@@ -1,8 +1,7 @@
 // One node's entries: their numbers, keys, lives and order.
 use crate::read;
 ghost use mathlib.Core.Path.{_≡_};
-ghost use Prim.Native.Nat.{ℕ, _+_, _*_, _≤_, _<_};
-ghost use lib.ListN.{length};
+ghost use Prim.Native.Nat.{_+_, _<_};
 ghost use Rattle.lists.specs.Tests.{Decides};
 ghost use Rattle.history.specs.Lent.{blockHead};
 ghost use Rattle.history.specs.Tree.{covers};

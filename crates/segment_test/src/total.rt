@@ -1,7 +1,7 @@
 // All rows of nodes, one after the other: their runs, and rule 23's total, the widths of all entries against the lives of all blocks, in two words each.
 use crate::read;
 ghost use mathlib.Core.Path.{_≡_};
-ghost use Prim.Native.Nat.{ℕ, _+_, _*_, _-_, _^_, _≤_, _<_};
+ghost use Prim.Native.Nat.{_+_, _*_, _-_, _^_, _≤_, _<_};
 ghost use Rattle.lists.specs.Tests.{Decides};
 ghost use Rattle.history.specs.Lent.{blockHead, nodeHead};
 ghost use Rattle.segment_table.specs.Closed.{nodesUsed};
@@ -31,6 +31,9 @@ pub fn test_runs(nodes: &[u64], entries: &[u64]) -> bool
     begin == total
 }
 
+// The largest word.
+const LARGEST: u64 = 18446744073709551615;
+
 // high * 2^64 + low.
 pub struct Total {
     pub high: u64,
@@ -42,7 +45,7 @@ fn plus_one(t: Total, x: u64) -> Total
     requires { ⌜ t .high + 1 < 2 ^ 64 ⌝ }
     ensures { λ r. ⌜ (twoWords (r .high) (r .low) ≡ twoWords (t .high) (t .low) + x) × (r .high ≤ t .high + 1) ⌝ }
 {
-    let room = 18446744073709551615 - t.low;
+    let room = LARGEST - t.low;
     if x <= room {
         return Total {
             high: t.high,

@@ -2,8 +2,7 @@
 use crate::head;
 use crate::read;
 use crate::run;
-ghost use mathlib.Core.Path.{_≡_};
-ghost use Prim.Native.Nat.{ℕ, _+_, _*_, _≤_, _<_};
+ghost use Prim.Native.Nat.{_+_, _*_, _≤_, _<_};
 ghost use lib.ListN.{length};
 ghost use Rattle.lists.specs.Tests.{Decides};
 ghost use Rattle.history.specs.Lent.{rowWidth, blockHead, nodeHead};

@@ -1,5 +1,4 @@
 -- `total::entry_widths` meets its contract: after k turns the widths of the first k rows' entries are added. Assumes nothing.
-use mathlib.Core.Path.{_≡_}
 use Prim.Native.Nat.{_-_, _≤_}
 use native.Mathlib.Omega.{arith}
 use borrow.Author.Needs.{needs}
