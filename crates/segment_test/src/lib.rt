@@ -1,17 +1,15 @@
 // Whether lent tables hold the tree of a closed index: the layout, a root where there are blocks, and rules 21 and 23 of document 01, on any tables at
 // all. No pass over the tables meets a row twice, whatever stands in it, so the test takes time linear in the rows that they have.
 //
-//   specs/Test     what is decided, and the parts that inner tests decide
-//   specs/Total    sums
-//   head           counts inside the tables, roots
-//   read           numbers of rows that are known to lie in the tables
-//   run            one node's entries
-//   walk           every node, by halves
-//   total          runs one after the other; rule 23's sum, one total over all entries
-ghost use mathlib.Core.List.{List};
-ghost use Rattle.lists.specs.Tests.{Decides};
-ghost use Rattle.history.specs.Words.{Block};
-ghost use Rattle.segment_test.specs.Test.{lent, BlockRows, ClosedTree};
+//   specs/ClosedTree   what is decided
+//   specs/Test         the parts that inner tests decide
+//   specs/Total        sums
+//   head               counts inside the tables, roots
+//   read               numbers of rows that are known to lie in the tables
+//   run                one node's entries
+//   walk               every node, by halves
+//   total              runs one after the other; rule 23's sum, one total over all entries
+ghost use Rattle.segment_test.specs.ClosedTree.{lent, Tested};
 
 mod head;
 mod read;
@@ -30,7 +28,7 @@ pub fn test_tree(
     end: u64,
     n: u64,
 ) -> bool
-    ensures { λ r. ⌜ ((bs : List Block) → BlockRows (now (blocks .entry)) n bs → Decides r (ClosedTree (lent (now (blocks .entry)) (now (nodes .entry)) (now (entries .entry))) kind end bs)) ⌝ }
+    ensures { λ r. ⌜ Tested (lent (now (blocks .entry)) (now (nodes .entry)) (now (entries .entry))) kind end n r ⌝ }
 {
     if !head::test_heads(blocks, nodes, entries, kind, n) {
         return false;
@@ -38,23 +36,7 @@ pub fn test_tree(
     if !total::test_runs(nodes, entries) {
         return false;
     }
-    let used = tables::get(nodes, 0, tables::node::COUNT);
-    let root = tables::get(nodes, 0, kind as usize);
-    if walk::walk(
-        blocks,
-        nodes,
-        entries,
-        n,
-        kind,
-        root,
-        0,
-        end,
-        0,
-        0,
-        used + 1,
-    )
-        != 1
-    {
+    if !walk::test_nodes(blocks, nodes, entries, kind, end, n) {
         return false;
     }
     let widths = total::entry_widths(nodes);

@@ -7,7 +7,8 @@ ghost use lib.ListN.{length};
 ghost use Rattle.lists.specs.Tests.{Decides};
 ghost use Rattle.history.specs.Lent.{rowWidth, blockHead, nodeHead};
 ghost use Rattle.segment_table.specs.Closed.{nodesUsed};
-ghost use Rattle.segment_test.specs.Test.{lent, Room, Bare, RowStands, NodeStands, Walked};
+ghost use Rattle.segment_test.specs.ClosedTree.{lent};
+ghost use Rattle.segment_test.specs.Test.{Room, Bare, RowStands, NodeStands, Walked, AllRows};
 
 // Whether the node at a link has no half. Constant time.
 fn bare(nodes: &[u64], link: u64) -> bool
@@ -78,7 +79,7 @@ fn test_node(
 
 // What is left of a budget of node rows after every node at or below a link took one; none where a node is wrong, or the nodes take all.
 // Linear in the rows and entries met; at most 64 frames deep up to the largest end tick, 2^63.
-pub fn walk(
+fn walk(
     blocks: &[u64],
     nodes: &[u64],
     entries: &[u64],
@@ -137,4 +138,35 @@ pub fn walk(
         max,
         rest,
     )
+}
+
+// Whether a tree stands from the root of the kind on and takes every row in use. Linear in nodes and entries.
+pub fn test_nodes(
+    blocks: &[u64],
+    nodes: &[u64],
+    entries: &[u64],
+    kind: u64,
+    end: u64,
+    n: u64,
+) -> bool
+    requires { ⌜ Room (now blocks) blockHead n ⌝ }
+    requires { ⌜ Room (now nodes) nodeHead (nodesUsed (now nodes)) ⌝ }
+    ensures { λ r. ⌜ Decides r (AllRows (lent (now (blocks .entry)) (now (nodes .entry)) (now (entries .entry))) n kind end) ⌝ }
+{
+    let used = tables::get(nodes, 0, tables::node::COUNT);
+    let root = tables::get(nodes, 0, kind as usize);
+    let rest = walk(
+        blocks,
+        nodes,
+        entries,
+        n,
+        kind,
+        root,
+        0,
+        end,
+        0,
+        0,
+        used + 1,
+    );
+    rest == 1
 }

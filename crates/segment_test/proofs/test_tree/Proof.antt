@@ -6,25 +6,20 @@ use Rattle.segment_test.proofs.Testing.{tested, testing-tree}
 use Rattle.segment_test.proofs.test_tree.Statement.{statement}
 use Rattle.segment_test.proofs.test_tree.Tie as tie
 
+-- what the heads say
 test-runs-requires : tie.Need-test-runs-requires
 test-runs-requires c κs = c .before .test-heads .ensures .yes (not-false _ (c .if1 .left)) .node-room
 
--- a table with room for its rows has fewer than 2^64
-add-walk : tie.Need-add-walk
-add-walk c =
-    let here = c .before .before .before .before in
-    omega (arith, here .before .test-heads .ensures .yes (not-false _ (here .if1 .left)) .node-room .fits)
-
-walk-requires : tie.Need-walk-requires
-walk-requires c κs =
-    let here = c .before .before .before .before in
+test-nodes-requires : tie.Need-test-nodes-requires
+test-nodes-requires c κs =
+    let here = c .before .before in
     let heads = here .before .test-heads .ensures .yes (not-false _ (here .if1 .left)) in
-    (omega arith, (heads .block-room, heads .node-room))
+    (heads .block-room, heads .node-room)
 
 -- the entry count is one number
 entry-widths-requires : tie.Need-entry-widths-requires
 entry-widths-requires c κs =
-    let runs = c .before .before .before .before in
+    let runs = c .before .before in
     let here = runs .before .before in (
       here .before .test-heads .ensures .yes (not-false _ (here .if1 .left)) .node-room,
       omega (arith, runs .before .test-runs .ensures .yes (not-false _ (runs .if2 .left)) .total, here .before .before .shared-slice-known3 .given 0),
@@ -32,11 +27,11 @@ entry-widths-requires c κs =
 
 lives-requires : tie.Need-lives-requires
 lives-requires c κs =
-    let here = c .before .before .before .before .before .before .before in
+    let here = c .before .before .before .before .before in
     here .before .test-heads .ensures .yes (not-false _ (here .if1 .left)) .block-room
 
 pub test-tree-spec : {M : Type 1} → statement M
 test-tree-spec =
     tie.close
-    (tie.spec (λ c κs. search needs) (λ c. tested (search testing-tree)) test-runs-requires (λ c. tested (search testing-tree)) (λ c κs. search needs) (λ c κs. search needs)
-    add-walk walk-requires (λ c. tested (search testing-tree)) entry-widths-requires lives-requires (λ c κs. search needs) (λ c. tested (search testing-tree)))
+    (tie.spec (λ c κs. search needs) (λ c. tested (search testing-tree)) test-runs-requires (λ c. tested (search testing-tree)) test-nodes-requires (λ c. tested (search testing-tree))
+    entry-widths-requires lives-requires (λ c κs. search needs) (λ c. tested (search testing-tree)))
