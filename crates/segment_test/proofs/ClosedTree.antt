@@ -17,7 +17,7 @@ use Rattle.history.specs.Tree.{Tree, noBlock, nodeCount, entryCount, blockAt}
 use Rattle.tables.specs.Columns.{column}
 use Rattle.segment_table.specs.Closed.{Tables, entriesUsed, firstCellIn, Closed}
 use Rattle.segment_table.proofs.Closed.{tree-one}
-use Rattle.segment_test.specs.ClosedTree.{createdIn, destroyedIn, BlockRows, ClosedTree, Tested}
+use Rattle.segment_test.specs.Test.{createdIn, destroyedIn, BlockRows, ClosedTree}
 use Rattle.segment_test.proofs.Testing.{at-halved}
 
 -- ── counts ──
@@ -36,10 +36,10 @@ pub closed-one : (t : Tables) (kind e : ℕ) (bs bs′ : List Block) (a : Closed
 closed-one t kind e bs bs′ a b = tree-one t kind (column (t .nodes) 0 kind) 0 e (a .tree) (b .tree) (a .closed .stands) (b .closed .stands)
 
 -- where the layout and the root are known, as of tables that were just filled, the test decides rule 23
-pub tested-rule-23 : (t : Tables) (kind e : ℕ) (bs : List Block) (T : Tree) {r : Bool} → BlockRows (t .blocks) (length bs) bs
+pub tested-rule-23 : (t : Tables) (kind e : ℕ) (bs : List Block) (T : Tree) {r : Bool}
     → blockHead + rowWidth * length bs ≤ length (t .blocks) → entryHead + entryWidth * entriesUsed (t .entries) ≤ length (t .entries) → Closed t kind e T
-    → isHole T ≡ isEmpty bs → Tested t kind e (length bs) r → Decides r (rule23 e bs T ≡ true)
-tested-rule-23 t kind e bs T {r} known block-room entry-room closed rooted test = record { yes = keeps; not = breaks }
+    → isHole T ≡ isEmpty bs → Decides r (ClosedTree t kind e bs) → Decides r (rule23 e bs T ≡ true)
+tested-rule-23 t kind e bs T {r} block-room entry-room closed rooted test = record { yes = keeps; not = breaks }
   where
     index : rule23 e bs T ≡ true → ClosedTree t kind e bs
     index h = record {
@@ -54,12 +54,12 @@ tested-rule-23 t kind e bs T {r} known block-room entry-room closed rooted test 
 
     keeps : r ≡ true → rule23 e bs T ≡ true
     keeps q =
-        let found = test .decides bs known .yes q in
+        let found = test .yes q in
         let same : found .tree ≡ T = tree-one t kind (column (t .nodes) 0 kind) 0 e (found .tree) T (found .closed .stands) (closed .stands) in
         rw same at (found .rule-23)
 
     breaks : r ≡ false → rule23 e bs T ≡ true → ⊥
-    breaks q h = test .decides bs known .not q (index h)
+    breaks q h = test .not q (index h)
 
 -- ── blocks ──
 

@@ -12,8 +12,8 @@ use Rattle.lists.specs.Tests.{Decides}
 use Rattle.lists.proofs.Numbers.{confirm, refute}
 use Rattle.history.specs.Lent.{rowWidth, blockHead, nodeHead, entryHead, entryWidth}
 use Rattle.tables.specs.Columns.{column, nodesCount, entriesCount}
-use Rattle.segment_test.specs.ClosedTree.{lent}
-use Rattle.segment_test.specs.Test.{Room, Inside, Unrooted, OtherKinds, Rooted, Heads}
+use Rattle.segment_test.specs.Test.{lent}
+use Rattle.segment_test.specs.Parts.{Room, Inside, Unrooted, OtherKinds, Rooted, Heads}
 
 -- ── room ──
 

@@ -18,8 +18,8 @@ use Rattle.history.proofs.RulesLaws.{every-all, all-every, decided, ascends-dec
 use Rattle.tables.specs.Columns.{entryColumn, entryKey}
 use Rattle.segment_table.specs.Closed.{Tables, leftAt, rightAt, firstAt, countAt, blockIn, run, Keyed, NodeRow, TreeAt}
 use Rattle.segment_table.proofs.Closed.{run-length, run-at}
-use Rattle.segment_test.specs.ClosedTree.{createdIn, destroyedIn, BlockRows}
-use Rattle.segment_test.specs.Test.{coversAbove, EntryRow, RunRows, NodeStands, TreeStands}
+use Rattle.segment_test.specs.Test.{createdIn, destroyedIn, BlockRows}
+use Rattle.segment_test.specs.Parts.{coversAbove, EntryRow, RunRows, NodeStands, TreeStands}
 
 -- ── the list of a run ──
 

@@ -12,8 +12,8 @@ use Rattle.lists.proofs.Numbers.{confirm, refute}
 use Rattle.history.specs.Tree.{covers}
 use Rattle.tables.specs.Columns.{entryColumn, blockColumn, blockFirst, entryKey}
 use Rattle.segment_table.specs.Closed.{blockIn, firstCellIn}
-use Rattle.segment_test.specs.ClosedTree.{createdOf, destroyedOf, createdIn, destroyedIn}
-use Rattle.segment_test.specs.Test.{coversAbove, EntryRow, Follows, RunRows}
+use Rattle.segment_test.specs.Test.{createdOf, destroyedOf, createdIn, destroyedIn}
+use Rattle.segment_test.specs.Parts.{coversAbove, EntryRow, Follows, RunRows}
 
 -- ── covers_node, covers_above ──
 

@@ -16,8 +16,8 @@ use Rattle.history.proofs.RulesLaws.{decided, halved-node, Rule23, rule23-decid
 use Rattle.tables.specs.Columns.{column}
 use Rattle.segment_table.specs.Closed.{Tables, nodesUsed, leftAt, rightAt, firstAt, countAt, TreeAt, Consecutive}
 use Rattle.segment_test.specs.Total.{sumTo, entriesOfRow, widthsOfRow, lifeIn, Same}
-use Rattle.segment_test.specs.ClosedTree.{lent, BlockRows, ClosedTree, Tested}
-use Rattle.segment_test.specs.Test.{Rooted, Heads, AllRows, Tiled, TreeTables}
+use Rattle.segment_test.specs.Test.{lent, BlockRows, ClosedTree}
+use Rattle.segment_test.specs.Parts.{Rooted, Heads, AllRows, Tiled, TreeTables}
 use Rattle.segment_test.proofs.Sums.{sum-same}
 use Rattle.segment_test.proofs.Ruling.{at-hole, RuledAt, stands-ruled, ruled-stands}
 use Rattle.segment_test.proofs.Links.{rows-entries, rows-widths}
@@ -133,14 +133,11 @@ module _ (t : Tables) (kind e : ℕ) (bs : List Block) (known : BlockRows (t .bl
       rules = rule23-decides e bs (s .tree) .yes (s .rule-23)
 
 -- a test of the tables is a test of the index
-pub tested : {t : Tables} {n kind e : ℕ} {r : Bool} → Decides r (TreeTables t n kind e) → Tested t kind e n r
-tested {t} {n} {kind} {e} {r} d = record { decides = decides }
-  where
-    decides : (bs : List Block) → BlockRows (t .blocks) n bs → Decides r (ClosedTree t kind e bs)
-    decides bs known =
-        let many : n ≡ length bs = sym (known .many) in
-        let rows : BlockRows (t .blocks) (length bs) bs = rw many at known in
-        decides-iff r (tables-closed t kind e bs rows) (closed-tables t kind e bs rows) (rw many at d)
+pub tested : {t : Tables} {n kind e : ℕ} {r : Bool} → Decides r (TreeTables t n kind e) → (bs : List Block) → BlockRows (t .blocks) n bs → Decides r (ClosedTree t kind e bs)
+tested {t} {n} {kind} {e} {r} d bs known =
+    let many : n ≡ length bs = sym (known .many) in
+    let rows : BlockRows (t .blocks) (length bs) bs = rw many at known in
+    decides-iff r (tables-closed t kind e bs rows) (closed-tables t kind e bs rows) (rw many at d)
 
 -- ── test_tree ──
 

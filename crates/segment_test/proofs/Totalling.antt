@@ -13,7 +13,7 @@ use Rattle.lists.specs.Tests.{Decides}
 use Rattle.lists.proofs.Numbers.{refute}
 use Rattle.tables.specs.Columns.{column, blockColumn, nodesCount, nodeFirst, nodeEntries, nodeMin, nodeMax, entriesCount, blockCreated, blockDestroyed}
 use Rattle.segment_table.specs.Closed.{nodesUsed, firstAt, countAt}
-use Rattle.segment_test.specs.Test.{Tiled}
+use Rattle.segment_test.specs.Parts.{Tiled}
 use Rattle.segment_test.specs.Total.{sumTo, twoWords, entriesOfRow, widthsOfRow, lifeIn, Same}
 use Rattle.segment_test.proofs.Sums.{sum-more, sum-start, sum-front}
 

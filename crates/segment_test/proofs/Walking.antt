@@ -13,8 +13,8 @@ use Rattle.history.specs.Tree.{Tree, hole, node, mid, nodeCount}
 use Rattle.tables.specs.Columns.{column, nodeMin, nodeMax, nodeKind, nodesCount}
 use Rattle.segment_table.specs.Closed.{Tables, leftAt, rightAt, firstAt, countAt, TreeAt, nodesUsed}
 use Rattle.segment_table.proofs.Closed.{tree-one}
-use Rattle.segment_test.specs.ClosedTree.{lent}
-use Rattle.segment_test.specs.Test.{RunRows, Inside, Bare, RowStands, NodeStands, TreeStands, Walked, AllRows}
+use Rattle.segment_test.specs.Test.{lent}
+use Rattle.segment_test.specs.Parts.{RunRows, Inside, Bare, RowStands, NodeStands, TreeStands, Walked, AllRows}
 
 -- ── bare ──
 

@@ -1,3 +1,3 @@
-pub mod ClosedTree
 pub mod Test
+pub mod Parts
 pub mod Total

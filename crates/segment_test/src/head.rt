@@ -2,8 +2,8 @@
 ghost use Prim.Native.Nat.{_<_};
 ghost use Rattle.lists.specs.Tests.{Decides};
 ghost use Rattle.tables.specs.Columns.{nodesCount};
-ghost use Rattle.segment_test.specs.ClosedTree.{lent};
-ghost use Rattle.segment_test.specs.Test.{Room, Inside, Unrooted, OtherKinds, Rooted, Heads};
+ghost use Rattle.segment_test.specs.Test.{lent};
+ghost use Rattle.segment_test.specs.Parts.{Room, Inside, Unrooted, OtherKinds, Rooted, Heads};
 
 // Whether a table has room for its head and this many rows. Constant time.
 fn room(table: &[u64], head: usize, rows: u64) -> bool

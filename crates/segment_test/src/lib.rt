@@ -1,15 +1,18 @@
 // Whether lent tables hold the tree of a closed index: the layout, a root where there are blocks, and rules 21 and 23 of document 01, on any tables at
 // all. No pass over the tables meets a row twice, whatever stands in it, so the test takes time linear in the rows that they have.
 //
-//   specs/ClosedTree   what is decided
-//   specs/Test         the parts that inner tests decide
+//   specs/Test         what is decided
+//   specs/Parts        the parts that inner tests decide
 //   specs/Total        sums
 //   head               counts inside the tables, roots
 //   read               numbers of rows that are known to lie in the tables
 //   run                one node's entries
 //   walk               every node, by halves
 //   total              runs one after the other; rule 23's sum, one total over all entries
-ghost use Rattle.segment_test.specs.ClosedTree.{lent, Tested};
+ghost use mathlib.Core.List.{List};
+ghost use Rattle.lists.specs.Tests.{Decides};
+ghost use Rattle.history.specs.Words.{Block};
+ghost use Rattle.segment_test.specs.Test.{lent, BlockRows, ClosedTree};
 
 mod head;
 mod read;
@@ -28,7 +31,7 @@ pub fn test_tree(
     end: u64,
     n: u64,
 ) -> bool
-    ensures { λ r. ⌜ Tested (lent (now (blocks .entry)) (now (nodes .entry)) (now (entries .entry))) kind end n r ⌝ }
+    ensures { λ r. ⌜ ((bs : List Block) → BlockRows (now (blocks .entry)) n bs → Decides r (ClosedTree (lent (now (blocks .entry)) (now (nodes .entry)) (now (entries .entry))) kind end bs)) ⌝ }
 {
     if !head::test_heads(blocks, nodes, entries, kind, n) {
         return false;

@@ -5,7 +5,7 @@ ghost use Prim.Native.Nat.{_+_, _<_};
 ghost use Rattle.lists.specs.Tests.{Decides};
 ghost use Rattle.history.specs.Lent.{blockHead};
 ghost use Rattle.history.specs.Tree.{covers};
-ghost use Rattle.segment_test.specs.Test.{Room, Inside, coversAbove, EntryRow, Follows, RunRows};
+ghost use Rattle.segment_test.specs.Parts.{Room, Inside, coversAbove, EntryRow, Follows, RunRows};
 
 // Whether a life covers the node [min, max). Constant time.
 fn covers_node(created: u64, destroyed: u64, min: u64, max: u64) -> bool

@@ -6,7 +6,7 @@ ghost use Rattle.lists.specs.Tests.{Decides};
 ghost use Rattle.history.specs.Lent.{blockHead, nodeHead};
 ghost use Rattle.segment_table.specs.Closed.{nodesUsed};
 ghost use Rattle.segment_test.specs.Total.{sumTo, twoWords, entriesOfRow, widthsOfRow, lifeIn, Same};
-ghost use Rattle.segment_test.specs.Test.{Room, Tiled};
+ghost use Rattle.segment_test.specs.Parts.{Room, Tiled};
 
 // Whether runs begin where those before end, and end with the entry count. Linear in the node count.
 pub fn test_runs(nodes: &[u64], entries: &[u64]) -> bool

@@ -7,8 +7,8 @@ ghost use lib.ListN.{length};
 ghost use Rattle.lists.specs.Tests.{Decides};
 ghost use Rattle.history.specs.Lent.{rowWidth, blockHead, nodeHead};
 ghost use Rattle.segment_table.specs.Closed.{nodesUsed};
-ghost use Rattle.segment_test.specs.ClosedTree.{lent};
-ghost use Rattle.segment_test.specs.Test.{Room, Bare, RowStands, NodeStands, Walked, AllRows};
+ghost use Rattle.segment_test.specs.Test.{lent};
+ghost use Rattle.segment_test.specs.Parts.{Room, Bare, RowStands, NodeStands, Walked, AllRows};
 
 // Whether the node at a link has no half. Constant time.
 fn bare(nodes: &[u64], link: u64) -> bool
