@@ -25,7 +25,7 @@ use Rattle.ordering.specs.Apart.{TestedApart}
 use Rattle.ordering.proofs.Agreeing.{tested-decides}
 use Rattle.ordering.proofs.Blocks.{blocks-length, blocks-at}
 use Rattle.segment_table.specs.Closed.{Closed, entriesUsed, nodesUsed}
-use Rattle.segment_test.specs.ClosedTree.{BlockRows, ClosedTree}
+use Rattle.segment_test.specs.Test.{BlockRows, ClosedTree}
 use Rattle.layout.specs.Tables.{Tables, lengthsOf, headAt, treeTables}
 use Rattle.layout.specs.Encodes.{Encodes, TreeIn, stateOf, openState, closedState}
 use Rattle.layout.specs.Formed.{WellFormed}

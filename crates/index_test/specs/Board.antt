@@ -12,7 +12,7 @@ use Rattle.tables.specs.Columns.{column, piecesCount, headState, headEnd, headK
 use Rattle.piece_table.specs.Test as piece
 use Rattle.ordering.specs.Order.{InOrder, Unordered}
 use Rattle.ordering.specs.Blocks.{blocksOf}
-use Rattle.segment_test.specs.ClosedTree.{ClosedTree}
+use Rattle.segment_test.specs.Test.{ClosedTree}
 use Rattle.layout.specs.Tables.{Tables, lengthsOf, headAt, treeTables}
 use Rattle.layout.specs.Encodes.{openState, closedState}
 use Rattle.layout.specs.Formed.{WellFormed}
