@@ -1,2 +1,3 @@
+pub mod ClosedTree
 pub mod Test
 pub mod Total

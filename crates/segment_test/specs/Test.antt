@@ -1,57 +1,16 @@
--- What the tests of a closed index's tree decide: the layout, the root and rule 23, for any tables; and the parts that inner tests decide.
--- Definitions alone: their laws stand in proofs/.
+-- The parts of the test, each of which an inner test decides; they speak of the tables alone. Definitions alone: laws stand in proofs/.
 use mathlib.Core.Path.{_≡_}
-use mathlib.Core.Bool.{Bool, true, false, _&&_, not}
-use mathlib.Core.List.{List, [], _∷_}
-use Prim.Native.Nat.{ℕ, zero, suc, _+_, _*_, _≤_, _<_}
-use lib.ListN.{length, getD}
-use lib.Dec.{ltb, eqb}
+use mathlib.Core.Bool.{Bool, true, false, _&&_}
+use mathlib.Core.List.{List}
+use Prim.Native.Nat.{ℕ, suc, _+_, _*_, _≤_, _<_}
+use lib.ListN.{length}
+use lib.Dec.{ltb}
 use Rattle.history.specs.Lent.{rowWidth, entryWidth, blockHead, nodeHead, entryHead}
-use Rattle.history.specs.Words.{Block, firstCell}
-use Rattle.history.specs.Tree.{Tree, hole, node, mid, covers, blockAt, keyIn, nodeCount}
-use Rattle.history.specs.Rules.{isHole, halved, rule23}
-use Rattle.history.specs.Sound.{isEmpty}
-use Rattle.tables.specs.Columns.{column, blockColumn, entryColumn, blockFirst, blockCreated, blockDestroyed, nodeMin, nodeMax, nodeKind, nodesCount, entryKey}
-use Rattle.segment_table.specs.Closed.{Tables, nodesUsed, entriesUsed, leftAt, rightAt, firstAt, countAt, blockIn, firstCellIn, run, NodeRow, TreeAt, Closed}
+use Rattle.history.specs.Tree.{Tree, hole, node, mid, covers, nodeCount}
+use Rattle.tables.specs.Columns.{column, entryColumn, nodeMin, nodeMax, nodeKind, nodesCount, entryKey}
+use Rattle.segment_table.specs.Closed.{Tables, nodesUsed, entriesUsed, leftAt, rightAt, firstAt, countAt, blockIn, firstCellIn, run, NodeRow}
+use Rattle.segment_test.specs.ClosedTree.{createdIn, destroyedIn}
 use Rattle.segment_test.specs.Total.{sumTo, entriesOfRow, widthsOfRow, lifeIn}
-
--- ── what is decided ──
-
--- the lent tables as one
-abbrev pub lent : (blocks nodes entries : List ℕ) → Tables
-lent blocks nodes entries = record { blocks = blocks; nodes = nodes; entries = entries }
-
--- a block's life in the block table: of a link, and of block k, whose link is k + 1
-abbrev pub createdOf : (blocks : List ℕ) (link : ℕ) → ℕ
-createdOf blocks link = blockColumn blocks link blockCreated
-
-abbrev pub destroyedOf : (blocks : List ℕ) (link : ℕ) → ℕ
-destroyedOf blocks link = blockColumn blocks link blockDestroyed
-
-abbrev pub createdIn : (blocks : List ℕ) (k : ℕ) → ℕ
-createdIn blocks k = createdOf blocks (suc k)
-
-abbrev pub destroyedIn : (blocks : List ℕ) (k : ℕ) → ℕ
-destroyedIn blocks k = destroyedOf blocks (suc k)
-
--- The first n rows of the block table are the blocks bs, as far as a tree can tell: first cells and lives.
-pub record BlockRows (blocks : List ℕ) (n : ℕ) (bs : List Block) : Type 0 where
-  pub many : length bs ≡ n
-  pub first : (k : ℕ) → k < n → keyIn bs k ≡ firstCellIn blocks k
-  pub created : (k : ℕ) → k < n → blockAt bs k .created ≡ createdIn blocks k
-  pub destroyed : (k : ℕ) → k < n → blockAt bs k .destroyed ≡ destroyedIn blocks k
-
--- The tables hold the tree of a closed index of the kind with the end tick e and the blocks bs: the counts are inside the tables, and document 01's rules
--- hold of the tree.
-pub record ClosedTree (t : Tables) (kind e : ℕ) (bs : List Block) : Type 0 where
-  pub tree : Tree
-  pub block-room : blockHead + rowWidth * length bs ≤ length (t .blocks)
-  pub entry-room : entryHead + entryWidth * entriesUsed (t .entries) ≤ length (t .entries)
-  pub closed : Closed t kind e tree
-  -- 21: an index without blocks has no node, any other has a root; no child of a node of width 1
-  pub rooted : isHole tree ≡ isEmpty bs
-  pub rule-21 : halved 0 e tree ≡ true
-  pub rule-23 : rule23 e bs tree ≡ true
 
 -- ── the head ──
 
@@ -143,6 +102,12 @@ pub record Walked (t : Tables) (n kind link lo hi from to budget rest : ℕ) : T
   pub stood : 0 < rest → (tree : Tree) × TreeStands t n kind link lo hi from to tree × (budget ≡ rest + nodeCount tree)
   pub wrong : rest ≡ 0 → (tree : Tree) → TreeStands t n kind link lo hi from to tree → nodeCount tree < budget → ⊥
 
+-- a tree stands from the root of the kind on, and takes every row in use
+pub record AllRows (t : Tables) (n kind e : ℕ) : Type 0 where
+  pub tree : Tree
+  pub stands : TreeStands t n kind (column (t .nodes) 0 kind) 0 e 0 0 tree
+  pub all-rows : nodesUsed (t .nodes) ≡ nodeCount tree
+
 -- ── all rows ──
 
 -- runs begin where those before end, and end with the entry count
@@ -156,7 +121,5 @@ pub record Tiled (nodes entries : List ℕ) : Type 0 where
 pub record TreeTables (t : Tables) (n kind e : ℕ) : Type 0 where
   pub heads : Heads t n kind
   pub tiled : Tiled (t .nodes) (t .entries)
-  pub tree : Tree
-  pub stands : TreeStands t n kind (column (t .nodes) 0 kind) 0 e 0 0 tree
-  pub all-rows : nodesUsed (t .nodes) ≡ nodeCount tree
+  pub rows : AllRows t n kind e
   pub summed : sumTo (widthsOfRow (t .nodes)) (nodesUsed (t .nodes)) ≡ sumTo (lifeIn (t .blocks)) n
