@@ -98,7 +98,8 @@ module _ {entries : List ℕ} {rows : Rows} {place row : ℕ} (l : Lower entries
         of-run = λ blocks xs own.
             let p = l .parts (own .room) (own .ordered) in
             rw (← own .lists)
-            (no-block (run-all entries (rows .from) (rows .to - rows .from) (λ i a b before. omega (arith, own .keyed i a (omega arith), p .above i (omega arith) (omega arith)))));
+            (no-block
+            (run-all entries (rows .from) (rows .to - rows .from) (λ i a b before. omega (arith, own .keyed i a (omega arith), p .above i (omega arith) (omega arith)))));
       }
 
   pub own-is-from : {side : Side} {r : Neighbour} → side ≡ From → row < rows .to → r ≡ Block (blockIn entries row) (keyAt entries row)
@@ -198,7 +199,8 @@ module _ {nodes entries : List ℕ} {n : Node} {tick : ℕ} {side : Side} {place
   unfolding TreeAt
   nearest-both {rows} {h} {own} {below} {r} at e here half there both = record { of-way = go }
     where
-      go : (blocks : List ℕ) (kind : ℕ) (tree : Tree) → Stands blocks nodes entries kind n tree → Neighbours side (firstCellIn blocks) place (path tick (n .min) (n .max) tree) r
+      go : (blocks : List ℕ) (kind : ℕ) (tree : Tree) → Stands blocks nodes entries kind n tree
+          → Neighbours side (firstCellIn blocks) place (path tick (n .min) (n .max) tree) r
       go blocks kind hole s = absurd (at .row (s .stood))
       go blocks kind (node xs l r′) s =
           let d : Down blocks nodes entries kind tick n h xs (node xs l r′) = down blocks nodes entries kind tick n xs l r′ s h half in

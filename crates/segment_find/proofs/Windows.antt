@@ -89,7 +89,8 @@ run-of blocks nodes entries kind n xs l r s =
       keyed = keyed;
       ordered = record {
         order = λ i j a b c.
-            let k : firstCellIn blocks (getD xs (i - first) 0) ≤ firstCellIn blocks (getD xs (j - first) 0) = ascends-at (firstCellIn blocks) xs (i - first) (j - first) up (omega arith) (omega arith) in
+            let k : firstCellIn blocks (getD xs (i - first) 0) ≤ firstCellIn blocks (getD xs (j - first) 0) =
+            ascends-at (firstCellIn blocks) xs (i - first) (j - first) up (omega arith) (omega arith) in
             rw (keyed i a (omega arith), keyed j (omega arith) c) (rw (at i a (omega arith), at j (omega arith) c) at k);
       };
     })

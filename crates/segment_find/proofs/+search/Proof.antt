@@ -29,8 +29,18 @@ search-below t = and 3 search-kinds.ps (falls 3 search-kinds.ps _<_ μ-search t)
 pub +search-spec : {M : Type 1} → statement M
 +search-spec =
     close μ-search
-    (λ t. search-lts.spec
-    (absent-reads.Asked, absent-reads.Learnt, in-window-reads.Asked, in-window-reads.Learnt, half-reads.Asked, half-reads.Learnt, search-below t, search′.Post, extend-from-self-reads.Asked, extend-from-self-reads.Learnt)
+    (λ t. search-lts.spec (
+      absent-reads.Asked,
+      absent-reads.Learnt,
+      in-window-reads.Asked,
+      in-window-reads.Learnt,
+      half-reads.Asked,
+      half-reads.Learnt,
+      search-below t,
+      search′.Post,
+      extend-from-self-reads.Asked,
+      extend-from-self-reads.Learnt,
+    )
     (search-at t)
     search′.Post
     (λ c κs. search needs)
@@ -44,14 +54,17 @@ pub +search-spec : {M : Type 1} → statement M
     (λ c. search needs)
     (λ c κs.
     let test = c .before .before .before .before .before .before in
-    (omega (arith, half-falls _ _ _ _ (present (test .before .absent .ensures) (test .if1 .left)) (c .before .half .ensures), test .before .before .before .before .before .pre .0), tt))
+    let start = test .before .before .before .before .before in
+    (omega (arith, start .pre .0, half-falls _ _ _ _ (present (test .before .absent .ensures) (test .if1 .left)) (c .before .half .ensures)), tt))
     (λ c. search needs)
     (λ c κs. search needs)
     (λ c.
     let arm = c .before .before .before .before .before in
     let call = arm .before .before .before .before in
     let test = call .before .before .before .before .before .before .before in
-    omega (arith, test .before .before .before .before .before .good, count-fits _ _ _ _ _ _ _ _ _ _ _ (present (test .before .absent .ensures) (test .if1 .left)) (call .before .before .half .ensures) (call .search .ensures) (arm .found .given .1)))
+    let start = test .before .before .before .before .before in
+    let there = present (test .before .absent .ensures) (test .if1 .left) in
+    omega (arith, start .good, count-fits _ _ _ _ _ _ _ _ _ _ _ there (call .before .before .half .ensures) (call .search .ensures) (arm .found .given .1)))
     (λ c. search needs)
     (λ c. search needs)
     (λ c. search searching)

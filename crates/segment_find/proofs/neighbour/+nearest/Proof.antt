@@ -30,8 +30,20 @@ nearest-below t = and 2 nearest-kinds.ps (falls 2 nearest-kinds.ps _<_ μ-neares
 pub +nearest-spec : {M : Type 1} → statement M
 +nearest-spec =
     close μ-nearest
-    (λ t. nearest-lts.spec
-    (absent-reads.Asked, absent-reads.Learnt, rows-of-reads.Asked, rows-of-reads.Learnt, own-neighbour-reads.Asked, own-neighbour-reads.Learnt, half-reads.Asked, half-reads.Learnt, nearest-below t, nearest.Post, nearer-reads.Asked, nearer-reads.Learnt)
+    (λ t. nearest-lts.spec (
+      absent-reads.Asked,
+      absent-reads.Learnt,
+      rows-of-reads.Asked,
+      rows-of-reads.Learnt,
+      own-neighbour-reads.Asked,
+      own-neighbour-reads.Learnt,
+      half-reads.Asked,
+      half-reads.Learnt,
+      nearest-below t,
+      nearest.Post,
+      nearer-reads.Asked,
+      nearer-reads.Learnt,
+    )
     (nearest-at t)
     nearest.Post
     (λ c κs. search needs)
