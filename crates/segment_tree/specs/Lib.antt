@@ -1,3 +1,4 @@
 pub mod Count
 pub mod Runs
 pub mod Lives
+pub mod Fill

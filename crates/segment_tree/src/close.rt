@@ -1,5 +1,7 @@
 // Closing the counted tree: each node gets its run of the entry table, and the blocks fill the runs in order.
+ghost use Rattle.segment_tree.specs.Count.{aLife};
 ghost use Rattle.segment_tree.specs.Runs.{AssignedRuns};
+ghost use Rattle.segment_tree.specs.Fill.{WroteEntry, Written};
 
 // Gives each of the rows 1 to n its run, in row order, and returns how many entries they have.
 pub fn assign_runs(nodes: &mut [u64], n: u64) -> u64
@@ -15,4 +17,57 @@ pub fn assign_runs(nodes: &mut [u64], n: u64) -> u64
         j += 1;
     }
     at
+}
+
+// Block b, whose first cell is `cell`, at the next free place of the node of `link`.
+fn write_entry(nodes: &mut [u64], entries: &mut [u64], link: u64, b: u64, cell: u64)
+    ensures { λ _. ⌜ WroteEntry (now (nodes .entry)) (now (entries .entry)) (now (nodes .exit)) (now (entries .exit)) link b cell ⌝ }
+{
+    let row = tables::get(nodes, link, tables::node::FIRST);
+    tables::entry::put(entries, row, tables::entry::BLOCK, b);
+    tables::entry::put(entries, row, tables::entry::KEY, cell);
+    tables::put(nodes, link, tables::node::FIRST, crate::plus(row, 1));
+}
+
+// Writes block b with the life [created, destroyed) into the nodes below the node [min, max) of `link` that list it. It goes the way of
+// `build::add_location`. At most 65 deep: each call halves the width.
+fn write_location(
+    nodes: &mut [u64],
+    entries: &mut [u64],
+    link: u64,
+    min: u64,
+    max: u64,
+    created: u64,
+    destroyed: u64,
+    b: u64,
+    cell: u64,
+)
+    ensures { λ _. ⌜ Written (now (nodes .entry)) (now (entries .entry)) (now (nodes .exit)) (now (entries .exit)) link min max (aLife created destroyed) b cell ⌝ }
+{
+    if link == 0 {
+        return;
+    }
+    if crate::covers_node(created, destroyed, min, max) {
+        write_entry(nodes, entries, link, b, cell);
+        return;
+    }
+    if !crate::has_halves(min, max) {
+        return;
+    }
+    let mid = min + (max - min) / 2;
+    if mid <= created {
+        if destroyed <= mid {
+            return;
+        }
+        let right = tables::get(nodes, link, tables::node::RIGHT);
+        write_location(nodes, entries, right, mid, max, created, destroyed, b, cell);
+        return;
+    }
+    let left = tables::get(nodes, link, tables::node::LEFT);
+    write_location(nodes, entries, left, min, mid, created, destroyed, b, cell);
+    if destroyed <= mid {
+        return;
+    }
+    let right = tables::get(nodes, link, tables::node::RIGHT);
+    write_location(nodes, entries, right, mid, max, created, destroyed, b, cell);
 }
