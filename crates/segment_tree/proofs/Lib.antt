@@ -9,3 +9,5 @@ pub mod Counting
 pub mod Presence
 pub mod Writing
 pub mod WritingDown
+pub mod WritingAll
+pub mod Closing

@@ -153,7 +153,7 @@ unfolding bare
 bare-right hole = refl
 bare-right (node xs l r) = refl
 
-new-bare : (n c d lo hi : ℕ) (T : Tree) → newNodes n c d lo hi (bare T) ≡ newNodes n c d lo hi T
+pub new-bare : (n c d lo hi : ℕ) (T : Tree) → newNodes n c d lo hi (bare T) ≡ newNodes n c d lo hi T
 unfolding newNodes bare
 new-bare zero c d lo hi hole = refl
 new-bare zero c d lo hi (node xs l r) = refl

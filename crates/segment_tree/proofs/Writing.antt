@@ -37,7 +37,7 @@ module _ (s : List ℕ) where
   runs-apart : (j k : ℕ) → 0 < j → j < k → startAt s j + countAt s j ≤ startAt s k
   runs-apart j k some h = omega (arith, run-ends j some, entries-most s j (k - 1) (omega arith))
 
-  run-fits : (k : ℕ) → 0 < k → k ≤ nodesUsed s → startAt s k + countAt s k ≤ allEntries s
+  pub run-fits : (k : ℕ) → 0 < k → k ≤ nodesUsed s → startAt s k + countAt s k ≤ allEntries s
   run-fits k some used = omega (arith, run-ends k some, entries-most s k (nodesUsed s) used)
 
 -- ── entry rows ──
@@ -49,7 +49,7 @@ module _ (es : List ℕ) (row c v : ℕ) (small : c < entryWidth) where
   entry-other : (row′ c′ : ℕ) → c′ < entryWidth → (row′ ≡ row → c′ ≡ c → ⊥) → entryColumn (set es (entryHead + (entryWidth * row + c)) v) row′ c′ ≡ entryColumn es row′ c′
   entry-other row′ c′ h apart = getD-set-other es (entryHead + (entryWidth * row + c)) (entryHead + (entryWidth * row′ + c′)) v 0 (λ e. apart (omega arith) (omega arith))
 
-run-same : (es es′ : List ℕ) (row n : ℕ) → ((i : ℕ) → row ≤ i → i < row + n → blockIn es′ i ≡ blockIn es i) → run es′ row n ≡ run es row n
+pub run-same : (es es′ : List ℕ) (row n : ℕ) → ((i : ℕ) → row ≤ i → i < row + n → blockIn es′ i ≡ blockIn es i) → run es′ row n ≡ run es row n
 unfolding run
 run-same es es′ row zero h = refl
 run-same es es′ row (suc n) h =

@@ -5,7 +5,7 @@ use mathlib.Core.List.{List, [], _∷_, map}
 use Prim.Native.Nat.{ℕ, zero, suc, _+_, _-_, _*_, _^_, _≤_, _<_}
 use lib.ListN.{length, set}
 use Rattle.lists.specs.Lists.{All, Pairs, count, countFrom}
-use Rattle.history.specs.Lent.{rowWidth, entryWidth, entryHead}
+use Rattle.history.specs.Lent.{rowWidth, entryWidth, nodeHead, entryHead}
 use Rattle.history.specs.Words.{Block, size}
 use Rattle.history.specs.Tree.{Tree, hole, node, mid, addLocation, keyIn, entryCount, treeOf}
 use Rattle.history.specs.Rules.{Apart}
@@ -87,3 +87,56 @@ withEntry entries row b cell = set (set entries (entryHead + (entryWidth * row +
 pub record WroteEntry (nodes entries nodes′ entries′ : List ℕ) (link b cell : ℕ) : Type 0 where
   pub nodes-are : nodes′ ≡ withNext nodes link
   pub entries-are : entries′ ≡ withEntry entries (firstAt nodes link) b cell
+
+-- ── all blocks ──
+
+-- The block numbers met along the order column from a link on. A link is a number plus one; 0 is the end.
+pub data Met (blocks : List ℕ) : (link : ℕ) → List ℕ → Type 0 where
+  met-end : {link : ℕ} → link ≡ 0 → Met blocks link []
+  met-next : {link k : ℕ} {ks : List ℕ} → link ≡ suc k → Met blocks (blockColumn blocks link blockNext) ks → Met blocks link (k ∷ ks)
+
+-- block k at the ends of its nodes
+abbrev pub appendBlock : (blocks : List ℕ) (end k : ℕ) → Tree → Tree
+appendBlock blocks e k T = addLocation (λ _. 0) 63 k (blockLife blocks (suc k) .created) (blockLife blocks (suc k) .destroyed) 0 e T
+
+-- the blocks of these numbers, one after the other
+unfoldable pub appendEach : (blocks : List ℕ) (end : ℕ) (numbers : List ℕ) → Tree → Tree
+appendEach blocks e [] T = T
+appendEach blocks e (k ∷ ks) T = appendEach blocks e ks (appendBlock blocks e k T)
+
+-- the nodes of block k are there
+abbrev pub HasNodes : (blocks : List ℕ) (end : ℕ) (T : Tree) (k : ℕ) → Type 0
+HasNodes blocks e T k = newNodes 63 (blockLife blocks (suc k) .created) (blockLife blocks (suc k) .destroyed) 0 e T ≡ 0
+
+-- the blocks met from a link on, at most `fuel` of them, fill the tree at the root
+pub record WrittenAll (blocks nodes entries nodes′ entries′ : List ℕ) (root e link fuel : ℕ) : Type 0 where
+  pub like : LikeButRuns nodes nodes′
+  pub nodes-long : length nodes′ ≡ length nodes
+  pub entries-long : length entries′ ≡ length entries
+  pub done : (s : List ℕ) (kind : ℕ) (numbers : List ℕ) (T : Tree) → e ≤ 2 ^ 63 → Fillable s nodes entries → Met blocks link numbers → length numbers ≤ fuel
+      → FillAt blocks s nodes entries kind root 0 e T → All (HasNodes blocks e T) numbers → Roomy s root (appendEach blocks e numbers T)
+      → FillAt blocks s nodes′ entries′ kind root 0 e (appendEach blocks e numbers T)
+
+-- ── the closed tree ──
+
+-- What finish closes: the tree of the blocks bs is counted, the entry table has room for it, the rows of the block table are these blocks, of which no
+-- two share a cell at a tick (rule 24), and the order column meets each of them once, in the order of first cells.
+pub record Closable (blocks nodes entries : List ℕ) (n e kind : ℕ) (bs : List Block) (numbers : List ℕ) : Type 0 where
+  pub some : 0 < e
+  pub small : e ≤ 2 ^ 63
+  pub counted : Counted nodes kind e (treeOf e bs)
+  pub nodes-headed : nodeHead ≤ length nodes
+  pub entries-headed : entryHead ≤ length entries
+  pub space : entryCount (treeOf e bs) ≤ entryRowsIn entries
+  pub lives-are : map (blockLife blocks) (countFrom 1 (length bs)) ≡ map lifeOf bs
+  pub cells-are : (k : ℕ) → k < length bs → firstCellIn blocks k ≡ keyIn bs k
+  pub apart : Apart bs
+  pub filled : All (λ (b : Block). 0 < size (b .stretch)) bs
+  pub met : Met blocks (blockColumn blocks 0 blockNext) numbers
+  pub many : length numbers ≤ n
+  pub once : (k : ℕ) → count k numbers ≡ count k (countFrom 0 (length bs))
+  pub ascends : Pairs (λ x y. keyIn bs x ≤ keyIn bs y) numbers
+
+pub record ClosedTree (blocks nodes entries nodes′ entries′ : List ℕ) (n e kind : ℕ) : Type 0 where
+  pub done : (bs : List Block) (numbers : List ℕ) → Closable blocks nodes entries n e kind bs numbers
+      → Closed (record { blocks = blocks; nodes = nodes′; entries = entries′ }) kind e (treeOf e bs)

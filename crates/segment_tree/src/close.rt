@@ -1,7 +1,8 @@
 // Closing the counted tree: each node gets its run of the entry table, and the blocks fill the runs in order.
+ghost use Rattle.tables.specs.Columns.{blockColumn, blockNext};
 ghost use Rattle.segment_tree.specs.Count.{aLife};
 ghost use Rattle.segment_tree.specs.Runs.{AssignedRuns};
-ghost use Rattle.segment_tree.specs.Fill.{WroteEntry, Written};
+ghost use Rattle.segment_tree.specs.Fill.{WroteEntry, Written, WrittenAll, ClosedTree};
 
 // Gives each of the rows 1 to n its run, in row order, and returns how many entries they have.
 pub fn assign_runs(nodes: &mut [u64], n: u64) -> u64
@@ -70,4 +71,51 @@ fn write_location(
     }
     let right = tables::get(nodes, link, tables::node::RIGHT);
     write_location(nodes, entries, right, mid, max, created, destroyed, b, cell);
+}
+
+// Writes the blocks that the order column links from its head on, at most n of them, into the tree at `root`.
+fn write_blocks(nodes: &mut [u64], entries: &mut [u64], blocks: &[u64], n: u64, root: u64, end: u64)
+    ensures { λ _. ⌜ WrittenAll (now (blocks .entry)) (now (nodes .entry)) (now (entries .entry)) (now (nodes .exit)) (now (entries .exit)) root end (blockColumn (now (blocks .entry)) 0 blockNext) n ⌝ }
+{
+    let mut link = tables::block::get(blocks, 0, tables::block::NEXT);
+    let mut j = 0;
+    while j < n {
+        if link == 0 {
+            return;
+        }
+        let cell = tables::block::get(blocks, link, tables::block::FIRST);
+        let created = tables::block::get(blocks, link, tables::block::CREATED);
+        let destroyed = tables::block::get(blocks, link, tables::block::DESTROYED);
+        write_location(
+            nodes,
+            entries,
+            root,
+            0,
+            end,
+            created,
+            destroyed,
+            link - 1,
+            cell,
+        );
+        link = tables::block::get(blocks, link, tables::block::NEXT);
+        j += 1;
+    }
+}
+
+// Closes the counted tree of a kind: its n blocks fill the runs in the order of the order column, and the runs begin where they began.
+pub fn close_tree(
+    nodes: &mut [u64],
+    entries: &mut [u64],
+    blocks: &[u64],
+    n: u64,
+    end: u64,
+    kind: u64,
+)
+    ensures { λ _. ⌜ ClosedTree (now (blocks .entry)) (now (nodes .entry)) (now (entries .entry)) (now (nodes .exit)) (now (entries .exit)) n end kind ⌝ }
+{
+    let root = tables::get(nodes, 0, kind as usize);
+    write_blocks(nodes, entries, blocks, n, root, end);
+    let used = tables::get(nodes, 0, tables::node::COUNT);
+    let total = assign_runs(nodes, used);
+    tables::put(entries, 0, tables::entry::COUNT, total);
 }
