@@ -11,3 +11,4 @@ pub mod Writing
 pub mod WritingDown
 pub mod WritingAll
 pub mod Closing
+pub mod InOrder

@@ -2,3 +2,4 @@ pub mod Count
 pub mod Runs
 pub mod Lives
 pub mod Fill
+pub mod Listing
