@@ -18,7 +18,7 @@ pub mod close;
 pub mod list;
 
 // The life [created, destroyed) covers [min, max).
-pub fn covers_node(created: u64, destroyed: u64, min: u64, max: u64) -> bool
+fn covers_node(created: u64, destroyed: u64, min: u64, max: u64) -> bool
     ensures { λ r. ⌜ r ≡ covers created destroyed min max ⌝ }
 {
     if created <= min {
@@ -29,14 +29,14 @@ pub fn covers_node(created: u64, destroyed: u64, min: u64, max: u64) -> bool
 }
 
 // A node [min, max) has halves.
-pub fn has_halves(min: u64, max: u64) -> bool
+fn has_halves(min: u64, max: u64) -> bool
     ensures { λ r. ⌜ r ≡ halves min max ⌝ }
 {
     if min < max { 1 < max - min } else { false }
 }
 
 // How many rows the node table has past its head.
-pub fn rows(nodes: &[u64]) -> u64
+fn rows(nodes: &[u64]) -> u64
     ensures { λ r. ⌜ r ≡ rowsIn (now (nodes .entry)) ⌝ }
 {
     if nodes.len() < tables::node::HEAD {
@@ -46,7 +46,7 @@ pub fn rows(nodes: &[u64]) -> u64
 }
 
 // How many rows the entry table has past its head.
-pub fn entry_rows(entries: &[u64]) -> u64
+fn entry_rows(entries: &[u64]) -> u64
     ensures { λ r. ⌜ r ≡ entryRowsIn (now (entries .entry)) ⌝ }
 {
     if entries.len() < tables::entry::HEAD {
@@ -56,7 +56,7 @@ pub fn entry_rows(entries: &[u64]) -> u64
 }
 
 // The sum, or the largest number where that is passed: counts in a table that nobody has tested may be any.
-pub fn plus(a: u64, b: u64) -> u64
+fn plus(a: u64, b: u64) -> u64
     ensures { λ r. ⌜ r ≡ plusUpTo a b ⌝ }
 {
     if b <= u64::MAX - a {
