@@ -1,32 +1,31 @@
 -- Steps of `close::close_tree`: the blocks in order fill the bare nodes to the tree of all blocks, and with the runs given out again the tables are
 -- those of a closed index. Assumes nothing.
-use mathlib.Core.Path.{_≡_, refl, ap, ap₂, sym, _∙_}
-use mathlib.Core.Logic.{_⊎_, inl, inr}
+use mathlib.Core.Path.{_≡_, refl, ap, sym, _∙_}
+use mathlib.Core.Logic.{inl, inr}
 use mathlib.Core.List.{List, [], _∷_, map}
-use Prim.Native.Nat.{ℕ, zero, suc, _+_, _-_, _*_, _/_, _^_, _≤_, _<_, min}
+use Prim.Native.Nat.{ℕ, suc, _+_, _-_, _*_, _^_, _≤_, _<_}
 use native.Mathlib.Omega.{arith}
 use lib.ListN.{length, getD, set, length-set}
 use lib.Seq.{getD-set-same, getD-set-other}
-use Rattle.lists.specs.Lists.{All, all-nil, all-cons, Mem, here, there, count, countFrom}
+use Rattle.lists.specs.Lists.{All, all-cons, here, countFrom}
 use Rattle.lists.proofs.Numbers.{lt-or-le}
-use Rattle.lists.proofs.Lists.{all-any, all-map, all-mem, all-of-mem, count-from-length, count-from-at}
+use Rattle.lists.proofs.Lists.{all-any, all-mem, all-of-mem, count-from-length, count-from-at}
 use Rattle.lists.proofs.Counting.{mem-count, count-from-out}
-use Rattle.lists.proofs.Maps.{getD-of-map, length-of-map}
-use Rattle.history.specs.Lent.{rowWidth, entryWidth, nodeHead, entryHead}
+use Rattle.lists.proofs.Maps.{getD-of-map}
+use Rattle.history.specs.Lent.{rowWidth, entryWidth, entryHead}
 use Rattle.history.specs.Words.{Block}
-use Rattle.history.specs.Tree.{Tree, hole, node, mid, addLocation, noBlock, blockAt, keyIn, treeOf, nodeCount, entryCount}
+use Rattle.history.specs.Tree.{Tree, hole, node, mid, addLocation, noBlock, blockAt, keyIn, treeOf, entryCount}
 use Rattle.history.proofs.TreeCounts.{newNodes}
-use Rattle.history.proofs.TreeAdding.{addBlock}
 use Rattle.history.proofs.TreeOrder.{addEach, treeOf-order}
 use Rattle.tables.specs.Columns.{column, blockColumn, entryColumn, blockNext, nodeMin, nodeMax, nodeLeft, nodeRight, nodeFirst, nodeEntries, nodeKind, nodesCount, entryBlock, entryKey, entriesCount}
-use Rattle.segment_table.specs.Closed.{Tables, nodesUsed, leftAt, rightAt, firstAt, countAt, entriesUsed, blockIn, firstCellIn, run, Keyed, NodeRow, TreeAt, Consecutive, Closed}
-use Rattle.segment_tree.specs.Count.{most, rowsIn, entriesTo, allEntries, CountRow, CountAt, Life, aLife}
-use Rattle.segment_tree.specs.Runs.{upTo, withRuns, LikeButRuns, AssignedRuns}
-use Rattle.segment_tree.specs.Lives.{lifeOf, blockLife, entryRowsIn, Counted}
-use Rattle.segment_tree.specs.Fill.{startAt, Fillable, FillRow, FillAt, Roomy, Met, appendBlock, appendEach, HasNodes, WrittenAll, Closable, ClosedTree}
+use Rattle.segment_table.specs.Closed.{Tables, nodesUsed, leftAt, rightAt, firstAt, countAt, firstCellIn, run, Keyed, TreeAt, Closed}
+use Rattle.segment_tree.specs.Count.{entriesTo, allEntries, CountRow, CountAt, Life, aLife}
+use Rattle.segment_tree.specs.Runs.{upTo, LikeButRuns, AssignedRuns}
+use Rattle.segment_tree.specs.Lives.{lifeOf, blockLife}
+use Rattle.segment_tree.specs.Fill.{startAt, Fillable, FillAt, Roomy, appendBlock, appendEach, HasNodes, WrittenAll, Closable, ClosedTree}
 use Rattle.segment_tree.proofs.NodeRows.{entries-same, entries-most}
-use Rattle.segment_tree.proofs.Running.{runs-length, runs-like, runs-first, runs-entries}
-use Rattle.segment_tree.proofs.Presence.{NodesOf, each-present, bare, new-bare, each-bare, AllIn, in-hole, each-end}
+use Rattle.segment_tree.proofs.Running.{runs-length, runs-like, runs-first}
+use Rattle.segment_tree.proofs.Presence.{NodesOf, each-present, bare, new-bare, each-bare, in-hole, each-end}
 use Rattle.segment_tree.proofs.Writing.{run-ends, run-fits, run-same, like-self, like-trans}
 
 -- ── the model ──

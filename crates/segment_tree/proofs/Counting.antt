@@ -1,25 +1,24 @@
 -- Steps of `build::count_tree`: from a table of zeros the rows' lives make the counts of the tree of all blocks. Assumes nothing.
 use mathlib.Core.Path.{_≡_, refl, ap, sym, _∙_}
-use mathlib.Core.Logic.{_⊎_, inl, inr}
-use mathlib.Core.Bool.{Bool, true, false, cond, not}
+use mathlib.Core.Logic.{inl, inr}
+use mathlib.Core.Bool.{Bool, true, false, not}
 use mathlib.Core.List.{List, [], _∷_, _++_, map}
-use Prim.Native.Nat.{ℕ, zero, suc, _+_, _-_, _*_, _/_, _^_, _≤_, _<_, min}
+use Prim.Native.Nat.{ℕ, suc, _+_, _-_, _*_, _^_, _≤_, _<_}
 use native.Mathlib.Omega.{arith}
 use lib.ListN.{length, getD, replicate, getD-replicate, length-replicate, List·getD-eq-default}
-use lib.Dec.{ltb}
 use borrow.Author.Tests.{lt-ltb, le-ltb, not-true, not-false}
-use Rattle.lists.specs.Lists.{count, countFrom}
+use Rattle.lists.specs.Lists.{countFrom}
 use Rattle.lists.proofs.Numbers.{lt-or-le}
 use Rattle.lists.proofs.Lists.{count-from-length}
 use Rattle.lists.proofs.Maps.{map-append, length-of-map}
-use Rattle.history.specs.Lent.{rowWidth, nodeHead, entryHead, entryWidth}
+use Rattle.history.specs.Lent.{rowWidth}
 use Rattle.history.specs.Words.{Block}
-use Rattle.history.specs.Tree.{Tree, hole, node, treeOf, nodeCount, entryCount}
+use Rattle.history.specs.Tree.{Tree, hole, treeOf, nodeCount, entryCount}
 use Rattle.tables.specs.Columns.{column, nodesCount}
 use Rattle.segment_table.specs.Closed.{nodesUsed, firstAt}
-use Rattle.segment_tree.specs.Count.{most, rowsIn, fullest, entriesTo, allEntries, CountAt, Clean, Life, linkAt, Standing, Grown}
+use Rattle.segment_tree.specs.Count.{most, rowsIn, fullest, entriesTo, allEntries, CountAt, Life, Standing, Grown}
 use Rattle.segment_tree.specs.Runs.{upTo, withRuns, AssignedRuns}
-use Rattle.segment_tree.specs.Lives.{lifeOf, blockLife, pieceLife, shape, addLife, addLives, rootSpot, AddedRows, entryRowsIn, Counted, roomFor, Countable, CountedAs, CountedTree}
+use Rattle.segment_tree.specs.Lives.{lifeOf, blockLife, pieceLife, shape, addLife, addLives, rootSpot, AddedRows, entryRowsIn, roomFor, Countable, CountedAs, CountedTree}
 use Rattle.segment_tree.proofs.NodeRows.{count-like, entries-most}
 use Rattle.segment_tree.proofs.Growing.{standing-grown, grown-trans}
 use Rattle.segment_tree.proofs.Adding.{fullest-grows}

@@ -1,17 +1,17 @@
 -- What a new node, an entry more and a half that grows leave of the node table: a row's kind and interval say whose it is. Assumes nothing.
 use mathlib.Core.Path.{_≡_, refl, ap, sym, _∙_}
 use mathlib.Core.Logic.{_⊎_, inl, inr}
-use mathlib.Core.List.{List, [], _∷_}
-use Prim.Native.Nat.{ℕ, zero, suc, _+_, _-_, _*_, _/_, _^_, _≤_, _<_, min}
+use mathlib.Core.List.{List, []}
+use Prim.Native.Nat.{ℕ, suc, _+_, _-_, _*_, _≤_, _<_}
 use native.Mathlib.Omega.{arith}
-use lib.ListN.{length, getD, set, length-set}
+use lib.ListN.{length, set, length-set}
 use Rattle.lists.proofs.Numbers.{eq-or-ne, le-or-lt}
-use Rattle.history.specs.Lent.{rowWidth, nodeHead}
+use Rattle.history.specs.Lent.{rowWidth}
 use Rattle.history.specs.Tree.{Tree, hole, node, mid, nodeCount, entryCount}
-use Rattle.tables.specs.Columns.{column, nodeMin, nodeMax, nodeLeft, nodeRight, nodeFirst, nodeEntries, nodeKind, nodesCount}
+use Rattle.tables.specs.Columns.{column, nodeMin, nodeMax, nodeLeft, nodeRight, nodeEntries, nodeKind, nodesCount}
 use Rattle.segment_table.specs.Closed.{nodesUsed, leftAt, rightAt, countAt}
-use Rattle.segment_tree.specs.Count.{most, plusUpTo, rowsIn, minAt, maxAt, kindAt, entriesTo, allEntries, CountRow, CountAt, Clean, Spot, spot, linkAt, Outside, other-kind, starts-before, ends-after, Standing, Kept, Grown, withNode}
-use Rattle.segment_tree.proofs.NodeRows.{column-same, column-other, row-inside, row-stays, tree-stays, hole-stays, entries-same, entries-more, entries-one}
+use Rattle.segment_tree.specs.Count.{most, plusUpTo, rowsIn, minAt, maxAt, kindAt, entriesTo, CountRow, CountAt, Spot, spot, linkAt, Outside, other-kind, starts-before, ends-after, Standing, Kept, Grown, withNode}
+use Rattle.segment_tree.proofs.NodeRows.{column-same, column-other, row-inside, tree-stays, hole-stays, entries-same, entries-more, entries-one}
 
 -- ── rows outside ──
 

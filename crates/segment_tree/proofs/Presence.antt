@@ -1,19 +1,18 @@
 -- Which nodes a life goes to are there: a tree to which blocks were added has them, and adding to its bare nodes gives its entries back. Assumes nothing.
 use mathlib.Core.Path.{_≡_, refl, ap, sym, _∙_}
-use mathlib.Core.Logic.{_⊎_, inl, inr}
+use mathlib.Core.Logic.{inl, inr}
 use mathlib.Core.Bool.{Bool, true, false, true≢false, cond, _&&_}
 use mathlib.Core.List.{List, [], _∷_}
-use Prim.Native.Nat.{ℕ, zero, suc, _+_, _-_, _^_, _≤_, _<_}
+use Prim.Native.Nat.{ℕ, zero, suc, _+_, _-_, _≤_, _<_}
 use native.Mathlib.Omega.{arith}
 use lib.Dec.{ltb}
-use borrow.Author.Tests.{lt-ltb}
-use Rattle.lists.specs.Lists.{All, all-nil, all-cons, Pairs, pairs-nil, pairs-cons}
+use Rattle.lists.specs.Lists.{All, all-nil, all-cons, Pairs, pairs-cons}
 use Rattle.lists.proofs.Numbers.{bool-cases}
 use Rattle.lists.proofs.Lists.{all-map}
 use Rattle.history.specs.Words.{Block}
 use Rattle.history.specs.Tree.{Tree, hole, node, mid, halves, covers, entriesOf, leftOf, rightOf, insert, addLocation}
 use Rattle.history.proofs.TreeInserting.{insert-nil, insert-on, insert-all}
-use Rattle.history.proofs.TreeAdding.{made, listed, add-here, add-last, add-below, addBlock}
+use Rattle.history.proofs.TreeAdding.{add-here, add-last, add-below, addBlock}
 use Rattle.history.proofs.TreeOrder.{addEach}
 use Rattle.history.proofs.TreeCounts.{isNew, newNodes}
 

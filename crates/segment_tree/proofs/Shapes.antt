@@ -1,22 +1,21 @@
 -- The counts of a tree do not depend on which blocks are added, nor on their order: adding goes with `shape`. Assumes nothing.
 use mathlib.Core.Path.{_≡_, refl, ap, sym, _∙_}
-use mathlib.Core.Logic.{inl, inr, _≢_}
+use mathlib.Core.Logic.{inl, inr}
 use mathlib.Core.Bool.{Bool, true, false, cond, _&&_}
 use mathlib.Core.List.{List, [], _∷_, _++_, map}
-use Prim.Native.Nat.{ℕ, zero, suc, _+_, _≤_, _<_, max}
+use Prim.Native.Nat.{ℕ, zero, suc, _+_, _<_}
 use native.Mathlib.Omega.{arith}
 use lib.ListN.{length, replicate, length-replicate}
 use lib.Dec.{ltb}
-use Rattle.lists.specs.Lists.{count, countFrom}
+use Rattle.lists.specs.Lists.{count}
 use Rattle.lists.proofs.Numbers.{bool-cases}
-use Rattle.lists.proofs.Maps.{map-append}
 use Rattle.history.specs.Words.{Block}
 use Rattle.history.specs.Tree.{Tree, hole, node, mid, halves, covers, entriesOf, leftOf, rightOf, insert, addLocation, addAll, keyIn, treeOf, nodeCount, entryCount}
 use Rattle.history.proofs.TreeInserting.{insert-nil, insert-on, insert-length}
 use Rattle.history.proofs.TreeAdding.{made, listed, add-here, add-last, add-below}
 use Rattle.history.proofs.TreeOrder.{addEach, each-order}
 use Rattle.segment_table.specs.Closed.{leftAt, rightAt}
-use Rattle.segment_tree.specs.Count.{CountRow, CountAt, Life}
+use Rattle.segment_tree.specs.Count.{CountAt, Life}
 use Rattle.segment_tree.specs.Lives.{lifeOf, shape, addLife, addLives}
 
 -- ── parts ──

@@ -1,21 +1,21 @@
 -- Steps of `close::write_blocks`: what the blocks still to come give from here on, all give from the start. Assumes nothing.
-use mathlib.Core.Path.{_≡_, refl, ap, sym, _∙_}
-use mathlib.Core.Logic.{_⊎_, inl, inr}
+use mathlib.Core.Path.{_≡_, refl, _∙_}
+use mathlib.Core.Logic.{inl, inr}
 use mathlib.Core.Bool.{Bool, true, false, cond, _&&_}
 use mathlib.Core.List.{List, [], _∷_}
 use Prim.Native.Nat.{ℕ, zero, suc, _+_, _-_, _^_, _≤_, _<_}
 use native.Mathlib.Omega.{arith}
 use lib.ListN.{length}
 use lib.Dec.{ltb}
-use Rattle.lists.specs.Lists.{All, all-nil, all-cons}
+use Rattle.lists.specs.Lists.{All, all-cons}
 use Rattle.lists.proofs.Numbers.{bool-cases}
 use Rattle.lists.proofs.Lists.{all-map}
-use Rattle.history.specs.Tree.{Tree, hole, node, mid, halves, covers, entriesOf, leftOf, rightOf, insert, addLocation}
+use Rattle.history.specs.Tree.{Tree, hole, node, mid, halves, covers, insert, addLocation}
 use Rattle.history.proofs.TreeInserting.{insert-length}
 use Rattle.history.proofs.TreeAdding.{add-here, add-last, add-below}
 use Rattle.tables.specs.Columns.{blockColumn, blockFirst, blockCreated, blockDestroyed, blockNext}
-use Rattle.segment_table.specs.Closed.{leftAt, rightAt, countAt, firstCellIn}
-use Rattle.segment_tree.specs.Count.{Life, aLife}
+use Rattle.segment_table.specs.Closed.{leftAt, rightAt, firstCellIn}
+use Rattle.segment_tree.specs.Count.{aLife}
 use Rattle.segment_tree.specs.Lives.{blockLife}
 use Rattle.segment_tree.specs.Fill.{Fillable, FillAt, Roomy, Filled, Written, Met, met-end, met-next, appendBlock, appendEach, HasNodes, WrittenAll}
 use Rattle.segment_tree.proofs.Presence.{new-keep}

@@ -1,9 +1,9 @@
 -- The returns of `close::write_entry` and `close::write_location`: the way of addLocation through nodes that are all there. Assumes nothing.
-use mathlib.Core.Path.{_≡_, refl, ap, sym, _∙_}
-use mathlib.Core.Logic.{_⊎_, inl, inr}
-use mathlib.Core.Bool.{Bool, true, false, cond, not, _&&_}
-use mathlib.Core.List.{List, [], _∷_, _++_}
-use Prim.Native.Nat.{ℕ, zero, suc, _+_, _-_, _*_, _/_, _^_, _≤_, _<_}
+use mathlib.Core.Path.{_≡_, refl, sym, _∙_}
+use mathlib.Core.Logic.{inr}
+use mathlib.Core.Bool.{Bool, true, false, not, _&&_}
+use mathlib.Core.List.{List}
+use Prim.Native.Nat.{ℕ, _+_, _-_, _*_, _^_, _≤_, _<_}
 use native.Mathlib.Omega.{arith}
 use lib.ListN.{length, set}
 use lib.Dec.{ltb}
@@ -14,8 +14,8 @@ use Rattle.history.specs.Tree.{Tree, hole, node, mid, halves, covers, insert, a
 use Rattle.history.proofs.TreeInserting.{insert-length}
 use Rattle.history.proofs.TreeAdding.{add-here, add-narrow}
 use Rattle.history.proofs.TreeCounts.{newNodes}
-use Rattle.tables.specs.Columns.{column, nodeLeft, nodeRight, nodeFirst, entryBlock, entryKey}
-use Rattle.segment_table.specs.Closed.{leftAt, rightAt, firstAt, countAt, firstCellIn}
+use Rattle.tables.specs.Columns.{nodeLeft, nodeRight, nodeFirst, entryBlock, entryKey}
+use Rattle.segment_table.specs.Closed.{leftAt, rightAt, firstAt, firstCellIn}
 use Rattle.segment_tree.specs.Count.{plusUpTo, Life, spot, Outside}
 use Rattle.segment_tree.specs.Runs.{LikeButRuns}
 use Rattle.segment_tree.specs.Fill.{Fillable, FillAt, Roomy, Filled, Written, WroteEntry}
@@ -200,5 +200,3 @@ module _ {t es : List ℕ} {link lo hi b cell : ℕ} {life : Life} (p : Split li
       rw z
       (filled-trans blocks s t es t₁ es₁ t₂ es₂ kind link lo hi _ _ _ first
       (right-filled link lo hi life b cell p blocks s kind n xs l r w is none t₁ es₁ t₂ es₂ _ u f₁ (first .here) read₂ (omega (arith, split-mid link lo hi life p)) a₂ (rooms .2))))
-
-pub ruleset writing = (write-none, write-covered, write-narrow, split, write-neither, write-right, write-left, write-both)

@@ -2,7 +2,7 @@
 -- place of every node that lists it. The start of a run is its next free place meanwhile. Definitions alone.
 use mathlib.Core.Path.{_≡_}
 use mathlib.Core.List.{List, [], _∷_, map}
-use Prim.Native.Nat.{ℕ, zero, suc, _+_, _-_, _*_, _^_, _≤_, _<_}
+use Prim.Native.Nat.{ℕ, suc, _+_, _-_, _*_, _^_, _≤_, _<_}
 use lib.ListN.{length, set}
 use Rattle.lists.specs.Lists.{All, Pairs, count, countFrom}
 use Rattle.history.specs.Lent.{rowWidth, entryWidth, nodeHead, entryHead}
@@ -10,9 +10,9 @@ use Rattle.history.specs.Words.{Block, size}
 use Rattle.history.specs.Tree.{Tree, hole, node, mid, addLocation, keyIn, entryCount, treeOf}
 use Rattle.history.specs.Rules.{Apart}
 use Rattle.history.proofs.TreeCounts.{newNodes}
-use Rattle.tables.specs.Columns.{column, blockColumn, entryColumn, nodeFirst, blockNext, entryBlock, entryKey}
-use Rattle.segment_table.specs.Closed.{Tables, Closed, nodesUsed, leftAt, rightAt, firstAt, countAt, firstCellIn, run, Keyed}
-use Rattle.segment_tree.specs.Count.{most, plusUpTo, rowsIn, entriesTo, allEntries, CountRow, Life, aLife, spot, Outside}
+use Rattle.tables.specs.Columns.{blockColumn, entryColumn, nodeFirst, blockNext, entryBlock, entryKey}
+use Rattle.segment_table.specs.Closed.{Closed, nodesUsed, leftAt, rightAt, firstAt, countAt, firstCellIn, run, Keyed}
+use Rattle.segment_tree.specs.Count.{most, plusUpTo, rowsIn, entriesTo, allEntries, CountRow, Life, spot, Outside}
 use Rattle.segment_tree.specs.Runs.{LikeButRuns}
 use Rattle.segment_tree.specs.Lives.{lifeOf, blockLife, Counted, entryRowsIn}
 

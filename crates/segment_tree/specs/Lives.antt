@@ -1,8 +1,8 @@
 -- The lives in the block and piece tables, the counts that they make, and what counting them leaves. Definitions alone.
 use mathlib.Core.Path.{_≡_}
-use mathlib.Core.Bool.{Bool, true, false, cond}
+use mathlib.Core.Bool.{Bool, cond}
 use mathlib.Core.List.{List, [], _∷_, _++_, map}
-use Prim.Native.Nat.{ℕ, zero, suc, _+_, _-_, _/_, _^_, _≤_, _<_}
+use Prim.Native.Nat.{ℕ, suc, _+_, _-_, _/_, _^_, _≤_, _<_}
 use lib.ListN.{length, replicate}
 use lib.Dec.{ltb}
 use Rattle.lists.specs.Lists.{count, countFrom}

@@ -6,9 +6,10 @@
 //   specs/Count    the node table while it is counted, and what adding a life leaves
 //   specs/Lives    the lives in the block and piece tables, and the whole count
 //   specs/Runs     the runs of entries
+use tables::entry;
+use tables::node;
 ghost use mathlib.Core.Path.{_≡_};
-ghost use Prim.Native.Nat.{ℕ, _+_, min};
-ghost use lib.ListN.{length};
+ghost use Prim.Native.Nat.{_+_, min};
 ghost use Rattle.history.specs.Tree.{covers, halves};
 ghost use Rattle.segment_tree.specs.Count.{rowsIn, plusUpTo};
 ghost use Rattle.segment_tree.specs.Lives.{entryRowsIn};
@@ -39,20 +40,20 @@ fn has_halves(min: u64, max: u64) -> bool
 fn rows(nodes: &[u64]) -> u64
     ensures { λ r. ⌜ r ≡ rowsIn (now (nodes .entry)) ⌝ }
 {
-    if nodes.len() < tables::node::HEAD {
+    if nodes.len() < node::HEAD {
         return 0;
     }
-    ((nodes.len() - tables::node::HEAD) / tables::ROW) as u64
+    ((nodes.len() - node::HEAD) / tables::ROW) as u64
 }
 
 // How many rows the entry table has past its head.
 fn entry_rows(entries: &[u64]) -> u64
     ensures { λ r. ⌜ r ≡ entryRowsIn (now (entries .entry)) ⌝ }
 {
-    if entries.len() < tables::entry::HEAD {
+    if entries.len() < entry::HEAD {
         return 0;
     }
-    ((entries.len() - tables::entry::HEAD) / tables::entry::WIDTH) as u64
+    ((entries.len() - entry::HEAD) / entry::WIDTH) as u64
 }
 
 // The sum, or the largest number where that is passed: counts in a table that nobody has tested may be any.

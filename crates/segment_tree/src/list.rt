@@ -1,4 +1,5 @@
 // Listing the nodes in the order of the file: root first, left before right.
+use tables::node;
 ghost use mathlib.Core.Path.{_≡_};
 ghost use lib.ListN.{set};
 ghost use Rattle.segment_tree.specs.Listing.{Listed};
@@ -30,8 +31,8 @@ pub fn list_nodes(nodes: &[u64], link: u64, min: u64, max: u64, out: &mut [u64],
         return crate::plus(last, 1);
     }
     let mid = min + (max - min) / 2;
-    let left = tables::get(nodes, link, tables::node::LEFT);
+    let left = tables::get(nodes, link, node::LEFT);
     let after = list_nodes(nodes, left, min, mid, out, next);
-    let right = tables::get(nodes, link, tables::node::RIGHT);
+    let right = tables::get(nodes, link, node::RIGHT);
     list_nodes(nodes, right, mid, max, out, after)
 }
