@@ -119,8 +119,8 @@ pub record WrittenAll (blocks nodes entries nodes′ entries′ : List ℕ) (roo
 
 -- ── the closed tree ──
 
--- What finish closes: the tree of the blocks bs is counted, the entry table has room for it, the rows of the block table are these blocks, of which no
--- two share a cell at a tick (rule 24), and the order column meets each of them once, in the order of first cells.
+-- What finish closes: the tree of the blocks bs is counted, the entry table has room for it, the rows of the block table live as these blocks,
+-- of which no two share a cell at a tick (rule 24), and the order column meets each of them once, in the order of first cells.
 pub record Closable (blocks nodes entries : List ℕ) (n e kind : ℕ) (bs : List Block) (numbers : List ℕ) : Type 0 where
   pub some : 0 < e
   pub small : e ≤ 2 ^ 63
@@ -129,7 +129,6 @@ pub record Closable (blocks nodes entries : List ℕ) (n e kind : ℕ) (bs : Lis
   pub entries-headed : entryHead ≤ length entries
   pub space : entryCount (treeOf e bs) ≤ entryRowsIn entries
   pub lives-are : map (blockLife blocks) (countFrom 1 (length bs)) ≡ map lifeOf bs
-  pub cells-are : (k : ℕ) → k < length bs → firstCellIn blocks k ≡ keyIn bs k
   pub apart : Apart bs
   pub filled : All (λ (b : Block). 0 < size (b .stretch)) bs
   pub met : Met blocks (blockColumn blocks 0 blockNext) numbers

@@ -8,7 +8,7 @@ ghost use Rattle.segment_tree.specs.Runs.{AssignedRuns};
 ghost use Rattle.segment_tree.specs.Fill.{WroteEntry, Written, WrittenAll, ClosedTree};
 
 // Gives each of the rows 1 to n its run, in row order, and returns how many entries they have.
-pub fn assign_runs(nodes: &mut [u64], n: u64) -> u64
+pub(crate) fn assign_runs(nodes: &mut [u64], n: u64) -> u64
     ensures { λ r. ⌜ AssignedRuns (now (nodes .entry)) (now (nodes .exit)) n r ⌝ }
 {
     let mut at = 0;

@@ -6,6 +6,8 @@
 //   specs/Count    the node table while it is counted, and what adding a life leaves
 //   specs/Lives    the lives in the block and piece tables, and the whole count
 //   specs/Runs     the runs of entries
+//   specs/Fill     the tables while they are filled, and the whole closing
+//   specs/Listing  the order of the file
 use tables::entry;
 use tables::node;
 ghost use mathlib.Core.Path.{_≡_};
