@@ -22,10 +22,10 @@ use Rattle.segment_table.specs.Closed.{Tables, nodesUsed, leftAt, rightAt, firs
 use Rattle.segment_tree.specs.Count.{entriesTo, allEntries, CountRow, CountAt, Life, aLife}
 use Rattle.segment_tree.specs.Runs.{upTo, LikeButRuns, AssignedRuns}
 use Rattle.segment_tree.specs.Lives.{lifeOf, blockLife}
-use Rattle.segment_tree.specs.Fill.{startAt, Fillable, FillAt, Roomy, appendBlock, appendEach, HasNodes, WrittenAll, Closable, ClosedTree}
+use Rattle.segment_tree.specs.Fill.{startAt, Fillable, FillAt, Roomy, appendBlock, appendEach, FindsNodes, WrittenAll, Closable, ClosedTree}
 use Rattle.segment_tree.proofs.NodeRows.{entries-same, entries-most}
 use Rattle.segment_tree.proofs.Running.{runs-length, runs-like, runs-first}
-use Rattle.segment_tree.proofs.Presence.{NodesOf, each-present, bare, new-bare, each-bare, in-hole, each-end}
+use Rattle.segment_tree.proofs.Presence.{new-none-count, NodesOf, each-present, bare, new-bare, each-bare, in-hole, each-end}
 use Rattle.segment_tree.proofs.Writing.{run-ends, run-fits, run-same, like-self, like-trans}
 
 -- ── the model ──
@@ -53,8 +53,10 @@ module _ (blocks : List ℕ) (bs : List Block) (e : ℕ) (same : (k : ℕ) → k
       append-is ks (appendBlock blocks e k T) hs
       ∙ ap (λ (l : Life). addEach (blockAt bs) (λ _. 0) e ks (addLocation (λ _. 0) 63 k (l .created) (l .destroyed) 0 e T)) (same k h)
 
-  nodes-are : (T : Tree) (k : ℕ) → k < length bs → NodesOf (blockAt bs) e T k → HasNodes blocks e T k
-  nodes-are T k h n = ap (λ (l : Life). newNodes 63 (l .created) (l .destroyed) 0 e T) (same k h) ∙ n
+  nodes-are : (T : Tree) (k : ℕ) → k < length bs → NodesOf (blockAt bs) e T k → FindsNodes 63 k (blockLife blocks (suc k)) 0 e T
+  nodes-are T k h n =
+      let l : Life = blockLife blocks (suc k) in
+      new-none-count k 63 (l .created) (l .destroyed) 0 e T (ap (λ (l : Life). newNodes 63 (l .created) (l .destroyed) 0 e T) (same k h) ∙ n)
 
 -- ── the tables before and after ──
 
@@ -171,7 +173,7 @@ module _ (blocks s es : List ℕ) (n e kind : ℕ) (bs : List Block) (numbers : 
   fills : appendEach blocks e numbers (bare whole) ≡ whole
   fills = append-is blocks bs e same-lives numbers (bare whole) all-below ∙ each-bare (blockAt bs) (λ _. 0) e numbers whole whole-is
 
-  there-are : All (HasNodes blocks e (bare whole)) numbers
+  there-are : All (λ k. FindsNodes 63 k (blockLife blocks (suc k)) 0 e (bare whole)) numbers
   there-are =
       let present : All (NodesOf (blockAt bs) e whole) numbers = rw whole-is (each-present (blockAt bs) (λ _. 0) e numbers hole) in
       all-of-mem numbers (λ k m. nodes-are blocks bs e same-lives (bare whole) k (all-mem all-below m)

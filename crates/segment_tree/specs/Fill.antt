@@ -7,9 +7,8 @@ use lib.ListN.{length, set}
 use Rattle.lists.specs.Lists.{All, Pairs, count, countFrom}
 use Rattle.history.specs.Lent.{rowWidth, entryWidth, nodeHead, entryHead}
 use Rattle.history.specs.Words.{Block, size}
-use Rattle.history.specs.Tree.{Tree, hole, node, mid, addLocation, keyIn, entryCount, treeOf}
+use Rattle.history.specs.Tree.{Tree, hole, node, mid, addLocation, keyIn, nodeCount, entryCount, treeOf}
 use Rattle.history.specs.Rules.{Apart}
-use Rattle.history.proofs.TreeCounts.{newNodes}
 use Rattle.tables.specs.Columns.{blockColumn, entryColumn, nodeFirst, blockNext, entryBlock, entryKey}
 use Rattle.segment_table.specs.Closed.{Closed, nodesUsed, leftAt, rightAt, firstAt, countAt, firstCellIn, run, Keyed}
 use Rattle.segment_tree.specs.Count.{most, plusUpTo, rowsIn, entriesTo, allEntries, CountRow, Life, spot, Outside}
@@ -59,6 +58,10 @@ pub record Untouched (s nodes entries nodes′ entries′ : List ℕ) (out : ℕ
 
 -- ── one block ──
 
+-- block b goes only to nodes that are there: adding it makes none
+abbrev pub FindsNodes : (levels b : ℕ) (life : Life) (lo hi : ℕ) → Tree → Type 0
+FindsNodes levels b life lo hi T = nodeCount (addLocation (λ _. 0) levels b (life .created) (life .destroyed) lo hi T) ≡ nodeCount T
+
 -- Where T was filled T′ is.
 pub record Filled (blocks s nodes entries nodes′ entries′ : List ℕ) (kind link lo hi : ℕ) (T T′ : Tree) : Type 0 where
   pub here : FillAt blocks s nodes′ entries′ kind link lo hi T′
@@ -71,7 +74,7 @@ pub record Written (nodes entries nodes′ entries′ : List ℕ) (link lo hi : 
   pub nodes-long : length nodes′ ≡ length nodes
   pub entries-long : length entries′ ≡ length entries
   pub done : (blocks s : List ℕ) (kind levels : ℕ) (T : Tree) → hi - lo ≤ 2 ^ levels → Fillable s nodes entries → firstCellIn blocks b ≡ cell
-      → FillAt blocks s nodes entries kind link lo hi T → newNodes levels (life .created) (life .destroyed) lo hi T ≡ 0
+      → FillAt blocks s nodes entries kind link lo hi T → FindsNodes levels b life lo hi T
       → Roomy s link (addLocation (λ _. 0) levels b (life .created) (life .destroyed) lo hi T)
       → Filled blocks s nodes entries nodes′ entries′ kind link lo hi T (addLocation (λ _. 0) levels b (life .created) (life .destroyed) lo hi T)
 
@@ -104,17 +107,13 @@ unfoldable pub appendEach : (blocks : List ℕ) (end : ℕ) (numbers : List ℕ)
 appendEach blocks e [] T = T
 appendEach blocks e (k ∷ ks) T = appendEach blocks e ks (appendBlock blocks e k T)
 
--- the nodes of block k are there
-abbrev pub HasNodes : (blocks : List ℕ) (end : ℕ) (T : Tree) (k : ℕ) → Type 0
-HasNodes blocks e T k = newNodes 63 (blockLife blocks (suc k) .created) (blockLife blocks (suc k) .destroyed) 0 e T ≡ 0
-
 -- the blocks met from a link on, at most `fuel` of them, fill the tree at the root
 pub record WrittenAll (blocks nodes entries nodes′ entries′ : List ℕ) (root e link fuel : ℕ) : Type 0 where
   pub like : LikeButRuns nodes nodes′
   pub nodes-long : length nodes′ ≡ length nodes
   pub entries-long : length entries′ ≡ length entries
   pub done : (s : List ℕ) (kind : ℕ) (numbers : List ℕ) (T : Tree) → e ≤ 2 ^ 63 → Fillable s nodes entries → Met blocks link numbers → length numbers ≤ fuel
-      → FillAt blocks s nodes entries kind root 0 e T → All (HasNodes blocks e T) numbers → Roomy s root (appendEach blocks e numbers T)
+      → FillAt blocks s nodes entries kind root 0 e T → All (λ k. FindsNodes 63 k (blockLife blocks (suc k)) 0 e T) numbers → Roomy s root (appendEach blocks e numbers T)
       → FillAt blocks s nodes′ entries′ kind root 0 e (appendEach blocks e numbers T)
 
 -- ── the closed tree ──

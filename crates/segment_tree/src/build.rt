@@ -50,7 +50,8 @@ fn reach(nodes: &mut [u64], parent: u64, col: usize, min: u64, max: u64, kind: u
 }
 
 // Adds the life [created, destroyed) to the node [min, max) that hangs in column `col` of the row of `parent`: one entry more in each node
-// that it covers, and nodes where there are none. False if the rows are spent. At most 65 deep: each call halves the width.
+// that it covers, and nodes where there are none. False if the rows are spent. Each call halves the width: whatever the table holds, it goes at
+// most 64 deep for an end up to 2^63, and to at most four nodes of a level.
 pub fn add_location(
     nodes: &mut [u64],
     parent: u64,
@@ -122,8 +123,8 @@ fn add_pieces(nodes: &mut [u64], pieces: &[u64], n: u64, end: u64, kind: u64) ->
     true
 }
 
-// Counts the tree of n blocks, and of m pieces that live up to the end, in a node table of zeros. Where the nodes or the entries do not fit, the
-// table is zeros again.
+// Counts the tree of n blocks, and of m pieces that live up to the end, in a node table of zeros, in whatever order their rows are. Where the
+// nodes or the entries do not fit, the table is zeros again.
 pub fn count_tree(
     nodes: &mut [u64],
     entries: &[u64],

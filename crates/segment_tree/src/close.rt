@@ -7,7 +7,8 @@ ghost use Rattle.segment_tree.specs.Count.{aLife};
 ghost use Rattle.segment_tree.specs.Runs.{AssignedRuns};
 ghost use Rattle.segment_tree.specs.Fill.{WroteEntry, Written, WrittenAll, ClosedTree};
 
-// Gives each of the rows 1 to n its run, in row order, and returns how many entries they have.
+// Gives each of the rows 1 to n its run, in row order, and returns how many entries they have. The counts stay, so that runs can be given out
+// again when they are filled.
 pub(crate) fn assign_runs(nodes: &mut [u64], n: u64) -> u64
     ensures { λ r. ⌜ AssignedRuns (now (nodes .entry)) (now (nodes .exit)) n r ⌝ }
 {
@@ -34,7 +35,7 @@ fn write_entry(nodes: &mut [u64], entries: &mut [u64], link: u64, b: u64, cell: 
 }
 
 // Writes block b with the life [created, destroyed) into the nodes below the node [min, max) of `link` that list it. It goes the way of
-// `build::add_location`. At most 65 deep: each call halves the width.
+// `build::add_location`, as deep.
 fn write_location(
     nodes: &mut [u64],
     entries: &mut [u64],

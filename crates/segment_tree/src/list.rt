@@ -14,8 +14,9 @@ fn put_at(out: &mut [u64], at: u64, value: u64)
     }
 }
 
-// Writes the links of the node [min, max) of `link` and of all below it into `out` from index `at` on, a 0 for each half that is not there, and returns
-// the index past them. At most 65 deep: each call halves the width. Only a tested table is listed in linear time.
+// Writes the links of the node [min, max) of `link` and of all below it into `out` from index `at` on, a 0 for each half that is not there, and
+// returns the index past them. Each call halves the width: at most 64 deep for an end up to 2^63. It is linear in the nodes of a tree; a table that
+// nobody has tested may have a node twice.
 pub fn list_nodes(nodes: &[u64], link: u64, min: u64, max: u64, out: &mut [u64], at: u64) -> u64
     ensures { λ r. ⌜ Listed (now (nodes .entry)) link min max (now (out .entry)) at (now (out .exit)) r ⌝ }
 {
