@@ -18,11 +18,11 @@ use Rattle.history.specs.Tree.{Tree, hole, node, mid, addLocation, noBlock, blo
 use Rattle.history.proofs.TreeCounts.{newNodes}
 use Rattle.history.proofs.TreeOrder.{addEach, treeOf-order}
 use Rattle.tables.specs.Columns.{column, blockColumn, entryColumn, blockNext, nodeMin, nodeMax, nodeLeft, nodeRight, nodeFirst, nodeEntries, nodeKind, nodesCount, entryBlock, entryKey, entriesCount}
-use Rattle.segment_table.specs.Closed.{Tables, nodesUsed, leftAt, rightAt, firstAt, countAt, firstCellIn, run, Keyed, TreeAt, Closed}
+use Rattle.segment_table.specs.Closed.{nodesUsed, leftAt, rightAt, firstAt, countAt, firstCellIn, run, Keyed, TreeAt, Closed}
 use Rattle.segment_tree.specs.Count.{entriesTo, allEntries, CountRow, CountAt, Life, aLife}
 use Rattle.segment_tree.specs.Runs.{upTo, LikeButRuns, AssignedRuns}
 use Rattle.segment_tree.specs.Lives.{lifeOf, blockLife}
-use Rattle.segment_tree.specs.Fill.{startAt, Fillable, FillAt, Roomy, appendBlock, appendEach, FindsNodes, WrittenAll, Closable, ClosedTree}
+use Rattle.segment_tree.specs.Fill.{startAt, Fillable, FillAt, Roomy, appendBlock, appendEach, FindsNodes, WrittenAll, lentTables, Closable, ClosedTree}
 use Rattle.segment_tree.proofs.NodeRows.{entries-same, entries-most}
 use Rattle.segment_tree.proofs.Running.{runs-length, runs-like, runs-first}
 use Rattle.segment_tree.proofs.Presence.{new-none-count, NodesOf, each-present, bare, new-bare, each-bare, in-hole, each-end}
@@ -97,14 +97,11 @@ roomy-counted s kind link lo hi (node xs l r) g =
 
 module _ (blocks s t es t′ es′ : List ℕ) (kind : ℕ) (like : LikeButRuns s t′) (long : length es′ ≡ length es) (rows : (i : ℕ) → entryHead ≤ i → getD es′ i 0 ≡ getD es i 0)
     (starts : (k : ℕ) → k < nodesUsed s → firstAt t′ (suc k) ≡ entriesTo s k) (space : entryHead + entryWidth * allEntries s ≤ length es) where
-  abbrev tables : Tables
-  tables = record { blocks = blocks; nodes = t′; entries = es′ }
-
   same-used : nodesUsed t′ ≡ nodesUsed s
   same-used = like .same 0 nodesCount (omega arith) (inl refl)
 
   -- a filled tree in which all is as it was counted stands in the closed tables
-  tree-closed : (link lo hi : ℕ) (T : Tree) → CountAt s kind link lo hi T → FillAt blocks s t es kind link lo hi T → TreeAt tables kind link lo hi T
+  tree-closed : (link lo hi : ℕ) (T : Tree) → CountAt s kind link lo hi T → FillAt blocks s t es kind link lo hi T → TreeAt (lentTables blocks t′ es′) kind link lo hi T
   unfolding CountAt FillAt TreeAt
   tree-closed link lo hi hole g f = g
   tree-closed link lo hi (node xs l r) g f =
@@ -139,7 +136,7 @@ module _ (blocks s t es t′ es′ : List ℕ) (kind : ℕ) (like : LikeButRuns 
 
 -- ── the whole step ──
 
-module _ (blocks s es : List ℕ) (n e kind : ℕ) (bs : List Block) (numbers : List ℕ) (c : Closable blocks s es n e kind bs numbers) (lent : length es < 2 ^ 64) where
+module _ (blocks s es : List ℕ) (n e kind : ℕ) (bs : List Block) (numbers : List ℕ) (c : Closable (lentTables blocks s es) n e kind bs numbers) (lent : length es < 2 ^ 64) where
   abbrev whole : Tree
   whole = treeOf e bs
 
@@ -222,7 +219,7 @@ module _ (blocks s es : List ℕ) (n e kind : ℕ) (bs : List Block) (numbers : 
       entry-rows : (i : ℕ) → entryHead ≤ i → getD es₂ i 0 ≡ getD es₁ i 0
       entry-rows i h = rw head (getD-set-other es₁ (rowWidth * 0 + entriesCount) i total 0 (omega arith))
 
-      all-closed : Closed (record { blocks = blocks; nodes = t₂; entries = es₂ }) kind e (treeOf e bs)
+      all-closed : Closed (lentTables blocks t₂ es₂) kind e (treeOf e bs)
       unfolding entriesTo
       all-closed =
           let root-same : column t₂ 0 kind ≡ root = like-all .same 0 kind (omega (arith, c .counted .stands .at-root refl)) (inl refl) in
@@ -248,7 +245,7 @@ module _ (blocks s es : List ℕ) (n e kind : ℕ) (bs : List Block) (numbers : 
 
 pub closed-tree : {blocks s es t₁ es₁ t₂ es₂ : List ℕ} {n e kind root used total : ℕ} → length es < 2 ^ 64 → root ≡ column s 0 kind
     → WrittenAll blocks s es t₁ es₁ root e (blockColumn blocks 0 blockNext) n → used ≡ nodesUsed t₁ → AssignedRuns t₁ t₂ used total
-    → es₂ ≡ set es₁ (rowWidth * 0 + entriesCount) total → ClosedTree blocks s es t₂ es₂ n e kind
+    → es₂ ≡ set es₁ (rowWidth * 0 + entriesCount) total → ClosedTree (lentTables blocks s es) (lentTables blocks t₂ es₂) n e kind
 closed-tree {blocks} {s} {es} {t₁} {es₁} {t₂} {es₂} {n} {e} {kind} {root} {used} {total} lent found w read runs head = record {
   done = λ bs numbers c. all-closed blocks s es n e kind bs numbers c lent t₁ es₁ (rw found at w) used total t₂ es₂ read runs head;
 }

@@ -10,7 +10,7 @@ use Rattle.history.specs.Words.{Block, size}
 use Rattle.history.specs.Tree.{Tree, hole, node, mid, addLocation, keyIn, nodeCount, entryCount, treeOf}
 use Rattle.history.specs.Rules.{Apart}
 use Rattle.tables.specs.Columns.{blockColumn, entryColumn, nodeFirst, blockNext, entryBlock, entryKey}
-use Rattle.segment_table.specs.Closed.{Closed, nodesUsed, leftAt, rightAt, firstAt, countAt, firstCellIn, run, Keyed}
+use Rattle.segment_table.specs.Closed.{Tables, Closed, nodesUsed, leftAt, rightAt, firstAt, countAt, firstCellIn, run, Keyed}
 use Rattle.segment_tree.specs.Count.{most, plusUpTo, rowsIn, entriesTo, allEntries, CountRow, Life, spot, Outside}
 use Rattle.segment_tree.specs.Runs.{LikeButRuns}
 use Rattle.segment_tree.specs.Lives.{lifeOf, blockLife, Counted, entryRowsIn}
@@ -118,23 +118,25 @@ pub record WrittenAll (blocks nodes entries nodes′ entries′ : List ℕ) (roo
 
 -- ── the closed tree ──
 
+abbrev pub lentTables : (blocks nodes entries : List ℕ) → Tables
+lentTables blocks nodes entries = record { blocks = blocks; nodes = nodes; entries = entries }
+
 -- What finish closes: the tree of the blocks bs is counted, the entry table has room for it, the rows of the block table live as these blocks,
 -- of which no two share a cell at a tick (rule 24), and the order column meets each of them once, in the order of first cells.
-pub record Closable (blocks nodes entries : List ℕ) (n e kind : ℕ) (bs : List Block) (numbers : List ℕ) : Type 0 where
+pub record Closable (t : Tables) (n e kind : ℕ) (bs : List Block) (numbers : List ℕ) : Type 0 where
   pub some : 0 < e
   pub small : e ≤ 2 ^ 63
-  pub counted : Counted nodes kind e (treeOf e bs)
-  pub nodes-headed : nodeHead ≤ length nodes
-  pub entries-headed : entryHead ≤ length entries
-  pub space : entryCount (treeOf e bs) ≤ entryRowsIn entries
-  pub lives-are : map (blockLife blocks) (countFrom 1 (length bs)) ≡ map lifeOf bs
+  pub counted : Counted (t .nodes) kind e (treeOf e bs)
+  pub nodes-headed : nodeHead ≤ length (t .nodes)
+  pub entries-headed : entryHead ≤ length (t .entries)
+  pub space : entryCount (treeOf e bs) ≤ entryRowsIn (t .entries)
+  pub lives-are : map (blockLife (t .blocks)) (countFrom 1 (length bs)) ≡ map lifeOf bs
   pub apart : Apart bs
   pub filled : All (λ (b : Block). 0 < size (b .stretch)) bs
-  pub met : Met blocks (blockColumn blocks 0 blockNext) numbers
+  pub met : Met (t .blocks) (blockColumn (t .blocks) 0 blockNext) numbers
   pub many : length numbers ≤ n
   pub once : (k : ℕ) → count k numbers ≡ count k (countFrom 0 (length bs))
   pub ascends : Pairs (λ x y. keyIn bs x ≤ keyIn bs y) numbers
 
-pub record ClosedTree (blocks nodes entries nodes′ entries′ : List ℕ) (n e kind : ℕ) : Type 0 where
-  pub done : (bs : List Block) (numbers : List ℕ) → Closable blocks nodes entries n e kind bs numbers
-      → Closed (record { blocks = blocks; nodes = nodes′; entries = entries′ }) kind e (treeOf e bs)
+pub record ClosedTree (t t′ : Tables) (n e kind : ℕ) : Type 0 where
+  pub done : (bs : List Block) (numbers : List ℕ) → Closable t n e kind bs numbers → Closed t′ kind e (treeOf e bs)

@@ -11,7 +11,7 @@ ghost use Rattle.history.specs.Lent.{rowWidth};
 ghost use Rattle.tables.specs.Columns.{nodeEntries};
 ghost use Rattle.segment_table.specs.Closed.{countAt};
 ghost use Rattle.segment_tree.specs.Count.{plusUpTo, spot, aLife, Reached, Added};
-ghost use Rattle.segment_tree.specs.Lives.{blockLife, pieceLife, AddedRows, CountedTree};
+ghost use Rattle.segment_tree.specs.Lives.{blockLife, pieceLife, AddedRows, rowsToCount, CountedTree};
 
 // What is refused where room is too little: more nodes are needed than there are rows, or more entries.
 pub const NODES_SPENT: u64 = 12;
@@ -135,7 +135,7 @@ pub fn count_tree(
     end: u64,
     kind: u64,
 ) -> u64
-    ensures { λ r. ⌜ CountedTree (now (nodes .entry)) (now (nodes .exit)) (now (entries .entry)) (now (blocks .entry)) (now (pieces .entry)) n m end kind r ⌝ }
+    ensures { λ r. ⌜ CountedTree (rowsToCount (now (blocks .entry)) n (now (pieces .entry)) m end kind) (now (nodes .entry)) (now (entries .entry)) (now (nodes .exit)) r ⌝ }
 {
     if !add_blocks(nodes, blocks, n, end, kind) {
         tables::zero(nodes);

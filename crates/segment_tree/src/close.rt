@@ -5,7 +5,7 @@ use tables::node;
 ghost use Rattle.tables.specs.Columns.{blockColumn, blockNext};
 ghost use Rattle.segment_tree.specs.Count.{aLife};
 ghost use Rattle.segment_tree.specs.Runs.{AssignedRuns};
-ghost use Rattle.segment_tree.specs.Fill.{WroteEntry, Written, WrittenAll, ClosedTree};
+ghost use Rattle.segment_tree.specs.Fill.{WroteEntry, Written, WrittenAll, lentTables, ClosedTree};
 
 // Gives each of the rows 1 to n its run, in row order, and returns how many entries they have. The counts stay, so that runs can be given out
 // again when they are filled.
@@ -115,7 +115,7 @@ pub fn close_tree(
     end: u64,
     kind: u64,
 )
-    ensures { λ _. ⌜ ClosedTree (now (blocks .entry)) (now (nodes .entry)) (now (entries .entry)) (now (nodes .exit)) (now (entries .exit)) n end kind ⌝ }
+    ensures { λ _. ⌜ ClosedTree (lentTables (now (blocks .entry)) (now (nodes .entry)) (now (entries .entry))) (lentTables (now (blocks .entry)) (now (nodes .exit)) (now (entries .exit))) n end kind ⌝ }
 {
     let root = tables::get(nodes, 0, kind as usize);
     write_blocks(nodes, entries, blocks, n, root, end);
