@@ -3,3 +3,12 @@ pub mod Lent
 pub mod Tree
 pub mod Find
 pub mod Rules
+pub mod File
+pub mod Ledger
+pub mod Reads
+pub mod Refusals
+pub mod Calls
+pub mod Sound
+pub mod Law
+pub mod Printed
+pub mod Boards

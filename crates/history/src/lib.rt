@@ -1,1 +1,40 @@
-// What is right, said once, over plain lists, and its laws.
+// What is right, said once, over plain lists, and its laws. There is no code here: the functions below do nothing, and their contracts make the laws
+// part of the build.
+//
+//   specs/Words      operations, pieces, blocks, cells; the part of a stretch in a range
+//   specs/Lent       lengths of what is lent, and rows
+//   specs/Tree       the segment tree as data; Find: the walk of find; Rules: rules 21 to 24 as tests
+//   specs/Ledger     what is kept, and what an accepted call leaves; Reads: what the reads give
+//   specs/Refusals   refusals 1 to 16, a list for each call; Calls: lists of calls, the history, the value of a cell
+//   specs/File       the file's bytes, its reader, the loader with refusals 17 to 24
+//   specs/Sound      what makes a set of tables well formed
+//   specs/Printed    the input and the output of the program `board`
+//   specs/Law        what is proved of all this
+//   specs/Boards     the boards to try, with what must come of them
+//
+//   proofs/Clip, Parts, Split, Seen, Cells, Storing, Apart, Reading, Value   pieces and cells
+//   proofs/Passing, Steps, EveryList   the law, from call to call
+//   proofs/Tree*, Find*, RulesLaws     the segment tree and find
+//   proofs/File*                       the file, there and back
+ghost use Rattle.history.specs.Law.{ValueAt, LawOfCalls, LawOfFind};
+ghost use Rattle.history.specs.Boards.{MarkedBoards};
+
+// The value of a cell, in the mission's words.
+pub fn value_at()
+    ensures { λ _. ⌜ ValueAt ⌝ }
+{}
+
+// The ledger after every list of calls: sound, showing what the history has, and faithful to it once finished.
+pub fn law_of_calls()
+    ensures { λ _. ⌜ LawOfCalls ⌝ }
+{}
+
+// Find over any sound closed index lists exactly the live blocks that start in the window.
+pub fn law_of_find()
+    ensures { λ _. ⌜ LawOfFind ⌝ }
+{}
+
+// The boards to try come out as they must.
+pub fn marked_boards()
+    ensures { λ _. ⌜ MarkedBoards ⌝ }
+{}

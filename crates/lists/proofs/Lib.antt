@@ -2,3 +2,4 @@ pub mod Numbers
 pub mod Lists
 pub mod Maps
 pub mod Stores
+pub mod Counting

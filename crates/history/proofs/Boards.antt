@@ -1,0 +1,50 @@
+-- The marked boards, computed. Assumes nothing.
+use mathlib.Core.Path.{_≡_, refl}
+use mathlib.Core.List.{map, filterMap, flatten, flatMap}
+use Rattle.lists.specs.Lists.{has, count, countFrom, sumOf}
+use Rattle.history.specs.Words.{stretchOf, byteAt, heldAt, clip, clipPiece, below, inside, above}
+use Rattle.history.specs.Lent.{tooShort, pieceSpace}
+use Rattle.history.specs.Tree.{insert, addLocation, addAll, treeOf, nodeCount, entryCount, entriesIn, widths}
+use Rattle.history.specs.Find.{path, visited, window, find}
+use Rattle.history.specs.Rules.{every, halved, filled, lived, numbered, placed, ascends, sorted, summed, rule23, shares, apart}
+use Rattle.history.specs.File.{bytesOf, numberOf, blockBytes, nodeBytes, fileBytes, thoseWith, placeIn, mapTree, nodesOf, contents, fileOf, onward, _>>=_, give, refuse_unless_, field, number, many, readBlock, readNodes, readRoot, readFile, treeFrom, placedIn, rule20, rule21, rule22, load}
+use Rattle.history.specs.Ledger.{opened, firstChange, changed, readBy, updateBy, recordBy, settled, finishBy}
+use Rattle.history.specs.Reads.{findBy, shows, seen, cellsBy, labelOf, clockLabel}
+use Rattle.history.specs.Refusals.{firstOf, openRefusals, recordRefusals, finishRefusals, windowRefusals, blockRefusals}
+use Rattle.history.specs.Calls.{answerTo, acceptedBy, leaves, after, answers, afterAll}
+use Rattle.history.specs.Boards.{marked, edges, loading, told, played, expected, loadedAs, Load, listingInput, listingOutput, refusedInput, refusedOutput, MarkedBoards}
+use Rattle.history.specs.Printed.{printed, parsed, inputOf, recordsFrom, nextRecord, onto, readRecord, recordLines, openLines, linesFrom, lastLines, opLine, refusedLine, blockLine, digits, fourDigits, hexDigit, hexBytes}
+
+marked-right : map played marked ≡ map expected marked
+unfolding marked played expected told opened answers afterAll after leaves answerTo acceptedBy recordBy finishBy settled readBy updateBy changed firstChange has stretchOf byteAt heldAt clip clipPiece below inside above filterMap firstOf openRefusals recordRefusals finishRefusals windowRefusals blockRefusals tooShort pieceSpace insert addLocation addAll treeOf nodeCount entryCount path visited window find findBy shows seen cellsBy countFrom labelOf clockLabel
+marked-right = refl
+
+edges-right : map played edges ≡ map expected edges
+unfolding edges played expected told opened answers afterAll after leaves answerTo acceptedBy recordBy finishBy settled readBy updateBy changed firstChange has stretchOf byteAt heldAt clip clipPiece below inside above filterMap firstOf openRefusals recordRefusals finishRefusals windowRefusals blockRefusals tooShort pieceSpace insert addLocation addAll treeOf nodeCount entryCount path visited window find findBy shows seen cellsBy countFrom labelOf clockLabel
+edges-right = refl
+
+files-right : map loadedAs loading ≡ map (λ (x : Load). x .comes) loading
+unfolding loading loadedAs load readFile readRoot readNodes readBlock many number field give onward _>>=_ refuse_unless_ bytesOf numberOf fileOf fileBytes contents blockBytes nodeBytes nodesOf mapTree placeIn thoseWith has countFrom entriesIn treeFrom placedIn rule20 rule21 rule22 rule23 every halved filled lived numbered placed ascends sorted summed widths count shares apart nodeCount entryCount sumOf flatten flatMap
+files-right = refl
+
+listing-printed : printed listingInput ≡ listingOutput
+unfolding printed listingInput listingOutput parsed inputOf recordsFrom nextRecord onto readRecord number field give onward _>>=_ refuse_unless_ numberOf bytesOf recordLines openLines linesFrom lastLines opLine refusedLine blockLine digits fourDigits hexDigit hexBytes flatten flatMap opened answers afterAll after leaves answerTo acceptedBy recordBy finishBy settled readBy updateBy changed firstChange has stretchOf byteAt heldAt clip clipPiece below inside above filterMap firstOf openRefusals recordRefusals finishRefusals windowRefusals blockRefusals tooShort pieceSpace insert addLocation addAll treeOf nodeCount entryCount path visited window find findBy shows seen cellsBy countFrom labelOf clockLabel
+listing-printed = refl
+
+refusal-printed : printed refusedInput ≡ refusedOutput
+unfolding printed refusedInput refusedOutput parsed inputOf recordsFrom nextRecord onto readRecord number field give onward _>>=_ refuse_unless_ numberOf bytesOf recordLines openLines linesFrom lastLines opLine refusedLine blockLine digits fourDigits hexDigit hexBytes flatten flatMap opened answers afterAll after leaves answerTo acceptedBy recordBy finishBy settled readBy updateBy changed firstChange has stretchOf byteAt heldAt clip clipPiece below inside above filterMap firstOf openRefusals recordRefusals finishRefusals windowRefusals blockRefusals tooShort pieceSpace insert addLocation addAll treeOf nodeCount entryCount path visited window find findBy shows seen cellsBy countFrom labelOf clockLabel
+refusal-printed = refl
+
+pub boards-right : MarkedBoards
+unfolding printed listingInput listingOutput parsed inputOf recordsFrom nextRecord onto readRecord number field give onward _>>=_ refuse_unless_ numberOf bytesOf recordLines openLines linesFrom lastLines opLine refusedLine blockLine digits fourDigits hexDigit hexBytes flatten flatMap opened answers afterAll after leaves answerTo acceptedBy recordBy finishBy settled readBy updateBy changed firstChange has stretchOf byteAt heldAt clip clipPiece below inside above filterMap firstOf openRefusals recordRefusals finishRefusals windowRefusals blockRefusals tooShort pieceSpace insert addLocation addAll treeOf nodeCount entryCount path visited window find findBy shows seen cellsBy countFrom labelOf clockLabel
+boards-right = record {
+  boards = marked-right;
+  refusals = edges-right;
+  files = files-right;
+  printed-listing = listing-printed;
+  printed-refusal = refusal-printed;
+  cut-record = refl;
+  wrong-mark = refl;
+  short-input = refl;
+  refused-opening = refl;
+}

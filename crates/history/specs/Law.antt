@@ -1,0 +1,90 @@
+-- What is proved of the ledger, for every list of calls: the value of a cell in the mission's words, the law, and demand 3's clauses of a finished
+-- ledger. Statements alone: the proofs stand in proofs/.
+use mathlib.Core.Path.{_≡_}
+use mathlib.Core.Bool.{Bool, true, false, cond, _&&_}
+use mathlib.Core.Option.{Option, none, some}
+use mathlib.Core.List.{List, [], _∷_, _++_, map, flatten, Option·toList}
+use Prim.Native.Nat.{ℕ, _≤_, _<_}
+use lib.ListN.{length}
+use Rattle.lists.specs.Lists.{All, Mem, Ascending, count, sumOf}
+use Rattle.history.specs.Words.{within, Operation, Block, firstCell, live, stretchOf, byteAt, Covers, Holds}
+use Rattle.history.specs.Tree.{keyIn}
+use Rattle.history.specs.Ledger.{Ledger, Opening, opened, finished, settled}
+use Rattle.history.specs.Reads.{blockBy, findBy, seen}
+use Rattle.history.specs.Refusals.{accepted, openAnswer}
+use Rattle.history.specs.Calls.{Call, afterAll, history, valueAt}
+use Rattle.history.specs.Rules.{Apart}
+use Rattle.history.specs.Sound.{Sound, SoundForFinish}
+
+-- ── the value of a cell ──
+
+-- a call, of tick t or earlier, covers the cell
+pub record CoversBy (t cell : ℕ) (o : Operation) : Type 0 where
+  pub by : o .tick ≤ t
+  pub covers : Covers o cell
+
+-- the last such call of the history, newest first, and its byte for the cell
+pub record LastCall (h : List Operation) (t cell byte : ℕ) : Type 0 where
+  pub newer : List Operation
+  pub call : Operation
+  pub older : List Operation
+  pub is : h ≡ newer ++ call ∷ older
+  pub covered : CoversBy t cell call
+  pub has : byteAt cell (stretchOf call) ≡ some byte
+  pub last : All (λ (o : Operation). CoversBy t cell o → ⊥) newer
+
+-- the value of a cell is none exactly when no such call covers it, and a byte exactly when the last such call has that byte
+pub record ValueAt : Type 0 where
+  pub none-if : (h : List Operation) (t cell : ℕ) → All (λ (o : Operation). CoversBy t cell o → ⊥) h → valueAt h t cell ≡ none
+  pub none-then : (h : List Operation) (t cell : ℕ) → valueAt h t cell ≡ none → All (λ (o : Operation). CoversBy t cell o → ⊥) h
+  pub some-if : (h : List Operation) (t cell byte : ℕ) → LastCall h t cell byte → valueAt h t cell ≡ some byte
+  pub some-then : (h : List Operation) (t cell byte : ℕ) → valueAt h t cell ≡ some byte → LastCall h t cell byte
+
+-- ── the law ──
+
+-- of a ledger after the accepted calls h, newest first
+pub record LedgerLaw (l : Ledger) (h : List Operation) : Type 0 where
+  -- well formed for every call, finish too
+  pub sound : SoundForFinish l
+  -- At each tick below E and for each cell, the blocks that are live then, each piece counted as live up to E, show the byte that the history has:
+  -- one byte, from one block, or none where it has none.
+  pub cells : (t cell : ℕ) → t < l .opening .end → seen t cell (settled (l .opening .end) (l .now)) ≡ Option·toList (valueAt h t cell)
+  -- while it is open no block is destroyed after the last accepted tick
+  pub open-blocks : finished l ≡ false → All (λ (b : Block). b .destroyed ≤ l .now .last) (l .now .blocks)
+
+-- ── demand 3's clauses, of the blocks of a finished index ──
+
+pub record Faithful (end : ℕ) (blocks : List Block) (h : List Operation) : Type 0 where
+  -- At every tick below E a live block holds a cell exactly when a call of the history, of that tick or earlier, covered it;
+  pub held : (t cell : ℕ) → t < end → (b : Block) → Mem b blocks → Holds t cell b → (o : Operation) × Mem o h × CoversBy t cell o
+  pub kept : (t cell : ℕ) → t < end → (o : Operation) → Mem o h → CoversBy t cell o → (b : Block) × Mem b blocks × Holds t cell b
+  -- the byte of every live block that holds it is the last such call's;
+  pub byte : (t cell : ℕ) → t < end → (b : Block) → Mem b blocks → Holds t cell b → byteAt cell (b .stretch) ≡ valueAt h t cell
+  -- no two live blocks share a cell.
+  pub apart : Apart blocks
+
+-- For every opening that is taken and every list of calls: the ledger is sound, shows what the history has, and once finished is faithful to it.
+pub record EveryList (a : Opening) (ks : List Call) : Type 0 where
+  pub law : LedgerLaw (afterAll (opened a) ks) (history [] (opened a) ks)
+  pub faithful : finished (afterAll (opened a) ks) ≡ true → Faithful (a .end) (afterAll (opened a) ks .now .blocks) (history [] (opened a) ks)
+
+abbrev pub LawOfCalls : Type 0
+LawOfCalls = (a : Opening) → openAnswer a ≡ accepted tt → (ks : List Call) → EveryList a ks
+
+-- ── find over any sound closed index, finished or loaded ──
+
+pub record FindLaw (l : Ledger) (t start stop : ℕ) : Type 0 where
+  -- the list has exactly the live blocks whose first cell is in [start, stop), each once;
+  pub once : (k : ℕ) → count k (findBy l t start stop .numbers) ≡ cond (live t (blockBy l k) && within start stop (firstCell (blockBy l k))) 1 0
+  pub numbers : All (λ k. k < length (l .now .blocks)) (findBy l t start stop .numbers)
+  -- they are so many;
+  pub how-many : length (findBy l t start stop .numbers) ≡ sumOf (map (λ b. cond (live t b && within start stop (firstCell b)) 1 0) (l .now .blocks))
+  -- a list for each node visited, root first, ascending within a node; at most 64.
+  pub by-node : List (List ℕ)
+  pub joined : findBy l t start stop .numbers ≡ flatten by-node
+  pub ascending : All (Ascending (keyIn (l .now .blocks))) by-node
+  pub as-many : findBy l t start stop .visited ≡ length by-node
+  pub at-most : findBy l t start stop .visited ≤ 64
+
+abbrev pub LawOfFind : Type 0
+LawOfFind = (l : Ledger) → Sound l → finished l ≡ true → (t start stop : ℕ) → t < l .opening .end → FindLaw l t start stop

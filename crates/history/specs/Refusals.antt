@@ -1,0 +1,134 @@
+-- The refusals of document 01 in their checking order: for each call a list of numbers with their conditions, of which the first that holds is given.
+-- 17 to 24, the loader's, stand with the file format in File.
+use mathlib.Core.Bool.{Bool, true, false, cond, _&&_, _||_, not}
+use mathlib.Core.Option.{Option, none, some}
+use mathlib.Core.List.{List, [], _∷_}
+use Prim.Native.Nat.{ℕ, _+_, _-_, _^_}
+use lib.Dec.{leb, ltb, eqb}
+use lib.ListN.{length}
+use Rattle.history.specs.Words.{Operation, Block}
+use Rattle.history.specs.Lent.{Lent, pieceRows, blockRows, nodeRows, entryRows, tooShort, pieceSpace}
+use Rattle.history.specs.Tree.{treeOf, nodeCount, entryCount}
+use Rattle.history.specs.Ledger.{Opening, Ledger, finished, isRead, updateBy, settled}
+use Rattle.history.specs.Reads.{Found, Cells, findBy, cellsBy, blockBy}
+
+-- ── answers ──
+
+-- what a call answers: it is accepted and gives something, or it is refused with a number
+pub data Answer (A : Type 0) : Type 0 where
+  accepted : A → Answer A
+  refused : ℕ → Answer A
+
+-- a refusal: its number in document 01, and whether its condition holds
+pub record Refusal : Type 0 where
+  pub number : ℕ
+  pub holds : Bool
+
+infix 70 _if_
+abbrev pub _if_ : ℕ → Bool → Refusal
+n if b = record { number = n; holds = b }
+
+-- the first refusal whose condition holds, or what an accepted call gives
+unfoldable pub firstOf : {A : Type 0} → List Refusal → A → Answer A
+firstOf [] a = accepted a
+firstOf (r ∷ rs) a =
+    let rest = firstOf rs a in
+    cond (r .holds) (refused (r .number)) rest
+
+-- ── the calls that change an index ──
+
+-- the largest end tick
+abbrev pub maxEndTick : ℕ
+maxEndTick = 2 ^ 63
+
+unfoldable pub openRefusals : Opening → List Refusal
+openRefusals a =
+    -- E is 0 or above 2^63, or the kind is above 4
+    1 if (eqb (a .end) 0 || ltb maxEndTick (a .end) || ltb 4 (a .kind))
+    ∷ []
+
+unfoldable pub recordRefusals : Ledger → (scratch : ℕ) → Operation → List Refusal
+recordRefusals l scratch o =
+    let lent = l .opening .lent in
+    let update = not (isRead (l .now) o) in
+    let next = updateBy (l .opening .kind) (l .now) o in
+    -- its lent tables aren't well formed: of the ledger's, because their lengths are too short
+    2 if tooShort lent
+    -- the index is finished or loaded
+    ∷ 3 if finished l
+    -- no cells
+    ∷ 5 if eqb (length (o .bytes)) 0
+    -- first cell + length is above 2^64 − 1
+    ∷ 6 if ltb (2 ^ 64 - 1) (o .first + length (o .bytes))
+    -- tick ≥ E
+    ∷ 7 if leb (l .opening .end) (o .tick)
+    -- tick below the last accepted one's
+    ∷ 8 if ltb (o .tick) (l .now .last)
+    -- an update would leave more pieces than there is space for
+    ∷ 9 if (update && ltb (pieceSpace lent scratch) (length (next .pieces)))
+    -- blocks recorded plus pieces, after the update, exceed the block table
+    ∷ 10 if (update && ltb (blockRows lent) (length (next .blocks) + length (next .pieces)))
+    -- the bytes of all accepted updates and of this update exceed the store
+    ∷ 11 if (update && ltb (lent .store) (length (next .store)))
+    ∷ []
+
+unfoldable pub finishRefusals : Ledger → List Refusal
+finishRefusals l =
+    let lent = l .opening .lent in
+    let tree = treeOf (l .opening .end) (settled (l .opening .end) (l .now)) in
+    2 if tooShort lent
+    ∷ 3 if finished l
+    -- more nodes are needed than the table has
+    ∷ 12 if ltb (nodeRows lent) (nodeCount tree)
+    -- more entries are needed than the table has
+    ∷ 13 if ltb (entryRows lent) (entryCount tree)
+    ∷ []
+
+abbrev pub openAnswer : Opening → Answer Unit
+openAnswer a = firstOf (openRefusals a) tt
+
+abbrev pub recordAnswer : Ledger → (scratch : ℕ) → Operation → Answer Unit
+recordAnswer l scratch o = firstOf (recordRefusals l scratch o) tt
+
+abbrev pub finishAnswer : Ledger → Answer Unit
+finishAnswer l = firstOf (finishRefusals l) tt
+
+-- ── the reads ──
+
+-- of find and read cells alike; `exceeds` says whether the result exceeds a lent slice
+unfoldable pub windowRefusals : Ledger → (t start stop : ℕ) → (exceeds : Bool) → List Refusal
+windowRefusals l t s n exceeds =
+    2 if tooShort (l .opening .lent)
+    -- it isn't finished or loaded
+    ∷ 4 if not (finished l)
+    -- tick ≥ E
+    ∷ 14 if leb (l .opening .end) t
+    -- start > end
+    ∷ 15 if ltb n s
+    -- the result exceeds a lent slice
+    ∷ 16 if exceeds
+    ∷ []
+
+abbrev pub findAnswer : Ledger → (t start stop answer : ℕ) → Answer Found
+findAnswer l t s n answer = firstOf (windowRefusals l t s n (ltb answer (length (findBy l t s n .numbers)))) (findBy l t s n)
+
+abbrev pub cellsAnswer : Ledger → (t start stop bytes held : ℕ) → Answer Cells
+cellsAnswer l t s n bytes held = firstOf (windowRefusals l t s n (ltb bytes (n - s) || ltb held (n - s))) (cellsBy l t s n)
+
+unfoldable pub blockRefusals : Ledger → (k : ℕ) → List Refusal
+blockRefusals l k =
+    2 if tooShort (l .opening .lent)
+    ∷ 4 if not (finished l)
+    -- the number isn't below the block count
+    ∷ 15 if leb (length (l .now .blocks)) k
+    ∷ []
+
+abbrev pub blockAnswer : Ledger → (k : ℕ) → Answer Block
+blockAnswer l k = firstOf (blockRefusals l k) (blockBy l k)
+
+unfoldable pub writeRefusals : Ledger → (out file : ℕ) → List Refusal
+writeRefusals l out file =
+    2 if tooShort (l .opening .lent)
+    ∷ 4 if not (finished l)
+    ∷ 16 if ltb out file
+    ∷ []

@@ -1,0 +1,14 @@
+pub mod Rank
+pub mod Trail
+pub mod Merging
+pub mod Sorting
+pub mod Testing
+pub mod Dense
+pub mod Parting
+pub mod Clearing
+pub mod Keeping
+pub mod Blocks
+pub mod Agreeing
+pub mod Unique
+pub mod Numbering
+pub mod Explicit

@@ -1,0 +1,3 @@
+pub mod Order
+pub mod Blocks
+pub mod Apart
