@@ -5,6 +5,7 @@
 //   proofs/Changing   the first change, from one piece to the next
 //   proofs/Weighing   pieces, blocks and rests as sums over the pieces
 //   proofs/Surveying  one step for each return
+//   proofs/Telling    what is told is what the ledger says
 ghost use mathlib.Core.Path.{_≡_};
 ghost use Prim.Native.Nat.{_+_, _≤_, min};
 ghost use lib.ListN.{length};
