@@ -1,0 +1,4 @@
+pub mod Holding
+pub mod Changing
+pub mod Weighing
+pub mod Surveying
