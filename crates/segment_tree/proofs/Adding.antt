@@ -77,16 +77,18 @@ fullest-grows key b c d =
 -- the model at a node with halves that the life does not cover
 pub record Deeper (key : ℕ → ℕ) (levels b c d lo hi : ℕ) (T : Tree) : Type 0 where
   pub less : ℕ
+  pub levels-are : levels ≡ suc less
   pub left-width : mid lo hi - lo ≤ 2 ^ less
   pub right-width : hi - mid lo hi ≤ 2 ^ less
   pub is : addLocation key levels b c d lo hi T
       ≡ node (entriesOf T) (cond (ltb c (mid lo hi)) (addLocation key less b c d lo (mid lo hi) (leftOf T)) (leftOf T))
       (cond (ltb (mid lo hi) d) (addLocation key less b c d (mid lo hi) hi (rightOf T)) (rightOf T))
 
-deeper-of : (key : ℕ → ℕ) (levels b c d lo hi : ℕ) (T : Tree) → covers c d lo hi ≡ false → lo + 1 < hi → hi - lo ≤ 2 ^ levels → Deeper key levels b c d lo hi T
+pub deeper-of : (key : ℕ → ℕ) (levels b c d lo hi : ℕ) (T : Tree) → covers c d lo hi ≡ false → lo + 1 < hi → hi - lo ≤ 2 ^ levels → Deeper key levels b c d lo hi T
 deeper-of key zero b c d lo hi T e w n = absurd (omega arith)
 deeper-of key (suc m) b c d lo hi T e w n = record {
   less = m;
+  levels-are = refl;
   left-width = half-left lo hi m n;
   right-width = half-right lo hi m n;
   is = add-below key b c d lo hi T m e ∙ rw (lt-ltb (lo + 1) hi w);

@@ -22,13 +22,13 @@ outside-same t t′ s k a b c (starts-before h) = starts-before (omega arith)
 outside-same t t′ s k a b c (ends-after h) = ends-after (omega arith)
 
 -- outside a part of it
-outside-part : (t : List ℕ) (s h : Spot) (k : ℕ) → s .kind ≡ h .kind → s .lo ≤ h .lo → h .hi ≤ s .hi → Outside t s k → Outside t h k
+pub outside-part : (t : List ℕ) (s h : Spot) (k : ℕ) → s .kind ≡ h .kind → s .lo ≤ h .lo → h .hi ≤ s .hi → Outside t s k → Outside t h k
 outside-part t s h k e a b (other-kind p) = other-kind (λ q. p (q ∙ sym e))
 outside-part t s h k e a b (starts-before p) = starts-before (omega arith)
 outside-part t s h k e a b (ends-after p) = ends-after (omega arith)
 
 -- a row of the tree is not
-not-outside : (t : List ℕ) (s : Spot) (k n : ℕ) → CountRow t (s .kind) k (s .lo) (s .hi) n → Outside t s k → ⊥
+pub not-outside : (t : List ℕ) (s : Spot) (k n : ℕ) → CountRow t (s .kind) k (s .lo) (s .hi) n → Outside t s k → ⊥
 not-outside t s k n r (other-kind p) = p (r .own-kind)
 not-outside t s k n r (starts-before p) = omega (arith, r .low)
 not-outside t s k n r (ends-after p) = omega (arith, r .high)
