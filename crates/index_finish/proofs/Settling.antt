@@ -267,8 +267,8 @@ module _ {pieces was store blank entries b nodes : List ℕ} {l : Ledger} (a : A
 
     tree-closable : length was < 2 ^ 64 → Closable b′ nodes entries (n + length rs) e (l .opening .kind) (allBlocks l) (numbersOf (o .order .links))
     tree-closable few =
-        closable store (o .order) blocks-are (omega (arith, few, b-long, fits)) (omega (arith, s .sound .board .some-tick)) (s .sound .board .end-most) (a .counted)
-        (omega (arith, a .nodes-long, heads s .nodes)) (heads s .entries) (a .space) (a .apart) all-filled
+        closable store (o .order) blocks-are (omega (arith, few, b-long, fits)) (omega (arith, s .sound .board .some-tick)) (s .sound .board .end-most) (a .tallied .counted)
+        (omega (arith, a .nodes-long, heads s .nodes)) (heads s .entries) (a .tallied .space) (a .tallied .apart) all-filled
 
     module _ {nodes′ entries′ : List ℕ} (nodes-long : length nodes′ ≡ length nodes) (entries-long : length entries′ ≡ length entries)
         (tree : closed.Closed (record { blocks = b′; nodes = nodes′; entries = entries′ }) (l .opening .kind) e (wholeTree l)) where

@@ -1,10 +1,11 @@
--- What finish does to tables that stand for an open index. The store is neither read nor changed: what is said holds with every store that the tables
--- stand for a ledger with. Definitions alone.
+-- What finish does to tables that stand for an open index. The store is neither read nor changed: what is said holds with every store with which the
+-- tables stand for a ledger. Definitions alone.
 use mathlib.Core.Path.{_≡_}
 use mathlib.Core.Bool.{Bool, false}
 use mathlib.Core.List.{List}
 use Prim.Native.Nat.{ℕ, _≤_, _<_, _^_}
 use lib.ListN.{length}
+use Rattle.lists.specs.Tests.{Decides}
 use Rattle.history.specs.Words.{Block}
 use Rattle.history.specs.Tree.{Tree, entryCount, treeOf}
 use Rattle.history.specs.Rules.{Apart}
@@ -43,7 +44,7 @@ numberOf (refused n) = n
 
 -- ── finish ──
 
--- What finish asks of an open index besides: it builds in zeros, and no two blocks share a cell at a tick.
+-- What finish asks of an open index besides: it builds in zeros, and no two of all blocks share a cell at a tick.
 pub record Finishable (t : Tables) (l : Ledger) : Type 0 where
   pub blank : Blank t
   pub apart : Apart (allBlocks l)
@@ -58,19 +59,39 @@ pub record FinishedOpen (pieces blocks nodes entries pieces′ blocks′ nodes�
   pub done : (store : List ℕ) (l : Ledger) → StandsOpen (tables pieces blocks store nodes entries) l
       → Finishing l (tables pieces blocks store nodes entries) (tables pieces′ blocks′ store nodes′ entries′) r
 
--- ── the work of an accepted finish ──
+-- ── what comes before an accepted finish ──
 
--- Finish is accepted, and nothing is changed yet but that the block rows stand in order and the tree of all blocks is counted.
-pub record Accepted (t : Tables) (blocks nodes : List ℕ) (l : Ledger) : Type 0 where
-  pub stands : StandsOpen t l
+-- `blank`
+pub record TestedBlank (nodes entries : List ℕ) (r : Bool) : Type 0 where
+  pub decides : (pieces blocks store : List ℕ) → Decides r (Blank (tables pieces blocks store nodes entries))
+
+-- Finish is accepted: the tree of all blocks is counted, and the entry table has room for it.
+pub record Tallied (t : Tables) (nodes : List ℕ) (l : Ledger) : Type 0 where
   pub answer : finishAnswer l ≡ accepted tt
   pub apart : Apart (allBlocks l)
-  pub ordered : Ordered (t .blocks) blocks (length (l .now .blocks))
   pub counted : Counted nodes (l .opening .kind) (l .opening .end) (wholeTree l)
-  pub nodes-long : length nodes ≡ length (t .nodes)
   pub space : entryCount (wholeTree l) ≤ entryRowsIn (t .entries)
 
--- the answer; on a refusal everything is as it was
+-- the answer, and on a refusal the nodes as they were
+pub record Tallying (l : Ledger) (t : Tables) (nodes : List ℕ) (r : ℕ) : Type 0 where
+  pub formed : Apart (allBlocks l) → r ≡ numberOf (finishAnswer l)
+  pub unformed : (Apart (allBlocks l) → ⊥) → r ≡ 2
+  pub refused-same : (r ≡ 0 → ⊥) → nodes ≡ t .nodes
+  pub accepted-counted : r ≡ 0 → Tallied t nodes l
+
+-- `count_all`: `blocks` is the block table in order, `was` what it was before
+pub record CountedAll (pieces blocks nodes entries nodes′ : List ℕ) (r : ℕ) : Type 0 where
+  pub done : (was store : List ℕ) (l : Ledger) → StandsOpen (tables pieces was store nodes entries) l → Blank (tables pieces was store nodes entries)
+      → Ordered was blocks (length (l .now .blocks)) → Tallying l (tables pieces was store nodes entries) nodes′ r
+
+-- Nothing is changed yet but that the block rows stand in order and the tree is counted.
+pub record Accepted (t : Tables) (blocks nodes : List ℕ) (l : Ledger) : Type 0 where
+  pub stands : StandsOpen t l
+  pub ordered : Ordered (t .blocks) blocks (length (l .now .blocks))
+  pub tallied : Tallied t nodes l
+  pub nodes-long : length nodes ≡ length (t .nodes)
+
+-- the answer, and on a refusal everything as it was
 pub record Preparing (l : Ledger) (t : Tables) (blocks nodes : List ℕ) (r : ℕ) : Type 0 where
   pub formed : Finishable t l → r ≡ numberOf (finishAnswer l)
   pub unformed : (Finishable t l → ⊥) → r ≡ 2
@@ -81,6 +102,8 @@ pub record Preparing (l : Ledger) (t : Tables) (blocks nodes : List ℕ) (r : �
 pub record Prepared (pieces blocks nodes entries blocks′ nodes′ : List ℕ) (r : ℕ) : Type 0 where
   pub done : (store : List ℕ) (l : Ledger) → StandsOpen (tables pieces blocks store nodes entries) l
       → Preparing l (tables pieces blocks store nodes entries) blocks′ nodes′ r
+
+-- ── the work of an accepted finish ──
 
 -- the tables stand for the finished ledger
 pub record Finished (l : Ledger) (t t′ : Tables) : Type 0 where

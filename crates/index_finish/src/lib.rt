@@ -1,19 +1,25 @@
-// The work of finish on tables that stand for an open index.
+// The work of finish on tables that stand for an open index. Ports `Indexer::finalize` of mod.rs and the building of spacetime_index.rs.
 //
-//   rule             rule 24, each piece counted as live up to the end
-//   specs/Apart      which blocks and pieces share a cell at a tick, and what the tests decide
-//   proofs/Clearing  one step for each turn and each return of the tests
-//   proofs/Zeros     a table of zeros
+//   rule              rule 24, each piece counted as live up to the end
+//   specs/Apart       which blocks and pieces share a cell at a tick, and what the tests decide
+//   specs/Finish      what finish answers and leaves
+//   proofs/Zeros      a table of zeros
+//   proofs/Clearing   one step for each turn and each return of the tests
+//   proofs/Standing   what tables that stand for an open ledger have
+//   proofs/Agreeing   rule 24 over rows is history's over all blocks
+//   proofs/Counting   the tree that is counted is that of all blocks, and the answer is the ledger's
+//   proofs/Settling   an accepted finish leaves the tables of the finished ledger
+//   proofs/Finishing  one step for each return of the others
 ghost use mathlib.Core.Path.{_≡_};
 ghost use lib.ListN.{length, replicate};
 ghost use Rattle.lists.specs.Tests.{Decides};
-ghost use Rattle.index_finish.specs.Finish.{SettledTables, Prepared, FinishedOpen};
+ghost use Rattle.index_finish.specs.Finish.{TestedBlank, CountedAll, Prepared, SettledTables, FinishedOpen};
 use tables::block;
 use tables::piece;
 
 mod rule;
 
-// What finish answers here: document 01's refusals, or 0.
+// What finish answers: 0 where it is accepted, else the refusal's number in document 01. Refusals 12 and 13 come from the count of the tree.
 pub const DONE: u64 = 0;
 
 pub const UNFORMED: u64 = 2;
@@ -32,6 +38,48 @@ fn all_zero(table: &[u64]) -> bool
     true
 }
 
+// Whether the tables that finish builds in are zeros.
+fn blank(nodes: &[u64], entries: &[u64]) -> bool
+    ensures { λ r. ⌜ TestedBlank (now (nodes .entry)) (now (entries .entry)) r ⌝ }
+{
+    if !all_zero(nodes) {
+        return false;
+    }
+    all_zero(entries)
+}
+
+// Tests rule 24 on blocks in order and on the pieces, and counts the tree of all of them; or tells the refusal, and leaves the nodes zeros.
+fn count_all(pieces: &[u64], blocks: &[u64], nodes: &mut [u64], entries: &[u64]) -> u64
+    ensures { λ r. ⌜ CountedAll (now (pieces .entry)) (now (blocks .entry)) (now (nodes .entry)) (now (entries .entry)) (now (nodes .exit)) r ⌝ }
+{
+    let n = block::get(blocks, 0, block::COUNT);
+    if !rule::all_apart(pieces, blocks, n) {
+        return UNFORMED;
+    }
+    let m = tables::get(pieces, 0, piece::COUNT);
+    let end = block::get(blocks, 0, block::END);
+    let kind = block::get(blocks, 0, block::KIND);
+    segment_tree::build::count_tree(nodes, entries, blocks, n, pieces, m, end, kind)
+}
+
+// Orders the blocks and counts the tree; or tells the refusal, and leaves everything as it was.
+fn prepare(pieces: &[u64], blocks: &mut [u64], nodes: &mut [u64], entries: &[u64]) -> u64
+    ensures { λ r. ⌜ Prepared (now (pieces .entry)) (now (blocks .entry)) (now (nodes .entry)) (now (entries .entry))
+        (now (blocks .exit)) (now (nodes .exit)) r ⌝ }
+{
+    if !blank(nodes, entries) {
+        return UNFORMED;
+    }
+    let n = block::get(blocks, 0, block::COUNT);
+    ordering::sort(blocks, n);
+    let refusal = count_all(pieces, blocks, nodes, entries);
+    if refusal != DONE {
+        ordering::clear_order(blocks, n);
+        return refusal;
+    }
+    DONE
+}
+
 // Turns the pieces into blocks, takes them into the order, and closes the tree that is counted already.
 fn settle(pieces: &mut [u64], blocks: &mut [u64], nodes: &mut [u64], entries: &mut [u64])
     ensures { λ _. ⌜ SettledTables (now (pieces .entry)) (now (blocks .entry)) (now (nodes .entry)) (now (entries .entry))
@@ -48,35 +96,8 @@ fn settle(pieces: &mut [u64], blocks: &mut [u64], nodes: &mut [u64], entries: &m
     tables::zero(pieces);
 }
 
-// Orders the blocks and counts the tree of all of them; or tells the refusal, and leaves everything as it was.
-fn prepare(pieces: &[u64], blocks: &mut [u64], nodes: &mut [u64], entries: &[u64]) -> u64
-    ensures { λ r. ⌜ Prepared (now (pieces .entry)) (now (blocks .entry)) (now (nodes .entry)) (now (entries .entry))
-        (now (blocks .exit)) (now (nodes .exit)) r ⌝ }
-{
-    if !all_zero(nodes) {
-        return UNFORMED;
-    }
-    if !all_zero(entries) {
-        return UNFORMED;
-    }
-    let n = block::get(blocks, 0, block::COUNT);
-    ordering::sort(blocks, n);
-    if !rule::all_apart(pieces, blocks, n) {
-        ordering::clear_order(blocks, n);
-        return UNFORMED;
-    }
-    let m = tables::get(pieces, 0, piece::COUNT);
-    let end = block::get(blocks, 0, block::END);
-    let kind = block::get(blocks, 0, block::KIND);
-    let spent = segment_tree::build::count_tree(nodes, entries, blocks, n, pieces, m, end, kind);
-    if spent != DONE {
-        ordering::clear_order(blocks, n);
-        return spent;
-    }
-    DONE
-}
-
-// Finishes an index whose tables stand for an open ledger: the number of the refusal, and everything as it was, or DONE.
+// Finishes an index whose tables stand for an open ledger: DONE, or a refusal and everything as it was. To be called only after the test of the
+// tables: their counts are the numbers of steps.
 pub fn finish_open(
     pieces: &mut [u64],
     blocks: &mut [u64],
