@@ -27,7 +27,7 @@ use Rattle.segment_tree.specs.Count.{rowsIn}
 use Rattle.segment_tree.specs.Lives.{lifeOf, blockLife, pieceLife, entryRowsIn, roomFor, Countable}
 use Rattle.layout.specs.Tables.{Tables, tables, lengthsOf}
 use Rattle.layout.specs.Formed.{Blank}
-use Rattle.index_finish.specs.Finish.{StandsOpen, allBlocks, wholeTree, numberOf}
+use Rattle.index_finish.specs.Finish.{StandsOpen, allBlocks, wholeTree, numberOf, answerOf}
 use Rattle.index_finish.proofs.Standing.{few-rows, piece-count, linked}
 use Rattle.index_finish.proofs.Agreeing.{ordered-blocks}
 
@@ -105,6 +105,15 @@ module _ {t : Tables} {l : Ledger} (s : StandsOpen t l) where
   finish-answer : finishAnswer l ≡ answerIf (nodesSpent l t) (entriesSpent l t)
   unfolding firstOf finishRefusals
   finish-answer = rw (s .encodes .lengths, s .encodes .heads, s .still-open)
+
+  -- the ledger's answer, by its number
+  pub answer-number : answerOf (numberOf (finishAnswer l)) ≡ finishAnswer l
+  answer-number = rw finish-answer (go (nodesSpent l t) (entriesSpent l t))
+    where
+      go : (n m : Bool) → answerOf (numberOf (answerIf n m)) ≡ answerIf n m
+      go true m = refl
+      go false true = refl
+      go false false = refl
 
   -- the count's answer is the ledger's
   pub counted-answer : {r : ℕ} → r ≡ roomFor (rowsIn (t .nodes)) (entryRowsIn (t .entries)) (wholeTree l) → r ≡ numberOf (finishAnswer l)

@@ -5,3 +5,4 @@ pub mod Agreeing
 pub mod Counting
 pub mod Settling
 pub mod Finishing
+pub mod Public

@@ -3,7 +3,7 @@
 use mathlib.Core.Path.{_≡_}
 use mathlib.Core.Bool.{Bool, false}
 use mathlib.Core.List.{List}
-use Prim.Native.Nat.{ℕ, _≤_, _<_, _^_}
+use Prim.Native.Nat.{ℕ, zero, suc, _≤_, _<_, _^_}
 use lib.ListN.{length}
 use Rattle.lists.specs.Tests.{Decides}
 use Rattle.history.specs.Words.{Block}
@@ -41,6 +41,11 @@ wholeTree l = treeOf (l .opening .end) (allBlocks l)
 abbrev pub numberOf : Answer Unit → ℕ
 numberOf (accepted a) = 0
 numberOf (refused n) = n
+
+-- and the answer of a number
+abbrev pub answerOf : (number : ℕ) → Answer Unit
+answerOf zero = accepted tt
+answerOf (suc n) = refused (suc n)
 
 -- ── finish ──
 

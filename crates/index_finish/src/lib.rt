@@ -10,6 +10,7 @@
 //   proofs/Counting   the tree that is counted is that of all blocks, and the answer is the ledger's
 //   proofs/Settling   an accepted finish leaves the tables of the finished ledger
 //   proofs/Finishing  one step for each return of the others
+//   proofs/Public     so finish does what layout's relation says
 ghost use mathlib.Core.Path.{_≡_};
 ghost use lib.ListN.{length, replicate};
 ghost use Rattle.lists.specs.Tests.{Decides};
@@ -72,10 +73,10 @@ fn prepare(pieces: &[u64], blocks: &mut [u64], nodes: &mut [u64], entries: &[u64
     }
     let n = block::get(blocks, 0, block::COUNT);
     ordering::sort(blocks, n);
-    let refusal = count_all(pieces, blocks, nodes, entries);
-    if refusal != DONE {
+    let told = count_all(pieces, blocks, nodes, entries);
+    if told != DONE {
         ordering::clear_order(blocks, n);
-        return refusal;
+        return told;
     }
     DONE
 }
