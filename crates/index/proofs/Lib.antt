@@ -3,3 +3,4 @@ pub mod Reading
 pub mod Answering
 pub mod Bytes
 pub mod Finishing
+pub mod Recording

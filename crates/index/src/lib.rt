@@ -4,14 +4,17 @@
 //   specs/Answers     document 01's number and values for every case of an answer
 //   layout's Relations are the contracts: demand 3 links the calls by them
 ghost use mathlib.Core.Path.{_≡_};
+ghost use lib.ListN.{length};
+ghost use Rattle.index_record.specs.Calls.{operation, recordedOf};
 ghost use Rattle.layout.specs.Tables.{tables};
-ghost use Rattle.layout.specs.Relations.{OpenedBy, FinishedBy, FoundBy, BlockGivenBy};
+ghost use Rattle.layout.specs.Relations.{OpenedBy, RecordedBy, FinishedBy, FoundBy, BlockGivenBy};
 ghost use Rattle.index.specs.Answers.{openedOf, finishedOf, foundOf, givenOf};
 ghost use Rattle.index.specs.Reads.{BytesGivenBy};
 ghost use Rattle.index.specs.Work.{FinishesOpen};
 
 mod reads;
 
+use index_record::Recorded;
 use index_test::State;
 use tables::block;
 
@@ -84,6 +87,41 @@ impl Index {
         block::put(blocks, 0, block::END, end_tick);
         block::put(blocks, 0, block::KIND, kind as u64);
         Opened::Opened
+    }
+}
+
+// Records an operation: a read where every cell is known with its byte, else an update. The scratch's length bounds the space for pieces; nothing is
+// written to it.
+pub fn record_op(
+    pieces: &mut [u64],
+    blocks: &mut [u64],
+    store: &mut [u8],
+    nodes: &[u64],
+    entries: &[u64],
+    scratch: &[u64],
+    tick: u64,
+    first: u64,
+    bytes: &[u8],
+) -> Recorded
+    ensures { λ r. ⌜ RecordedBy (length (now (scratch .entry))) (operation tick first (now (bytes .entry)))
+        (tables (now (pieces .entry)) (now (blocks .entry)) (now (store .entry)) (now (nodes .entry)) (now (entries .entry)))
+        (tables (now (pieces .exit)) (now (blocks .exit)) (now (store .exit)) (now (nodes .entry)) (now (entries .entry))) (recordedOf r) ⌝ }
+{
+    let state = index_test::test(pieces, blocks, store, nodes, entries);
+    match state {
+        State::Bad => Recorded::Refused(2),
+        State::Closed => Recorded::Refused(3),
+        State::Open => {
+            index_record::record_open(
+                pieces,
+                blocks,
+                store,
+                scratch.len() as u64,
+                tick,
+                first,
+                bytes,
+            )
+        }
     }
 }
 
