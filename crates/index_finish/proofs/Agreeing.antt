@@ -1,12 +1,12 @@
 -- Rule 24 over block and piece rows is rule 24 of history over all blocks of the finished index. Assumes nothing.
-use mathlib.Core.Path.{_≡_, refl, sym, ap, ap₂, subst, _∙_}
-use mathlib.Core.List.{List, [], _∷_, _++_, map, map-map}
+use mathlib.Core.Path.{_≡_, sym, ap, ap₂, subst, _∙_}
+use mathlib.Core.List.{List, _++_, map, map-map}
 use Prim.Native.Nat.{ℕ, zero, suc, _+_, _≤_, _<_, max}
 use native.Mathlib.Omega.{arith}
 use lib.ListN.{length}
 use Rattle.lists.specs.Lists.{All, all-nil, all-cons, Pairs, pairs-nil, pairs-cons}
-use Rattle.lists.proofs.Lists.{all-map, all-both, all-of-map, all-un-map, all-at, pairs-append, pairs-left, pairs-across, pairs-map}
-use Rattle.history.specs.Words.{Piece, Block, blockOf, size, Holds, HasCell}
+use Rattle.lists.proofs.Lists.{all-map, all-both, all-of-map, all-un-map, all-at, pairs-append, pairs-left, pairs-across}
+use Rattle.history.specs.Words.{Block, blockOf, size, Holds}
 use Rattle.history.specs.Rules.{Apart}
 use Rattle.history.specs.Tree.{noBlock}
 use Rattle.history.specs.Ledger.{Ledger, settled}
@@ -22,8 +22,9 @@ use Rattle.piece_table.specs.Piece.{PieceRow, rowEnd}
 use Rattle.piece_table.specs.Shown.{shown}
 use Rattle.layout.specs.Tables.{Tables}
 use Rattle.index_finish.specs.Finish.{StandsOpen, allBlocks}
-use Rattle.index_finish.specs.Apart.{Crosses, Uncrossed, NoneShared}
-use Rattle.index_finish.proofs.Standing.{pairs-of-map, shown-size, are-blocks, stored, filled, by-end, pieceRows, are-pieces, pieces-stored, pieces-filled, in-order}
+use Rattle.index_finish.specs.Apart.{Crosses, NoneShared}
+use Rattle.index_finish.proofs.Lists.{pairs-of-map}
+use Rattle.index_finish.proofs.Standing.{shown-size, are-blocks, stored, filled, by-end, pieceRows, are-pieces, pieces-stored, pieces-filled, in-order}
 
 -- ── a block and a piece ──
 

@@ -1,8 +1,8 @@
 -- Finish on tables that stand for an open ledger: one step for each return. Assumes nothing.
-use mathlib.Core.Path.{_≡_, refl, sym, ap, ap₂, subst, _∙_}
+use mathlib.Core.Path.{_≡_, refl, sym, ap₂, subst, _∙_}
 use mathlib.Core.Bool.{Bool, true, false, not}
 use mathlib.Core.List.{List, map}
-use Prim.Native.Nat.{ℕ, _≤_, _<_, _^_}
+use Prim.Native.Nat.{ℕ, _<_, _^_}
 use native.Mathlib.Omega.{arith}
 use lib.ListN.{length, replicate}
 use borrow.Author.Tests.{not-true, not-false}
@@ -13,11 +13,11 @@ use Rattle.history.specs.Rules.{Apart}
 use Rattle.history.specs.Ledger.{Ledger}
 use Rattle.history.specs.Refusals.{Answer, accepted, refused, finishAnswer}
 use Rattle.tables.specs.Columns.{column, blockColumn, piecesCount, headCount, headEnd, headKind}
-use Rattle.ordering.specs.Order.{Ordered, Sorted, OnlyOrder, cleared}
+use Rattle.ordering.specs.Order.{Ordered, Sorted, cleared}
 use Rattle.ordering.proofs.Keeping.{order-column}
 use Rattle.ordering.proofs.Clearing.{cleared-back}
 use Rattle.segment_tree.specs.Lives.{CountedTree, CountedAs}
-use Rattle.layout.specs.Tables.{Tables, tables, headAt}
+use Rattle.layout.specs.Tables.{Tables, tables}
 use Rattle.layout.specs.Formed.{Blank}
 use Rattle.layout.specs.Relations.{FinishLeaves}
 use Rattle.index_finish.specs.Apart.{NoneShared, AllApart}

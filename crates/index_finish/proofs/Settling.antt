@@ -1,11 +1,10 @@
 -- What an accepted finish does: the pieces' blocks appended, all rows in order, the counted tree closed. Assumes nothing.
-use mathlib.Core.Path.{_≡_, refl, sym, ap, ap₂, subst, _∙_}
+use mathlib.Core.Path.{_≡_, refl, sym, ap, subst, _∙_}
 use mathlib.Core.Logic.{_⊎_, inl, inr, ⊎-elim}
-use mathlib.Core.Bool.{true, false}
-use mathlib.Core.List.{List, [], _∷_, _++_, map}
-use Prim.Native.Nat.{ℕ, zero, suc, _+_, _-_, _*_, _≤_, _<_, _^_}
+use mathlib.Core.List.{List, [], _++_, map}
+use Prim.Native.Nat.{ℕ, suc, _+_, _-_, _*_, _≤_, _<_, _^_}
 use native.Mathlib.Omega.{arith}
-use lib.ListN.{length, getD, set, take, replicate, length-set, length-map, length-replicate}
+use lib.ListN.{length, getD, set, take, replicate, length-set, length-replicate}
 use lib.Seq.{sets, getD-set-same, getD-set-other}
 use Rattle.lists.specs.Lists.{All, all-nil, all-cons, Pairs, pairs-nil, pairs-cons, Ascending, count, countFrom}
 use Rattle.lists.proofs.Lists.{all-map, all-both, all-at, all-of-map}
@@ -14,14 +13,14 @@ use Rattle.lists.proofs.Numbers.{le-or-lt}
 use Rattle.lists.proofs.Stores.{getD-sets-out}
 use Rattle.history.specs.Lent.{rowWidth, blockHead, nodeHead, entryHead}
 use Rattle.history.specs.Words.{Block, size}
-use Rattle.history.specs.Tree.{treeOf, keyIn, entryCount}
+use Rattle.history.specs.Tree.{treeOf, entryCount}
 use Rattle.history.specs.Rules.{Apart}
 use Rattle.history.specs.Ledger.{Ledger, finishBy}
 use Rattle.history.proofs.Steps.{settled-sound}
 use Rattle.tables.specs.Columns.{blockColumn, blockBase, blockFirst, blockLength, blockCreated, blockDestroyed, blockOffset, blockOwner, blockNext, headState, headEnd, headKind, headCount, headUsed, headLast}
 use Rattle.segment_table.specs.Closed as closed
 use Rattle.ordering.specs.Order as order
-use Rattle.ordering.specs.Order.{firstCellAt, nextAt, rankOf, Room, Trail, InOrder, numbersOf, OnlyOrder, Ordered, SortedMore}
+use Rattle.ordering.specs.Order.{nextAt, rankOf, Room, Trail, InOrder, numbersOf, Ordered, SortedMore}
 use Rattle.ordering.specs.Blocks.{lengthAt, offsetAt, blockOfRow, blocksOf, SameRows, Stored}
 use Rattle.ordering.proofs.Rank.{rank-first}
 use Rattle.ordering.proofs.Keeping.{rows-set, rows-sets, rows-then, kept-column, order-column, order-kept, stored-order}
@@ -37,26 +36,16 @@ use Rattle.segment_tree.specs.Lives.{Counted, entryRowsIn}
 use Rattle.segment_tree.specs.Fill.{Met, met-end, met-next, Closable, ClosedTree}
 use Rattle.layout.specs.Tables.{Tables, tables, lengthsOf, headAt}
 use Rattle.layout.specs.Encodes.{Encodes, closedState}
-use Rattle.layout.specs.Relations.{AppendedInOrder, FinishedTables}
+use Rattle.layout.specs.Relations.{AppendedInOrder}
 use Rattle.layout.proofs.Lengths.{lent-same}
 use Rattle.layout.proofs.Opening.{getD-zeros, no-links}
 use Rattle.index_finish.specs.Finish.{StandsOpen, allBlocks, wholeTree, Accepted, Finished, SettledTables}
+use Rattle.index_finish.proofs.Lists.{map-count-from}
 use Rattle.index_finish.proofs.Standing.{heads, room, pieceRows, are-pieces, rep}
 use Rattle.index_finish.proofs.Agreeing.{settledRow, all-blocks}
 use Rattle.index_finish.proofs.Counting.{row-lives}
 
 -- ── the rows appended, and the state ──
-
--- elements by numbers, from a number on
-map-count-from : {A B : Type 0} (g : ℕ → B) (f : A → B) (d : A) (n : ℕ) (xs : List A) → ((j : ℕ) → j < length xs → g (n + j) ≡ f (getD xs j d))
-    → map g (countFrom n (length xs)) ≡ map f xs
-unfolding countFrom
-map-count-from g f d n [] h = refl
-map-count-from {A} {B} g f d n (x ∷ xs) h =
-    let z : n + 0 ≡ n = omega arith in
-    let this : g n ≡ f x = rw z at (h 0 (omega arith)) in
-    ap₂ (λ (y : B) (r : List B). y ∷ r) this
-    (map-count-from g f d (suc n) xs (λ j l. let q : suc n + j ≡ n + suc j = omega arith in rw q (h (suc j) (omega arith))))
 
 -- the place of the head's state
 abbrev statePlace : ℕ

@@ -2,24 +2,24 @@
 use mathlib.Core.Path.{_≡_, refl, sym, ap, subst, _∙_}
 use mathlib.Core.Bool.{true, false, true≢false}
 use mathlib.Core.Option.{Option, none, some}
-use mathlib.Core.List.{List, [], _∷_, map, map-map}
-use Prim.Native.Nat.{ℕ, zero, suc, _+_, _-_, _*_, _/_, _≤_, _<_, _^_}
+use mathlib.Core.List.{List, map, map-map}
+use Prim.Native.Nat.{ℕ, zero, suc, _+_, _-_, _/_, _≤_, _<_, _^_}
 use native.Mathlib.Omega.{arith}
-use lib.ListN.{length, getD, take, drop, length-drop, length-map}
+use lib.ListN.{length, getD, drop, length-drop, length-map}
 use lib.Seq.{length-take-le}
 use Rattle.lists.specs.Lists.{All, all-nil, all-cons, Pairs, pairs-nil, pairs-cons}
 use Rattle.lists.proofs.Lists.{all-map, all-both, all-any, all-at, all-of-map, all-un-map}
 use Rattle.history.specs.Lent.{Lent, rowWidth, blockHead, blockRows}
-use Rattle.history.specs.Words.{Piece, Block, size, ends}
+use Rattle.history.specs.Words.{Block, size, ends}
 use Rattle.history.specs.Tree as segment
 use Rattle.history.specs.Tree.{noBlock}
-use Rattle.history.specs.Ledger.{Ledger, finished, isSome}
+use Rattle.history.specs.Ledger.{Ledger, isSome}
 use Rattle.history.specs.Sound as sound
 use Rattle.history.specs.Sound.{SoundPiece, SoundBlock, SoundBoard}
-use Rattle.tables.specs.Columns.{column, piecesCount, headCount, headUsed}
+use Rattle.tables.specs.Columns.{column, piecesCount, headUsed}
 use Rattle.ordering.specs.Order.{Room, Unordered}
 use Rattle.ordering.specs.Blocks.{lengthAt, offsetAt, destroyedAt, blockOfRow, blocksOf, Filled, Stored}
-use Rattle.ordering.proofs.Blocks.{blocks-at, blocks-length, bytes-length}
+use Rattle.ordering.proofs.Blocks.{blocks-at, bytes-length}
 use Rattle.piece_table.specs.Piece as piece
 use Rattle.piece_table.specs.Piece.{PieceRow, rowEnd, pieceAt, Follow}
 use Rattle.piece_table.specs.Rep.{Linked, Rep}
@@ -28,17 +28,7 @@ use Rattle.layout.specs.Tables.{Tables, lengthsOf, headAt}
 use Rattle.layout.specs.Encodes.{Encodes, TreeIn}
 use Rattle.layout.proofs.Lengths.{Heads, heads-fit}
 use Rattle.index_finish.specs.Finish.{StandsOpen}
-
--- ── pairs, mapped ──
-
-module _ {A B : Type 0} where
-  pub pairs-of-map : {R : B → B → Type 0} (f : A → B) {xs : List A} → Pairs (λ (x y : A). R (f x) (f y)) xs → Pairs R (map f xs)
-  pairs-of-map f pairs-nil = pairs-nil
-  pairs-of-map f (pairs-cons a p) = pairs-cons (all-of-map f a) (pairs-of-map f p)
-
-  pub pairs-un-map : {R : B → B → Type 0} (f : A → B) (xs : List A) → Pairs R (map f xs) → Pairs (λ (x y : A). R (f x) (f y)) xs
-  pairs-un-map f [] pairs-nil = pairs-nil
-  pairs-un-map f (x ∷ xs) (pairs-cons a p) = pairs-cons (all-un-map f xs a) (pairs-un-map f xs p)
+use Rattle.index_finish.proofs.Lists.{pairs-un-map}
 
 -- ── pieces ──
 
