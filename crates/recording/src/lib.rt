@@ -1,11 +1,12 @@
 // What one update of the board does to the pieces, and the blocks that it records. Ports the overlaps of merge_set.rs and `Indexer` of mod.rs.
 //
-//   specs/Blocks     blocks appended to the block table
-//   specs/Calls      what each function ensures
-//   proofs/Blocks    laws of appending
-//   proofs/Clearing  one step for each return of `remove_overlapping` and what it calls
-//   proofs/Updating  of `split`, `apply_update`
+//   specs/Blocks       blocks appended to the block table
+//   specs/Calls        what each function ensures
+//   proofs/Blocks      laws of appending
+//   proofs/Clearing    one step for each return: of `record_part`, `clear_one`, `clear`
+//   proofs/Updating    of `split`, `remove_overlapping`, `apply_update`
 //   proofs/Extracting  of `extract_members`
+//   proofs/Telling     what the tables then stand for is the ledger's update
 ghost use mathlib.Core.Path.{_≡_};
 ghost use Prim.Native.Nat.{_+_, min, max};
 ghost use Rattle.recording.specs.Calls.{WroteBlock, AppendedBlock, RecordedPart, Extracted, ExtractedMembers, ClearedOne, Cleared, SplitPiece, RemovedOverlapping, AppliedUpdate};

@@ -13,7 +13,8 @@ use borrow.Author.Tests.{eq-eqb, ne-eqb, lt-ltb, le-ltb}
 use Rattle.lists.specs.Lists.{has}
 use Rattle.lists.proofs.Numbers.{lt-or-le}
 use Rattle.history.specs.Words.{Piece, heldAt}
-use Rattle.survey.specs.Survey.{firstChange, changeAt, Matched}
+use Rattle.history.specs.Ledger.{firstChange}
+use Rattle.survey.specs.Survey.{changeAt, Matched}
 
 -- ── a byte among those held ──
 

@@ -11,6 +11,7 @@ use Rattle.lists.proofs.Lists.{all-left, all-right, all-map, all-append, all-an
 use Rattle.lists.proofs.Maps.{map-append}
 use Rattle.lists.proofs.Numbers.{lt-or-le}
 use Rattle.history.specs.Words.{Piece, heldAt}
+use Rattle.history.specs.Ledger.{firstChange}
 use Rattle.tables.specs.Columns.{column, pieceFirst, pieceLength, pieceOffset, piecesCount}
 use Rattle.merge_set.specs.Table.{firstAt}
 use Rattle.piece_table.specs.Piece.{PieceRow, rowEnd, pieceAt, rowsBelow, rowsInside, rowsAbove, Filled, Follow}
@@ -20,7 +21,7 @@ use Rattle.piece_table.specs.Shown.{shown, Stored}
 use Rattle.piece_table.proofs.Order.{follow-from, follow-right, follow-filled}
 use Rattle.piece_table.proofs.Parts.{Left}
 use Rattle.piece_table.proofs.Seeing.{rep-follow, rep-count, Seen, seen-none, seen-some}
-use Rattle.survey.specs.Survey.{firstChange, changeAt, Matching, Matched, HeldPart, HeldBytes, Plus, restsOf, RestsOf, Made, Counts, Surveyed}
+use Rattle.survey.specs.Survey.{changeAt, Matching, Matched, HeldPart, HeldBytes, Plus, restsOf, RestsOf, Made, Counts, Surveyed}
 use Rattle.survey.specs.declared.Report.{Report}
 use Rattle.survey.proofs.Holding.{Misses, held-none, held-one}
 use Rattle.survey.proofs.Changing.{has-none, has-same, has-other, change-here, change-run, matched-start, matched-moved, matched-tells}

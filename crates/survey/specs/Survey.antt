@@ -1,15 +1,15 @@
--- What record asks before it changes anything: where an operation first changes the board, and how many pieces and blocks there would be. Definitions
--- alone.
+-- What record asks before it changes anything: the ledger's first change, and how many pieces and blocks there would be. Definitions alone.
 use mathlib.Core.Path.{_≡_}
 use mathlib.Core.Logic.{_⊎_}
 use mathlib.Core.Bool.{cond, _&&_}
 use mathlib.Core.Option.{Option, none, some}
-use mathlib.Core.List.{List, [], _∷_, _++_, map}
+use mathlib.Core.List.{List, _∷_, _++_, map}
 use Prim.Native.Nat.{ℕ, suc, _+_, _≤_, _<_, _^_}
 use lib.ListN.{length, getD, drop}
 use lib.Dec.{ltb}
-use Rattle.lists.specs.Lists.{All, has}
-use Rattle.history.specs.Words.{Piece, heldAt}
+use Rattle.lists.specs.Lists.{All}
+use Rattle.history.specs.Words.{Piece}
+use Rattle.history.specs.Ledger.{firstChange}
 use Rattle.piece_table.specs.Piece.{PieceRow, rowEnd, pieceAt, rowsBelow, rowsInside, rowsAbove}
 use Rattle.piece_table.specs.Rep.{Linked, Rep}
 use Rattle.piece_table.specs.Calls.{endAt}
@@ -18,12 +18,7 @@ use Rattle.survey.specs.declared.Report.{Report}
 
 -- ── the first change ──
 
--- the first of the cells, from one on, that no piece holds with the byte written there
-unfoldable pub firstChange : List Piece → (cell : ℕ) (bytes : List ℕ) → Option ℕ
-firstChange ps cell [] = none
-firstChange ps cell (b ∷ bs) = cond (has b (heldAt cell ps)) (firstChange ps (suc cell) bs) (some cell)
-
--- the same, told by how many of the bytes are held before it
+-- the first change of an operation of so many cells, told by how many leading cells are held with their bytes
 abbrev pub changeAt : (first size same : ℕ) → Option ℕ
 changeAt first size same = cond (ltb same size) (some (first + same)) none
 

@@ -1,10 +1,11 @@
 // The survey of an operation: what record asks before it changes anything. It reads only, and takes as many seeks as pieces are met.
 //
-//   specs/Survey      the first change, and what each function ensures
+//   specs/Survey      what each function ensures
 //   proofs/Holding    which bytes the pieces hold for a cell
 //   proofs/Changing   the first change, from one piece to the next
 //   proofs/Weighing   pieces, blocks and rests as sums over the pieces
 //   proofs/Surveying  one step for each return
+//   proofs/Telling    what is told is what the ledger says
 ghost use mathlib.Core.Path.{_≡_};
 ghost use Prim.Native.Nat.{_+_, _≤_, min};
 ghost use lib.ListN.{length};
