@@ -18,7 +18,7 @@ use Rattle.piece_table.specs.Piece.{pieceAt}
 use Rattle.piece_table.specs.Shown.{shown}
 use Rattle.piece_table.proofs.Removing.{linked-valid}
 use Rattle.segment_tree.specs.Count.{rowsIn}
-use Rattle.segment_tree.specs.Lives.{lifeOf, blockLife, pieceLife, entryRowsIn, roomFor, Countable}
+use Rattle.segment_tree.specs.Lives.{lifeOf, blockLife, pieceLife, entryRowsIn, roomFor, rowsToCount, Countable}
 use Rattle.layout.specs.Tables.{Tables}
 use Rattle.layout.specs.Formed.{Blank}
 use Rattle.index_finish.specs.Finish.{StandsOpen, allBlocks, wholeTree, numberOf, answerOf}
@@ -41,7 +41,7 @@ module _ {t : Tables} {l : Ledger} {b : List ℕ} (s : StandsOpen t l) (o : Only
       ∙ map-map (λ p. lifeOf (blockOf (l .opening .end) p)) (λ link. shown (t .store) (pieceAt (t .pieces) link)) (s .encodes .links))
 
   pub countable : Blank t → length (t .pieces) < 2 ^ 64 → length (t .blocks) < 2 ^ 64
-      → Countable (t .nodes) b (t .pieces) (length (l .now .blocks)) (length (l .now .pieces)) (l .opening .end) (l .opening .kind) (l .now .blocks)
+      → Countable (rowsToCount b (length (l .now .blocks)) (t .pieces) (length (l .now .pieces)) (l .opening .end) (l .opening .kind)) (t .nodes) (l .now .blocks)
       (map (blockOf (l .opening .end)) (l .now .pieces)) (s .encodes .links)
   countable blank few-pieces few-blocks = record {
     zeros = blank .nodes;

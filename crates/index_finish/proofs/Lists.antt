@@ -6,7 +6,7 @@ use Prim.Native.Nat.{ℕ, suc, _+_, _≤_, _<_}
 use native.Mathlib.Omega.{arith}
 use lib.ListN.{length, getD}
 use Rattle.lists.specs.Lists.{Pairs, pairs-nil, pairs-cons, Mem, Distinct, count, countFrom}
-use Rattle.lists.proofs.Lists.{all-of-map, all-un-map}
+use Rattle.lists.proofs.Lists.{all-of-map}
 use Rattle.lists.proofs.Numbers.{lt-or-le}
 use Rattle.lists.proofs.Counting.{mem-count, count-mem, distinct-count, count-from-out, count-from-count}
 use Rattle.ordering.proofs.Dense.{dense}
@@ -17,10 +17,6 @@ module _ {A B : Type 0} where
   pub pairs-of-map : {R : B → B → Type 0} (f : A → B) {xs : List A} → Pairs (λ (x y : A). R (f x) (f y)) xs → Pairs R (map f xs)
   pairs-of-map f pairs-nil = pairs-nil
   pairs-of-map f (pairs-cons a p) = pairs-cons (all-of-map f a) (pairs-of-map f p)
-
-  pub pairs-un-map : {R : B → B → Type 0} (f : A → B) (xs : List A) → Pairs R (map f xs) → Pairs (λ (x y : A). R (f x) (f y)) xs
-  pairs-un-map f [] pairs-nil = pairs-nil
-  pairs-un-map f (x ∷ xs) (pairs-cons a p) = pairs-cons (all-un-map f xs a) (pairs-un-map f xs p)
 
 -- ── numbers in a row ──
 
