@@ -2,3 +2,4 @@ pub mod Opens
 pub mod Reading
 pub mod Answering
 pub mod Bytes
+pub mod Finishing

@@ -5,9 +5,10 @@
 //   layout's Relations are the contracts: demand 3 links the calls by them
 ghost use mathlib.Core.Path.{_≡_};
 ghost use Rattle.layout.specs.Tables.{tables};
-ghost use Rattle.layout.specs.Relations.{OpenedBy, FoundBy, BlockGivenBy};
-ghost use Rattle.index.specs.Answers.{openedOf, foundOf, givenOf};
+ghost use Rattle.layout.specs.Relations.{OpenedBy, FinishedBy, FoundBy, BlockGivenBy};
+ghost use Rattle.index.specs.Answers.{openedOf, finishedOf, foundOf, givenOf};
 ghost use Rattle.index.specs.Reads.{BytesGivenBy};
+ghost use Rattle.index.specs.Work.{FinishesOpen};
 
 mod reads;
 
@@ -20,6 +21,12 @@ pub struct Index {}
 // The answer of opening.
 pub enum Opened {
     Opened,
+    Refused(u64),
+}
+
+// The answer of finish.
+pub enum Finished {
+    Finished,
     Refused(u64),
 }
 
@@ -78,6 +85,42 @@ impl Index {
         block::put(blocks, 0, block::KIND, kind as u64);
         Opened::Opened
     }
+}
+
+// Finishes an index: the pieces become blocks, and the blocks get their tree.
+pub fn finalize(
+    pieces: &mut [u64],
+    blocks: &mut [u64],
+    store: &[u8],
+    nodes: &mut [u64],
+    entries: &mut [u64],
+) -> Finished
+    ensures { λ r. ⌜ FinishedBy (tables (now (pieces .entry)) (now (blocks .entry)) (now (store .entry)) (now (nodes .entry)) (now (entries .entry)))
+        (tables (now (pieces .exit)) (now (blocks .exit)) (now (store .entry)) (now (nodes .exit)) (now (entries .exit))) (finishedOf r) ⌝ }
+{
+    let state = index_test::test(pieces, blocks, store, nodes, entries);
+    match state {
+        State::Bad => Finished::Refused(2),
+        State::Closed => Finished::Refused(3),
+        State::Open => finish_open(pieces, blocks, nodes, entries),
+    }
+}
+
+// Finishes an open index, without the test of its tables: for callers that have tested them.
+pub fn finish_open(
+    pieces: &mut [u64],
+    blocks: &mut [u64],
+    nodes: &mut [u64],
+    entries: &mut [u64],
+) -> Finished
+    ensures { λ r. ⌜ FinishesOpen (now (pieces .entry)) (now (blocks .entry)) (now (nodes .entry)) (now (entries .entry))
+        (now (pieces .exit)) (now (blocks .exit)) (now (nodes .exit)) (now (entries .exit)) (finishedOf r) ⌝ }
+{
+    let refusal = index_finish::finish_open(pieces, blocks, nodes, entries);
+    if refusal == 0 {
+        return Finished::Finished;
+    }
+    Finished::Refused(refusal)
 }
 
 // The block of a number.
