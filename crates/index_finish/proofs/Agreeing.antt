@@ -1,12 +1,12 @@
 -- Rule 24 over block and piece rows is rule 24 of history over all blocks of the finished index. Assumes nothing.
-use mathlib.Core.Path.{_≡_, refl, sym, ap, ap₂, subst, _∙_}
-use mathlib.Core.List.{List, [], _∷_, _++_, map, map-map}
+use mathlib.Core.Path.{_≡_, sym, ap, ap₂, subst, _∙_}
+use mathlib.Core.List.{List, _++_, map, map-map}
 use Prim.Native.Nat.{ℕ, zero, suc, _+_, _≤_, _<_, max}
 use native.Mathlib.Omega.{arith}
 use lib.ListN.{length}
-use Rattle.lists.specs.Lists.{All, all-nil, all-cons, Pairs, pairs-nil, pairs-cons}
-use Rattle.lists.proofs.Lists.{all-map, all-both, all-of-map, all-un-map, all-at, pairs-append, pairs-left, pairs-across, pairs-map}
-use Rattle.history.specs.Words.{Piece, Block, blockOf, size, Holds, HasCell}
+use Rattle.lists.specs.Lists.{All}
+use Rattle.lists.proofs.Lists.{all-both, all-of-map, all-un-map, all-at, pairs-append, pairs-left, pairs-across, pairs-map}
+use Rattle.history.specs.Words.{Block, blockOf, size, Holds}
 use Rattle.history.specs.Rules.{Apart}
 use Rattle.history.specs.Tree.{noBlock}
 use Rattle.history.specs.Ledger.{Ledger, settled}
@@ -17,13 +17,14 @@ use Rattle.ordering.specs.Apart.{HoldsAt}
 use Rattle.ordering.proofs.Keeping.{order-column, filled-order, stored-order}
 use Rattle.ordering.proofs.Blocks.{all-count-from, blocks-at, blocks-length, blocks-order}
 use Rattle.ordering.proofs.Agreeing.{row-holds, holds-row, unshared-apart, apart-unshared}
-use Rattle.piece_table.specs.Piece as piece
-use Rattle.piece_table.specs.Piece.{PieceRow, rowEnd}
+use Rattle.piece_table.specs.Piece.{PieceRow}
 use Rattle.piece_table.specs.Shown.{shown}
 use Rattle.layout.specs.Tables.{Tables}
+use Rattle.layout.proofs.Pieces.{shown-size}
 use Rattle.index_finish.specs.Finish.{StandsOpen, allBlocks}
-use Rattle.index_finish.specs.Apart.{Crosses, Uncrossed, NoneShared}
-use Rattle.index_finish.proofs.Standing.{pairs-of-map, shown-size, are-blocks, stored, filled, by-end, pieceRows, are-pieces, pieces-stored, pieces-filled, in-order}
+use Rattle.index_finish.specs.Apart.{Crosses, NoneShared}
+use Rattle.index_finish.proofs.Lists.{pairs-of-map}
+use Rattle.index_finish.proofs.Standing.{are-blocks, stored, filled, by-end, pieceRows, are-pieces, pieces-stored, pieces-some}
 
 -- ── a block and a piece ──
 
@@ -71,19 +72,12 @@ module _ (store : List ℕ) (e : ℕ) (p : PieceRow) (has : p .offset + p .size 
 
 -- ── all blocks ──
 
--- pieces that follow one another share no cell
-pieces-apart : {store : List ℕ} {e : ℕ} {ps : List PieceRow} → All (λ (p : PieceRow). p .offset + p .size ≤ length store) ps
-    → Pairs (λ (p q : PieceRow). rowEnd p ≤ q .first) ps → Pairs (λ (p q : PieceRow). Apart₂ (settledRow store e p) (settledRow store e q)) ps
-pieces-apart all-nil pairs-nil = pairs-nil
-pieces-apart {store} (all-cons {x} h hs) (pairs-cons a p) =
-    pairs-cons {x = x} (all-map (λ q f tick cell y z. omega (arith, y .has .below, z .has .from, shown-size store x h)) a) (pieces-apart hs p)
-
 module _ (store : List ℕ) {b : List ℕ} {n : ℕ} (e : ℕ) {ps : List PieceRow} (stored : Stored (length store) b n) (filled : Filled b n)
-    (by-end : (link : ℕ) → 0 < link → link ≤ n → destroyedAt b link ≤ e) (has : All (λ (p : PieceRow). p .offset + p .size ≤ length store) ps) (some : All piece.Filled ps)
-    (order : Pairs (λ (p q : PieceRow). rowEnd p ≤ q .first) ps) where
+    (by-end : (link : ℕ) → 0 < link → link ≤ n → destroyedAt b link ≤ e) (has : All (λ (p : PieceRow). p .offset + p .size ≤ length store) ps) (some : All (λ (p : PieceRow). 0 < p .size) ps)
+    (among : Apart (map (settledRow store e) ps)) where
   pub unshared-settled : NoneShared b n ps → Apart (blocksOf store b n ++ map (settledRow store e) ps)
   unfolding blocksOf
-  unshared-settled s = pairs-append (unshared-apart store stored (s .blocks-apart)) (pairs-of-map (settledRow store e) (pieces-apart has order)) across
+  unshared-settled s = pairs-append (unshared-apart store stored (s .blocks-apart)) among across
     where
       row : (link : ℕ) → 0 < link → link ≤ n → All (λ (y : Block). Apart₂ (blockOfRow store b link) y) (map (settledRow store e) ps)
       row link l u =
@@ -107,9 +101,9 @@ module _ (store : List ℕ) {b : List ℕ} {n : ℕ} (e : ℕ) {ps : List PieceR
       clear (suc k) l u =
           let at : All (λ (y : Block). Apart₂ (blockOfRow store b (suc k)) y) (map (settledRow store e) ps)
           = rw (blocks-at store b n k noBlock (omega arith)) at (all-at noBlock across k (rw (blocks-length store b n) (omega arith))) in
-          let rows : All (λ (p : PieceRow). (p .offset + p .size ≤ length store) × piece.Filled p) ps = all-both (λ p h f. (h, f)) has some in
+          let rows : All (λ (p : PieceRow). (p .offset + p .size ≤ length store) × (0 < p .size)) ps = all-both (λ p h f. (h, f)) has some in
           all-both
-          (λ p h apart c. crosses-shared store e p (h .0) b (suc k) (stored .inside (suc k) l u) (filled .filled (suc k) l u) (h .1 .some) (by-end (suc k) l u) c apart)
+          (λ p h apart c. crosses-shared store e p (h .0) b (suc k) (stored .inside (suc k) l u) (filled .filled (suc k) l u) (h .1) (by-end (suc k) l u) c apart)
           rows (all-un-map (settledRow store e) ps at)
 
 -- ── the ledger's ──
@@ -134,11 +128,17 @@ module _ {t : Tables} {l : Ledger} {b : List ℕ} (s : StandsOpen t l) (o : Only
   ordered-end : (link : ℕ) → 0 < link → link ≤ length (l .now .blocks) → destroyedAt b link ≤ l .opening .end
   ordered-end link p q = rw (order-column o link blockDestroyed (omega arith) (λ z. omega arith)) (by-end s link p q)
 
+  -- pieces ascend, so no two of them share a cell
+  pieces-apart : Apart (map (settledRow (t .store) (l .opening .end)) (pieceRows s))
+  pieces-apart =
+      subst Apart (ap (map (blockOf (l .opening .end))) (are-pieces s) ∙ map-map (blockOf (l .opening .end)) (shown (t .store)) (pieceRows s))
+      (pairs-of-map (blockOf (l .opening .end)) (pairs-map (λ p q h tick cell x y. omega (arith, x .has .below, y .has .from)) (s .sound .board .in-order)))
+
   -- the tests over rows decide rule 24 for finish
   pub unshared-all : NoneShared b (length (l .now .blocks)) (pieceRows s) → Apart (allBlocks l)
   unshared-all h =
-      subst Apart (sym all-blocks) (unshared-settled (t .store) (l .opening .end) ordered-stored ordered-filled ordered-end (pieces-stored s) (pieces-filled s) (in-order s) h)
+      subst Apart (sym all-blocks) (unshared-settled (t .store) (l .opening .end) ordered-stored ordered-filled ordered-end (pieces-stored s) (pieces-some s) pieces-apart h)
 
   pub all-unshared : Apart (allBlocks l) → NoneShared b (length (l .now .blocks)) (pieceRows s)
   all-unshared a =
-      settled-unshared (t .store) (l .opening .end) ordered-stored ordered-filled ordered-end (pieces-stored s) (pieces-filled s) (in-order s) (subst Apart all-blocks a)
+      settled-unshared (t .store) (l .opening .end) ordered-stored ordered-filled ordered-end (pieces-stored s) (pieces-some s) pieces-apart (subst Apart all-blocks a)

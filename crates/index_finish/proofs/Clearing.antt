@@ -1,27 +1,25 @@
 -- Rule 24 of blocks against pieces: one step for each turn and each return of the tests. Assumes nothing.
-use mathlib.Core.Path.{_≡_, refl, sym, subst}
+use mathlib.Core.Path.{_≡_, sym, subst}
 use mathlib.Core.Bool.{Bool, true, false}
 use mathlib.Core.Logic.{_⊎_, ⊎-elim}
-use mathlib.Core.List.{List, [], _∷_, _++_, map}
-use Prim.Native.Nat.{ℕ, _+_, _-_, _≤_, _<_, _^_, min}
+use mathlib.Core.List.{List, _∷_, map}
+use Prim.Native.Nat.{ℕ, _+_, _-_, _≤_, _<_, _^_}
 use native.Mathlib.Omega.{arith}
 use borrow.Author.Tests.{not-true, not-false}
-use Rattle.lists.specs.Lists.{All, all-nil, all-cons}
-use Rattle.lists.specs.Tests.{Decides}
-use Rattle.lists.proofs.Lists.{all-append, all-map, all-both, all-left, all-right, all-any}
+use Rattle.lists.specs.Lists.{All, all-cons}
+use Rattle.lists.proofs.Lists.{all-append, all-map, all-both, all-right, all-any}
 use Rattle.lists.proofs.Numbers.{confirm, refute, decides-iff, eq-or-ne}
 use Rattle.tables.specs.Columns.{column, pieceFirst, pieceLength, pieceWritten}
-use Rattle.ordering.specs.Order.{firstCellAt, InOrder}
-use Rattle.ordering.specs.Blocks.{lengthAt, createdAt, destroyedAt, Filled}
+use Rattle.ordering.specs.Order.{firstCellAt}
+use Rattle.ordering.specs.Blocks.{lengthAt, createdAt, destroyedAt}
 use Rattle.ordering.specs.Apart.{TestedApart}
 use Rattle.segment_tree.specs.Count.{plusUpTo}
-use Rattle.piece_table.specs.Piece as piece
 use Rattle.piece_table.specs.Piece.{PieceRow, rowEnd, pieceAt, Follow}
 use Rattle.piece_table.specs.Rep.{Rep}
 use Rattle.piece_table.specs.Calls.{Sought}
 use Rattle.piece_table.proofs.Order.{follow-filled, follow-right}
 use Rattle.piece_table.proofs.Seeing.{rep-follow, Seen, seen-none, seen-some}
-use Rattle.index_finish.specs.Apart.{Meets, Crosses, Uncrossed, PiecesClear, BlockClear, BlocksClear, NoneShared, AllApart}
+use Rattle.index_finish.specs.Apart.{Meets, Crosses, Uncrossed, PiecesClear, BlockClear, BlocksClear, AllApart}
 
 -- ── the returns of `pieces_clear` ──
 

@@ -1,57 +1,30 @@
 -- What finish counts is the tree of all blocks, and what the count answers is the ledger's refusal. Assumes nothing.
-use mathlib.Core.Path.{_≡_, refl, sym, ap, subst, _∙_}
-use mathlib.Core.Logic.{_⊎_, inl, inr, ⊎-elim}
+use mathlib.Core.Path.{_≡_, refl, sym, ap, _∙_}
 use mathlib.Core.Bool.{Bool, true, false, cond}
-use mathlib.Core.List.{List, [], _∷_, _++_, map, map-map}
-use Prim.Native.Nat.{ℕ, suc, _+_, _≤_, _<_, _^_}
+use mathlib.Core.List.{List, _++_, map, map-map}
+use Prim.Native.Nat.{ℕ, _+_, _≤_, _<_, _^_}
 use native.Mathlib.Omega.{arith}
 use lib.ListN.{length}
 use lib.Dec.{ltb}
 use borrow.Author.Tests.{ltb-false}
-use Rattle.lists.specs.Lists.{Mem, Distinct, count, countFrom}
-use Rattle.lists.proofs.Numbers.{lt-or-le, bool-cases}
-use Rattle.lists.proofs.Counting.{mem-count, count-mem, distinct-count, count-from-out, count-from-count}
-use Rattle.history.specs.Lent.{Lent, tooShort, nodeRows, entryRows}
-use Rattle.history.specs.Words.{Block, blockOf}
-use Rattle.history.specs.Tree.{nodeCount, entryCount, treeOf}
-use Rattle.history.specs.Ledger.{Ledger, finished, settled}
+use Rattle.lists.specs.Lists.{count, countFrom}
+use Rattle.history.specs.Words.{blockOf}
+use Rattle.history.specs.Tree.{nodeCount, entryCount}
+use Rattle.history.specs.Ledger.{Ledger, settled}
 use Rattle.history.specs.Refusals.{Answer, accepted, refused, firstOf, finishRefusals, finishAnswer}
-use Rattle.tables.specs.Columns.{column, piecesCount}
 use Rattle.ordering.specs.Order.{OnlyOrder}
 use Rattle.ordering.specs.Blocks.{blockOfRow, blocksOf}
-use Rattle.ordering.proofs.Dense.{dense}
 use Rattle.piece_table.specs.Piece.{pieceAt}
 use Rattle.piece_table.specs.Shown.{shown}
 use Rattle.piece_table.proofs.Removing.{linked-valid}
 use Rattle.segment_tree.specs.Count.{rowsIn}
-use Rattle.segment_tree.specs.Lives.{lifeOf, blockLife, pieceLife, entryRowsIn, roomFor, Countable}
-use Rattle.layout.specs.Tables.{Tables, tables, lengthsOf}
+use Rattle.segment_tree.specs.Lives.{lifeOf, blockLife, pieceLife, entryRowsIn, roomFor, rowsToCount, Countable}
+use Rattle.layout.specs.Tables.{Tables}
 use Rattle.layout.specs.Formed.{Blank}
 use Rattle.index_finish.specs.Finish.{StandsOpen, allBlocks, wholeTree, numberOf, answerOf}
+use Rattle.index_finish.proofs.Lists.{counts-once}
 use Rattle.index_finish.proofs.Standing.{few-rows, piece-count, linked}
 use Rattle.index_finish.proofs.Agreeing.{ordered-blocks}
-
--- ── numbers that are 1 to n, each once ──
-
-counts-once : (n : ℕ) (xs : List ℕ) → Distinct xs → ((k : ℕ) → Mem k xs → (0 < k) × (k ≤ n)) → length xs ≡ n → (k : ℕ) → count k xs ≡ count k (countFrom 1 n)
-counts-once n xs once within many k = ⊎-elim inside outside (count-or-none (count k xs))
-  where
-    count-or-none : (c : ℕ) → (0 < c) ⊎ (c ≤ 0)
-    count-or-none c = lt-or-le 0 c
-
-    inside : 0 < count k xs → count k xs ≡ count k (countFrom 1 n)
-    inside h =
-        let w : (0 < k) × (k ≤ n) = within k (count-mem k xs h) in
-        omega (arith, distinct-count k xs once, count-from-count k 1 n (w .0) (omega (arith, w .1)))
-
-    outside : count k xs ≤ 0 → count k xs ≡ count k (countFrom 1 n)
-    outside h = ⊎-elim (λ z. omega (arith, count-from-out k 1 n (inl z))) (λ p. ⊎-elim (λ q. omega (arith, count-from-out k 1 n (inr q))) (λ q. absurd (omega (arith, there p q))) (le-or-less)) (lt-or-le k 1)
-      where
-        le-or-less : (1 + n ≤ k) ⊎ (k < 1 + n)
-        le-or-less = ⊎-elim (λ q. inr q) (λ q. inl q) (lt-or-le k (1 + n))
-
-        there : 1 ≤ k → k < 1 + n → 0 < count k xs
-        there p q = mem-count (dense n xs once within many k (omega arith) (omega arith))
 
 -- ── lives ──
 
@@ -68,7 +41,7 @@ module _ {t : Tables} {l : Ledger} {b : List ℕ} (s : StandsOpen t l) (o : Only
       ∙ map-map (λ p. lifeOf (blockOf (l .opening .end) p)) (λ link. shown (t .store) (pieceAt (t .pieces) link)) (s .encodes .links))
 
   pub countable : Blank t → length (t .pieces) < 2 ^ 64 → length (t .blocks) < 2 ^ 64
-      → Countable (t .nodes) b (t .pieces) (length (l .now .blocks)) (length (l .now .pieces)) (l .opening .end) (l .opening .kind) (l .now .blocks)
+      → Countable (rowsToCount b (length (l .now .blocks)) (t .pieces) (length (l .now .pieces)) (l .opening .end) (l .opening .kind)) (t .nodes) (l .now .blocks)
       (map (blockOf (l .opening .end)) (l .now .pieces)) (s .encodes .links)
   countable blank few-pieces few-blocks = record {
     zeros = blank .nodes;

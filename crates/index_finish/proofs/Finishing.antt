@@ -1,8 +1,8 @@
 -- Finish on tables that stand for an open ledger: one step for each return. Assumes nothing.
-use mathlib.Core.Path.{_≡_, refl, sym, ap, ap₂, subst, _∙_}
+use mathlib.Core.Path.{_≡_, refl, sym, ap₂, subst, _∙_}
 use mathlib.Core.Bool.{Bool, true, false, not}
 use mathlib.Core.List.{List, map}
-use Prim.Native.Nat.{ℕ, _≤_, _<_, _^_}
+use Prim.Native.Nat.{ℕ, _<_, _^_}
 use native.Mathlib.Omega.{arith}
 use lib.ListN.{length, replicate}
 use borrow.Author.Tests.{not-true, not-false}
@@ -13,11 +13,11 @@ use Rattle.history.specs.Rules.{Apart}
 use Rattle.history.specs.Ledger.{Ledger}
 use Rattle.history.specs.Refusals.{Answer, accepted, refused, finishAnswer}
 use Rattle.tables.specs.Columns.{column, blockColumn, piecesCount, headCount, headEnd, headKind}
-use Rattle.ordering.specs.Order.{Ordered, Sorted, OnlyOrder, cleared}
+use Rattle.ordering.specs.Order.{Ordered, Sorted, cleared}
 use Rattle.ordering.proofs.Keeping.{order-column}
 use Rattle.ordering.proofs.Clearing.{cleared-back}
-use Rattle.segment_tree.specs.Lives.{CountedTree, CountedAs}
-use Rattle.layout.specs.Tables.{Tables, tables, headAt}
+use Rattle.segment_tree.specs.Lives.{rowsToCount, CountedTree, CountedAs}
+use Rattle.layout.specs.Tables.{Tables, tables}
 use Rattle.layout.specs.Formed.{Blank}
 use Rattle.layout.specs.Relations.{FinishLeaves}
 use Rattle.index_finish.specs.Apart.{NoneShared, AllApart}
@@ -59,7 +59,7 @@ module _ {pieces b nodes entries : List ℕ} {n : ℕ} {q : Bool} (few-pieces : 
   }
 
   pub count-told : {nodes′ : List ℕ} {m e kind r : ℕ} → length b < 2 ^ 64 → not q ≡ false → m ≡ column pieces 0 piecesCount → e ≡ blockColumn b 0 headEnd
-      → kind ≡ blockColumn b 0 headKind → CountedTree nodes nodes′ entries b pieces n m e kind r → CountedAll pieces b nodes entries nodes′ r
+      → kind ≡ blockColumn b 0 headKind → CountedTree (rowsToCount b n pieces m e kind) nodes entries nodes′ r → CountedAll pieces b nodes entries nodes′ r
   count-told {nodes′} {m} {e} {kind} {r} few-blocks f em ee ek tree = record { done = go }
     where
       go : (was store : List ℕ) (l : Ledger) → StandsOpen (tables pieces was store nodes entries) l → Blank (tables pieces was store nodes entries)
@@ -69,9 +69,9 @@ module _ {pieces b nodes entries : List ℕ} {n : ℕ} {q : Bool} (few-pieces : 
           let m-is : m ≡ length (l .now .pieces) = em ∙ piece-count s in
           let e-is : e ≡ l .opening .end = ee ∙ order-column (o .only) 0 headEnd (omega arith) (λ z. omega arith) ∙ s .encodes .end in
           let k-is : kind ≡ l .opening .kind = ek ∙ order-column (o .only) 0 headKind (omega arith) (λ z. omega arith) ∙ s .encodes .kind in
-          let c : CountedTree nodes nodes′ entries b pieces (length (l .now .blocks)) (length (l .now .pieces)) (l .opening .end) (l .opening .kind) r
+          let c : CountedTree (rowsToCount b (length (l .now .blocks)) pieces (length (l .now .pieces)) (l .opening .end) (l .opening .kind)) nodes entries nodes′ r
           = rw (← n-is s o, ← m-is, ← e-is, ← k-is) tree in
-          let counted : CountedAs nodes nodes′ entries (l .opening .kind) (l .opening .end) (wholeTree l) r
+          let counted : CountedAs nodes entries nodes′ (l .opening .kind) (l .opening .end) (wholeTree l) r
           = rw (counted-all l) at (c .done (l .now .blocks) (map (blockOf (l .opening .end)) (l .now .pieces)) (s .encodes .links)
           (countable s (o .only) blank few-pieces (omega (arith, o .only .len)))) in
           record {

@@ -1,5 +1,6 @@
-pub mod Clearing
+pub mod Lists
 pub mod Zeros
+pub mod Clearing
 pub mod Standing
 pub mod Agreeing
 pub mod Counting

@@ -1,11 +1,10 @@
 -- What an accepted finish does: the pieces' blocks appended, all rows in order, the counted tree closed. Assumes nothing.
-use mathlib.Core.Path.{_≡_, refl, sym, ap, ap₂, subst, _∙_}
+use mathlib.Core.Path.{_≡_, refl, sym, ap, subst, _∙_}
 use mathlib.Core.Logic.{_⊎_, inl, inr, ⊎-elim}
-use mathlib.Core.Bool.{true, false}
-use mathlib.Core.List.{List, [], _∷_, _++_, map}
-use Prim.Native.Nat.{ℕ, zero, suc, _+_, _-_, _*_, _≤_, _<_, _^_}
+use mathlib.Core.List.{List, [], _++_, map}
+use Prim.Native.Nat.{ℕ, suc, _+_, _-_, _*_, _≤_, _<_, _^_}
 use native.Mathlib.Omega.{arith}
-use lib.ListN.{length, getD, set, take, replicate, length-set, length-map, length-replicate}
+use lib.ListN.{length, getD, set, take, replicate, length-set, length-replicate}
 use lib.Seq.{sets, getD-set-same, getD-set-other}
 use Rattle.lists.specs.Lists.{All, all-nil, all-cons, Pairs, pairs-nil, pairs-cons, Ascending, count, countFrom}
 use Rattle.lists.proofs.Lists.{all-map, all-both, all-at, all-of-map}
@@ -14,18 +13,18 @@ use Rattle.lists.proofs.Numbers.{le-or-lt}
 use Rattle.lists.proofs.Stores.{getD-sets-out}
 use Rattle.history.specs.Lent.{rowWidth, blockHead, nodeHead, entryHead}
 use Rattle.history.specs.Words.{Block, size}
-use Rattle.history.specs.Tree.{treeOf, keyIn, entryCount}
+use Rattle.history.specs.Tree.{treeOf, entryCount}
 use Rattle.history.specs.Rules.{Apart}
 use Rattle.history.specs.Ledger.{Ledger, finishBy}
 use Rattle.history.proofs.Steps.{settled-sound}
 use Rattle.tables.specs.Columns.{blockColumn, blockBase, blockFirst, blockLength, blockCreated, blockDestroyed, blockOffset, blockOwner, blockNext, headState, headEnd, headKind, headCount, headUsed, headLast}
 use Rattle.segment_table.specs.Closed as closed
 use Rattle.ordering.specs.Order as order
-use Rattle.ordering.specs.Order.{firstCellAt, nextAt, rankOf, Room, Trail, InOrder, numbersOf, OnlyOrder, Ordered, SortedMore}
+use Rattle.ordering.specs.Order.{nextAt, rankOf, Room, Trail, InOrder, numbersOf, Ordered, SortedMore}
 use Rattle.ordering.specs.Blocks.{lengthAt, offsetAt, blockOfRow, blocksOf, SameRows, Stored}
 use Rattle.ordering.proofs.Rank.{rank-first}
 use Rattle.ordering.proofs.Keeping.{rows-set, rows-sets, rows-then, kept-column, order-column, order-kept, stored-order}
-use Rattle.ordering.proofs.Blocks.{blocks-length, blocks-key, blocks-append, blocks-order}
+use Rattle.ordering.proofs.Blocks.{blocks-length, blocks-append, blocks-order}
 use Rattle.ordering.proofs.Numbering.{order-counts, order-blocks}
 use Rattle.piece_table.specs.Piece.{PieceRow, pieceAt}
 use Rattle.piece_table.specs.Shown.{shown}
@@ -34,29 +33,19 @@ use Rattle.recording.specs.Blocks.{blockRow, blockCount, appended}
 use Rattle.recording.specs.Calls.{ExtractedMembers}
 use Rattle.recording.proofs.Blocks.{block-rows-length, appended-length, appended-count, appended-other, appended-row}
 use Rattle.segment_tree.specs.Lives.{Counted, entryRowsIn}
-use Rattle.segment_tree.specs.Fill.{Met, met-end, met-next, Closable, ClosedTree}
+use Rattle.segment_tree.specs.Fill.{Met, met-end, met-next, lentTables, Closable, ClosedTree}
 use Rattle.layout.specs.Tables.{Tables, tables, lengthsOf, headAt}
 use Rattle.layout.specs.Encodes.{Encodes, closedState}
-use Rattle.layout.specs.Relations.{AppendedInOrder, FinishedTables}
+use Rattle.layout.specs.Relations.{AppendedInOrder}
 use Rattle.layout.proofs.Lengths.{lent-same}
 use Rattle.layout.proofs.Opening.{getD-zeros, no-links}
 use Rattle.index_finish.specs.Finish.{StandsOpen, allBlocks, wholeTree, Accepted, Finished, SettledTables}
+use Rattle.index_finish.proofs.Lists.{map-count-from}
 use Rattle.index_finish.proofs.Standing.{heads, room, pieceRows, are-pieces, rep}
 use Rattle.index_finish.proofs.Agreeing.{settledRow, all-blocks}
 use Rattle.index_finish.proofs.Counting.{row-lives}
 
 -- ── the rows appended, and the state ──
-
--- elements by numbers, from a number on
-map-count-from : {A B : Type 0} (g : ℕ → B) (f : A → B) (d : A) (n : ℕ) (xs : List A) → ((j : ℕ) → j < length xs → g (n + j) ≡ f (getD xs j d))
-    → map g (countFrom n (length xs)) ≡ map f xs
-unfolding countFrom
-map-count-from g f d n [] h = refl
-map-count-from {A} {B} g f d n (x ∷ xs) h =
-    let z : n + 0 ≡ n = omega arith in
-    let this : g n ≡ f x = rw z at (h 0 (omega arith)) in
-    ap₂ (λ (y : B) (r : List B). y ∷ r) this
-    (map-count-from g f d (suc n) xs (λ j l. let q : suc n + j ≡ n + suc j = omega arith in rw q (h (suc j) (omega arith))))
 
 -- the place of the head's state
 abbrev statePlace : ℕ
@@ -144,7 +133,7 @@ module _ (store : List ℕ) {b : List ℕ} {n : ℕ} {bs : List Block} (o : InOr
   bs-length = ap length is ∙ blocks-length store b n
 
   closable : {nodes entries : List ℕ} {e kind : ℕ} → n ≤ 2 ^ 64 → 0 < e → e ≤ 2 ^ 63 → Counted nodes kind e (treeOf e bs) → nodeHead ≤ length nodes → entryHead ≤ length entries
-      → entryCount (treeOf e bs) ≤ entryRowsIn entries → Apart bs → All (λ (x : Block). 0 < size (x .stretch)) bs → Closable b nodes entries n e kind bs (numbersOf (o .links))
+      → entryCount (treeOf e bs) ≤ entryRowsIn entries → Apart bs → All (λ (x : Block). 0 < size (x .stretch)) bs → Closable (lentTables b nodes entries) n e kind bs (numbersOf (o .links))
   closable few some small counted nodes-headed entries-headed space apart filled = record {
     some = some;
     small = small;
@@ -153,7 +142,6 @@ module _ (store : List ℕ) {b : List ℕ} {n : ℕ} {bs : List Block} (o : InOr
     entries-headed = entries-headed;
     space = space;
     lives-are = rw (bs-length, is) (row-lives store b n);
-    cells-are = λ k h. rw is (sym (blocks-key store b n k (rw (← bs-length) h)));
     apart = apart;
     filled = filled;
     met = trail-met (o .trail);
@@ -265,13 +253,13 @@ module _ {pieces was store blank entries b nodes : List ℕ} {l : Ledger} (a : A
           ∙ a .ordered .only .same i (λ k p q. omega (arith, count-is));
     }
 
-    tree-closable : length was < 2 ^ 64 → Closable b′ nodes entries (n + length rs) e (l .opening .kind) (allBlocks l) (numbersOf (o .order .links))
+    tree-closable : length was < 2 ^ 64 → Closable (lentTables b′ nodes entries) (n + length rs) e (l .opening .kind) (allBlocks l) (numbersOf (o .order .links))
     tree-closable few =
         closable store (o .order) blocks-are (omega (arith, few, b-long, fits)) (omega (arith, s .sound .board .some-tick)) (s .sound .board .end-most) (a .tallied .counted)
         (omega (arith, a .nodes-long, heads s .nodes)) (heads s .entries) (a .tallied .space) (a .tallied .apart) all-filled
 
     module _ {nodes′ entries′ : List ℕ} (nodes-long : length nodes′ ≡ length nodes) (entries-long : length entries′ ≡ length entries)
-        (tree : closed.Closed (record { blocks = b′; nodes = nodes′; entries = entries′ }) (l .opening .kind) e (wholeTree l)) where
+        (tree : closed.Closed (lentTables b′ nodes′ entries′) (l .opening .kind) e (wholeTree l)) where
       abbrev t′ : Tables
       t′ = tables (replicate (length pieces) 0) b′ store nodes′ entries′
 
@@ -309,7 +297,7 @@ module _ {pieces was store blank entries b nodes : List ℕ} {l : Ledger} (a : A
 pub settle-done : {pieces b nodes entries b₁ b₂ b₃ nodes′ entries′ pieces′ : List ℕ} {end kind recorded all : ℕ} → length pieces < 2 ^ 64 → length b < 2 ^ 64
     → length nodes′ ≡ length nodes → length entries′ ≡ length entries → end ≡ blockColumn b 0 headEnd → kind ≡ blockColumn b 0 headKind → recorded ≡ blockCount b
     → ExtractedMembers pieces b b₁ end → b₂ ≡ set b₁ statePlace closedState → all ≡ blockCount b₂ → SortedMore b₂ b₃ recorded all
-    → ClosedTree b₃ nodes entries nodes′ entries′ all end kind → pieces′ ≡ replicate (length pieces) 0 → SettledTables pieces b nodes entries pieces′ b₃ nodes′ entries′
+    → ClosedTree (lentTables b₃ nodes entries) (lentTables b₃ nodes′ entries′) all end kind → pieces′ ≡ replicate (length pieces) 0 → SettledTables pieces b nodes entries pieces′ b₃ nodes′ entries′
 settle-done {pieces} {b} {nodes} {entries} {b₁} {b₂} {b₃} {nodes′} {entries′} {pieces′} {end} {kind} {recorded} {all} few-pieces few-blocks nodes-long entries-long ee ek er ex put count sort close zeros = record { done = go }
   where
     go : (was blank store : List ℕ) (l : Ledger) → Accepted (tables pieces was store blank entries) b nodes l
@@ -323,5 +311,5 @@ settle-done {pieces} {b} {nodes} {entries} {b₁} {b₂} {b₃} {nodes′} {entr
         let all-is : all ≡ n a + length (rs a) = count ∙ ap blockCount b₂-is ∙ grown-count (l .opening .end) (rs a) b (b-headed a) in
         let sorted : SortedMore (g a) b₃ (n a) (n a + length (rs a)) = rw (← b₂-is, ← all-is, ← er) sort in
         let o : Ordered (g a) b₃ (n a + length (rs a)) = sorted .done (g-order a) (omega arith) (g-room a) in
-        let made : ClosedTree b₃ nodes entries nodes′ entries′ (n a + length (rs a)) (l .opening .end) (l .opening .kind) = rw (← all-is, ← end-is, ← kind-is) close in
+        let made : ClosedTree (lentTables b₃ nodes entries) (lentTables b₃ nodes′ entries′) (n a + length (rs a)) (l .opening .end) (l .opening .kind) = rw (← all-is, ← end-is, ← kind-is) close in
         rw zeros (finished-tables a o nodes-long entries-long (made .done (allBlocks l) (numbersOf (o .order .links)) (tree-closable a o few)))

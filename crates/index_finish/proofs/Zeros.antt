@@ -1,5 +1,5 @@
 -- A table of zeros, number by number. Assumes nothing.
-use mathlib.Core.Path.{_≡_, refl, sym, ap₂, ap, _∙_}
+use mathlib.Core.Path.{_≡_, refl, ap₂, ap, _∙_}
 use mathlib.Core.Bool.{true, false}
 use mathlib.Core.Logic.{_⊎_, ⊎-elim}
 use mathlib.Core.List.{List, [], _∷_}

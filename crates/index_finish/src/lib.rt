@@ -3,6 +3,7 @@
 //   rule              rule 24, each piece counted as live up to the end
 //   specs/Apart       which blocks and pieces share a cell at a tick, and what the tests decide
 //   specs/Finish      what finish answers and leaves
+//   proofs/Lists      laws of lists that know nothing of tables
 //   proofs/Zeros      a table of zeros
 //   proofs/Clearing   one step for each turn and each return of the tests
 //   proofs/Standing   what tables that stand for an open ledger have
