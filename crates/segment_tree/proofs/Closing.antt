@@ -1,32 +1,31 @@
 -- Steps of `close::close_tree`: the blocks in order fill the bare nodes to the tree of all blocks, and with the runs given out again the tables are
 -- those of a closed index. Assumes nothing.
-use mathlib.Core.Path.{_≡_, refl, ap, ap₂, sym, _∙_}
-use mathlib.Core.Logic.{_⊎_, inl, inr}
+use mathlib.Core.Path.{_≡_, refl, ap, sym, _∙_}
+use mathlib.Core.Logic.{inl, inr}
 use mathlib.Core.List.{List, [], _∷_, map}
-use Prim.Native.Nat.{ℕ, zero, suc, _+_, _-_, _*_, _/_, _^_, _≤_, _<_, min}
+use Prim.Native.Nat.{ℕ, suc, _+_, _-_, _*_, _^_, _≤_, _<_}
 use native.Mathlib.Omega.{arith}
 use lib.ListN.{length, getD, set, length-set}
 use lib.Seq.{getD-set-same, getD-set-other}
-use Rattle.lists.specs.Lists.{All, all-nil, all-cons, Mem, here, there, count, countFrom}
+use Rattle.lists.specs.Lists.{All, all-cons, here, countFrom}
 use Rattle.lists.proofs.Numbers.{lt-or-le}
-use Rattle.lists.proofs.Lists.{all-any, all-map, all-mem, all-of-mem, count-from-length, count-from-at}
+use Rattle.lists.proofs.Lists.{all-any, all-mem, all-of-mem, count-from-length, count-from-at}
 use Rattle.lists.proofs.Counting.{mem-count, count-from-out}
-use Rattle.lists.proofs.Maps.{getD-of-map, length-of-map}
-use Rattle.history.specs.Lent.{rowWidth, entryWidth, nodeHead, entryHead}
+use Rattle.lists.proofs.Maps.{getD-of-map}
+use Rattle.history.specs.Lent.{rowWidth, entryWidth, entryHead}
 use Rattle.history.specs.Words.{Block}
-use Rattle.history.specs.Tree.{Tree, hole, node, mid, addLocation, noBlock, blockAt, keyIn, treeOf, nodeCount, entryCount}
+use Rattle.history.specs.Tree.{Tree, hole, node, mid, addLocation, noBlock, blockAt, keyIn, treeOf, entryCount}
 use Rattle.history.proofs.TreeCounts.{newNodes}
-use Rattle.history.proofs.TreeAdding.{addBlock}
 use Rattle.history.proofs.TreeOrder.{addEach, treeOf-order}
 use Rattle.tables.specs.Columns.{column, blockColumn, entryColumn, blockNext, nodeMin, nodeMax, nodeLeft, nodeRight, nodeFirst, nodeEntries, nodeKind, nodesCount, entryBlock, entryKey, entriesCount}
-use Rattle.segment_table.specs.Closed.{Tables, nodesUsed, leftAt, rightAt, firstAt, countAt, entriesUsed, blockIn, firstCellIn, run, Keyed, NodeRow, TreeAt, Consecutive, Closed}
-use Rattle.segment_tree.specs.Count.{most, rowsIn, entriesTo, allEntries, CountRow, CountAt, Life, aLife}
-use Rattle.segment_tree.specs.Runs.{upTo, withRuns, LikeButRuns, AssignedRuns}
-use Rattle.segment_tree.specs.Lives.{lifeOf, blockLife, entryRowsIn, Counted}
-use Rattle.segment_tree.specs.Fill.{startAt, Fillable, FillRow, FillAt, Roomy, Met, appendBlock, appendEach, HasNodes, WrittenAll, Closable, ClosedTree}
+use Rattle.segment_table.specs.Closed.{nodesUsed, leftAt, rightAt, firstAt, countAt, firstCellIn, run, Keyed, TreeAt, Closed}
+use Rattle.segment_tree.specs.Count.{entriesTo, allEntries, CountRow, CountAt, Life, aLife}
+use Rattle.segment_tree.specs.Runs.{upTo, LikeButRuns, AssignedRuns}
+use Rattle.segment_tree.specs.Lives.{lifeOf, blockLife}
+use Rattle.segment_tree.specs.Fill.{startAt, Fillable, FillAt, Roomy, appendBlock, appendEach, FindsNodes, WrittenAll, lentTables, Closable, ClosedTree}
 use Rattle.segment_tree.proofs.NodeRows.{entries-same, entries-most}
-use Rattle.segment_tree.proofs.Running.{runs-length, runs-like, runs-first, runs-entries}
-use Rattle.segment_tree.proofs.Presence.{NodesOf, each-present, bare, new-bare, each-bare, AllIn, in-hole, each-end}
+use Rattle.segment_tree.proofs.Running.{runs-length, runs-like, runs-first}
+use Rattle.segment_tree.proofs.Presence.{new-none-count, NodesOf, each-present, bare, new-bare, each-bare, in-hole, each-end}
 use Rattle.segment_tree.proofs.Writing.{run-ends, run-fits, run-same, like-self, like-trans}
 
 -- ── the model ──
@@ -54,8 +53,10 @@ module _ (blocks : List ℕ) (bs : List Block) (e : ℕ) (same : (k : ℕ) → k
       append-is ks (appendBlock blocks e k T) hs
       ∙ ap (λ (l : Life). addEach (blockAt bs) (λ _. 0) e ks (addLocation (λ _. 0) 63 k (l .created) (l .destroyed) 0 e T)) (same k h)
 
-  nodes-are : (T : Tree) (k : ℕ) → k < length bs → NodesOf (blockAt bs) e T k → HasNodes blocks e T k
-  nodes-are T k h n = ap (λ (l : Life). newNodes 63 (l .created) (l .destroyed) 0 e T) (same k h) ∙ n
+  nodes-are : (T : Tree) (k : ℕ) → k < length bs → NodesOf (blockAt bs) e T k → FindsNodes 63 k (blockLife blocks (suc k)) 0 e T
+  nodes-are T k h n =
+      let l : Life = blockLife blocks (suc k) in
+      new-none-count k 63 (l .created) (l .destroyed) 0 e T (ap (λ (l : Life). newNodes 63 (l .created) (l .destroyed) 0 e T) (same k h) ∙ n)
 
 -- ── the tables before and after ──
 
@@ -96,14 +97,11 @@ roomy-counted s kind link lo hi (node xs l r) g =
 
 module _ (blocks s t es t′ es′ : List ℕ) (kind : ℕ) (like : LikeButRuns s t′) (long : length es′ ≡ length es) (rows : (i : ℕ) → entryHead ≤ i → getD es′ i 0 ≡ getD es i 0)
     (starts : (k : ℕ) → k < nodesUsed s → firstAt t′ (suc k) ≡ entriesTo s k) (space : entryHead + entryWidth * allEntries s ≤ length es) where
-  abbrev tables : Tables
-  tables = record { blocks = blocks; nodes = t′; entries = es′ }
-
   same-used : nodesUsed t′ ≡ nodesUsed s
   same-used = like .same 0 nodesCount (omega arith) (inl refl)
 
   -- a filled tree in which all is as it was counted stands in the closed tables
-  tree-closed : (link lo hi : ℕ) (T : Tree) → CountAt s kind link lo hi T → FillAt blocks s t es kind link lo hi T → TreeAt tables kind link lo hi T
+  tree-closed : (link lo hi : ℕ) (T : Tree) → CountAt s kind link lo hi T → FillAt blocks s t es kind link lo hi T → TreeAt (lentTables blocks t′ es′) kind link lo hi T
   unfolding CountAt FillAt TreeAt
   tree-closed link lo hi hole g f = g
   tree-closed link lo hi (node xs l r) g f =
@@ -138,7 +136,7 @@ module _ (blocks s t es t′ es′ : List ℕ) (kind : ℕ) (like : LikeButRuns 
 
 -- ── the whole step ──
 
-module _ (blocks s es : List ℕ) (n e kind : ℕ) (bs : List Block) (numbers : List ℕ) (c : Closable blocks s es n e kind bs numbers) (lent : length es < 2 ^ 64) where
+module _ (blocks s es : List ℕ) (n e kind : ℕ) (bs : List Block) (numbers : List ℕ) (c : Closable (lentTables blocks s es) n e kind bs numbers) (lent : length es < 2 ^ 64) where
   abbrev whole : Tree
   whole = treeOf e bs
 
@@ -172,7 +170,7 @@ module _ (blocks s es : List ℕ) (n e kind : ℕ) (bs : List Block) (numbers : 
   fills : appendEach blocks e numbers (bare whole) ≡ whole
   fills = append-is blocks bs e same-lives numbers (bare whole) all-below ∙ each-bare (blockAt bs) (λ _. 0) e numbers whole whole-is
 
-  there-are : All (HasNodes blocks e (bare whole)) numbers
+  there-are : All (λ k. FindsNodes 63 k (blockLife blocks (suc k)) 0 e (bare whole)) numbers
   there-are =
       let present : All (NodesOf (blockAt bs) e whole) numbers = rw whole-is (each-present (blockAt bs) (λ _. 0) e numbers hole) in
       all-of-mem numbers (λ k m. nodes-are blocks bs e same-lives (bare whole) k (all-mem all-below m)
@@ -221,7 +219,7 @@ module _ (blocks s es : List ℕ) (n e kind : ℕ) (bs : List Block) (numbers : 
       entry-rows : (i : ℕ) → entryHead ≤ i → getD es₂ i 0 ≡ getD es₁ i 0
       entry-rows i h = rw head (getD-set-other es₁ (rowWidth * 0 + entriesCount) i total 0 (omega arith))
 
-      all-closed : Closed (record { blocks = blocks; nodes = t₂; entries = es₂ }) kind e (treeOf e bs)
+      all-closed : Closed (lentTables blocks t₂ es₂) kind e (treeOf e bs)
       unfolding entriesTo
       all-closed =
           let root-same : column t₂ 0 kind ≡ root = like-all .same 0 kind (omega (arith, c .counted .stands .at-root refl)) (inl refl) in
@@ -247,7 +245,7 @@ module _ (blocks s es : List ℕ) (n e kind : ℕ) (bs : List Block) (numbers : 
 
 pub closed-tree : {blocks s es t₁ es₁ t₂ es₂ : List ℕ} {n e kind root used total : ℕ} → length es < 2 ^ 64 → root ≡ column s 0 kind
     → WrittenAll blocks s es t₁ es₁ root e (blockColumn blocks 0 blockNext) n → used ≡ nodesUsed t₁ → AssignedRuns t₁ t₂ used total
-    → es₂ ≡ set es₁ (rowWidth * 0 + entriesCount) total → ClosedTree blocks s es t₂ es₂ n e kind
+    → es₂ ≡ set es₁ (rowWidth * 0 + entriesCount) total → ClosedTree (lentTables blocks s es) (lentTables blocks t₂ es₂) n e kind
 closed-tree {blocks} {s} {es} {t₁} {es₁} {t₂} {es₂} {n} {e} {kind} {root} {used} {total} lent found w read runs head = record {
   done = λ bs numbers c. all-closed blocks s es n e kind bs numbers c lent t₁ es₁ (rw found at w) used total t₂ es₂ read runs head;
 }

@@ -1,16 +1,15 @@
 -- Steps of `list::list_nodes`: each return lists the tree at its link. Assumes nothing.
-use mathlib.Core.Path.{_≡_, refl, ap, sym, _∙_}
+use mathlib.Core.Path.{_≡_, refl, sym, _∙_}
 use mathlib.Core.Bool.{Bool, true, false, not}
-use mathlib.Core.List.{List, [], _∷_, _++_}
-use Prim.Native.Nat.{ℕ, zero, suc, _+_, _-_, _/_, _^_, _≤_, _<_, min}
+use mathlib.Core.List.{List, _++_}
+use Prim.Native.Nat.{ℕ, suc, _+_, _-_, _^_, _≤_, _<_}
 use native.Mathlib.Omega.{arith}
 use lib.ListN.{length, set, length-append}
-use lib.Seq.{sets}
 use borrow.Author.Tests.{ltb-false, not-true}
 use Rattle.lists.proofs.Stores.{sets-append}
 use Rattle.history.specs.Tree.{Tree, hole, node, mid, halves}
 use Rattle.segment_table.specs.Closed.{Tables, TreeAt, leftAt, rightAt}
-use Rattle.segment_tree.specs.Count.{most, plusUpTo}
+use Rattle.segment_tree.specs.Count.{plusUpTo}
 use Rattle.segment_tree.specs.Listing.{fileOrder, ListedAt, Listed}
 use Rattle.segment_tree.proofs.Adding.{middle, wide-of}
 

@@ -1,21 +1,20 @@
 -- Which nodes a life goes to are there: a tree to which blocks were added has them, and adding to its bare nodes gives its entries back. Assumes nothing.
 use mathlib.Core.Path.{_≡_, refl, ap, sym, _∙_}
-use mathlib.Core.Logic.{_⊎_, inl, inr}
+use mathlib.Core.Logic.{inl, inr}
 use mathlib.Core.Bool.{Bool, true, false, true≢false, cond, _&&_}
 use mathlib.Core.List.{List, [], _∷_}
-use Prim.Native.Nat.{ℕ, zero, suc, _+_, _-_, _^_, _≤_, _<_}
+use Prim.Native.Nat.{ℕ, zero, suc, _+_, _-_, _≤_, _<_}
 use native.Mathlib.Omega.{arith}
 use lib.Dec.{ltb}
-use borrow.Author.Tests.{lt-ltb}
-use Rattle.lists.specs.Lists.{All, all-nil, all-cons, Pairs, pairs-nil, pairs-cons}
+use Rattle.lists.specs.Lists.{All, all-nil, all-cons, Pairs, pairs-cons}
 use Rattle.lists.proofs.Numbers.{bool-cases}
 use Rattle.lists.proofs.Lists.{all-map}
 use Rattle.history.specs.Words.{Block}
-use Rattle.history.specs.Tree.{Tree, hole, node, mid, halves, covers, entriesOf, leftOf, rightOf, insert, addLocation}
+use Rattle.history.specs.Tree.{Tree, hole, node, mid, halves, covers, entriesOf, leftOf, rightOf, insert, addLocation, nodeCount}
 use Rattle.history.proofs.TreeInserting.{insert-nil, insert-on, insert-all}
-use Rattle.history.proofs.TreeAdding.{made, listed, add-here, add-last, add-below, addBlock}
+use Rattle.history.proofs.TreeAdding.{add-here, add-last, add-below, addBlock}
 use Rattle.history.proofs.TreeOrder.{addEach}
-use Rattle.history.proofs.TreeCounts.{isNew, newNodes}
+use Rattle.history.proofs.TreeCounts.{isNew, newNodes, node-count-add}
 
 -- ── nodes that are there ──
 
@@ -23,6 +22,13 @@ pub new-hole : (n c d lo hi : ℕ) → 0 < newNodes n c d lo hi hole
 unfolding newNodes
 new-hole zero c d lo hi = omega arith
 new-hole (suc n) c d lo hi = omega arith
+
+-- said by the count of nodes
+pub none-new : (b n c d lo hi : ℕ) (T : Tree) → nodeCount (addLocation (λ _. 0) n b c d lo hi T) ≡ nodeCount T → newNodes n c d lo hi T ≡ 0
+none-new b n c d lo hi T h = omega (arith, node-count-add (λ _. 0) n b c d lo hi T)
+
+pub new-none-count : (b n c d lo hi : ℕ) (T : Tree) → newNodes n c d lo hi T ≡ 0 → nodeCount (addLocation (λ _. 0) n b c d lo hi T) ≡ nodeCount T
+new-none-count b n c d lo hi T h = omega (arith, node-count-add (λ _. 0) n b c d lo hi T)
 
 -- at a node that the life does not cover, its halves have theirs
 pub record Below (n c d lo hi : ℕ) (T : Tree) : Type 0 where

@@ -1,31 +1,25 @@
 -- Steps of `close::write_location`: an entry goes to the next free place of its node's run, and the rows and runs of all other nodes stay. A row's
 -- kind and interval say whose it is, and runs share no place. Assumes nothing.
 use mathlib.Core.Path.{_≡_, refl, ap, sym, _∙_}
-use mathlib.Core.Logic.{_⊎_, inl, inr}
-use mathlib.Core.Bool.{Bool, true, false, cond, not, _&&_}
+use mathlib.Core.Logic.{inl, inr}
 use mathlib.Core.List.{List, [], _∷_, _++_}
-use Prim.Native.Nat.{ℕ, zero, suc, _+_, _-_, _*_, _/_, _^_, _≤_, _<_, min}
+use Prim.Native.Nat.{ℕ, zero, suc, _+_, _-_, _*_, _≤_, _<_}
 use native.Mathlib.Omega.{arith}
-use lib.ListN.{length, getD, set, length-set, length-append}
+use lib.ListN.{length, set, length-set, length-append}
 use lib.Seq.{getD-set-same, getD-set-other}
-use lib.Dec.{ltb}
-use borrow.Author.Tests.{lt-ltb, le-ltb, ltb-false, not-true}
-use Rattle.lists.proofs.Numbers.{eq-or-ne, le-or-lt, lt-or-le, and-both}
-use Rattle.history.specs.Lent.{rowWidth, entryWidth, entryHead}
-use Rattle.history.specs.Tree.{Tree, hole, node, mid, halves, covers, entriesOf, leftOf, rightOf, insert, addLocation}
+use Rattle.lists.proofs.Numbers.{eq-or-ne, le-or-lt, lt-or-le}
+use Rattle.history.specs.Lent.{entryWidth, entryHead}
+use Rattle.history.specs.Tree.{Tree, hole, node, mid, insert}
 use Rattle.history.proofs.TreeInserting.{insert-nil, insert-on}
-use Rattle.history.proofs.TreeAdding.{made, listed, add-here, add-narrow}
-use Rattle.history.proofs.TreeCounts.{newNodes}
-use Rattle.tables.specs.Columns.{column, entryColumn, nodeLeft, nodeRight, nodeFirst, nodesCount, entryBlock, entryKey}
-use Rattle.segment_table.specs.Closed.{nodesUsed, leftAt, rightAt, firstAt, countAt, firstCellIn, blockIn, run, Keyed}
+use Rattle.history.proofs.TreeAdding.{listed}
+use Rattle.tables.specs.Columns.{entryColumn, nodeFirst, entryBlock, entryKey}
+use Rattle.segment_table.specs.Closed.{nodesUsed, leftAt, rightAt, firstAt, countAt, firstCellIn, blockIn, run}
 use Rattle.segment_table.proofs.Closed.{run-append}
-use Rattle.segment_tree.specs.Count.{most, plusUpTo, rowsIn, minAt, maxAt, kindAt, entriesTo, allEntries, CountRow, Life, Spot, spot, Outside, other-kind, starts-before, ends-after}
+use Rattle.segment_tree.specs.Count.{plusUpTo, minAt, maxAt, kindAt, entriesTo, allEntries, CountRow, Spot, spot, Outside, starts-before, ends-after}
 use Rattle.segment_tree.specs.Runs.{LikeButRuns}
-use Rattle.segment_tree.specs.Fill.{startAt, Fillable, FillRow, FillAt, Roomy, Untouched, Filled, Written, withNext, withEntry, WroteEntry}
+use Rattle.segment_tree.specs.Fill.{startAt, Fillable, FillRow, FillAt, Untouched, Filled, WroteEntry}
 use Rattle.segment_tree.proofs.NodeRows.{column-same, column-other, row-inside, entries-more, entries-most}
 use Rattle.segment_tree.proofs.Growing.{outside-part, not-outside}
-use Rattle.segment_tree.proofs.Adding.{middle, wide-of, Deeper, deeper-of}
-use Rattle.segment_tree.proofs.Presence.{new-hole, Below, new-below}
 
 -- ── runs ──
 

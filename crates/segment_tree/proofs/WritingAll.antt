@@ -1,24 +1,24 @@
 -- Steps of `close::write_blocks`: what the blocks still to come give from here on, all give from the start. Assumes nothing.
-use mathlib.Core.Path.{_≡_, refl, ap, sym, _∙_}
-use mathlib.Core.Logic.{_⊎_, inl, inr}
+use mathlib.Core.Path.{_≡_, refl, _∙_}
+use mathlib.Core.Logic.{inl, inr}
 use mathlib.Core.Bool.{Bool, true, false, cond, _&&_}
 use mathlib.Core.List.{List, [], _∷_}
 use Prim.Native.Nat.{ℕ, zero, suc, _+_, _-_, _^_, _≤_, _<_}
 use native.Mathlib.Omega.{arith}
 use lib.ListN.{length}
 use lib.Dec.{ltb}
-use Rattle.lists.specs.Lists.{All, all-nil, all-cons}
+use Rattle.lists.specs.Lists.{All, all-cons}
 use Rattle.lists.proofs.Numbers.{bool-cases}
 use Rattle.lists.proofs.Lists.{all-map}
-use Rattle.history.specs.Tree.{Tree, hole, node, mid, halves, covers, entriesOf, leftOf, rightOf, insert, addLocation}
+use Rattle.history.specs.Tree.{Tree, hole, node, mid, halves, covers, insert, addLocation}
 use Rattle.history.proofs.TreeInserting.{insert-length}
 use Rattle.history.proofs.TreeAdding.{add-here, add-last, add-below}
 use Rattle.tables.specs.Columns.{blockColumn, blockFirst, blockCreated, blockDestroyed, blockNext}
-use Rattle.segment_table.specs.Closed.{leftAt, rightAt, countAt, firstCellIn}
+use Rattle.segment_table.specs.Closed.{leftAt, rightAt, firstCellIn}
 use Rattle.segment_tree.specs.Count.{Life, aLife}
 use Rattle.segment_tree.specs.Lives.{blockLife}
-use Rattle.segment_tree.specs.Fill.{Fillable, FillAt, Roomy, Filled, Written, Met, met-end, met-next, appendBlock, appendEach, HasNodes, WrittenAll}
-use Rattle.segment_tree.proofs.Presence.{new-keep}
+use Rattle.segment_tree.specs.Fill.{Fillable, FillAt, Roomy, FindsNodes, Filled, Written, Met, met-end, met-next, appendBlock, appendEach, WrittenAll}
+use Rattle.segment_tree.proofs.Presence.{none-new, new-none-count, new-keep}
 use Rattle.segment_tree.proofs.Writing.{like-self, like-trans, fillable-like}
 
 -- ── a tree with room for more has room ──
@@ -100,19 +100,22 @@ module _ {blocks t es : List ℕ} {root e link fuel : ℕ} where
       done = go;
     }
       where
+        -- what one block found is there for it after another
+        still : (x k : ℕ) (a b : Life) (T : Tree) → FindsNodes 63 x a 0 e T → FindsNodes 63 x a 0 e (addLocation (λ _. 0) 63 k (b .created) (b .destroyed) 0 e T)
+        still x k a b T h =
+            new-none-count x 63 (a .created) (a .destroyed) 0 e _
+            (new-keep (λ _. 0) k 63 (a .created) (a .destroyed) (b .created) (b .destroyed) 0 e T (none-new x 63 (a .created) (a .destroyed) 0 e T h))
+
         go : (s : List ℕ) (kind : ℕ) (numbers : List ℕ) (T : Tree) → e ≤ 2 ^ 63 → Fillable s t es → Met blocks link numbers → length numbers ≤ fuel
-            → FillAt blocks s t es kind root 0 e T → All (HasNodes blocks e T) numbers → Roomy s root (appendEach blocks e numbers T)
+            → FillAt blocks s t es kind root 0 e T → All (λ k. FindsNodes 63 k (blockLife blocks (suc k)) 0 e T) numbers → Roomy s root (appendEach blocks e numbers T)
             → FillAt blocks s t₂ es₂ kind root 0 e (appendEach blocks e numbers T)
         go s kind [] T w f (met-end z) few g there room = absurd (some z)
         go s kind (k ∷ ks) T w f (met-next i met) few g (all-cons h hs) room =
-            let c : ℕ = blockLife blocks (suc k) .created in
-            let d : ℕ = blockLife blocks (suc k) .destroyed in
             let X : Tree = appendBlock blocks e k T in
             let one : Filled blocks s t es t₁ es₁ kind root 0 e T X =
             this k i .done blocks s kind 63 T (omega arith) f refl g h (roomy-each blocks s e root ks X room) in
             let f₁ : Fillable s t₁ es₁ = fillable-like s t es t₁ es₁ f (a .like) (a .nodes-long) (a .entries-long) in
-            let others : All (HasNodes blocks e X) ks =
-            all-map (λ x y. new-keep (λ _. 0) k 63 (blockLife blocks (suc x) .created) (blockLife blocks (suc x) .destroyed) c d 0 e T y) hs in
+            let others : All (λ x. FindsNodes 63 x (blockLife blocks (suc x)) 0 e X) ks = all-map (λ x y. still x k (blockLife blocks (suc x)) (blockLife blocks (suc k)) T y) hs in
             b .done s kind ks X w f₁ (rw follows met) (omega arith) (one .here) others room
 
 -- ── the loop ──

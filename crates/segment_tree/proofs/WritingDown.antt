@@ -1,9 +1,9 @@
 -- The returns of `close::write_entry` and `close::write_location`: the way of addLocation through nodes that are all there. Assumes nothing.
-use mathlib.Core.Path.{_≡_, refl, ap, sym, _∙_}
-use mathlib.Core.Logic.{_⊎_, inl, inr}
-use mathlib.Core.Bool.{Bool, true, false, cond, not, _&&_}
-use mathlib.Core.List.{List, [], _∷_, _++_}
-use Prim.Native.Nat.{ℕ, zero, suc, _+_, _-_, _*_, _/_, _^_, _≤_, _<_}
+use mathlib.Core.Path.{_≡_, refl, sym, _∙_}
+use mathlib.Core.Logic.{inr}
+use mathlib.Core.Bool.{Bool, true, false, not, _&&_}
+use mathlib.Core.List.{List}
+use Prim.Native.Nat.{ℕ, _+_, _-_, _*_, _^_, _≤_, _<_}
 use native.Mathlib.Omega.{arith}
 use lib.ListN.{length, set}
 use lib.Dec.{ltb}
@@ -14,13 +14,13 @@ use Rattle.history.specs.Tree.{Tree, hole, node, mid, halves, covers, insert, a
 use Rattle.history.proofs.TreeInserting.{insert-length}
 use Rattle.history.proofs.TreeAdding.{add-here, add-narrow}
 use Rattle.history.proofs.TreeCounts.{newNodes}
-use Rattle.tables.specs.Columns.{column, nodeLeft, nodeRight, nodeFirst, entryBlock, entryKey}
-use Rattle.segment_table.specs.Closed.{leftAt, rightAt, firstAt, countAt, firstCellIn}
+use Rattle.tables.specs.Columns.{nodeLeft, nodeRight, nodeFirst, entryBlock, entryKey}
+use Rattle.segment_table.specs.Closed.{leftAt, rightAt, firstAt, firstCellIn}
 use Rattle.segment_tree.specs.Count.{plusUpTo, Life, spot, Outside}
 use Rattle.segment_tree.specs.Runs.{LikeButRuns}
-use Rattle.segment_tree.specs.Fill.{Fillable, FillAt, Roomy, Filled, Written, WroteEntry}
+use Rattle.segment_tree.specs.Fill.{Fillable, FillAt, Roomy, FindsNodes, Filled, Written, WroteEntry}
 use Rattle.segment_tree.proofs.Adding.{middle, wide-of, Deeper, deeper-of}
-use Rattle.segment_tree.proofs.Presence.{new-hole, Below, new-below}
+use Rattle.segment_tree.proofs.Presence.{new-hole, none-new, new-none-count, Below, new-below}
 use Rattle.segment_tree.proofs.Writing.{untouched-all, like-self, like-trans, fillable-like, wrote-like, wrote-long, filled-entry, filled-left, filled-right, filled-trans}
 
 -- ── one entry ──
@@ -44,11 +44,13 @@ written : (t es t′ es′ : List ℕ) (link lo hi : ℕ) (life : Life) (b cell 
 written t es t′ es′ link lo hi life b cell like long long-e step = record { like = like; nodes-long = long; entries-long = long-e; done = go }
   where
     go : (blocks s : List ℕ) (kind n : ℕ) (T : Tree) → hi - lo ≤ 2 ^ n → Fillable s t es → firstCellIn blocks b ≡ cell
-        → FillAt blocks s t es kind link lo hi T → newNodes n (life .created) (life .destroyed) lo hi T ≡ 0
+        → FillAt blocks s t es kind link lo hi T → FindsNodes n b life lo hi T
         → Roomy s link (addLocation (λ _. 0) n b (life .created) (life .destroyed) lo hi T)
         → Filled blocks s t es t′ es′ kind link lo hi T (addLocation (λ _. 0) n b (life .created) (life .destroyed) lo hi T)
-    go blocks s kind n hole w f is g none room = absurd (omega (arith, new-hole n (life .created) (life .destroyed) lo hi))
-    go blocks s kind n (node xs l r) w f is g none room = step blocks s kind n xs l r w f is g none room
+    go blocks s kind n hole w f is g finds room =
+        absurd (omega (arith, none-new b n (life .created) (life .destroyed) lo hi hole finds, new-hole n (life .created) (life .destroyed) lo hi))
+    go blocks s kind n (node xs l r) w f is g finds room =
+        step blocks s kind n xs l r w f is g (none-new b n (life .created) (life .destroyed) lo hi (node xs l r) finds) room
 
 -- nothing is written, and nothing was to be
 unchanged : (blocks s t es : List ℕ) (kind link lo hi : ℕ) (T T′ : Tree) → T′ ≡ T → FillAt blocks s t es kind link lo hi T → Filled blocks s t es t es kind link lo hi T T′
@@ -128,7 +130,7 @@ module _ (link lo hi : ℕ) (life : Life) (b cell : ℕ) (p : Split link lo hi l
       let at : q ≡ leftAt s link = read ∙ f .like .same link nodeLeft (omega arith) (inr (omega arith)) in
       let both : (halves lo hi && ltb c m) ≡ true = and-both (halves lo hi) (ltb c m) (lt-ltb (lo + 1) hi wider) (lt-ltb c m go) in
       let done : Filled blocks s t es t₁ es₁ kind q lo m l newLeft =
-      (rw is-mid at a) .done blocks s kind (deep .less) l (deep .left-width) f is (rw at (g .1)) (there .left both) (rw at room) in
+      (rw is-mid at a) .done blocks s kind (deep .less) l (deep .left-width) f is (rw at (g .1)) (new-none-count b (deep .less) c d lo m l (there .left both)) (rw at room) in
       filled-left blocks s t es t₁ es₁ kind link lo hi xs l r wider g newLeft (rw at at done)
 
   right-filled : (t es t₁ es₁ : List ℕ) (X : Tree) (q : ℕ) → Fillable s t es → FillAt blocks s t es kind link lo hi (node xs X r) → q ≡ rightAt t link → m < d
@@ -139,7 +141,7 @@ module _ (link lo hi : ℕ) (life : Life) (b cell : ℕ) (p : Split link lo hi l
       let at : q ≡ rightAt s link = read ∙ f .like .same link nodeRight (omega arith) (inr (omega arith)) in
       let both : (halves lo hi && ltb m d) ≡ true = and-both (halves lo hi) (ltb m d) (lt-ltb (lo + 1) hi wider) (lt-ltb m d go) in
       let done : Filled blocks s t es t₁ es₁ kind q m hi r newRight =
-      (rw is-mid at a) .done blocks s kind (deep .less) r (deep .right-width) f is (rw at (g .2)) (there .right both) (rw at room) in
+      (rw is-mid at a) .done blocks s kind (deep .less) r (deep .right-width) f is (rw at (g .2)) (new-none-count b (deep .less) c d m hi r (there .right both)) (rw at room) in
       filled-right blocks s t es t₁ es₁ kind link lo hi xs X r wider g newRight (rw at at done)
 
   -- what the model makes of the node
@@ -200,5 +202,3 @@ module _ {t es : List ℕ} {link lo hi b cell : ℕ} {life : Life} (p : Split li
       rw z
       (filled-trans blocks s t es t₁ es₁ t₂ es₂ kind link lo hi _ _ _ first
       (right-filled link lo hi life b cell p blocks s kind n xs l r w is none t₁ es₁ t₂ es₂ _ u f₁ (first .here) read₂ (omega (arith, split-mid link lo hi life p)) a₂ (rooms .2))))
-
-pub ruleset writing = (write-none, write-covered, write-narrow, split, write-neither, write-right, write-left, write-both)

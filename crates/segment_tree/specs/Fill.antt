@@ -2,17 +2,16 @@
 -- place of every node that lists it. The start of a run is its next free place meanwhile. Definitions alone.
 use mathlib.Core.Path.{_≡_}
 use mathlib.Core.List.{List, [], _∷_, map}
-use Prim.Native.Nat.{ℕ, zero, suc, _+_, _-_, _*_, _^_, _≤_, _<_}
+use Prim.Native.Nat.{ℕ, suc, _+_, _-_, _*_, _^_, _≤_, _<_}
 use lib.ListN.{length, set}
 use Rattle.lists.specs.Lists.{All, Pairs, count, countFrom}
 use Rattle.history.specs.Lent.{rowWidth, entryWidth, nodeHead, entryHead}
 use Rattle.history.specs.Words.{Block, size}
-use Rattle.history.specs.Tree.{Tree, hole, node, mid, addLocation, keyIn, entryCount, treeOf}
+use Rattle.history.specs.Tree.{Tree, hole, node, mid, addLocation, keyIn, nodeCount, entryCount, treeOf}
 use Rattle.history.specs.Rules.{Apart}
-use Rattle.history.proofs.TreeCounts.{newNodes}
-use Rattle.tables.specs.Columns.{column, blockColumn, entryColumn, nodeFirst, blockNext, entryBlock, entryKey}
+use Rattle.tables.specs.Columns.{blockColumn, entryColumn, nodeFirst, blockNext, entryBlock, entryKey}
 use Rattle.segment_table.specs.Closed.{Tables, Closed, nodesUsed, leftAt, rightAt, firstAt, countAt, firstCellIn, run, Keyed}
-use Rattle.segment_tree.specs.Count.{most, plusUpTo, rowsIn, entriesTo, allEntries, CountRow, Life, aLife, spot, Outside}
+use Rattle.segment_tree.specs.Count.{most, plusUpTo, rowsIn, entriesTo, allEntries, CountRow, Life, spot, Outside}
 use Rattle.segment_tree.specs.Runs.{LikeButRuns}
 use Rattle.segment_tree.specs.Lives.{lifeOf, blockLife, Counted, entryRowsIn}
 
@@ -59,6 +58,10 @@ pub record Untouched (s nodes entries nodes′ entries′ : List ℕ) (out : ℕ
 
 -- ── one block ──
 
+-- block b goes only to nodes that are there: adding it makes none
+abbrev pub FindsNodes : (levels b : ℕ) (life : Life) (lo hi : ℕ) → Tree → Type 0
+FindsNodes levels b life lo hi T = nodeCount (addLocation (λ _. 0) levels b (life .created) (life .destroyed) lo hi T) ≡ nodeCount T
+
 -- Where T was filled T′ is.
 pub record Filled (blocks s nodes entries nodes′ entries′ : List ℕ) (kind link lo hi : ℕ) (T T′ : Tree) : Type 0 where
   pub here : FillAt blocks s nodes′ entries′ kind link lo hi T′
@@ -71,7 +74,7 @@ pub record Written (nodes entries nodes′ entries′ : List ℕ) (link lo hi : 
   pub nodes-long : length nodes′ ≡ length nodes
   pub entries-long : length entries′ ≡ length entries
   pub done : (blocks s : List ℕ) (kind levels : ℕ) (T : Tree) → hi - lo ≤ 2 ^ levels → Fillable s nodes entries → firstCellIn blocks b ≡ cell
-      → FillAt blocks s nodes entries kind link lo hi T → newNodes levels (life .created) (life .destroyed) lo hi T ≡ 0
+      → FillAt blocks s nodes entries kind link lo hi T → FindsNodes levels b life lo hi T
       → Roomy s link (addLocation (λ _. 0) levels b (life .created) (life .destroyed) lo hi T)
       → Filled blocks s nodes entries nodes′ entries′ kind link lo hi T (addLocation (λ _. 0) levels b (life .created) (life .destroyed) lo hi T)
 
@@ -104,39 +107,36 @@ unfoldable pub appendEach : (blocks : List ℕ) (end : ℕ) (numbers : List ℕ)
 appendEach blocks e [] T = T
 appendEach blocks e (k ∷ ks) T = appendEach blocks e ks (appendBlock blocks e k T)
 
--- the nodes of block k are there
-abbrev pub HasNodes : (blocks : List ℕ) (end : ℕ) (T : Tree) (k : ℕ) → Type 0
-HasNodes blocks e T k = newNodes 63 (blockLife blocks (suc k) .created) (blockLife blocks (suc k) .destroyed) 0 e T ≡ 0
-
 -- the blocks met from a link on, at most `fuel` of them, fill the tree at the root
 pub record WrittenAll (blocks nodes entries nodes′ entries′ : List ℕ) (root e link fuel : ℕ) : Type 0 where
   pub like : LikeButRuns nodes nodes′
   pub nodes-long : length nodes′ ≡ length nodes
   pub entries-long : length entries′ ≡ length entries
   pub done : (s : List ℕ) (kind : ℕ) (numbers : List ℕ) (T : Tree) → e ≤ 2 ^ 63 → Fillable s nodes entries → Met blocks link numbers → length numbers ≤ fuel
-      → FillAt blocks s nodes entries kind root 0 e T → All (HasNodes blocks e T) numbers → Roomy s root (appendEach blocks e numbers T)
+      → FillAt blocks s nodes entries kind root 0 e T → All (λ k. FindsNodes 63 k (blockLife blocks (suc k)) 0 e T) numbers → Roomy s root (appendEach blocks e numbers T)
       → FillAt blocks s nodes′ entries′ kind root 0 e (appendEach blocks e numbers T)
 
 -- ── the closed tree ──
 
--- What finish closes: the tree of the blocks bs is counted, the entry table has room for it, the rows of the block table are these blocks, of which no
--- two share a cell at a tick (rule 24), and the order column meets each of them once, in the order of first cells.
-pub record Closable (blocks nodes entries : List ℕ) (n e kind : ℕ) (bs : List Block) (numbers : List ℕ) : Type 0 where
+abbrev pub lentTables : (blocks nodes entries : List ℕ) → Tables
+lentTables blocks nodes entries = record { blocks = blocks; nodes = nodes; entries = entries }
+
+-- What finish closes: the tree of the blocks bs is counted, the entry table has room for it, the rows of the block table live as these blocks,
+-- of which no two share a cell at a tick (rule 24), and the order column meets each of them once, in the order of first cells.
+pub record Closable (t : Tables) (n e kind : ℕ) (bs : List Block) (numbers : List ℕ) : Type 0 where
   pub some : 0 < e
   pub small : e ≤ 2 ^ 63
-  pub counted : Counted nodes kind e (treeOf e bs)
-  pub nodes-headed : nodeHead ≤ length nodes
-  pub entries-headed : entryHead ≤ length entries
-  pub space : entryCount (treeOf e bs) ≤ entryRowsIn entries
-  pub lives-are : map (blockLife blocks) (countFrom 1 (length bs)) ≡ map lifeOf bs
-  pub cells-are : (k : ℕ) → k < length bs → firstCellIn blocks k ≡ keyIn bs k
+  pub counted : Counted (t .nodes) kind e (treeOf e bs)
+  pub nodes-headed : nodeHead ≤ length (t .nodes)
+  pub entries-headed : entryHead ≤ length (t .entries)
+  pub space : entryCount (treeOf e bs) ≤ entryRowsIn (t .entries)
+  pub lives-are : map (blockLife (t .blocks)) (countFrom 1 (length bs)) ≡ map lifeOf bs
   pub apart : Apart bs
   pub filled : All (λ (b : Block). 0 < size (b .stretch)) bs
-  pub met : Met blocks (blockColumn blocks 0 blockNext) numbers
+  pub met : Met (t .blocks) (blockColumn (t .blocks) 0 blockNext) numbers
   pub many : length numbers ≤ n
   pub once : (k : ℕ) → count k numbers ≡ count k (countFrom 0 (length bs))
   pub ascends : Pairs (λ x y. keyIn bs x ≤ keyIn bs y) numbers
 
-pub record ClosedTree (blocks nodes entries nodes′ entries′ : List ℕ) (n e kind : ℕ) : Type 0 where
-  pub done : (bs : List Block) (numbers : List ℕ) → Closable blocks nodes entries n e kind bs numbers
-      → Closed (record { blocks = blocks; nodes = nodes′; entries = entries′ }) kind e (treeOf e bs)
+pub record ClosedTree (t t′ : Tables) (n e kind : ℕ) : Type 0 where
+  pub done : (bs : List Block) (numbers : List ℕ) → Closable t n e kind bs numbers → Closed t′ kind e (treeOf e bs)

@@ -5,7 +5,7 @@ use Prim.Native.Nat.{ℕ, _+_, _<_, _^_}
 use lib.ListN.{length}
 use lib.Seq.{sets}
 use Rattle.history.specs.Tree.{Tree, hole, node}
-use Rattle.segment_table.specs.Closed.{Tables, TreeAt, leftAt, rightAt}
+use Rattle.segment_table.specs.Closed.{TreeAt, leftAt, rightAt}
 
 -- the links of a tree that stands at a link: root first, left before right, 0 for a half that is not there
 unfoldable pub fileOrder : (nodes : List ℕ) (link : ℕ) → Tree → List ℕ

@@ -1,19 +1,23 @@
 // Closing the counted tree: each node gets its run of the entry table, and the blocks fill the runs in order.
+use tables::block;
+use tables::entry;
+use tables::node;
 ghost use Rattle.tables.specs.Columns.{blockColumn, blockNext};
 ghost use Rattle.segment_tree.specs.Count.{aLife};
 ghost use Rattle.segment_tree.specs.Runs.{AssignedRuns};
-ghost use Rattle.segment_tree.specs.Fill.{WroteEntry, Written, WrittenAll, ClosedTree};
+ghost use Rattle.segment_tree.specs.Fill.{WroteEntry, Written, WrittenAll, lentTables, ClosedTree};
 
-// Gives each of the rows 1 to n its run, in row order, and returns how many entries they have.
-pub fn assign_runs(nodes: &mut [u64], n: u64) -> u64
+// Gives each of the rows 1 to n its run, in row order, and returns how many entries they have. The counts stay, so that runs can be given out
+// again when they are filled.
+pub(crate) fn assign_runs(nodes: &mut [u64], n: u64) -> u64
     ensures { λ r. ⌜ AssignedRuns (now (nodes .entry)) (now (nodes .exit)) n r ⌝ }
 {
     let mut at = 0;
     let mut j = 0;
     while j < n {
         let link = j + 1;
-        let count = tables::get(nodes, link, tables::node::ENTRIES);
-        tables::put(nodes, link, tables::node::FIRST, at);
+        let count = tables::get(nodes, link, node::ENTRIES);
+        tables::put(nodes, link, node::FIRST, at);
         at = crate::plus(at, count);
         j += 1;
     }
@@ -24,14 +28,14 @@ pub fn assign_runs(nodes: &mut [u64], n: u64) -> u64
 fn write_entry(nodes: &mut [u64], entries: &mut [u64], link: u64, b: u64, cell: u64)
     ensures { λ _. ⌜ WroteEntry (now (nodes .entry)) (now (entries .entry)) (now (nodes .exit)) (now (entries .exit)) link b cell ⌝ }
 {
-    let row = tables::get(nodes, link, tables::node::FIRST);
-    tables::entry::put(entries, row, tables::entry::BLOCK, b);
-    tables::entry::put(entries, row, tables::entry::KEY, cell);
-    tables::put(nodes, link, tables::node::FIRST, crate::plus(row, 1));
+    let row = tables::get(nodes, link, node::FIRST);
+    entry::put(entries, row, entry::BLOCK, b);
+    entry::put(entries, row, entry::KEY, cell);
+    tables::put(nodes, link, node::FIRST, crate::plus(row, 1));
 }
 
 // Writes block b with the life [created, destroyed) into the nodes below the node [min, max) of `link` that list it. It goes the way of
-// `build::add_location`. At most 65 deep: each call halves the width.
+// `build::add_location`, as deep.
 fn write_location(
     nodes: &mut [u64],
     entries: &mut [u64],
@@ -60,16 +64,16 @@ fn write_location(
         if destroyed <= mid {
             return;
         }
-        let right = tables::get(nodes, link, tables::node::RIGHT);
+        let right = tables::get(nodes, link, node::RIGHT);
         write_location(nodes, entries, right, mid, max, created, destroyed, b, cell);
         return;
     }
-    let left = tables::get(nodes, link, tables::node::LEFT);
+    let left = tables::get(nodes, link, node::LEFT);
     write_location(nodes, entries, left, min, mid, created, destroyed, b, cell);
     if destroyed <= mid {
         return;
     }
-    let right = tables::get(nodes, link, tables::node::RIGHT);
+    let right = tables::get(nodes, link, node::RIGHT);
     write_location(nodes, entries, right, mid, max, created, destroyed, b, cell);
 }
 
@@ -77,15 +81,15 @@ fn write_location(
 fn write_blocks(nodes: &mut [u64], entries: &mut [u64], blocks: &[u64], n: u64, root: u64, end: u64)
     ensures { λ _. ⌜ WrittenAll (now (blocks .entry)) (now (nodes .entry)) (now (entries .entry)) (now (nodes .exit)) (now (entries .exit)) root end (blockColumn (now (blocks .entry)) 0 blockNext) n ⌝ }
 {
-    let mut link = tables::block::get(blocks, 0, tables::block::NEXT);
+    let mut link = block::get(blocks, 0, block::NEXT);
     let mut j = 0;
     while j < n {
         if link == 0 {
             return;
         }
-        let cell = tables::block::get(blocks, link, tables::block::FIRST);
-        let created = tables::block::get(blocks, link, tables::block::CREATED);
-        let destroyed = tables::block::get(blocks, link, tables::block::DESTROYED);
+        let cell = block::get(blocks, link, block::FIRST);
+        let created = block::get(blocks, link, block::CREATED);
+        let destroyed = block::get(blocks, link, block::DESTROYED);
         write_location(
             nodes,
             entries,
@@ -97,7 +101,7 @@ fn write_blocks(nodes: &mut [u64], entries: &mut [u64], blocks: &[u64], n: u64, 
             link - 1,
             cell,
         );
-        link = tables::block::get(blocks, link, tables::block::NEXT);
+        link = block::get(blocks, link, block::NEXT);
         j += 1;
     }
 }
@@ -111,11 +115,11 @@ pub fn close_tree(
     end: u64,
     kind: u64,
 )
-    ensures { λ _. ⌜ ClosedTree (now (blocks .entry)) (now (nodes .entry)) (now (entries .entry)) (now (nodes .exit)) (now (entries .exit)) n end kind ⌝ }
+    ensures { λ _. ⌜ ClosedTree (lentTables (now (blocks .entry)) (now (nodes .entry)) (now (entries .entry))) (lentTables (now (blocks .entry)) (now (nodes .exit)) (now (entries .exit))) n end kind ⌝ }
 {
     let root = tables::get(nodes, 0, kind as usize);
     write_blocks(nodes, entries, blocks, n, root, end);
-    let used = tables::get(nodes, 0, tables::node::COUNT);
+    let used = tables::get(nodes, 0, node::COUNT);
     let total = assign_runs(nodes, used);
-    tables::put(entries, 0, tables::entry::COUNT, total);
+    tables::put(entries, 0, entry::COUNT, total);
 }

@@ -1,4 +1,5 @@
 // Listing the nodes in the order of the file: root first, left before right.
+use tables::node;
 ghost use mathlib.Core.Path.{_≡_};
 ghost use lib.ListN.{set};
 ghost use Rattle.segment_tree.specs.Listing.{Listed};
@@ -13,8 +14,9 @@ fn put_at(out: &mut [u64], at: u64, value: u64)
     }
 }
 
-// Writes the links of the node [min, max) of `link` and of all below it into `out` from index `at` on, a 0 for each half that is not there, and returns
-// the index past them. At most 65 deep: each call halves the width. Only a tested table is listed in linear time.
+// Writes the links of the node [min, max) of `link` and of all below it into `out` from index `at` on, a 0 for each half that is not there, and
+// returns the index past them. Each call halves the width: at most 64 deep for an end up to 2^63. It is linear in the nodes of a tree; a table that
+// nobody has tested may have a node twice.
 pub fn list_nodes(nodes: &[u64], link: u64, min: u64, max: u64, out: &mut [u64], at: u64) -> u64
     ensures { λ r. ⌜ Listed (now (nodes .entry)) link min max (now (out .entry)) at (now (out .exit)) r ⌝ }
 {
@@ -30,8 +32,8 @@ pub fn list_nodes(nodes: &[u64], link: u64, min: u64, max: u64, out: &mut [u64],
         return crate::plus(last, 1);
     }
     let mid = min + (max - min) / 2;
-    let left = tables::get(nodes, link, tables::node::LEFT);
+    let left = tables::get(nodes, link, node::LEFT);
     let after = list_nodes(nodes, left, min, mid, out, next);
-    let right = tables::get(nodes, link, tables::node::RIGHT);
+    let right = tables::get(nodes, link, node::RIGHT);
     list_nodes(nodes, right, mid, max, out, after)
 }
