@@ -1,3 +1,4 @@
 pub mod Lengths
 pub mod Opening
 pub mod Pieces
+pub mod Unique
