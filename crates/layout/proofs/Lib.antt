@@ -5,4 +5,5 @@ pub mod Unique
 pub mod ExistsTable
 pub mod ExistsPieces
 pub mod ExistsBlocks
+pub mod ExistsOrder
 pub mod Exists
