@@ -6,4 +6,5 @@ pub mod ExistsTable
 pub mod ExistsPieces
 pub mod ExistsBlocks
 pub mod ExistsOrder
+pub mod ExistsTree
 pub mod Exists

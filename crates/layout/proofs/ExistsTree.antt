@@ -1,0 +1,200 @@
+-- Node and entry tables for every segment tree: nodes in the order root, left, right, and their runs of entries in that order. Assumes nothing.
+use mathlib.Core.Path.{_≡_, refl, ap, sym, _∙_}
+use mathlib.Core.Logic.{_⊎_, inl, inr, ⊎-elim}
+use mathlib.Core.Bool.{Bool, true, false, cond, _||_, _&&_}
+use mathlib.Core.List.{List, [], _∷_, _++_}
+use Prim.Native.Nat.{ℕ, zero, suc, _+_, _-_, _*_, _/_, _%_, _≤_, _<_}
+use native.Mathlib.Omega.{arith}
+use lib.Dec.{ltb, eqb}
+use lib.ListN.{length, getD, length-append, List·getD-append}
+use lib.Seq.{getD-append-add, getD-at, ext-getD}
+use borrow.Author.Tests.{eq-eqb, ne-eqb, lt-ltb, le-ltb}
+use Rattle.lists.proofs.Numbers.{and-left, and-right, or-cases}
+use Rattle.history.specs.Lent.{rowWidth, entryWidth, entryHead}
+use Rattle.history.specs.Tree.{Tree, hole, node, mid, halves, nodeCount, entryCount, entriesIn}
+use Rattle.history.specs.Rules.{isHole, halved}
+use Rattle.history.proofs.TreeCounts.{entry-count-in}
+use Rattle.tables.specs.Columns.{column, entryColumn, nodeMin, nodeMax, nodeLeft, nodeRight, nodeFirst, nodeEntries, nodeKind, nodesCount, entryBlock, entryKey, entriesCount}
+use Rattle.segment_table.specs.Closed.{Tables, nodesUsed, leftAt, rightAt, firstAt, countAt, entriesUsed, blockIn, firstCellIn, run, Keyed, NodeRow, TreeAt, Consecutive, Closed}
+use Rattle.segment_table.proofs.Closed.{run-length, run-at}
+use Rattle.layout.proofs.ExistsTable.{listBy, list-by-length, list-by-at, tableBy, table-by-length, table-by-at}
+
+-- ── rows of nodes ──
+
+-- the link of a tree whose root, if it has one, stands at a link
+unfoldable pub linkTo : (link : ℕ) → Tree → ℕ
+linkTo link hole = 0
+linkTo link (node xs l r) = link
+
+-- the rows from a link on, with runs from an entry row on
+unfoldable pub nodeRows : (kind lo hi link first : ℕ) → Tree → List (List ℕ)
+nodeRows kind lo hi link first hole = []
+nodeRows kind lo hi link first (node xs l r) =
+    (lo ∷ hi ∷ linkTo (suc link) l ∷ linkTo (suc link + nodeCount l) r ∷ first ∷ length xs ∷ kind ∷ [])
+    ∷ (nodeRows kind lo (mid lo hi) (suc link) (first + length xs) l
+    ++ nodeRows kind (mid lo hi) hi (suc link + nodeCount l) (first + length xs + entryCount l) r)
+
+pub node-rows-length : (kind lo hi link first : ℕ) (T : Tree) → length (nodeRows kind lo hi link first T) ≡ nodeCount T
+unfolding nodeRows nodeCount
+node-rows-length kind lo hi link first hole = refl
+node-rows-length kind lo hi link first (node xs l r) =
+    let a = nodeRows kind lo (mid lo hi) (suc link) (first + length xs) l in
+    let b = nodeRows kind (mid lo hi) hi (suc link + nodeCount l) (first + length xs + entryCount l) r in
+    let p : length a ≡ nodeCount l = node-rows-length kind lo (mid lo hi) (suc link) (first + length xs) l in
+    let q : length b ≡ nodeCount r = node-rows-length kind (mid lo hi) hi (suc link + nodeCount l) (first + length xs + entryCount l) r in
+    omega (arith, length-append a b)
+
+-- ── runs one behind the other ──
+
+unfoldable pub Runs : (first : ℕ) (rows : List (List ℕ)) → Type 0
+Runs first [] = Unit {0}
+Runs first (r ∷ rs) = (getD r nodeFirst 0 ≡ first) × Runs (first + getD r nodeEntries 0) rs
+
+-- the entry row behind all runs
+unfoldable pub behind : (first : ℕ) (rows : List (List ℕ)) → ℕ
+behind first [] = first
+behind first (r ∷ rs) = behind (first + getD r nodeEntries 0) rs
+
+behind-append : (first : ℕ) (xs ys : List (List ℕ)) → behind first (xs ++ ys) ≡ behind (behind first xs) ys
+unfolding behind
+behind-append first [] ys = refl
+behind-append first (x ∷ xs) ys = behind-append (first + getD x nodeEntries 0) xs ys
+
+runs-append : (first : ℕ) (xs ys : List (List ℕ)) → Runs first xs → Runs (behind first xs) ys → Runs first (xs ++ ys)
+unfolding Runs behind
+runs-append first [] ys h k = k
+runs-append first (x ∷ xs) ys h k = (h .0, runs-append (first + getD x nodeEntries 0) xs ys (h .1) k)
+
+node-rows-behind : (kind lo hi link first : ℕ) (T : Tree) → behind first (nodeRows kind lo hi link first T) ≡ first + entryCount T
+unfolding nodeRows behind entryCount
+node-rows-behind kind lo hi link first hole = omega arith
+node-rows-behind kind lo hi link first (node xs l r) =
+    let a = nodeRows kind lo (mid lo hi) (suc link) (first + length xs) l in
+    let b = nodeRows kind (mid lo hi) hi (suc link + nodeCount l) (first + length xs + entryCount l) r in
+    let p : behind (first + length xs) a ≡ first + length xs + entryCount l = node-rows-behind kind lo (mid lo hi) (suc link) (first + length xs) l in
+    let q = node-rows-behind kind (mid lo hi) hi (suc link + nodeCount l) (first + length xs + entryCount l) r in
+    let z : first + length xs + entryCount l + entryCount r ≡ first + (length xs + (entryCount l + entryCount r)) = omega arith in
+    behind-append (first + length xs) a b ∙ ap (λ (f : ℕ). behind f b) p ∙ q ∙ z
+
+node-rows-runs : (kind lo hi link first : ℕ) (T : Tree) → Runs first (nodeRows kind lo hi link first T)
+unfolding nodeRows Runs
+node-rows-runs kind lo hi link first hole = tt
+node-rows-runs kind lo hi link first (node xs l r) =
+    let a = nodeRows kind lo (mid lo hi) (suc link) (first + length xs) l in
+    let b = nodeRows kind (mid lo hi) hi (suc link + nodeCount l) (first + length xs + entryCount l) r in
+    let p : behind (first + length xs) a ≡ first + length xs + entryCount l = node-rows-behind kind lo (mid lo hi) (suc link) (first + length xs) l in
+    (refl,
+    runs-append (first + length xs) a b (node-rows-runs kind lo (mid lo hi) (suc link) (first + length xs) l)
+    (rw p (node-rows-runs kind (mid lo hi) hi (suc link + nodeCount l) (first + length xs + entryCount l) r)))
+
+runs-first : (first : ℕ) (rows : List (List ℕ)) → Runs first rows → 0 < length rows → getD (getD rows 0 []) nodeFirst 0 ≡ first
+unfolding Runs
+runs-first first [] h k = absurd (omega arith)
+runs-first first (r ∷ rs) h k = h .0
+
+runs-next : (first : ℕ) (rows : List (List ℕ)) → Runs first rows → (k : ℕ) → suc k < length rows
+    → getD (getD rows (suc k) []) nodeFirst 0 ≡ getD (getD rows k []) nodeFirst 0 + getD (getD rows k []) nodeEntries 0
+unfolding Runs
+runs-next first [] h k p = absurd (omega arith)
+runs-next first (r ∷ rs) h zero p = runs-first (first + getD r nodeEntries 0) rs (h .1) (omega arith) ∙ ap (λ (f : ℕ). f + getD r nodeEntries 0) (sym (h .0))
+runs-next first (r ∷ rs) h (suc k) p = runs-next (first + getD r nodeEntries 0) rs (h .1) k (omega arith)
+
+-- ── rows in a table ──
+
+-- the rows stand in the node table from a link on
+pub record RowsAt (nodes : List ℕ) (link : ℕ) (rows : List (List ℕ)) : Type 0 where
+  pub says : (j c : ℕ) → j < length rows → c < rowWidth → column nodes (link + j) c ≡ getD (getD rows j []) c 0
+
+-- the block numbers stand in the entry table from a row on
+pub record EntriesAt (entries : List ℕ) (row : ℕ) (ks : List ℕ) : Type 0 where
+  pub says : (j : ℕ) → j < length ks → blockIn entries (row + j) ≡ getD ks j 0
+
+module _ (nodes : List ℕ) (link : ℕ) where
+  rows-head : (r : List ℕ) (rs : List (List ℕ)) → RowsAt nodes link (r ∷ rs) → (c : ℕ) → c < rowWidth → column nodes link c ≡ getD r c 0
+  rows-head r rs h c p = let z : link + 0 ≡ link = omega arith in rw z at (h .says 0 c (omega arith) p)
+
+  rows-tail : (r : List ℕ) (rs : List (List ℕ)) → RowsAt nodes link (r ∷ rs) → RowsAt nodes (suc link) rs
+  rows-tail r rs h = record { says = λ j c p q. let z : suc link + j ≡ link + suc j = omega arith in rw z (h .says (suc j) c (omega arith) q) }
+
+  rows-left : (xs ys : List (List ℕ)) → RowsAt nodes link (xs ++ ys) → RowsAt nodes link xs
+  rows-left xs ys h = record { says = λ j c p q. h .says j c (omega (arith, length-append xs ys)) q ∙ ap (λ (r : List ℕ). getD r c 0) (List·getD-append xs ys [] j p) }
+
+  rows-right : (xs ys : List (List ℕ)) → RowsAt nodes link (xs ++ ys) → RowsAt nodes (link + length xs) ys
+  rows-right xs ys h =
+      record {
+        says = λ j c p q.
+        let z : link + length xs + j ≡ link + (length xs + j) = omega arith in
+        rw z (h .says (length xs + j) c (omega (arith, length-append xs ys)) q ∙ ap (λ (r : List ℕ). getD r c 0) (getD-append-add xs ys j []));
+      }
+
+module _ (entries : List ℕ) (row : ℕ) where
+  entries-left : (xs ys : List ℕ) → EntriesAt entries row (xs ++ ys) → EntriesAt entries row xs
+  entries-left xs ys h = record { says = λ j p. h .says j (omega (arith, length-append xs ys)) ∙ List·getD-append xs ys 0 j p }
+
+  entries-right : (xs ys : List ℕ) → EntriesAt entries row (xs ++ ys) → EntriesAt entries (row + length xs) ys
+  entries-right xs ys h =
+      record {
+        says = λ j p.
+        let z : row + length xs + j ≡ row + (length xs + j) = omega arith in
+        rw z (h .says (length xs + j) (omega (arith, length-append xs ys)) ∙ getD-append-add xs ys j 0);
+      }
+
+  entries-run : (xs : List ℕ) → EntriesAt entries row xs → run entries row (length xs) ≡ xs
+  entries-run xs h =
+      ext-getD 0 (run entries row (length xs)) xs (run-length entries row (length xs))
+      (λ j p. let q : j < length xs = omega (arith, run-length entries row (length xs)) in run-at entries row (length xs) j q ∙ h .says j q)
+
+-- ── the tree in the tables ──
+
+link-hole : (link : ℕ) (T : Tree) → isHole T ≡ true → linkTo link T ≡ 0
+unfolding linkTo
+link-hole link hole h = refl
+link-hole link (node xs l r) h = let z : _≡_ {A = ℕ} 0 1 = cc in absurd (omega arith)
+
+-- a node of width 1 has no halves
+narrow-holes : (lo hi : ℕ) (l r : Tree) → (halves lo hi || (isHole l && isHole r)) ≡ true → hi ≤ lo + 1 → (isHole l && isHole r) ≡ true
+narrow-holes lo hi l r h n = rw (le-ltb (lo + 1) hi n) at h
+
+module _ (t : Tables) (kind many : ℕ) (keyed : (row : ℕ) → row < many → entryColumn (t .entries) row entryKey ≡ firstCellIn (t .blocks) (blockIn (t .entries) row))
+    (room : entryHead + entryWidth * many ≤ length (t .entries)) where
+  pub rows-tree : (T : Tree) (lo hi link first : ℕ) → 0 < link → link + nodeCount T ≤ suc (nodesUsed (t .nodes)) → first + entryCount T ≤ many → halved lo hi T ≡ true
+      → RowsAt (t .nodes) link (nodeRows kind lo hi link first T) → EntriesAt (t .entries) first (entriesIn T) → TreeAt t kind (linkTo link T) lo hi T
+  unfolding TreeAt nodeRows linkTo nodeCount entryCount entriesIn halved
+  rows-tree hole lo hi link first some used fits h rs es = refl
+  rows-tree (node xs l r) lo hi link first some used fits h rs es =
+      let whole : List ℕ = lo ∷ hi ∷ linkTo (suc link) l ∷ linkTo (suc link + nodeCount l) r ∷ first ∷ length xs ∷ kind ∷ [] in
+      let a = nodeRows kind lo (mid lo hi) (suc link) (first + length xs) l in
+      let b = nodeRows kind (mid lo hi) hi (suc link + nodeCount l) (first + length xs + entryCount l) r in
+      let own : (c : ℕ) → c < rowWidth → column (t .nodes) link c ≡ getD whole c 0 = rows-head (t .nodes) link whole (a ++ b) rs in
+      let below = rows-tail (t .nodes) link whole (a ++ b) rs in
+      let here-first : firstAt (t .nodes) link ≡ first = own nodeFirst (omega arith) in
+      let here-count : countAt (t .nodes) link ≡ length xs = own nodeEntries (omega arith) in
+      let here-left : leftAt (t .nodes) link ≡ linkTo (suc link) l = own nodeLeft (omega arith) in
+      let here-right : rightAt (t .nodes) link ≡ linkTo (suc link + nodeCount l) r = own nodeRight (omega arith) in
+      let long : length a ≡ nodeCount l = node-rows-length kind lo (mid lo hi) (suc link) (first + length xs) l in
+      let many-left : length (entriesIn l) ≡ entryCount l = sym (entry-count-in l) in
+      let wide = and-left (halves lo hi || (isHole l && isHole r)) (halved lo (mid lo hi) l && halved (mid lo hi) hi r) h in
+      let deep = and-right (halves lo hi || (isHole l && isHole r)) (halved lo (mid lo hi) l && halved (mid lo hi) hi r) h in
+      let later = entries-right (t .entries) first xs (entriesIn l ++ entriesIn r) es in
+      let rs-right : RowsAt (t .nodes) (suc link + nodeCount l) b = rw long at (rows-right (t .nodes) (suc link) a b below) in
+      let es-right : EntriesAt (t .entries) (first + length xs + entryCount l) (entriesIn r) =
+      rw many-left at (entries-right (t .entries) (first + length xs) (entriesIn l) (entriesIn r) later) in
+      (record {
+        some = some;
+        used = omega arith;
+        low = own nodeMin (omega arith);
+        high = own nodeMax (omega arith);
+        own-kind = own nodeKind (omega arith);
+        narrow = λ n.
+        let both = narrow-holes lo hi l r wide n in
+        (here-left ∙ link-hole (suc link) l (and-left (isHole l) (isHole r) both), here-right ∙ link-hole (suc link + nodeCount l) r (and-right (isHole l) (isHole r) both));
+        inside = omega arith;
+        listed = rw (here-first, here-count) (entries-run (t .entries) first xs (entries-left (t .entries) first xs (entriesIn l ++ entriesIn r) es));
+        keyed = rw (here-first, here-count) (record { key = λ j p. keyed (first + j) (omega arith) });
+      },
+      rw here-left
+      (rows-tree l lo (mid lo hi) (suc link) (first + length xs) (omega arith) (omega arith) (omega arith) (and-left (halved lo (mid lo hi) l) (halved (mid lo hi) hi r) deep)
+      (rows-left (t .nodes) (suc link) a b below) (entries-left (t .entries) (first + length xs) (entriesIn l) (entriesIn r) later)),
+      rw here-right
+      (rows-tree r (mid lo hi) hi (suc link + nodeCount l) (first + length xs + entryCount l) (omega arith) (omega arith) (omega arith)
+      (and-right (halved lo (mid lo hi) l) (halved (mid lo hi) hi r) deep) rs-right es-right))
