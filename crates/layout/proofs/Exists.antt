@@ -3,7 +3,7 @@ use mathlib.Core.Path.{_≡_, refl, ap, sym, _∙_, subst}
 use mathlib.Core.Bool.{Bool, true, false}
 use mathlib.Core.Option.{Option, none, some}
 use mathlib.Core.List.{List, [], _∷_, _++_, map}
-use Prim.Native.Nat.{ℕ, zero, suc, _+_, _-_, _*_, _≤_, _<_}
+use Prim.Native.Nat.{ℕ, zero, suc, _+_, _-_, _*_, _^_, _≤_, _<_}
 use native.Mathlib.Omega.{arith}
 use lib.ListN.{length, getD, take, replicate, length-append, length-replicate}
 use lib.Seq.{take-append-seam}
@@ -11,18 +11,24 @@ use Rattle.lists.specs.Lists.{All, countFrom}
 use Rattle.lists.proofs.Maps.{length-of-map}
 use Rattle.history.specs.Lent.{Lent, rowWidth, blockHead, tooShort}
 use Rattle.history.specs.Words.{Piece, Block}
+use Rattle.history.specs.Tree as segment
+use Rattle.history.specs.Tree.{entriesIn}
 use Rattle.history.specs.Ledger.{Ledger}
-use Rattle.history.specs.Sound.{SoundBoard, Sound}
+use Rattle.history.specs.Sound.{SoundBoard, SoundClosed, SoundTree, Sound}
 use Rattle.tables.specs.Columns.{headState, headEnd, headKind, headCount, headUsed, headLast}
 use Rattle.piece_table.specs.Piece.{PieceRow}
 use Rattle.piece_table.specs.Shown.{shown}
 use Rattle.ordering.specs.Blocks.{blocksOf, Stored}
-use Rattle.layout.specs.Tables.{Tables, tables, lengthsOf, headAt}
+use Rattle.ordering.specs.Order.{InOrder}
+use Rattle.segment_table.specs.Closed.{firstCellIn, Closed}
+use Rattle.layout.specs.Tables.{Tables, tables, lengthsOf, headAt, treeTables}
 use Rattle.layout.specs.Encodes.{Links, stateOf, TreeIn, Encodes}
 use Rattle.layout.specs.Relations.{Fields, blockIn}
 use Rattle.layout.proofs.Lengths.{lent-same, Heads, heads-fit}
 use Rattle.layout.proofs.ExistsPieces.{PieceRows, piece-rows, pieceTable, piece-table-length, piece-links, pieces-shown, pieces-inside}
-use Rattle.layout.proofs.ExistsBlocks.{BlockRows, block-rows, Head, blockRow, blockTable, block-table-length, block-column, block-next, blocks-shown, blocks-inside}
+use Rattle.layout.proofs.ExistsBlocks.{BlockRows, block-rows, noFields, Head, blockRow, blockTable, block-table-length, block-column, block-next, fields-at, blocks-shown, blocks-inside}
+use Rattle.layout.proofs.ExistsOrder.{nextIn, linksBy, sorted-order}
+use Rattle.layout.proofs.ExistsTree.{nodeTable, node-table-length, entryTable, entry-table-length, tree-closed}
 
 -- there are tables that stand for the ledger
 pub record Encoded (l : Ledger) : Type 0 where
@@ -126,3 +132,65 @@ open-exists l fits s unfinished =
           board-encodes l s fits (λ k. 0) (replicate (l .opening .lent .nodes) 0) (replicate (l .opening .lent .entries) 0) (length-replicate (l .opening .lent .nodes) 0)
           (length-replicate (l .opening .lent .entries) 0) (subst (TreeIn t l) (sym unfinished) unordered);
     }
+
+-- ── a closed index ──
+
+-- the key by which the blocks are ordered
+abbrev keyOf : (fs : List Fields) (k : ℕ) → ℕ
+keyOf fs k = getD fs k noFields .first
+
+module _ (l : Ledger) (s : SoundBoard l) (fits : tooShort (l .opening .lent) ≡ false) where
+  abbrev rowsOf : List Fields
+  rowsOf = blockRowsOf l s .rows
+
+  -- the next links in order
+  abbrev sortedNext : ℕ → ℕ
+  sortedNext = nextIn 0 (linksBy (keyOf rowsOf) (length rowsOf))
+
+  abbrev sortedBlocks : List ℕ
+  sortedBlocks = blockTable (l .opening .lent .blocks) (headOf l) sortedNext rowsOf
+
+  blocks-sorted : length rowsOf < 2 ^ 64 → InOrder sortedBlocks (length rowsOf)
+  blocks-sorted small =
+      sorted-order sortedBlocks (length rowsOf) small (keyOf rowsOf)
+      (λ k h. ap (λ (f : Fields). f .first) (fields-at (l .opening .lent .blocks) (headOf l) sortedNext rowsOf (block-room l s fits) k h))
+      (block-next (l .opening .lent .blocks) (headOf l) sortedNext rowsOf (block-room l s fits))
+
+  pub closed-exists : (tree : segment.Tree) → l .opening .lent .blocks < 2 ^ 64 → SoundClosed l tree → l .tree ≡ some tree → Encoded l
+  unfolding tablesBy
+  closed-exists tree few c is =
+      record {
+        tables = t;
+        encodes =
+            board-encodes l s fits sortedNext nodes entries (node-table-length (l .opening .lent .nodes) (l .opening .kind) (l .opening .end) tree)
+            (entry-table-length (l .opening .lent .entries) (firstCellIn sortedBlocks) (entriesIn tree)) (subst (TreeIn t l) (sym is) (order, closed));
+      }
+    where
+      nodes : List ℕ
+      nodes = nodeTable (l .opening .lent .nodes) (l .opening .kind) (l .opening .end) tree
+
+      entries : List ℕ
+      entries = entryTable (l .opening .lent .entries) (firstCellIn sortedBlocks) (entriesIn tree)
+
+      t : Tables
+      t = tablesBy l s sortedNext nodes entries
+
+      h : Heads (l .opening .lent)
+      h = heads-fit (l .opening .lent) fits
+
+      order : InOrder sortedBlocks (length (l .now .blocks))
+      order = subst (InOrder sortedBlocks) (blocks-many l s) (blocks-sorted (omega (arith, block-room l s fits)))
+
+      closed : Closed (treeTables t) (l .opening .kind) (l .opening .end) tree
+      closed =
+          tree-closed sortedBlocks (l .opening .lent .nodes) (l .opening .lent .entries) (l .opening .kind) (l .opening .end) tree (omega (arith, s .known-kind)) (c .rule-21)
+          (omega (arith, c .nodes-fit, h .nodes)) (omega (arith, c .entries-fit, h .entries))
+
+-- ── every sound ledger ──
+
+pub exists : (l : Ledger) → tooShort (l .opening .lent) ≡ false → l .opening .lent .blocks < 2 ^ 64 → Sound l → Encoded l
+exists l fits few s = go (l .tree) refl (s .closed)
+  where
+    go : (tree : Option segment.Tree) → l .tree ≡ tree → SoundTree l tree → Encoded l
+    go none is c = open-exists l fits (s .board) is
+    go (some tree) is c = closed-exists l (s .board) fits tree few c is

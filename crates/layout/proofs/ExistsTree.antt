@@ -198,3 +198,156 @@ module _ (t : Tables) (kind many : ℕ) (keyed : (row : ℕ) → row < many → 
       rw here-right
       (rows-tree r (mid lo hi) hi (suc link + nodeCount l) (first + length xs + entryCount l) (omega arith) (omega arith) (omega arith)
       (and-right (halved lo (mid lo hi) l) (halved (mid lo hi) hi r) deep) rs-right es-right))
+
+-- ── the node table ──
+
+-- the head has the root of its kind, no other root, and the count
+unfoldable pub nodeHeadRow : (kind : ℕ) → Tree → List ℕ
+nodeHeadRow kind T = listBy nodesCount (λ k. cond (eqb k kind) (linkTo 1 T) 0) ++ (nodeCount T ∷ [])
+
+unfoldable pub nodeRowAt : (kind end : ℕ) → Tree → (link : ℕ) → List ℕ
+nodeRowAt kind e T zero = nodeHeadRow kind T
+nodeRowAt kind e T (suc k) = getD (nodeRows kind 0 e 1 0 T) k []
+
+unfoldable pub nodeTable : (many kind end : ℕ) → Tree → List ℕ
+nodeTable many kind e T = tableBy 0 many (nodeRowAt kind e T)
+
+pub node-table-length : (many kind end : ℕ) (T : Tree) → length (nodeTable many kind end T) ≡ many
+unfolding nodeTable
+node-table-length many kind e T = table-by-length 0 many (nodeRowAt kind e T)
+
+head-roots : (kind : ℕ) (T : Tree) (k : ℕ) → k < nodesCount → getD (nodeHeadRow kind T) k 0 ≡ cond (eqb k kind) (linkTo 1 T) 0
+unfolding nodeHeadRow
+head-roots kind T k h =
+    let f : ℕ → ℕ = λ k. cond (eqb k kind) (linkTo 1 T) 0 in
+    List·getD-append (listBy nodesCount f) (nodeCount T ∷ []) 0 k (omega (arith, list-by-length nodesCount f)) ∙ list-by-at nodesCount f k h
+
+head-count : (kind : ℕ) (T : Tree) → getD (nodeHeadRow kind T) nodesCount 0 ≡ nodeCount T
+unfolding nodeHeadRow
+head-count kind T =
+    let f : ℕ → ℕ = λ k. cond (eqb k kind) (linkTo 1 T) 0 in
+    getD-at (listBy nodesCount f) (nodeCount T) [] 0 nodesCount (list-by-length nodesCount f)
+
+module _ (many kind end : ℕ) (T : Tree) (room : rowWidth * nodeCount T + rowWidth ≤ many) where
+  node-column : (link c : ℕ) → link ≤ nodeCount T → c < rowWidth → column (nodeTable many kind end T) link c ≡ getD (nodeRowAt kind end T link) c 0
+  unfolding nodeTable
+  node-column link c h k = let z : 0 + c ≡ c = omega arith in rw z at (table-by-at 0 many (nodeRowAt kind end T) link c k (omega arith))
+
+  node-root : (k : ℕ) → k < nodesCount → column (nodeTable many kind end T) 0 k ≡ cond (eqb k kind) (linkTo 1 T) 0
+  unfolding nodeRowAt
+  node-root k h = node-column 0 k (omega arith) (omega arith) ∙ head-roots kind T k h
+
+  node-used : nodesUsed (nodeTable many kind end T) ≡ nodeCount T
+  unfolding nodeRowAt
+  node-used = node-column 0 nodesCount (omega arith) (omega arith) ∙ head-count kind T
+
+  node-rows-at : RowsAt (nodeTable many kind end T) 1 (nodeRows kind 0 end 1 0 T)
+  unfolding nodeRowAt
+  node-rows-at =
+      record {
+        says = λ j c p q. let z : 1 + j ≡ suc j = omega arith in rw z (node-column (suc j) c (omega (arith, node-rows-length kind 0 end 1 0 T)) q);
+      }
+
+  node-consecutive : Consecutive (nodeTable many kind end T)
+  unfolding nodeRowAt
+  node-consecutive = record { begins = begins; follows = follows }
+    where
+      rows : List (List ℕ)
+      rows = nodeRows kind 0 end 1 0 T
+
+      all : length rows ≡ nodeCount T
+      all = node-rows-length kind 0 end 1 0 T
+
+      runs : Runs 0 rows
+      runs = node-rows-runs kind 0 end 1 0 T
+
+      begins : 0 < nodesUsed (nodeTable many kind end T) → firstAt (nodeTable many kind end T) 1 ≡ 0
+      begins p = node-column 1 nodeFirst (omega (arith, node-used)) (omega arith) ∙ runs-first 0 rows runs (omega (arith, node-used, all))
+
+      follows : (link : ℕ) → 0 < link → link < nodesUsed (nodeTable many kind end T)
+          → firstAt (nodeTable many kind end T) (suc link) ≡ firstAt (nodeTable many kind end T) link + countAt (nodeTable many kind end T) link
+      follows zero p q = absurd (omega arith)
+      follows (suc k) p q =
+          let fits : suc (suc k) ≤ nodeCount T = omega (arith, node-used) in
+          let a = node-column (suc (suc k)) nodeFirst fits (omega arith) in
+          let b = node-column (suc k) nodeFirst (omega arith) (omega arith) in
+          let c = node-column (suc k) nodeEntries (omega arith) (omega arith) in
+          omega (arith, a, b, c, runs-next 0 rows runs k (omega (arith, all)))
+
+-- ── the entry table ──
+
+-- a row has a block number and the key of the block
+unfoldable pub entryRow : (key : ℕ → ℕ) (ks : List ℕ) (row : ℕ) → List ℕ
+entryRow key ks row = getD ks row 0 ∷ key (getD ks row 0) ∷ []
+
+unfoldable pub entryAt : (key : ℕ → ℕ) (ks : List ℕ) (i : ℕ) → ℕ
+entryAt key ks i =
+    cond (ltb i entryHead) (cond (eqb i entriesCount) (length ks) 0) (getD (entryRow key ks ((i - entryHead) / entryWidth)) ((i - entryHead) % entryWidth) 0)
+
+unfoldable pub entryTable : (many : ℕ) (key : ℕ → ℕ) (ks : List ℕ) → List ℕ
+entryTable many key ks = listBy many (entryAt key ks)
+
+pub entry-table-length : (many : ℕ) (key : ℕ → ℕ) (ks : List ℕ) → length (entryTable many key ks) ≡ many
+unfolding entryTable
+entry-table-length many key ks = list-by-length many (entryAt key ks)
+
+module _ (many : ℕ) (key : ℕ → ℕ) (ks : List ℕ) (room : entryHead + entryWidth * length ks ≤ many) where
+  entry-used : entriesUsed (entryTable many key ks) ≡ length ks
+  unfolding entryTable entryAt
+  entry-used = list-by-at many (entryAt key ks) entriesCount (omega arith)
+
+  entry-column : (row c : ℕ) → row < length ks → c < entryWidth → entryColumn (entryTable many key ks) row c ≡ getD (entryRow key ks row) c 0
+  unfolding entryTable entryAt
+  entry-column row c h k =
+      let i = entryHead + (entryWidth * row + c) in
+      let a : (i - entryHead) / entryWidth ≡ row = omega arith in
+      let b : (i - entryHead) % entryWidth ≡ c = omega arith in
+      list-by-at many (entryAt key ks) i (omega arith) ∙ rw (le-ltb i entryHead (omega arith), a, b)
+
+  entry-block : (row : ℕ) → row < length ks → blockIn (entryTable many key ks) row ≡ getD ks row 0
+  unfolding entryRow
+  entry-block row h = entry-column row entryBlock h (omega arith)
+
+  entry-key : (row : ℕ) → row < length ks → entryColumn (entryTable many key ks) row entryKey ≡ key (blockIn (entryTable many key ks) row)
+  unfolding entryRow
+  entry-key row h = entry-column row entryKey h (omega arith) ∙ ap key (sym (entry-block row h))
+
+  entries-at : EntriesAt (entryTable many key ks) 0 ks
+  entries-at = record { says = λ j p. let z : 0 + j ≡ j = omega arith in rw z (entry-block j p) }
+
+-- ── the whole ──
+
+-- every tree that has no child of a node of width 1 stands in tables that are long enough, whatever the blocks
+pub tree-closed : (blocks : List ℕ) (nodesLong entriesLong kind end : ℕ) (T : Tree) → kind < nodesCount → halved 0 end T ≡ true
+    → rowWidth * nodeCount T + rowWidth ≤ nodesLong → entryHead + entryWidth * entryCount T ≤ entriesLong
+    → Closed (record { blocks = blocks; nodes = nodeTable nodesLong kind end T; entries = entryTable entriesLong (firstCellIn blocks) (entriesIn T) }) kind end T
+tree-closed blocks nodesLong entriesLong kind end T known h nodeRoom entryRoom =
+    record {
+      stands =
+          rw root
+          (rows-tree t kind (entryCount T) (λ row p. entry-key entriesLong (firstCellIn blocks) (entriesIn T) room row (omega (arith, total))) (omega (arith, long)) T 0 end 1 0
+          (omega arith) (omega (arith, used)) (omega arith) h (node-rows-at nodesLong kind end T nodeRoom) (entries-at entriesLong (firstCellIn blocks) (entriesIn T) room));
+      other-kinds = λ k p ne. node-root nodesLong kind end T nodeRoom k p ∙ rw (ne-eqb k kind ne);
+      all-rows = used;
+      room = omega (arith, used, node-table-length nodesLong kind end T);
+      all-entries = entry-used entriesLong (firstCellIn blocks) (entriesIn T) room ∙ sym total;
+      consecutive = node-consecutive nodesLong kind end T nodeRoom;
+    }
+  where
+    t : Tables
+    t = record { blocks = blocks; nodes = nodeTable nodesLong kind end T; entries = entryTable entriesLong (firstCellIn blocks) (entriesIn T) }
+
+    total : entryCount T ≡ length (entriesIn T)
+    total = entry-count-in T
+
+    room : entryHead + entryWidth * length (entriesIn T) ≤ entriesLong
+    room = omega (arith, total)
+
+    long : length (entryTable entriesLong (firstCellIn blocks) (entriesIn T)) ≡ entriesLong
+    long = entry-table-length entriesLong (firstCellIn blocks) (entriesIn T)
+
+    used : nodesUsed (nodeTable nodesLong kind end T) ≡ nodeCount T
+    used = node-used nodesLong kind end T nodeRoom
+
+    root : column (nodeTable nodesLong kind end T) 0 kind ≡ linkTo 1 T
+    root = node-root nodesLong kind end T nodeRoom kind known ∙ rw (eq-eqb kind kind refl)
