@@ -2,13 +2,13 @@
 use mathlib.Core.Path.{_≡_, refl, ap, ap₂, sym, _∙_}
 use mathlib.Core.Bool.{Bool, true, false, cond}
 use mathlib.Core.List.{List, [], _∷_, _++_, map}
-use Prim.Native.Nat.{ℕ, zero, suc, _+_, _-_, _*_, _≤_, _<_}
+use Prim.Native.Nat.{ℕ, zero, suc, _+_, _-_, _*_, _^_, _≤_, _<_}
 use native.Mathlib.Omega.{arith}
 use lib.Dec.{ltb, eqb}
-use lib.ListN.{length, getD}
+use lib.ListN.{length, getD, length-append}
 use borrow.Author.Tests.{eq-eqb, ne-eqb, lt-ltb, le-ltb}
 use Rattle.lists.specs.Lists.{All, all-nil, all-cons, Mem, here, there, Ascending, countFrom}
-use Rattle.lists.proofs.Lists.{all-mem, all-at, mem-left, mem-right, count-from-length}
+use Rattle.lists.proofs.Lists.{all-left, all-right, all-mem, all-at, mem-left, mem-right, count-from-length}
 use Rattle.lists.proofs.Counting.{map-from-at}
 use Rattle.history.specs.Lent.{rowWidth}
 use Rattle.history.specs.Words.{Piece, size}
@@ -22,7 +22,7 @@ use Rattle.merge_set.proofs.Balance.{inserted-balanced}
 use Rattle.piece_table.specs.Piece.{PieceRow, pieceAt}
 use Rattle.piece_table.specs.Shown.{shown}
 use Rattle.layout.specs.Encodes.{Links}
-use Rattle.layout.proofs.ExistsTable.{count-from-all, count-from-ascending, tableBy, table-by-length, table-by-at, part-in}
+use Rattle.layout.proofs.ExistsTable.{count-from-all, count-from-ascending, tableBy, table-by-length, table-by-at, part-in, Word, all-get, table-by-words}
 
 -- ── a balanced tree ──
 
@@ -230,3 +230,91 @@ module _ (many : ℕ) (ps : List PieceRow) (room : rowWidth * length ps + rowWid
           let off : pieceAt (pieceTable many ps) (suc k) .offset ≡ getD ps k noPiece .offset = ap (λ (r : PieceRow). r .offset) same in
           let long : pieceAt (pieceTable many ps) (suc k) .size ≡ getD ps k noPiece .size = ap (λ (r : PieceRow). r .size) same in
           rw (off, long) (all-at noPiece a k (omega arith))
+
+-- ── its numbers ──
+
+-- the links of a part are links of the tree, and it is no higher
+part-all : {P : ℕ → Type 0} (link : ℕ) (T : Tree) → All P (rows T) → All P (rows (partAt link T))
+unfolding rows partAt
+part-all link leaf a = all-nil
+part-all {P} link (node l x r) a =
+    choose (eqb link x) (ltb link x) (part-all link l (all-left (rows l) (x ∷ rows r) a)) (part-all link r (tail (all-right (rows l) (x ∷ rows r) a)))
+  where
+    tail : All P (x ∷ rows r) → All P (rows r)
+    tail (all-cons p ps) = ps
+
+    choose : (c d : Bool) → All P (rows (partAt link l)) → All P (rows (partAt link r)) → All P (rows (cond c (node l x r) (cond d (partAt link l) (partAt link r))))
+    choose true d p q = a
+    choose false true p q = p
+    choose false false p q = q
+
+part-height : (link : ℕ) (T : Tree) → height (partAt link T) ≤ height T
+unfolding height partAt
+part-height link leaf = omega arith
+part-height link (node l x r) = choose (eqb link x) (ltb link x) (part-height link l) (part-height link r)
+  where
+    choose : (c d : Bool) → height (partAt link l) ≤ height l → height (partAt link r) ≤ height r
+        → height (cond c (node l x r) (cond d (partAt link l) (partAt link r))) ≤ height (node l x r)
+    choose true d p q = omega arith
+    choose false true p q = omega arith
+    choose false false p q = omega arith
+
+height-length : (T : Tree) → height T ≤ length (rows T)
+unfolding height rows
+height-length leaf = omega arith
+height-length (node l x r) = omega (arith, height-length l, height-length r, length-append (rows l) (x ∷ rows r))
+
+root-word : (T : Tree) → All Word (rows T) → rootOf T < 2 ^ 64
+unfolding rows rootOf
+root-word leaf a = omega arith
+root-word (node l x r) a = head (all-right (rows l) (x ∷ rows r) a)
+  where
+    head : All Word (x ∷ rows r) → x < 2 ^ 64
+    head (all-cons p ps) = p
+
+left-all : {P : ℕ → Type 0} (T : Tree) → All P (rows T) → All P (rows (leftOf T))
+unfolding rows leftOf
+left-all leaf a = all-nil
+left-all (node l x r) a = all-left (rows l) (x ∷ rows r) a
+
+right-all : {P : ℕ → Type 0} (T : Tree) → All P (rows T) → All P (rows (rightOf T))
+unfolding rows rightOf
+right-all leaf a = all-nil
+right-all {P} (node l x r) a = tail (all-right (rows l) (x ∷ rows r) a)
+  where
+    tail : All P (x ∷ rows r) → All P (rows r)
+    tail (all-cons p ps) = ps
+
+pub record PieceWords (p : PieceRow) : Type 0 where
+  pub first : p .first < 2 ^ 64
+  pub size : p .size < 2 ^ 64
+  pub written : p .written < 2 ^ 64
+  pub offset : p .offset < 2 ^ 64
+  pub owner : p .owner < 2 ^ 64
+
+pub piece-table-words : (many : ℕ) (ps : List PieceRow) → length ps < 2 ^ 64 → All PieceWords ps → All Word (pieceTable many ps)
+unfolding pieceTable pieceRow
+piece-table-words many ps few a = table-by-words 0 many (pieceRow ps) words
+  where
+    links : All Word (rows (treeTo (length ps)))
+    links = rw (tree-to-rows (length ps)) (count-from-all 1 (length ps) (λ k h l. omega arith))
+
+    low : height (treeTo (length ps)) ≤ length ps
+    low = omega (arith, height-length (treeTo (length ps)), ap length (tree-to-rows (length ps)), count-from-length 1 (length ps))
+
+    none : PieceWords noPiece
+    none = record { first = omega arith; size = omega arith; written = omega arith; offset = omega arith; owner = omega arith }
+
+    words : (link : ℕ) → All Word (pieceRow ps link)
+    words zero = all-cons (root-word (treeTo (length ps)) links) (all-cons few all-nil)
+    words (suc k) =
+        let p : PieceWords (getD ps k noPiece) = all-get noPiece none a k in
+        let part = partAt (suc k) (treeTo (length ps)) in
+        let inner : All Word (rows part) = part-all (suc k) (treeTo (length ps)) links in
+        let deep : height part < 2 ^ 64 = omega (arith, part-height (suc k) (treeTo (length ps)), low) in
+        all-cons (p .first)
+        (all-cons (p .size)
+        (all-cons (p .written)
+        (all-cons (p .offset)
+        (all-cons (root-word (leftOf part) (left-all part inner))
+        (all-cons (root-word (rightOf part) (right-all part inner)) (all-cons deep (all-cons (p .owner) all-nil)))))))

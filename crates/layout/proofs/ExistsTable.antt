@@ -1,7 +1,7 @@
 -- Tables made by a rule: a list given number by number, and rows given by their links. Assumes nothing.
 use mathlib.Core.Path.{_≡_, refl, ap, sym, _∙_}
 use mathlib.Core.List.{List, [], _∷_, _++_, map}
-use Prim.Native.Nat.{ℕ, zero, suc, _+_, _-_, _*_, _/_, _%_, _≤_, _<_}
+use Prim.Native.Nat.{ℕ, zero, suc, _+_, _-_, _*_, _/_, _%_, _^_, _≤_, _<_}
 use native.Mathlib.Omega.{arith}
 use lib.ListN.{length, getD, take, drop, length-drop}
 use lib.Seq.{take-append-le, drop-append-le}
@@ -72,3 +72,22 @@ part-in store rest s h =
     let inside = h .inside in
     rw (drop-append-le (h .offset) store rest (omega arith), take-append-le (size s) (drop (h .offset) store) rest (omega (arith, length-drop (h .offset) store)))
     (sym (h .bytes))
+
+-- ── numbers of 64 bits ──
+
+abbrev pub Word : ℕ → Type 0
+Word n = n < 2 ^ 64
+
+-- what holds of all elements and of the default holds of each place
+pub all-get : {A : Type 0} {P : A → Type 0} (d : A) → P d → {xs : List A} → All P xs → (i : ℕ) → P (getD xs i d)
+all-get d p all-nil i = p
+all-get d p (all-cons q qs) zero = q
+all-get d p (all-cons q qs) (suc i) = all-get d p qs i
+
+pub word-at : {xs : List ℕ} → All Word xs → (i : ℕ) → getD xs i 0 < 2 ^ 64
+word-at a i = all-get 0 (omega arith) a i
+
+pub table-by-words : (base many : ℕ) (row : ℕ → List ℕ) → ((link : ℕ) → All Word (row link)) → All Word (tableBy base many row)
+unfolding tableBy
+table-by-words base many row f =
+    list-by-all many (λ i. getD (row ((i - base) / rowWidth)) ((i - base) % rowWidth) 0) (λ i h. word-at (f ((i - base) / rowWidth)) ((i - base) % rowWidth))
