@@ -1,7 +1,7 @@
 -- A table for every list of blocks, with any head and any order column. Assumes nothing.
 use mathlib.Core.Path.{_≡_, refl, ap, ap₂, sym, _∙_}
 use mathlib.Core.List.{List, [], _∷_, _++_, map}
-use Prim.Native.Nat.{ℕ, zero, suc, _+_, _-_, _*_, _≤_, _<_}
+use Prim.Native.Nat.{ℕ, zero, suc, _+_, _-_, _*_, _^_, _≤_, _<_}
 use native.Mathlib.Omega.{arith}
 use lib.ListN.{length, getD}
 use Rattle.lists.specs.Lists.{All, all-nil, all-cons, countFrom}
@@ -14,7 +14,7 @@ use Rattle.tables.specs.Columns.{blockColumn, blockBase, blockFirst, blockLengt
 use Rattle.ordering.specs.Order.{nextAt}
 use Rattle.ordering.specs.Blocks.{blockOfRow, blocksOf, Stored}
 use Rattle.layout.specs.Relations.{Fields, blockIn}
-use Rattle.layout.proofs.ExistsTable.{tableBy, table-by-length, table-by-at, part-in}
+use Rattle.layout.proofs.ExistsTable.{tableBy, table-by-length, table-by-at, part-in, Word, all-get, table-by-words}
 
 -- ── rows ──
 
@@ -123,3 +123,36 @@ module _ (many : ℕ) (h : Head) (next : ℕ → ℕ) (fs : List Fields) (room :
           let off = block-column (suc k) blockOffset q (omega arith) in
           let long = block-column (suc k) blockLength q (omega arith) in
           rw (off, long) (all-at noFields a k (omega arith))
+
+-- ── its numbers ──
+
+pub record FieldsWords (f : Fields) : Type 0 where
+  pub kind : f .kind < 2 ^ 64
+  pub first : f .first < 2 ^ 64
+  pub length : f .length < 2 ^ 64
+  pub created : f .created < 2 ^ 64
+  pub destroyed : f .destroyed < 2 ^ 64
+  pub offset : f .offset < 2 ^ 64
+
+pub record HeadWords (h : Head) : Type 0 where
+  pub state : h .state < 2 ^ 64
+  pub end : h .end < 2 ^ 64
+  pub kind : h .kind < 2 ^ 64
+  pub used : h .used < 2 ^ 64
+  pub last : h .last < 2 ^ 64
+
+pub block-table-words : (many : ℕ) (h : Head) (next : ℕ → ℕ) (fs : List Fields) → HeadWords h → ((k : ℕ) → next k < 2 ^ 64) → length fs < 2 ^ 64 → All FieldsWords fs
+    → All Word (blockTable many h next fs)
+unfolding blockTable blockRow
+block-table-words many h next fs w n few a = table-by-words blockBase many (blockRow h next fs) words
+  where
+    none : FieldsWords noFields
+    none = record { kind = omega arith; first = omega arith; length = omega arith; created = omega arith; destroyed = omega arith; offset = omega arith }
+
+    words : (link : ℕ) → All Word (blockRow h next fs link)
+    words zero =
+        all-cons (w .state) (all-cons (w .end) (all-cons (w .kind) (all-cons few (all-cons (w .used) (all-cons (w .last) (all-cons (n 0) all-nil))))))
+    words (suc k) =
+        let f : FieldsWords (getD fs k noFields) = all-get noFields none a k in
+        all-cons (f .first)
+        (all-cons (f .length) (all-cons (f .created) (all-cons (f .destroyed) (all-cons (f .offset) (all-cons (f .kind) (all-cons (n (suc k)) all-nil))))))

@@ -109,3 +109,19 @@ module _ (t : List ℕ) (n : ℕ) (small : n < 2 ^ 64) (key : ℕ → ℕ) (firs
       follows =
           follows-same (nextIn 0 (linksBy key n)) (nextAt t) 0 (linksBy key n) (λ k m. next k (inside k m))
           (next-in-follows 0 (linksBy key n) (apart, ascending-distinct (rank t) (linksBy key n) ascending))
+
+-- ── its numbers ──
+
+next-in-all : {P : ℕ → Type 0} (last : ℕ) (xs : List ℕ) → P 0 → All P xs → (k : ℕ) → P (nextIn last xs k)
+unfolding nextIn
+next-in-all last [] z all-nil k = z
+next-in-all {P} last (x ∷ xs) z (all-cons p ps) k = choose (eqb k last) (next-in-all x xs z ps k)
+  where
+    choose : (c : Bool) → P (nextIn x xs k) → P (cond c x (nextIn x xs k))
+    choose true q = p
+    choose false q = q
+
+pub sorted-words : (key : ℕ → ℕ) (n : ℕ) → n < 2 ^ 64 → (k : ℕ) → nextIn 0 (linksBy key n) k < 2 ^ 64
+unfolding linksBy
+sorted-words key n small k =
+    next-in-all {P = λ x. x < 2 ^ 64} 0 (linksBy key n) (omega arith) (all-of-map suc (all-map (λ k h. omega arith) (ranked-all key n small .below))) k

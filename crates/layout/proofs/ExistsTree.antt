@@ -3,12 +3,14 @@ use mathlib.Core.Path.{_≡_, refl, ap, sym, _∙_}
 use mathlib.Core.Logic.{_⊎_, inl, inr, ⊎-elim}
 use mathlib.Core.Bool.{Bool, true, false, cond, _||_, _&&_}
 use mathlib.Core.List.{List, [], _∷_, _++_}
-use Prim.Native.Nat.{ℕ, zero, suc, _+_, _-_, _*_, _/_, _%_, _≤_, _<_}
+use Prim.Native.Nat.{ℕ, zero, suc, _+_, _-_, _*_, _/_, _%_, _^_, _≤_, _<_}
 use native.Mathlib.Omega.{arith}
 use lib.Dec.{ltb, eqb}
 use lib.ListN.{length, getD, length-append, List·getD-append}
 use lib.Seq.{getD-append-add, getD-at, ext-getD}
 use borrow.Author.Tests.{eq-eqb, ne-eqb, lt-ltb, le-ltb}
+use Rattle.lists.specs.Lists.{All, all-nil, all-cons}
+use Rattle.lists.proofs.Lists.{all-append}
 use Rattle.lists.proofs.Numbers.{and-left, and-right, or-cases}
 use Rattle.history.specs.Lent.{rowWidth, entryWidth, entryHead}
 use Rattle.history.specs.Tree.{Tree, hole, node, mid, halves, nodeCount, entryCount, entriesIn}
@@ -17,7 +19,7 @@ use Rattle.history.proofs.TreeCounts.{entry-count-in}
 use Rattle.tables.specs.Columns.{column, entryColumn, nodeMin, nodeMax, nodeLeft, nodeRight, nodeFirst, nodeEntries, nodeKind, nodesCount, entryBlock, entryKey, entriesCount}
 use Rattle.segment_table.specs.Closed.{Tables, nodesUsed, leftAt, rightAt, firstAt, countAt, entriesUsed, blockIn, firstCellIn, run, Keyed, NodeRow, TreeAt, Consecutive, Closed}
 use Rattle.segment_table.proofs.Closed.{run-length, run-at}
-use Rattle.layout.proofs.ExistsTable.{listBy, list-by-length, list-by-at, tableBy, table-by-length, table-by-at}
+use Rattle.layout.proofs.ExistsTable.{listBy, list-by-length, list-by-at, list-by-all, tableBy, table-by-length, table-by-at, Word, all-get, word-at, table-by-words}
 
 -- ── rows of nodes ──
 
@@ -351,3 +353,58 @@ tree-closed blocks nodesLong entriesLong kind end T known h nodeRoom entryRoom =
 
     root : column (nodeTable nodesLong kind end T) 0 kind ≡ linkTo 1 T
     root = node-root nodesLong kind end T nodeRoom kind known ∙ rw (eq-eqb kind kind refl)
+
+-- ── their numbers ──
+
+link-word : (link : ℕ) (T : Tree) → link < 2 ^ 64 → linkTo link T < 2 ^ 64
+unfolding linkTo
+link-word link hole h = omega arith
+link-word link (node xs l r) h = h
+
+node-rows-words : (kind lo hi link first : ℕ) (T : Tree) → kind < 2 ^ 64 → lo < 2 ^ 64 → hi < 2 ^ 64 → link + nodeCount T < 2 ^ 64 → first + entryCount T < 2 ^ 64
+    → All (All Word) (nodeRows kind lo hi link first T)
+unfolding nodeRows nodeCount entryCount
+node-rows-words kind lo hi link first hole k p q n e = all-nil
+node-rows-words kind lo hi link first (node xs l r) k p q n e =
+    let m : mid lo hi < 2 ^ 64 = omega arith in
+    let f : first < 2 ^ 64 = omega arith in
+    let c : length xs < 2 ^ 64 = omega arith in
+    all-cons
+    (all-cons p
+    (all-cons q (all-cons (link-word (suc link) l (omega arith)) (all-cons (link-word (suc link + nodeCount l) r (omega arith)) (all-cons f (all-cons c (all-cons k all-nil)))))))
+    (all-append (node-rows-words kind lo (mid lo hi) (suc link) (first + length xs) l k p m (omega arith) (omega arith))
+    (node-rows-words kind (mid lo hi) hi (suc link + nodeCount l) (first + length xs + entryCount l) r k m q (omega arith) (omega arith)))
+
+pub node-table-words : (many kind end : ℕ) (T : Tree) → kind < 2 ^ 64 → end < 2 ^ 64 → nodeCount T + 1 < 2 ^ 64 → entryCount T < 2 ^ 64
+    → All Word (nodeTable many kind end T)
+unfolding nodeTable nodeRowAt nodeHeadRow
+node-table-words many kind end T k e n x = table-by-words 0 many (nodeRowAt kind end T) words
+  where
+    root : (c : Bool) → cond c (linkTo 1 T) 0 < 2 ^ 64
+    root true = link-word 1 T (omega arith)
+    root false = omega arith
+
+    words : (link : ℕ) → All Word (nodeRowAt kind end T link)
+    words zero =
+        all-append (list-by-all nodesCount (λ j. cond (eqb j kind) (linkTo 1 T) 0) (λ j h. root (eqb j kind))) (all-cons {x = nodeCount T} (omega arith) all-nil)
+    words (suc j) = all-get [] all-nil (node-rows-words kind 0 end 1 0 T k (omega arith) e (omega arith) (omega arith)) j
+
+pub entry-table-words : (many : ℕ) (key : ℕ → ℕ) (ks : List ℕ) → length ks < 2 ^ 64 → All Word ks → ((k : ℕ) → key k < 2 ^ 64) → All Word (entryTable many key ks)
+unfolding entryTable entryAt entryRow
+entry-table-words many key ks few a b = list-by-all many (entryAt key ks) (λ i h. words i)
+  where
+    row : (j : ℕ) → All Word (entryRow key ks j)
+    row j = all-cons (word-at a j) (all-cons (b (getD ks j 0)) all-nil)
+
+    head : (c : Bool) → cond c (length ks) 0 < 2 ^ 64
+    head true = few
+    head false = omega arith
+
+    choose : (c : Bool) (m n : ℕ) → m < 2 ^ 64 → n < 2 ^ 64 → cond c m n < 2 ^ 64
+    choose true m n p q = p
+    choose false m n p q = q
+
+    words : (i : ℕ) → entryAt key ks i < 2 ^ 64
+    words i =
+        choose (ltb i entryHead) (cond (eqb i entriesCount) (length ks) 0) (getD (entryRow key ks ((i - entryHead) / entryWidth)) ((i - entryHead) % entryWidth) 0)
+        (head (eqb i entriesCount)) (word-at (row ((i - entryHead) / entryWidth)) ((i - entryHead) % entryWidth))
