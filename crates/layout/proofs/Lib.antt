@@ -1,3 +1,10 @@
 pub mod Lengths
 pub mod Opening
 pub mod Pieces
+pub mod Unique
+pub mod ExistsTable
+pub mod ExistsPieces
+pub mod ExistsBlocks
+pub mod ExistsOrder
+pub mod ExistsTree
+pub mod Exists
