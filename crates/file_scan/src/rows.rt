@@ -1,0 +1,189 @@
+// One row of the file: a kind or presence byte, then four numbers, then a block's bytes or a node's entries, which are passed by.
+ghost use mathlib.Core.Path.{_≡_};
+ghost use Prim.Native.Nat.{_-_};
+ghost use lib.ListN.{length};
+ghost use Rattle.history.specs.File.{readBlock};
+ghost use Rattle.file_scan.specs.Rows.{fourOf, readFour, blockRow, nodeRow, readHead};
+use fields::Field;
+
+// The faults, by document 01's numbers.
+pub const ENDS: u64 = 17;
+
+pub const KIND: u64 = 18;
+
+pub const PRESENCE: u64 = 19;
+
+// Bytes in an entry.
+const ENTRY: u64 = 8;
+
+// Four numbers, one after the other, with the position behind them.
+pub enum Four {
+    Got {
+        a: u64,
+        b: u64,
+        c: u64,
+        d: u64,
+        next: usize,
+    },
+    End,
+}
+
+// A block, with the place of its bytes.
+pub enum BlockRow {
+    Block {
+        first: u64,
+        length: u64,
+        created: u64,
+        destroyed: u64,
+        bytes: usize,
+        next: usize,
+    },
+    Fault {
+        number: u64,
+    },
+}
+
+// A node, with the place of its entries and how many there are, or an absent child.
+pub enum NodeRow {
+    Present {
+        min: u64,
+        max: u64,
+        middle: u64,
+        count: u64,
+        entries: usize,
+        next: usize,
+    },
+    Absent {
+        next: usize,
+    },
+    Fault {
+        number: u64,
+    },
+}
+
+fn four_from(file: &[u8], at: usize) -> Four
+    ensures { λ r. ⌜ fourOf r ≡ readFour (now (file .entry)) at ⌝ }
+{
+    let Field::Got {
+        value: a,
+        next: b_at,
+    } = fields::number_from(file, at)
+    else {
+        return Four::End;
+    };
+    let Field::Got {
+        value: b,
+        next: c_at,
+    } = fields::number_from(file, b_at)
+    else {
+        return Four::End;
+    };
+    let Field::Got {
+        value: c,
+        next: d_at,
+    } = fields::number_from(file, c_at)
+    else {
+        return Four::End;
+    };
+    let Field::Got {
+        value: d,
+        next: next,
+    } = fields::number_from(file, d_at)
+    else {
+        return Four::End;
+    };
+    Four::Got {
+        a: a,
+        b: b,
+        c: c,
+        d: d,
+        next: next,
+    }
+}
+
+// How many bytes are left from a position on.
+fn left(file: &[u8], at: usize) -> u64
+    ensures { λ r. ⌜ r ≡ length (now (file .entry)) - at ⌝ }
+{
+    if file.len() <= at {
+        return 0;
+    }
+    (file.len() - at) as u64
+}
+
+// The block at a position, if it is of the kind.
+pub fn block_at(file: &[u8], kind: u64, at: usize) -> BlockRow
+    ensures { λ r. ⌜ r ≡ blockRow at (readBlock kind (now (file .entry)) at) ⌝ }
+{
+    let Field::Got {
+        value: own,
+        next: first_at,
+    } = fields::byte_from(file, at)
+    else {
+        return BlockRow::Fault { number: ENDS };
+    };
+    if own != kind {
+        return BlockRow::Fault { number: KIND };
+    }
+    let Four::Got {
+        a: first,
+        b: length,
+        c: created,
+        d: destroyed,
+        next: bytes,
+    } = four_from(file, first_at)
+    else {
+        return BlockRow::Fault { number: ENDS };
+    };
+    if left(file, bytes) < length {
+        return BlockRow::Fault { number: ENDS };
+    }
+    BlockRow::Block {
+        first: first,
+        length: length,
+        created: created,
+        destroyed: destroyed,
+        bytes: bytes,
+        next: bytes + length as usize,
+    }
+}
+
+// The node at a position, or an absent child. A count of more entries than bytes are left is answered at once.
+pub fn node_at(file: &[u8], at: usize) -> NodeRow
+    ensures { λ r. ⌜ r ≡ nodeRow at (readHead (now (file .entry)) at) ⌝ }
+{
+    let Field::Got {
+        value: presence,
+        next: min_at,
+    } = fields::byte_from(file, at)
+    else {
+        return NodeRow::Fault { number: ENDS };
+    };
+    if 1 < presence {
+        return NodeRow::Fault { number: PRESENCE };
+    }
+    if presence == 0 {
+        return NodeRow::Absent { next: min_at };
+    }
+    let Four::Got {
+        a: min,
+        b: max,
+        c: middle,
+        d: count,
+        next: entries,
+    } = four_from(file, min_at)
+    else {
+        return NodeRow::Fault { number: ENDS };
+    };
+    if left(file, entries) / ENTRY < count {
+        return NodeRow::Fault { number: ENDS };
+    }
+    NodeRow::Present {
+        min: min,
+        max: max,
+        middle: middle,
+        count: count,
+        entries: entries,
+        next: entries + (ENTRY * count) as usize,
+    }
+}
