@@ -26,7 +26,7 @@ const UPPER: u64 = 1 << 32;
 
 // A field's value with the position behind it, or that the bytes end inside it.
 pub enum Field {
-    Got { value: u64, next: usize },
+    Got(u64, usize),
     End,
 }
 
@@ -53,10 +53,7 @@ pub fn byte_at(file: &[u8], at: usize) -> Field
     if file.len() <= at {
         return Field::End;
     }
-    Field::Got {
-        value: wide(file[at]),
-        next: at + 1,
-    }
+    Field::Got(wide(file[at]), at + 1)
 }
 
 // The number at a position.
@@ -69,10 +66,10 @@ pub fn number_at(file: &[u8], at: usize) -> Field
     if file.len() - WIDTH < at {
         return Field::End;
     }
-    Field::Got {
-        value: half_at(file, at) + UPPER * half_at(file, at + HALF),
-        next: at + WIDTH,
-    }
+    Field::Got(
+        half_at(file, at) + UPPER * half_at(file, at + HALF),
+        at + WIDTH,
+    )
 }
 
 // The file's bytes and a position.

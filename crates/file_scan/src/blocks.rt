@@ -20,14 +20,7 @@ pub fn pass(file: &[u8], kind: u64, count: u64, at: usize) -> Blocks
     let mut place = at;
     while 0 < left {
         match rows::block_at(file, kind, place) {
-            BlockRow::Block {
-                first: _,
-                length,
-                created: _,
-                destroyed: _,
-                bytes: _,
-                next,
-            } => {
+            BlockRow::Block { length, next, .. } => {
                 bytes += length;
                 place = next;
                 left -= 1;

@@ -40,21 +40,13 @@ pub enum Scanned {
 pub fn scan(file: &[u8], at: usize) -> Scanned
     ensures { λ r. ⌜ r ≡ scanOf at (readFile (now (file .entry)) at) ⌝ }
 {
-    let Field::Got {
-        value: kind,
-        next: count_at,
-    } = fields::byte_from(file, at)
-    else {
+    let Field::Got(kind, count_at) = fields::byte_from(file, at) else {
         return Scanned::Fault { number: rows::ENDS };
     };
     if KINDS < kind {
         return Scanned::Fault { number: rows::KIND };
     }
-    let Field::Got {
-        value: count,
-        next: blocks_at,
-    } = fields::number_from(file, count_at)
-    else {
+    let Field::Got(count, blocks_at) = fields::number_from(file, count_at) else {
         return Scanned::Fault { number: rows::ENDS };
     };
     match blocks::pass(file, kind, count, blocks_at) {

@@ -27,14 +27,7 @@ pub fn pass(file: &[u8], at: usize) -> Nodes
     let mut place = at;
     while 0 < awaited {
         match rows::node_at(file, place) {
-            NodeRow::Present {
-                min: _,
-                max: _,
-                middle: _,
-                count,
-                entries: _,
-                next,
-            } => {
+            NodeRow::Present { count, next, .. } => {
                 nodes += 1;
                 entries += count;
                 awaited += 1;

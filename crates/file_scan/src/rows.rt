@@ -18,13 +18,7 @@ const ENTRY: u64 = 8;
 
 // Four numbers, one after the other, with the position behind them.
 pub enum Four {
-    Got {
-        a: u64,
-        b: u64,
-        c: u64,
-        d: u64,
-        next: usize,
-    },
+    Got(u64, u64, u64, u64, usize),
     End,
 }
 
@@ -64,41 +58,19 @@ pub enum NodeRow {
 fn four_from(file: &[u8], at: usize) -> Four
     ensures { λ r. ⌜ fourOf r ≡ readFour (now (file .entry)) at ⌝ }
 {
-    let Field::Got {
-        value: a,
-        next: b_at,
-    } = fields::number_from(file, at)
-    else {
+    let Field::Got(a, b_at) = fields::number_from(file, at) else {
         return Four::End;
     };
-    let Field::Got {
-        value: b,
-        next: c_at,
-    } = fields::number_from(file, b_at)
-    else {
+    let Field::Got(b, c_at) = fields::number_from(file, b_at) else {
         return Four::End;
     };
-    let Field::Got {
-        value: c,
-        next: d_at,
-    } = fields::number_from(file, c_at)
-    else {
+    let Field::Got(c, d_at) = fields::number_from(file, c_at) else {
         return Four::End;
     };
-    let Field::Got {
-        value: d,
-        next: next,
-    } = fields::number_from(file, d_at)
-    else {
+    let Field::Got(d, next) = fields::number_from(file, d_at) else {
         return Four::End;
     };
-    Four::Got {
-        a: a,
-        b: b,
-        c: c,
-        d: d,
-        next: next,
-    }
+    Four::Got(a, b, c, d, next)
 }
 
 // How many bytes are left from a position on.
@@ -115,24 +87,13 @@ fn left(file: &[u8], at: usize) -> u64
 pub fn block_at(file: &[u8], kind: u64, at: usize) -> BlockRow
     ensures { λ r. ⌜ r ≡ blockRow at (readBlock kind (now (file .entry)) at) ⌝ }
 {
-    let Field::Got {
-        value: own,
-        next: first_at,
-    } = fields::byte_from(file, at)
-    else {
+    let Field::Got(own, first_at) = fields::byte_from(file, at) else {
         return BlockRow::Fault { number: ENDS };
     };
     if own != kind {
         return BlockRow::Fault { number: KIND };
     }
-    let Four::Got {
-        a: first,
-        b: length,
-        c: created,
-        d: destroyed,
-        next: bytes,
-    } = four_from(file, first_at)
-    else {
+    let Four::Got(first, length, created, destroyed, bytes) = four_from(file, first_at) else {
         return BlockRow::Fault { number: ENDS };
     };
     if left(file, bytes) < length {
@@ -152,11 +113,7 @@ pub fn block_at(file: &[u8], kind: u64, at: usize) -> BlockRow
 pub fn node_at(file: &[u8], at: usize) -> NodeRow
     ensures { λ r. ⌜ r ≡ nodeRow at (readHead (now (file .entry)) at) ⌝ }
 {
-    let Field::Got {
-        value: presence,
-        next: min_at,
-    } = fields::byte_from(file, at)
-    else {
+    let Field::Got(presence, min_at) = fields::byte_from(file, at) else {
         return NodeRow::Fault { number: ENDS };
     };
     if 1 < presence {
@@ -165,14 +122,7 @@ pub fn node_at(file: &[u8], at: usize) -> NodeRow
     if presence == 0 {
         return NodeRow::Absent { next: min_at };
     }
-    let Four::Got {
-        a: min,
-        b: max,
-        c: middle,
-        d: count,
-        next: entries,
-    } = four_from(file, min_at)
-    else {
+    let Four::Got(min, max, middle, count, entries) = four_from(file, min_at) else {
         return NodeRow::Fault { number: ENDS };
     };
     if left(file, entries) / ENTRY < count {
