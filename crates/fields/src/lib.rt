@@ -2,7 +2,7 @@
 // what is written past the end of a slice changes nothing.
 //
 //   byte_at, number_at       a field at a position
-//   Reader                   the file with a position; byte_from and number_from read by one, for code that holds the two apart
+//   reader                   the file with a position: what the loader reads by
 //   write                    the same fields, written
 //   specs/Fields             what a read answers, in the words of `history`
 ghost use mathlib.Core.Path.{_≡_};
@@ -11,6 +11,7 @@ ghost use lib.ListN.{length};
 ghost use Rattle.history.specs.File.{number};
 ghost use Rattle.fields.specs.Fields.{readOf, Low, Half};
 
+pub mod reader;
 pub mod write;
 
 // Bytes in a number.
@@ -66,38 +67,6 @@ pub fn number_at(file: &[u8], at: usize) -> Field
     if file.len() - WIDTH < at {
         return Field::End;
     }
-    Field::Got(
-        half_at(file, at) + UPPER * half_at(file, at + HALF),
-        at + WIDTH,
-    )
-}
-
-// The file's bytes and a position.
-pub struct Reader<'a> {
-    pub file: &'a [u8],
-    pub at: usize,
-}
-
-pub fn read_byte<'a>(reader: Reader<'a>) -> Field
-    ensures { λ r. ⌜ readOf r ≡ number 1 (now (reader .entry .file)) (reader .entry .at) ⌝ }
-{
-    byte_at(reader.file, reader.at)
-}
-
-pub fn read_number<'a>(reader: Reader<'a>) -> Field
-    ensures { λ r. ⌜ readOf r ≡ number 8 (now (reader .entry .file)) (reader .entry .at) ⌝ }
-{
-    number_at(reader.file, reader.at)
-}
-
-pub fn byte_from(file: &[u8], at: usize) -> Field
-    ensures { λ r. ⌜ readOf r ≡ number 1 (now (file .entry)) at ⌝ }
-{
-    read_byte(Reader { file, at })
-}
-
-pub fn number_from(file: &[u8], at: usize) -> Field
-    ensures { λ r. ⌜ readOf r ≡ number 8 (now (file .entry)) at ⌝ }
-{
-    read_number(Reader { file, at })
+    let value = half_at(file, at) + UPPER * half_at(file, at + HALF);
+    Field::Got(value, at + WIDTH)
 }

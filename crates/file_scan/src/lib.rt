@@ -15,6 +15,7 @@ pub mod rows;
 
 use blocks::Blocks;
 use fields::Field;
+use fields::reader;
 use nodes::Nodes;
 
 // The largest code of a kind.
@@ -40,13 +41,13 @@ pub enum Scanned {
 pub fn scan(file: &[u8], at: usize) -> Scanned
     ensures { λ r. ⌜ r ≡ scanOf at (readFile (now (file .entry)) at) ⌝ }
 {
-    let Field::Got(kind, count_at) = fields::byte_from(file, at) else {
+    let Field::Got(kind, count_at) = reader::byte_from(file, at) else {
         return Scanned::Fault { number: rows::ENDS };
     };
     if KINDS < kind {
         return Scanned::Fault { number: rows::KIND };
     }
-    let Field::Got(count, blocks_at) = fields::number_from(file, count_at) else {
+    let Field::Got(count, blocks_at) = reader::number_from(file, count_at) else {
         return Scanned::Fault { number: rows::ENDS };
     };
     match blocks::pass(file, kind, count, blocks_at) {

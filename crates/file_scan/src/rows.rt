@@ -5,6 +5,7 @@ ghost use lib.ListN.{length};
 ghost use Rattle.history.specs.File.{readBlock};
 ghost use Rattle.file_scan.specs.Rows.{fourOf, readFour, blockRow, nodeRow, readHead};
 use fields::Field;
+use fields::reader;
 
 // The faults, by document 01's numbers.
 pub const ENDS: u64 = 17;
@@ -58,16 +59,16 @@ pub enum NodeRow {
 fn four_from(file: &[u8], at: usize) -> Four
     ensures { λ r. ⌜ fourOf r ≡ readFour (now (file .entry)) at ⌝ }
 {
-    let Field::Got(a, b_at) = fields::number_from(file, at) else {
+    let Field::Got(a, b_at) = reader::number_from(file, at) else {
         return Four::End;
     };
-    let Field::Got(b, c_at) = fields::number_from(file, b_at) else {
+    let Field::Got(b, c_at) = reader::number_from(file, b_at) else {
         return Four::End;
     };
-    let Field::Got(c, d_at) = fields::number_from(file, c_at) else {
+    let Field::Got(c, d_at) = reader::number_from(file, c_at) else {
         return Four::End;
     };
-    let Field::Got(d, next) = fields::number_from(file, d_at) else {
+    let Field::Got(d, next) = reader::number_from(file, d_at) else {
         return Four::End;
     };
     Four::Got(a, b, c, d, next)
@@ -87,7 +88,7 @@ fn left(file: &[u8], at: usize) -> u64
 pub fn block_at(file: &[u8], kind: u64, at: usize) -> BlockRow
     ensures { λ r. ⌜ r ≡ blockRow at (readBlock kind (now (file .entry)) at) ⌝ }
 {
-    let Field::Got(own, first_at) = fields::byte_from(file, at) else {
+    let Field::Got(own, first_at) = reader::byte_from(file, at) else {
         return BlockRow::Fault { number: ENDS };
     };
     if own != kind {
@@ -113,7 +114,7 @@ pub fn block_at(file: &[u8], kind: u64, at: usize) -> BlockRow
 pub fn node_at(file: &[u8], at: usize) -> NodeRow
     ensures { λ r. ⌜ r ≡ nodeRow at (readHead (now (file .entry)) at) ⌝ }
 {
-    let Field::Got(presence, min_at) = fields::byte_from(file, at) else {
+    let Field::Got(presence, min_at) = reader::byte_from(file, at) else {
         return NodeRow::Fault { number: ENDS };
     };
     if 1 < presence {
