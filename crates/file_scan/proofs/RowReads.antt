@@ -52,13 +52,13 @@ pub ruleset fourth = (four-first, four-second, four-third, four-fourth, four-all
 -- ── a block ──
 
 -- what is read behind the four numbers of a block
-abbrev blockRest : (kind : ℕ) (file : List ℕ) → Numbers → ℕ → Read Block
+abbrev pub blockRest : (kind : ℕ) (file : List ℕ) → Numbers → ℕ → Read Block
 blockRest kind file q at =
     onward (field (q .b) file at)
     (λ bytes next. got (record { kind = kind; stretch = record { first = q .a; bytes = bytes }; created = q .c; destroyed = q .d }) next)
 
 -- a block is its kind byte, four numbers and its bytes
-block-parts : (kind : ℕ) (file : List ℕ) (at : ℕ)
+pub block-parts : (kind : ℕ) (file : List ℕ) (at : ℕ)
     → readBlock kind file at
     ≡ onward (number 1 file at) (λ own p. onward ((refuse 18 unless (eqb own kind)) file p) (λ _ p₁. onward (readFour file p₁) (blockRest own file)))
 unfolding readBlock readFour _>>=_ give
@@ -119,10 +119,10 @@ pub ruleset blocking = (block-ends, block-kind, block-four-ends, block-short, bl
 -- ── a node ──
 
 -- what is read behind the four numbers of a node
-abbrev presentRest : (file : List ℕ) → Numbers → ℕ → Read Head
+abbrev pub presentRest : (file : List ℕ) → Numbers → ℕ → Read Head
 presentRest file q at = onward (many (number 8) (q .d) file at) (λ es next. got (headPresent (q .a) (q .b) (q .c) es) next)
 
-present-parts : (file : List ℕ) (at : ℕ) → readPresent file at ≡ onward (readFour file at) (presentRest file)
+pub present-parts : (file : List ℕ) (at : ℕ) → readPresent file at ≡ onward (readFour file at) (presentRest file)
 unfolding readPresent readFour _>>=_ give
 present-parts file at =
     onward-through (number 8 file at) _ _ λ a p₂.

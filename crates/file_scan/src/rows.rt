@@ -18,7 +18,7 @@ pub const PRESENCE: u64 = 19;
 const ENTRY: u64 = 8;
 
 // Four numbers, one after the other, with the position behind them.
-pub enum Four {
+enum Four {
     Got(u64, u64, u64, u64, usize),
     End,
 }
