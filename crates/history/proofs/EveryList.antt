@@ -3,7 +3,7 @@
 use mathlib.Core.Path.{_≡_, refl, sym, _∙_, ap, subst}
 use mathlib.Core.Bool.{Bool, true, false, cond, true≢false, false≢true}
 use mathlib.Core.Option.{Option, none, some, Option·none-ne-some}
-use mathlib.Core.List.{List, [], _∷_, _++_, map, append-nil, Option·toList}
+use mathlib.Core.List.{List, [], _∷_, _++_, map, append-nil, filterMap, Option·toList}
 use Prim.Native.Nat.{ℕ, _+_, _≤_, _<_}
 use native.Mathlib.Omega.{arith}
 use lib.ListN.{length, length-append, length-map}
@@ -19,80 +19,37 @@ use Rattle.history.specs.Refusals.{Answer, accepted, refused, openAnswer
 use Rattle.history.specs.Calls.{Call, recordCall, finishCall, answerTo, acceptedBy, leaves, after, afterAll, noted, history, valueAt}
 use Rattle.history.specs.Sound.{SoundBlock, SoundBoard, SoundClosed, SoundTree, Sound, SoundForFinish, isEmpty}
 use Rattle.history.specs.Law.{CoversBy, LastCall, LedgerLaw, Faithful, EveryList}
-use Rattle.history.proofs.Passing.{Opens, opens, Room, Taken, taken, room, Finishes, finishes}
-use Rattle.history.proofs.Steps.{Standing, standing-opened, standing-read, standing-update, settled-sound, shown-apart}
+use Rattle.history.proofs.Passing.{opens, Taken, taken, room, finishes}
+use Rattle.history.proofs.Cells.{Shown, shown-read, shown-updated}
+use Rattle.history.proofs.Steps.{opened-sound, read-sound, update-sound, new-blocks, settled-sound, shown-apart}
 use Rattle.history.proofs.Seen.{holds-shows}
 use Rattle.history.proofs.Reading.{seen-some, seen-none, seen-holds}
 use Rattle.history.proofs.Value.{value-law}
 use Rattle.history.proofs.TreePlaced.{treeOf-none, treeOf-some, treeOf-halved}
 use Rattle.history.proofs.TreeSorted.{treeOf-rule23}
 
--- ── open boards ──
-
--- an open ledger whose board stands keeps the law
-law-open : (l : Ledger) (h : List Operation) → l .tree ≡ none → Standing (l .opening) (l .now) h → LedgerLaw l h
-law-open l h none-yet s = record {
-  sound = record {
-    sound = record {
-      board = record {
-        some-tick = s .opens .some-tick;
-        end-most = s .opens .end-most;
-        known-kind = s .opens .known-kind;
-        last-below-end = s .last-below-end;
-        pieces = s .pieces;
-        in-order = s .in-order;
-        blocks = s .blocks;
-        pieces-fit = s .room .pieces;
-        blocks-fit = s .room .blocks;
-        store-fits = s .room .store;
-      };
-      closed = subst (λ (t : Option Tree). SoundTree l t) (sym none-yet) tt;
-    };
-    apart = shown-apart (l .opening) (l .now) h (s .cells) (settled-sound (l .opening) (l .now) h s);
-  };
-  cells = s .cells;
-  open-blocks = λ _. s .by-last;
-}
+-- ── soundness, from call to call ──
 
 still-none : (t : Option Tree) → isSome t ≡ false → t ≡ none
 still-none none e = refl
 still-none (some t) e = absurd (true≢false e)
 
--- and the board of an open ledger that keeps the law stands
-stands : (l : Ledger) (h : List Operation) → finished l ≡ false → LedgerLaw l h → Standing (l .opening) (l .now) h
-stands l h still law =
-    let b = law .sound .sound .board in
-    record {
-      opens = record { some-tick = b .some-tick; end-most = b .end-most; known-kind = b .known-kind };
-      last-below-end = b .last-below-end;
-      pieces = b .pieces;
-      in-order = b .in-order;
-      blocks = b .blocks;
-      room = record { pieces = b .pieces-fit; blocks = b .blocks-fit; store = b .store-fits };
-      cells = law .cells;
-      by-last = law .open-blocks still;
-    }
+-- an open ledger whose board is sound is sound
+open-sound : (l : Ledger) → finished l ≡ false → SoundBoard l → Sound l
+open-sound l still b = record { board = b; closed = subst (λ (t : Option Tree). SoundTree l t) (sym (still-none (l .tree) still)) tt }
 
--- ── record ──
-
-law-record : (l : Ledger) (h : List Operation) (scratch : ℕ) (o : Operation) → recordAnswer l scratch o ≡ accepted tt → LedgerLaw l h → LedgerLaw (recordBy l o) (o ∷ h)
+-- an accepted record leaves a sound ledger
+pub record-sound : (l : Ledger) (scratch : ℕ) (o : Operation) → recordAnswer l scratch o ≡ accepted tt → Sound l → Sound (recordBy l o)
 unfolding recordBy
-law-record l h scratch o e law = go (isRead (l .now) o) refl
+record-sound l scratch o e s = go (isRead (l .now) o) refl
   where
     k : Taken l o
     k = taken l scratch o e
 
-    was : Standing (l .opening) (l .now) h
-    was = stands l h (k .still-open) law
-
     go : (r : Bool) → isRead (l .now) o ≡ r
-        → LedgerLaw (record { opening = l .opening; now = cond r (readBy (l .now) o) (updateBy (l .opening .kind) (l .now) o); tree = l .tree }) (o ∷ h)
-    go true q = law-open _ (o ∷ h) (still-none (l .tree) (k .still-open)) (standing-read (l .opening) (l .now) h o was (k .before-end) (k .not-back) q)
-    go false q =
-        law-open _ (o ∷ h) (still-none (l .tree) (k .still-open))
-        (standing-update (l .opening) (l .now) h o was (k .before-end) (k .not-back) (k .some-cell) (k .no-wrap) (room l scratch o e q))
-
--- ── finish ──
+        → Sound (record { opening = l .opening; now = cond r (readBy (l .now) o) (updateBy (l .opening .kind) (l .now) o); tree = l .tree })
+    go true q = open-sound _ (k .still-open) (read-sound l o (s .board) (k .before-end) (k .not-back))
+    go false q = open-sound _ (k .still-open) (update-sound l o (s .board) (k .before-end) (k .not-back) (k .some-cell) (k .no-wrap) (room l scratch o e q))
 
 rooted : (e : ℕ) (bs : List Block) → isHole (treeOf e bs) ≡ isEmpty bs
 rooted e [] = rw (treeOf-none e)
@@ -107,52 +64,114 @@ nothing-more : (e : ℕ) (m : Moment) → m .pieces ≡ [] → settled e m ≡ m
 unfolding settled
 nothing-more e m none-left = rw none-left (append-nil (m .blocks))
 
-law-finish : (l : Ledger) (h : List Operation) → finishAnswer l ≡ accepted tt → LedgerLaw l h → LedgerLaw (finishBy l) h
+finish-settled : (l : Ledger) → settled (l .opening .end) ((finishBy l) .now) ≡ settled (l .opening .end) (l .now)
 unfolding finishBy
-law-finish l h e law =
+finish-settled l = nothing-more (l .opening .end) ((finishBy l) .now) refl
+
+-- an accepted finish leaves a sound closed ledger
+pub finish-sound : (l : Ledger) → finishAnswer l ≡ accepted tt → SoundForFinish l → SoundForFinish (finishBy l)
+unfolding finishBy
+finish-sound l e s =
     let k = finishes l e in
-    let s = stands l h (k .still-open) law in
-    let b = law .sound .sound .board in
-    let all = settled-sound (l .opening) (l .now) h s in
+    let b = s .sound .board in
+    let all = settled-sound l b in
     record {
       sound = record {
-        sound = record {
-          board = record {
-            some-tick = b .some-tick;
-            end-most = b .end-most;
-            known-kind = b .known-kind;
-            last-below-end = b .last-below-end;
-            pieces = all-nil;
-            in-order = pairs-nil;
-            blocks = all;
-            pieces-fit = omega arith;
-            blocks-fit = omega (arith, settled-length (l .opening .end) (l .now), b .blocks-fit);
-            store-fits = b .store-fits;
-          };
-          closed = record {
-            no-pieces = refl;
-            rooted = rooted (l .opening .end) (settled (l .opening .end) (l .now));
-            rule-21 = treeOf-halved (l .opening .end) (settled (l .opening .end) (l .now)) (b .end-most);
-            rule-23 =
-                treeOf-rule23 (l .opening .end) (settled (l .opening .end) (l .now)) (omega (arith, b .some-tick)) (b .end-most) (law .sound .apart)
-                (all-map (λ x g. g .stretch .some-cell) all) (all-map (λ x g. g .by-end) all);
-            rule-24 = law .sound .apart;
-            nodes-fit = k .nodes;
-            entries-fit = k .entries;
-          };
+        board = record {
+          some-tick = b .some-tick;
+          end-most = b .end-most;
+          known-kind = b .known-kind;
+          last-below-end = b .last-below-end;
+          pieces = all-nil;
+          in-order = pairs-nil;
+          blocks = all;
+          pieces-fit = omega arith;
+          blocks-fit = omega (arith, settled-length (l .opening .end) (l .now), b .blocks-fit);
+          store-fits = b .store-fits;
         };
-        apart = subst Apart (sym same) (law .sound .apart);
+        closed = record {
+          no-pieces = refl;
+          rooted = rooted (l .opening .end) (settled (l .opening .end) (l .now));
+          rule-21 = treeOf-halved (l .opening .end) (settled (l .opening .end) (l .now)) (b .end-most);
+          rule-23 =
+              treeOf-rule23 (l .opening .end) (settled (l .opening .end) (l .now)) (omega (arith, b .some-tick)) (b .end-most) (s .apart)
+              (all-map (λ x g. g .stretch .some-cell) all) (all-map (λ x g. g .by-end) all);
+          rule-24 = s .apart;
+          nodes-fit = k .nodes;
+          entries-fit = k .entries;
+        };
       };
-      cells = λ t c p. subst (λ (bs : List Block). seen t c bs ≡ Option·toList (valueAt h t c)) (sym same) (law .cells t c p);
-      open-blocks = λ x. absurd (true≢false x);
+      apart = subst Apart (sym (finish-settled l)) (s .apart);
     }
+
+-- ── the law, from call to call ──
+
+-- what is known of an open ledger between calls
+law-open : (l : Ledger) (h : List Operation) → finished l ≡ false → SoundBoard l → Shown (l .opening) (l .now) h
+    → All (λ (b : Block). b .destroyed ≤ l .now .last) (l .now .blocks) → LedgerLaw l h
+law-open l h still b cells by-last = record {
+  sound = record { sound = open-sound l still b; apart = shown-apart (l .opening) (l .now) h cells (settled-sound l b) };
+  cells = cells;
+  open-blocks = λ _. by-last;
+}
+
+-- no block is destroyed after the tick of the call
+read-last : (l : Ledger) (o : Operation) → All (λ (x : Block). x .destroyed ≤ l .now .last) (l .now .blocks) → l .now .last ≤ o .tick
+    → All (λ (x : Block). x .destroyed ≤ readBy (l .now) o .last) (readBy (l .now) o .blocks)
+unfolding readBy
+read-last l o old later = all-map (λ b d. omega arith) old
+
+update-last : (l : Ledger) (o : Operation) → SoundBoard l → All (λ (x : Block). x .destroyed ≤ l .now .last) (l .now .blocks) → o .tick < l .opening .end → l .now .last ≤ o .tick
+    → All (λ (x : Block). x .destroyed ≤ updateBy (l .opening .kind) (l .now) o .last) (updateBy (l .opening .kind) (l .now) o .blocks)
+unfolding updateBy
+update-last l o b old before later = new-blocks l o b before later (λ x. x .destroyed ≤ o .tick) (λ q g. omega arith) (all-map (λ x d. omega arith) old)
+
+opened-cells : (a : Opening) → Shown (opened a .opening) (opened a .now) []
+unfolding opened settled valueAt seen Option·toList filterMap
+opened-cells a t c p = refl
+
+finish-cells : (l : Ledger) (h : List Operation) → Shown (l .opening) (l .now) h → Shown (finishBy l .opening) (finishBy l .now) h
+unfolding finishBy
+finish-cells l h cells t c p = subst (λ (bs : List Block). seen t c bs ≡ Option·toList (valueAt h t c)) (sym (finish-settled l)) (cells t c p)
+
+finish-closed : (l : Ledger) → finished (finishBy l) ≡ false → true ≡ false
+unfolding finishBy
+finish-closed l e = e
+
+law-record : (l : Ledger) (h : List Operation) (scratch : ℕ) (o : Operation) → recordAnswer l scratch o ≡ accepted tt → LedgerLaw l h → LedgerLaw (recordBy l o) (o ∷ h)
+unfolding recordBy
+law-record l h scratch o e law = go (isRead (l .now) o) refl
   where
-    same : settled (l .opening .end) ((finishBy l) .now) ≡ settled (l .opening .end) (l .now)
-    same = nothing-more (l .opening .end) ((finishBy l) .now) refl
+    k : Taken l o
+    k = taken l scratch o e
+
+    b : SoundBoard l
+    b = law .sound .sound .board
+
+    old : All (λ (x : Block). x .destroyed ≤ l .now .last) (l .now .blocks)
+    old = law .open-blocks (k .still-open)
+
+    go : (r : Bool) → isRead (l .now) o ≡ r
+        → LedgerLaw (record { opening = l .opening; now = cond r (readBy (l .now) o) (updateBy (l .opening .kind) (l .now) o); tree = l .tree }) (o ∷ h)
+    go true q =
+        law-open _ (o ∷ h) (k .still-open) (read-sound l o b (k .before-end) (k .not-back))
+        (shown-read (l .opening) (l .now) h o old (all-map (λ p g. g .written-by-last) (b .pieces)) (k .not-back) q (law .cells))
+        (read-last l o old (k .not-back))
+    go false q =
+        law-open _ (o ∷ h) (k .still-open) (update-sound l o b (k .before-end) (k .not-back) (k .some-cell) (k .no-wrap) (room l scratch o e q))
+        (shown-updated (l .opening) (l .now) h o old (k .not-back) (law .cells))
+        (update-last l o b old (k .before-end) (k .not-back))
+
+law-finish : (l : Ledger) (h : List Operation) → finishAnswer l ≡ accepted tt → LedgerLaw l h → LedgerLaw (finishBy l) h
+law-finish l h e law = record {
+  sound = finish-sound l e (law .sound);
+  cells = finish-cells l h (law .cells);
+  open-blocks = λ x. absurd (true≢false (finish-closed l x));
+}
 
 -- ── a call, and a list of calls ──
 
-law-after : (l : Ledger) (h : List Operation) (k : Call) → LedgerLaw l h → LedgerLaw (after l k) (noted h k (answerTo l k))
+pub law-after : (l : Ledger) (h : List Operation) (k : Call) → LedgerLaw l h → LedgerLaw (after l k) (noted h k (answerTo l k))
 unfolding after leaves noted answerTo acceptedBy
 law-after l h (recordCall scratch o) law = go (recordAnswer l scratch o) refl
   where
@@ -189,7 +208,7 @@ opening-of a = refl
 -- THE LAW: it holds after every list of calls on an index that opening takes.
 pub the-law : (a : Opening) → openAnswer a ≡ accepted tt → (ks : List Call) → LedgerLaw (afterAll (opened a) ks) (history [] (opened a) ks)
 unfolding opened
-the-law a e ks = law-all ks (opened a) [] (law-open (opened a) [] refl (standing-opened a (opens a e)))
+the-law a e ks = law-all ks (opened a) [] (law-open (opened a) [] refl (opened-sound a (opens a e)) (opened-cells a) all-nil)
 
 -- ── demand 3's clauses ──
 

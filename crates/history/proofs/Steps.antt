@@ -1,4 +1,4 @@
--- The law of the ledger, kept by opening, a read and an update. Assumes nothing.
+-- Soundness, kept by opening, a read and an update; rule 24 from the law of cells. Assumes nothing.
 use mathlib.Core.Path.{_≡_, refl, sym, _∙_, ap}
 use mathlib.Core.Bool.{Bool, true, false}
 use mathlib.Core.Option.{Option, none, some}
@@ -36,54 +36,37 @@ all-settled e m Q x y = all-append x (all-of-map (blockOf e) y)
 pub block-of-piece : (kind e D : ℕ) (m : Moment) (p : Piece) → m .last ≤ D → D ≤ e → SoundPiece kind m p → SoundBlock kind e (m .store) (blockOf D p)
 block-of-piece kind e D m p x y g = record { stretch = g .stretch; forward = omega (arith, g .written-by-last); by-end = y; own-kind = g .own-kind }
 
+-- rule 24, where each cell shows one byte or none
 pub shown-apart : (a : Opening) (m : Moment) (h : List Operation) → Shown a m h → All (SoundBlock (a .kind) (a .end) (m .store)) (settled (a .end) m)
     → Apart (settled (a .end) m)
 shown-apart a m h s g = apart (a .end) (all-map (λ b x. x .by-end) g) (λ t c p. rw (s t c p) (once (valueAt h t c)))
 
--- ── a board between calls ──
+-- ── soundness, kept by a read and an update ──
 
--- what is known of an open board: the numbers of its opening, and what the calls so far have left
-pub record Standing (a : Opening) (m : Moment) (h : List Operation) : Type 0 where
-  pub opens : Opens a
-  pub last-below-end : m .last < a .end
-  pub pieces : All (SoundPiece (a .kind) m) (m .pieces)
-  pub in-order : InOrder (m .pieces)
-  pub blocks : All (SoundBlock (a .kind) (a .end) (m .store)) (m .blocks)
-  pub room : Room (a .lent) m
-  pub cells : Shown a m h
-  pub by-last : All (λ (b : Block). b .destroyed ≤ m .last) (m .blocks)
+module _ (l : Ledger) (o : Operation) (s : SoundBoard l) (before-end : o .tick < l .opening .end) (not-back : l .now .last ≤ o .tick) where
+  abbrev a : Opening
+  a = l .opening
 
--- each piece counted as live up to E
-pub settled-sound : (a : Opening) (m : Moment) (h : List Operation) → Standing a m h → All (SoundBlock (a .kind) (a .end) (m .store)) (settled (a .end) m)
-settled-sound a m h s =
-    all-settled (a .end) m (SoundBlock (a .kind) (a .end) (m .store)) (s .blocks)
-    (all-map (λ p g. block-of-piece (a .kind) (a .end) (a .end) m p (omega (arith, s .last-below-end)) (omega arith) g) (s .pieces))
+  abbrev m : Moment
+  m = l .now
 
-pub standing-opened : (a : Opening) → Opens a → Standing a ((opened a) .now) []
-unfolding opened settled valueAt seen Option·toList filterMap
-standing-opened a o = record {
-  opens = o;
-  last-below-end = omega (arith, o .some-tick);
-  pieces = all-nil;
-  in-order = pairs-nil;
-  blocks = all-nil;
-  room = record { pieces = omega arith; blocks = omega arith; store = omega arith };
-  cells = λ t c p. refl;
-  by-last = all-nil;
-}
+  -- the ledger with another board
+  abbrev with-board : Moment → Ledger
+  with-board n = record { opening = l .opening; now = n; tree = l .tree }
 
-module _ (a : Opening) (m : Moment) (h : List Operation) (o : Operation) (s : Standing a m h) (before-end : o .tick < a .end) (not-back : m .last ≤ o .tick) where
-  pub standing-read : isRead m o ≡ true → Standing a (readBy m o) (o ∷ h)
+  pub read-sound : SoundBoard (with-board (readBy m o))
   unfolding readBy
-  standing-read known = record {
-    opens = s .opens;
+  read-sound = record {
+    some-tick = s .some-tick;
+    end-most = s .end-most;
+    known-kind = s .known-kind;
     last-below-end = before-end;
     pieces = all-map (λ p g. record { stretch = g .stretch; written-by-last = omega (arith, g .written-by-last); own-kind = g .own-kind }) (s .pieces);
     in-order = s .in-order;
     blocks = s .blocks;
-    room = record { pieces = s .room .pieces; blocks = s .room .blocks; store = s .room .store };
-    cells = shown-read a m h o (s .by-last) (all-map (λ p g. g .written-by-last) (s .pieces)) not-back known (s .cells);
-    by-last = all-map (λ b d. omega arith) (s .by-last);
+    pieces-fit = s .pieces-fit;
+    blocks-fit = s .blocks-fit;
+    store-fits = s .store-fits;
   }
 
   next : Moment
@@ -107,7 +90,7 @@ module _ (a : Opening) (m : Moment) (h : List Operation) (o : Operation) (s : St
   }
 
   -- what holds of the old blocks, and of each part of a piece that becomes one
-  new-blocks : (Q : Block → Type 0) → ((q : Piece) → SoundPiece (a .kind) next q → Q (blockOf (o .tick) q)) → All Q (m .blocks) → All Q (next .blocks)
+  pub new-blocks : (Q : Block → Type 0) → ((q : Piece) → SoundPiece (a .kind) (updateBy (a .kind) m o) q → Q (blockOf (o .tick) q)) → All Q (m .blocks) → All Q (updateBy (a .kind) m o .blocks)
   unfolding next updateBy
   new-blocks Q f b =
       all-append b
@@ -126,16 +109,39 @@ module _ (a : Opening) (m : Moment) (h : List Operation) (o : Operation) (s : St
   unfolding next updateBy
   all-pieces own = all-updated (a .kind) o (m .pieces) (SoundPiece (a .kind) m) (SoundPiece (a .kind) next) part-sound own (s .pieces)
 
-  pub standing-update : 0 < size (stretchOf o) → ends (stretchOf o) ≤ 2 ^ 64 - 1 → Room (a .lent) (updateBy (a .kind) m o) → Standing a (updateBy (a .kind) m o) (o ∷ h)
+  pub update-sound : 0 < size (stretchOf o) → ends (stretchOf o) ≤ 2 ^ 64 - 1 → Room (a .lent) (updateBy (a .kind) m o) → SoundBoard (with-board (updateBy (a .kind) m o))
   unfolding next updateBy
-  standing-update cells wrap r = record {
-    opens = s .opens;
+  update-sound cells wrap r = record {
+    some-tick = s .some-tick;
+    end-most = s .end-most;
+    known-kind = s .known-kind;
     last-below-end = before-end;
     pieces = all-pieces (own-piece cells wrap);
     in-order = in-order-updated (a .kind) o (m .pieces) (s .in-order);
     blocks = new-blocks (SoundBlock (a .kind) (a .end) (next .store)) (λ q g. block-of-piece (a .kind) (a .end) (o .tick) next q (omega arith) (omega arith) g)
         (all-map (λ b x. record { stretch = longer (b .stretch) (x .stretch); forward = x .forward; by-end = x .by-end; own-kind = x .own-kind }) (s .blocks));
-    room = r;
-    cells = shown-updated a m h o (s .by-last) not-back (s .cells);
-    by-last = new-blocks (λ b. b .destroyed ≤ o .tick) (λ q g. omega arith) (all-map (λ b d. omega arith) (s .by-last));
+    pieces-fit = r .pieces;
+    blocks-fit = r .blocks;
+    store-fits = r .store;
   }
+
+-- each piece counted as live up to E
+pub settled-sound : (l : Ledger) → SoundBoard l → All (SoundBlock (l .opening .kind) (l .opening .end) (l .now .store)) (settled (l .opening .end) (l .now))
+settled-sound l s =
+    all-settled (l .opening .end) (l .now) (SoundBlock (l .opening .kind) (l .opening .end) (l .now .store)) (s .blocks)
+    (all-map (λ p g. block-of-piece (l .opening .kind) (l .opening .end) (l .opening .end) (l .now) p (omega (arith, s .last-below-end)) (omega arith) g) (s .pieces))
+
+pub opened-sound : (a : Opening) → Opens a → SoundBoard (opened a)
+unfolding opened
+opened-sound a o = record {
+  some-tick = o .some-tick;
+  end-most = o .end-most;
+  known-kind = o .known-kind;
+  last-below-end = omega (arith, o .some-tick);
+  pieces = all-nil;
+  in-order = pairs-nil;
+  blocks = all-nil;
+  pieces-fit = omega arith;
+  blocks-fit = omega arith;
+  store-fits = omega arith;
+}

@@ -1,3 +1,4 @@
 pub mod Tables
 pub mod Encodes
 pub mod Formed
+pub mod Relations

@@ -98,6 +98,11 @@ module _ {t : List ℕ} {j k fuel : ℕ} where
       go [] h = confirm all-nil
       go (x ∷ xs) h = absurd (omega arith)
 
+  pub followers-lifeless : {c d : ℕ} → c ≡ createdAt t j → d ≡ destroyedAt t j → d ≤ c → FollowersApart t j k fuel true
+  followers-lifeless ec ed h = record {
+    decides = λ n links small f tr fits. confirm (all-of-mem links (λ y m c. omega (arith, c .one .born, c .one .alive)));
+  }
+
   pub followers-none : k ≡ 0 → FollowersApart t j k fuel true
   followers-none z = record { decides = λ n links small f tr fits. go n links tr }
     where
@@ -160,7 +165,7 @@ pub followers-end : {t : List ℕ} {j k₀ fuel₀ k fuel : ℕ} {r : Bool} → 
     → FollowersApart t j k₀ fuel₀ r
 followers-end {r = r} a b = a .whole r b
 
-pub ruleset following = (followers-start, followers-turn, followers-end, followers-spent, followers-none, followers-past, followers-clash, not-true, not-false)
+pub ruleset following = (followers-start, followers-turn, followers-end, followers-lifeless, followers-spent, followers-none, followers-past, followers-clash, not-true, not-false)
 
 -- ── the returns of `rows_apart` ──
 

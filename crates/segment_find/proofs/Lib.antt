@@ -3,3 +3,4 @@ pub mod Parting
 pub mod Windows
 pub mod Extending
 pub mod Searching
+pub mod Neighbouring

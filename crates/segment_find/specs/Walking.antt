@@ -3,9 +3,10 @@
 use mathlib.Core.Path.{_≡_}
 use mathlib.Core.Bool.{Bool, true, false, cond}
 use mathlib.Core.List.{List}
-use Prim.Native.Nat.{ℕ, _+_, _-_, _≤_, _<_}
+use Prim.Native.Nat.{ℕ, _+_, _-_, _/_, _≤_, _<_}
 use lib.ListN.{length}
 use lib.Dec.{leb, ltb}
+use Rattle.history.specs.Lent.{entryWidth, entryHead}
 use Rattle.history.specs.Tree.{Tree, mid, halves}
 use Rattle.history.specs.Rules.{sorted}
 use Rattle.tables.specs.Columns.{column, entryColumn, entryKey}
@@ -47,10 +48,15 @@ halfAt nodes t n = cond (halves (n .min) (n .max)) (cond (ltb t (mid (n .min) (n
 
 -- ── rows of entries ──
 
+-- how many rows the entry table has
+abbrev pub tableRows : (entries : List ℕ) → ℕ
+tableRows entries = (length entries - entryHead) / entryWidth
+
 -- the rows of a node's run; where the run does not stand in the table, none
 unfoldable pub rowsAt : (nodes entries : List ℕ) (link : ℕ) → Rows
 rowsAt nodes entries k =
-    record { from = firstAt nodes k; to = firstAt nodes k + cond (leb (firstAt nodes k + countAt nodes k) (length entries)) (countAt nodes k) 0 }
+    cond (leb (firstAt nodes k + countAt nodes k) (tableRows entries)) (record { from = firstAt nodes k; to = firstAt nodes k + countAt nodes k })
+    (record { from = 0; to = 0 })
 
 abbrev pub keyAt : (entries : List ℕ) (row : ℕ) → ℕ
 keyAt entries row = entryColumn entries row entryKey
@@ -65,6 +71,8 @@ pub record Ordered (entries : List ℕ) (rows : Rows) : Type 0 where
 
 -- the rows list the blocks xs, each row with the first cell of its block, ascending
 pub record RunOf (blocks entries : List ℕ) (rows : Rows) (xs : List ℕ) : Type 0 where
+  pub order : rows .from ≤ rows .to
+  pub room : rows .to ≤ tableRows entries
   pub lists : blocksIn entries rows ≡ xs
   pub keyed : (i : ℕ) → rows .from ≤ i → i < rows .to → keyAt entries i ≡ firstCellIn blocks (blockIn entries i)
   pub ordered : Ordered entries rows
@@ -79,4 +87,4 @@ pub record Parts (entries : List ℕ) (rows : Rows) (x r : ℕ) : Type 0 where
 -- r is the first of the rows whose key is not below x, and their end if there is none
 pub record Lower (entries : List ℕ) (rows : Rows) (x r : ℕ) : Type 0 where
   pub inside : rows .from ≤ rows .to → (rows .from ≤ r) × (r ≤ rows .to)
-  pub parts : Ordered entries rows → Parts entries rows x r
+  pub parts : rows .to ≤ tableRows entries → Ordered entries rows → Parts entries rows x r

@@ -1,10 +1,10 @@
 // Reads of a closed index's tree at a tick.
 ghost use mathlib.Core.Path.{_≡_};
 ghost use Prim.Native.Nat.{_+_, _-_};
-ghost use lib.Seq.{sets};
-ghost use Rattle.segment_table.specs.Closed.{run};
-ghost use Rattle.segment_find.specs.Walking.{rootAt, halfAt, rowsAt, blocksIn, Lower};
-ghost use Rattle.segment_find.specs.Listing.{InWindow, Searched, Finds};
+ghost use Rattle.segment_table.specs.Closed.{blockIn};
+ghost use Rattle.segment_find.specs.Walking.{rootAt, halfAt, tableRows, rowsAt, keyAt, Lower};
+ghost use Rattle.segment_find.specs.Listing.{InWindow, Extends, Searched, Finds};
+ghost use Rattle.segment_find.specs.Neighbours.{OwnNeighbour, Nearer, NearestBelow, NearestLive};
 
 // A node of the tree, [min, max), by the link of its row.
 pub struct Node {
@@ -15,8 +15,8 @@ pub struct Node {
 
 // Rows of the entry table, [from, to).
 pub struct Rows {
-    pub from: u64,
-    pub to: u64,
+    pub from: usize,
+    pub to: usize,
 }
 
 // What find is asked: the blocks live at a tick whose first cell is in [start, stop).
@@ -30,6 +30,18 @@ pub struct Query {
 pub enum Found {
     Listed { count: usize, visited: usize },
     TooSmall,
+}
+
+// Where a neighbour of a place is looked for: among the blocks that start at it or after it, or among those that start before it.
+pub enum Side {
+    From,
+    Before,
+}
+
+// A block next to a place, with its first cell; or none.
+pub enum Neighbour {
+    Block { number: u64, first: u64 },
+    Nothing,
 }
 
 // The half of a node that has the tick: left if it is below mid. A node of width 1 has none.
@@ -70,13 +82,23 @@ fn half(nodes: &[u64], node: Node, tick: u64) -> Node
     }
 }
 
+// How many rows the entry table has.
+fn table_rows(entries: &[u64]) -> usize
+    ensures { λ r. ⌜ r ≡ tableRows (now (entries .entry)) ⌝ }
+{
+    if entries.len() < tables::entry::HEAD {
+        return 0;
+    }
+    (entries.len() - tables::entry::HEAD) / tables::entry::WIDTH
+}
+
 // The rows of a node's run. Of a run that does not stand in the table, which no closed index has, none.
 fn rows_of(nodes: &[u64], entries: &[u64], link: u64) -> Rows
     ensures { λ r. ⌜ r ≡ rowsAt (now (nodes .entry)) (now (entries .entry)) link ⌝ }
 {
-    let from = tables::get(nodes, link, tables::node::FIRST);
-    let count = tables::get(nodes, link, tables::node::ENTRIES);
-    let room = entries.len() as u64;
+    let from = tables::get(nodes, link, tables::node::FIRST) as usize;
+    let count = tables::get(nodes, link, tables::node::ENTRIES) as usize;
+    let room = table_rows(entries);
     if count <= room {
         if from <= room - count {
             return Rows {
@@ -85,21 +107,21 @@ fn rows_of(nodes: &[u64], entries: &[u64], link: u64) -> Rows
             };
         }
     }
-    Rows {
-        from: from,
-        to: from,
-    }
+    Rows { from: 0, to: 0 }
 }
 
-// The first of the rows whose key is not below `key`, or their end.
-fn lower(entries: &[u64], rows: Rows, key: u64) -> u64
+// The first of the rows whose key is not below `key`, or their end. Rows past the table's end, which `rows_of` does not give, are not searched.
+fn lower(entries: &[u64], rows: Rows, key: u64) -> usize
     ensures { λ r. ⌜ Lower (now (entries .entry)) rows key r ⌝ }
 {
     let mut lo = rows.from;
     let mut hi = rows.to;
+    if table_rows(entries) < hi {
+        return lo;
+    }
     while lo < hi {
         let mid = lo + (hi - lo) / 2;
-        if tables::entry::get(entries, mid, tables::entry::KEY) < key {
+        if entries[tables::entry::HEAD + (tables::entry::WIDTH * mid + tables::entry::KEY)] < key {
             lo = mid + 1;
         } else {
             hi = mid;
@@ -108,19 +130,29 @@ fn lower(entries: &[u64], rows: Rows, key: u64) -> u64
     lo
 }
 
-// Writes the block numbers of the rows to the answer, from place `at` on.
+// Writes the block numbers of the rows to the answer, from place `at` on, if there is room for them.
 fn extend_from_self(entries: &[u64], rows: Rows, answer: &mut [u64], at: usize)
-    ensures { λ _. ⌜ now (answer .exit) ≡ sets (now (answer .entry)) at (blocksIn (now (entries .entry)) rows) ⌝ }
+    ensures { λ _. ⌜ Extends (now (entries .entry)) rows (now (answer .entry)) at (now (answer .exit)) ⌝ }
 {
+    let from = rows.from;
     let to = rows.to;
-    let mut row = rows.from;
-    let mut i = at;
-    while row < to {
-        if answer.len() <= i {
-            return;
-        }
-        answer[i] = tables::entry::get(entries, row, tables::entry::BLOCK);
-        row += 1;
+    if to < from {
+        return;
+    }
+    if table_rows(entries) < to {
+        return;
+    }
+    let many = to - from;
+    if answer.len() < many {
+        return;
+    }
+    if answer.len() - many < at {
+        return;
+    }
+    let mut i = 0;
+    while i < many {
+        answer[at + i] = entries[tables::entry::HEAD
+            + (tables::entry::WIDTH * (from + i) + tables::entry::BLOCK)];
         i += 1;
     }
 }
@@ -164,7 +196,7 @@ fn search(
         };
     }
     let rows = in_window(nodes, entries, node.link, query.start, query.stop);
-    let many = (rows.to - rows.from) as usize;
+    let many = rows.to - rows.from;
     if answer.len() < many {
         return Found::TooSmall;
     }
@@ -218,4 +250,131 @@ pub fn find(
         stop: stop,
     };
     search(nodes, entries, node, query, answer, 0)
+}
+
+// The block of a row.
+fn block_in(entries: &[u64], row: usize) -> Neighbour
+    ensures { λ r. ⌜ r ≡ Neighbour.Block (blockIn (now (entries .entry)) row) (keyAt (now (entries .entry)) row) ⌝ }
+{
+    let number = tables::entry::get(entries, row as u64, tables::entry::BLOCK);
+    let first = tables::entry::get(entries, row as u64, tables::entry::KEY);
+    Neighbour::Block {
+        number: number,
+        first: first,
+    }
+}
+
+// The neighbour of a place among the rows of one node.
+fn own_neighbour(entries: &[u64], rows: Rows, side: Side, place: u64) -> Neighbour
+    ensures { λ r. ⌜ OwnNeighbour (now (entries .entry)) rows side place r ⌝ }
+{
+    let row = lower(entries, rows, place);
+    match side {
+        Side::From => {
+            if row < rows.to {
+                return block_in(entries, row);
+            }
+            Neighbour::Nothing
+        }
+        Side::Before => {
+            if rows.from < row {
+                return block_in(entries, row - 1);
+            }
+            Neighbour::Nothing
+        }
+    }
+}
+
+// The nearer one of two.
+fn nearer(side: Side, own: Neighbour, below: Neighbour) -> Neighbour
+    ensures { λ r. ⌜ Nearer side own below r ⌝ }
+{
+    let Neighbour::Block { number: _, first } = own else {
+        return below;
+    };
+    let Neighbour::Block {
+        number: _,
+        first: other,
+    } = below
+    else {
+        return own;
+    };
+    match side {
+        Side::From => {
+            if other < first {
+                return below;
+            }
+            own
+        }
+        Side::Before => {
+            if first < other {
+                return below;
+            }
+            own
+        }
+    }
+}
+
+// The neighbour of a place on the way down to the tick from a node. The width falls at each call: at most 64 calls.
+fn nearest(
+    nodes: &[u64],
+    entries: &[u64],
+    node: Node,
+    tick: u64,
+    side: Side,
+    place: u64,
+) -> Neighbour
+    ensures { λ r. ⌜ NearestBelow (now (nodes .entry)) (now (entries .entry)) node tick side place r ⌝ }
+{
+    if node.link == 0 {
+        return Neighbour::Nothing;
+    }
+    if node.max <= node.min {
+        return Neighbour::Nothing;
+    }
+    let own = own_neighbour(entries, rows_of(nodes, entries, node.link), side, place);
+    let below = nearest(nodes, entries, half(nodes, node, tick), tick, side, place);
+    nearer(side, own, below)
+}
+
+// The first block of a kind that is live at the tick and starts at the place or after it.
+pub fn first_from(
+    nodes: &[u64],
+    entries: &[u64],
+    kind: u64,
+    end: u64,
+    tick: u64,
+    place: u64,
+) -> Neighbour
+    ensures { λ r. ⌜ NearestLive (now (nodes .entry)) (now (entries .entry)) kind end tick Side.From place r ⌝ }
+{
+    nearest(
+        nodes,
+        entries,
+        root(nodes, kind, end),
+        tick,
+        Side::From,
+        place,
+    )
+}
+
+// The last block of a kind that is live at the tick and starts before the place.
+pub fn last_before(
+    nodes: &[u64],
+    entries: &[u64],
+    kind: u64,
+    end: u64,
+    tick: u64,
+    place: u64,
+) -> Neighbour
+    ensures { λ r. ⌜ NearestLive (now (nodes .entry)) (now (entries .entry)) kind end tick Side.Before place r ⌝ }
+{
+    nearest(
+        nodes,
+        entries,
+        root(nodes, kind, end),
+        tick,
+        Side::Before,
+        place,
+    )
 }

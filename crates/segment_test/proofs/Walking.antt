@@ -6,33 +6,16 @@ use Prim.Native.Nat.{ℕ, zero, suc, _+_, _-_, _*_, _/_, _≤_, _<_}
 use native.Mathlib.Omega.{arith}
 use lib.ListN.{length, getD}
 use lib.Dec.{leb, ltb, eqb}
-use borrow.Author.Tests.{leb-true, leb-false, eqb-true, eqb-false}
+use borrow.Author.Tests.{eqb-true, eqb-false}
 use Rattle.lists.specs.Tests.{Decides}
 use mathlib.Core.Logic.{_⊎_, inl, inr}
 use Rattle.lists.proofs.Numbers.{eq-or-ne, confirm, refute}
 use Rattle.history.specs.Lent.{entryHead, entryWidth}
 use Rattle.history.specs.Tree.{Tree, hole, node, mid, nodeCount}
 use Rattle.tables.specs.Columns.{column, entryColumn, nodeMin, nodeMax, nodeLeft, nodeRight, nodeFirst, nodeEntries, nodeKind, nodesCount}
-use Rattle.segment_table.specs.Closed.{Tables, nodesUsed, leftAt, rightAt, firstAt, countAt, run, Keyed, NodeRow}
+use Rattle.segment_table.specs.Closed.{Tables, nodesUsed, leftAt, rightAt, firstAt, countAt, run, Keyed, NodeRow, TreeAt}
+use Rattle.segment_table.proofs.Closed.{tree-one}
 use Rattle.segment_test.specs.Test.{lent, EntryRow, RunRows, Inside, Bare, RowStands, NodeStands, TreeStands, Walked}
-
--- ── inside ──
-
-pub inside-head : {entries : List ℕ} {row n : ℕ} → length entries < entryHead → Decides false (Inside entries row n)
-inside-head h = refute (λ i. omega (arith, i .fits))
-
-pub inside-past : {entries : List ℕ} {row n rows : ℕ} → entryHead ≤ length entries → rows ≡ (length entries - entryHead) / entryWidth → rows < row
-    → Decides false (Inside entries row n)
-inside-past a e h = refute (λ i. omega (arith, i .fits))
-
-pub inside-rest : {entries : List ℕ} {row n rows : ℕ} → entryHead ≤ length entries → rows ≡ (length entries - entryHead) / entryWidth → row ≤ rows
-    → Decides (leb n (rows - row)) (Inside entries row n)
-inside-rest {entries} {row} {n} {rows} a e h = record {
-  yes = λ t. record { fits = omega (arith, leb-true n (rows - row) t) };
-  not = λ t i. omega (arith, leb-false n (rows - row) t, i .fits);
-}
-
-pub ruleset testing-inside = (inside-head, inside-past, inside-rest)
 
 -- ── bare ──
 
@@ -120,17 +103,20 @@ pub ruleset testing-node = (node-row, node-outside, node-rest)
 
 -- ── walk ──
 
--- one tree at most stands at a link
+-- what stands is the layout's tree
+pub stands-at : (t : Tables) (n kind link lo hi from to : ℕ) (T : Tree) → TreeStands t n kind link lo hi from to T → TreeAt t kind link lo hi T
+unfolding TreeStands TreeAt
+stands-at t n kind link lo hi from to hole s = s
+stands-at t n kind link lo hi from to (node xs l r) s = (
+  rw (s .0) at (s .1 .row),
+  stands-at t n kind (leftAt (t .nodes) link) lo (mid lo hi) lo hi l (s .2),
+  stands-at t n kind (rightAt (t .nodes) link) (mid lo hi) hi lo hi r (s .3),
+)
+
+-- so one tree at most stands at a link
 pub stands-one : (t : Tables) (n kind link lo hi from to : ℕ) (T U : Tree) → TreeStands t n kind link lo hi from to T → TreeStands t n kind link lo hi from to U → T ≡ U
-unfolding TreeStands
-stands-one t n kind link lo hi from to hole hole s u = refl
-stands-one t n kind link lo hi from to hole (node ys a b) s u = absurd (omega (arith, u .1 .row .some))
-stands-one t n kind link lo hi from to (node xs l r) hole s u = absurd (omega (arith, s .1 .row .some))
-stands-one t n kind link lo hi from to (node xs l r) (node ys a b) s u =
-    let e : xs ≡ ys = sym (s .0) ∙ u .0 in
-    let p : l ≡ a = stands-one t n kind (leftAt (t .nodes) link) lo (mid lo hi) lo hi l a (s .2) (u .2) in
-    let q : r ≡ b = stands-one t n kind (rightAt (t .nodes) link) (mid lo hi) hi lo hi r b (s .3) (u .3) in
-    rw (e, p, q)
+stands-one t n kind link lo hi from to T U s u =
+    tree-one t kind link lo hi T U (stands-at t n kind link lo hi from to T s) (stands-at t n kind link lo hi from to U u)
 
 module _ {t : Tables} {n kind link lo hi from to budget : ℕ} where
   pub walk-hole : link ≡ 0 → Walked t n kind link lo hi from to budget budget

@@ -6,13 +6,14 @@ use mathlib.Core.List.{List, [], _∷_}
 use Prim.Native.Nat.{ℕ, zero, suc, _+_, _*_, _≤_, _<_}
 use lib.ListN.{length, getD}
 use lib.Dec.{ltb, eqb}
-use Rattle.history.specs.Lent.{rowWidth, entryWidth, blockHead, entryHead}
+use Rattle.history.specs.Lent.{rowWidth, entryWidth, blockHead, nodeHead, entryHead}
 use Rattle.history.specs.Words.{Block, firstCell}
 use Rattle.history.specs.Tree.{Tree, hole, node, mid, covers, blockAt, keyIn, nodeCount}
-use Rattle.history.specs.Rules.{isHole, every, numbered, placed, ascends, sorted, rule23}
+use Rattle.history.specs.Rules.{isHole, halved, rule23}
+use Rattle.history.specs.Sound.{isEmpty}
 use Rattle.tables.specs.Columns.{column, blockColumn, entryColumn, blockFirst, blockCreated, blockDestroyed, nodeMin, nodeMax, nodeKind, nodesCount, entryKey}
 use Rattle.segment_table.specs.Closed.{Tables, nodesUsed, entriesUsed, leftAt, rightAt, firstAt, countAt, blockIn, firstCellIn, run, NodeRow, TreeAt, Closed}
-use Rattle.segment_test.specs.Total.{sumTo, entriesOfRow}
+use Rattle.segment_test.specs.Total.{sumTo, entriesOfRow, widthsOfRow, lifeIn}
 
 -- ── what is decided ──
 
@@ -40,14 +41,48 @@ pub record BlockRows (blocks : List ℕ) (n : ℕ) (bs : List Block) : Type 0 wh
   pub created : (k : ℕ) → k < n → blockAt bs k .created ≡ createdIn blocks k
   pub destroyed : (k : ℕ) → k < n → blockAt bs k .destroyed ≡ destroyedIn blocks k
 
--- The tables hold the tree of a closed index of the kind with the end tick e and the blocks bs: the counts are inside the tables, the tree keeps rule 23,
--- an index without blocks has no node, and one with blocks has a root.
+-- The tables hold the tree of a closed index of the kind with the end tick e and the blocks bs: the counts are inside the tables, and document 01's rules
+-- hold of the tree.
 pub record ClosedTree (t : Tables) (kind e : ℕ) (bs : List Block) : Type 0 where
   pub tree : Tree
   pub block-room : blockHead + rowWidth * length bs ≤ length (t .blocks)
+  pub entry-room : entryHead + entryWidth * entriesUsed (t .entries) ≤ length (t .entries)
   pub closed : Closed t kind e tree
-  pub ruled : rule23 e bs tree ≡ true
-  pub rooted : isHole tree ≡ eqb (length bs) 0
+  -- 21: an index without blocks has no node, any other has a root; no child of a node of width 1
+  pub rooted : isHole tree ≡ isEmpty bs
+  pub rule-21 : halved 0 e tree ≡ true
+  pub rule-23 : rule23 e bs tree ≡ true
+
+-- ── the head ──
+
+-- a table has room for its head and this many rows
+pub record Room (table : List ℕ) (head rows : ℕ) : Type 0 where
+  pub fits : head + rowWidth * rows ≤ length table
+
+-- n entry rows from a row on lie in the table
+pub record Inside (entries : List ℕ) (row n : ℕ) : Type 0 where
+  pub fits : entryHead + entryWidth * (row + n) ≤ length entries
+
+-- kind k has no root, unless it is this kind
+pub record Unrooted (nodes : List ℕ) (kind k : ℕ) : Type 0 where
+  pub none : (k ≡ kind → ⊥) → column nodes 0 k ≡ 0
+
+-- no kind but this has a root
+pub record OtherKinds (nodes : List ℕ) (kind many : ℕ) : Type 0 where
+  pub each : (k : ℕ) → k < many → Unrooted nodes kind k
+
+-- an index without blocks has no root, and one with blocks has one
+pub record Rooted (root n : ℕ) : Type 0 where
+  pub empty : n ≡ 0 → root ≡ 0
+  pub some : root ≡ 0 → n ≡ 0
+
+-- the counts are inside the tables, and there is a root of this kind alone, if there are blocks
+pub record Heads (t : Tables) (n kind : ℕ) : Type 0 where
+  pub block-room : Room (t .blocks) blockHead n
+  pub node-room : Room (t .nodes) nodeHead (nodesUsed (t .nodes))
+  pub entry-room : Inside (t .entries) 0 (entriesUsed (t .entries))
+  pub others : OtherKinds (t .nodes) kind nodesCount
+  pub rooted : Rooted (column (t .nodes) 0 kind) n
 
 -- ── one node's entries ──
 
@@ -87,10 +122,6 @@ pub record RowStands (nodes : List ℕ) (kind link lo hi : ℕ) : Type 0 where
   pub own-kind : column nodes link nodeKind ≡ kind
   pub narrow : hi ≤ lo + 1 → (leftAt nodes link ≡ 0) × (rightAt nodes link ≡ 0)
 
--- n entry rows from a row on lie in the table
-pub record Inside (entries : List ℕ) (row n : ℕ) : Type 0 where
-  pub fits : entryHead + entryWidth * (row + n) ≤ length entries
-
 -- the row of a link is as the layout asks, and so is its run of entries
 pub record NodeStands (t : Tables) (n kind link lo hi from to : ℕ) : Type 0 where
   pub row : NodeRow t kind link lo hi (run (t .entries) (firstAt (t .nodes) link) (countAt (t .nodes) link))
@@ -119,6 +150,13 @@ pub record Tiled (nodes entries : List ℕ) : Type 0 where
   pub begins : (k : ℕ) → k < nodesUsed nodes → firstAt nodes (suc k) ≡ sumTo (entriesOfRow nodes) k
   pub total : sumTo (entriesOfRow nodes) (nodesUsed nodes) ≡ entriesUsed entries
 
--- no kind but this has a root
-pub record OtherKinds (nodes : List ℕ) (kind below : ℕ) : Type 0 where
-  pub none : (k : ℕ) → k < below → (k ≡ kind → ⊥) → column nodes 0 k ≡ 0
+-- ── all of it, of the tables alone ──
+
+-- What the tests of the tables say together; n blocks are in the block table.
+pub record TreeTables (t : Tables) (n kind e : ℕ) : Type 0 where
+  pub heads : Heads t n kind
+  pub tiled : Tiled (t .nodes) (t .entries)
+  pub tree : Tree
+  pub stands : TreeStands t n kind (column (t .nodes) 0 kind) 0 e 0 0 tree
+  pub all-rows : nodesUsed (t .nodes) ≡ nodeCount tree
+  pub summed : sumTo (widthsOfRow (t .nodes)) (nodesUsed (t .nodes)) ≡ sumTo (lifeIn (t .blocks)) n

@@ -1,24 +1,11 @@
 // Every node of the tree, from the root down by halves. A row's min and max name its only place, so a walk meets no row twice, whatever the links are.
+use crate::head;
 use crate::run;
 ghost use mathlib.Core.Path.{_≡_};
 ghost use Prim.Native.Nat.{ℕ, _+_, _*_, _≤_, _<_};
 ghost use lib.ListN.{length};
 ghost use Rattle.lists.specs.Tests.{Decides};
-ghost use Rattle.segment_test.specs.Test.{lent, Inside, Bare, RowStands, NodeStands, Walked};
-
-// Whether `many` entry rows from `first` on lie in the table. Constant time.
-fn inside(entries: &[u64], first: u64, many: u64) -> bool
-    ensures { λ r. ⌜ Decides r (Inside (now (entries .entry)) first many) ⌝ }
-{
-    if entries.len() < tables::entry::HEAD {
-        return false;
-    }
-    let rows = ((entries.len() - tables::entry::HEAD) / tables::entry::WIDTH) as u64;
-    if rows < first {
-        return false;
-    }
-    many <= rows - first
-}
+ghost use Rattle.segment_test.specs.Test.{lent, Bare, RowStands, NodeStands, Walked};
 
 // Whether the node at a link has no half. Constant time.
 fn bare(nodes: &[u64], link: u64) -> bool
@@ -77,7 +64,7 @@ fn test_node(
     }
     let first = tables::get(nodes, link, tables::node::FIRST);
     let many = tables::get(nodes, link, tables::node::ENTRIES);
-    if !inside(entries, first, many) {
+    if !head::inside(entries, first, many) {
         return false;
     }
     run::test_run(blocks, entries, n, first, many, min, max, from, to)

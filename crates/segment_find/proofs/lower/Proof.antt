@@ -1,6 +1,6 @@
 -- `segment_find::lower` meets its contract: the bounds enclose the answer, and the row in the middle settles one side. Assumes nothing.
-use Prim.Native.Nat.{ℕ, _+_, _-_, _/_}
-use native.Mathlib.Omega.{arith}
+use mathlib.Core.Path.{refl}
+use Prim.Native.Nat.{_-_}
 use borrow.Author.Needs.{needs}
 use Rattle.segment_find.proofs.Parting.{Between, between-up, between-down, parting}
 use Rattle.segment_find.proofs.lower.Statement.{statement}
@@ -13,13 +13,14 @@ abbrev μ-loop : tie.MeasureT-loop
 μ-loop entries key lo₀ hi₀ lo hi = hi - lo
 
 loop-again : tie.Need-loop-again Inv-loop μ-loop
-loop-again c = between-up (c .before .before .before .loop .inv) (search needs) (search needs) (c .before .get .ensures) (c .if1 .taken)
+loop-again c = between-up (c .before .before .before .loop .inv) (search needs) (search needs) refl (c .if2 .taken)
 
 loop-again-2 : tie.Need-loop-again-2 Inv-loop μ-loop
-loop-again-2 c = between-down (c .before .before .before .loop .inv) (search needs) (search needs) (c .before .get .ensures) (c .if1 .left)
+loop-again-2 c = between-down (c .before .before .before .loop .inv) (search needs) (search needs) refl (c .if2 .left)
 
 pub lower-spec : {M : Type 1} → statement M
 lower-spec =
     tie.close
-    (tie.spec Inv-loop μ-loop (λ c. search parting) (λ c. search needs) (λ c. search needs) (λ c κs. search needs) (λ c. search needs)
-    (λ c. search needs) loop-again (λ c. search needs) loop-again-2 (λ c. search parting))
+    (tie.spec Inv-loop μ-loop (λ c κs. search needs) (λ c. search parting) (λ c. search parting) (λ c. search needs) (λ c. search needs)
+    (λ c. search needs) (λ c. search needs) (λ c. search needs) (λ c. search needs) (λ c. search needs) (λ c. search needs) (λ c. search needs) loop-again
+    (λ c. search needs) loop-again-2 (λ c. search parting))

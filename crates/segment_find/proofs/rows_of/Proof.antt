@@ -7,4 +7,5 @@ use Rattle.segment_find.proofs.rows_of.Tie as tie
 pub rows-of-spec : {M : Type 1} → statement M
 rows-of-spec =
     tie.close
-    (tie.spec (λ c κs. search needs) (λ c κs. search needs) (λ c. search needs) (λ c. search rowing) (λ c. search rowing) (λ c. search rowing))
+    (tie.spec (λ c κs. search needs) (λ c κs. search needs) (λ c κs. search needs) (λ c. search needs) (λ c. search rowing) (λ c. search rowing)
+    (λ c. search rowing))

@@ -1,0 +1,66 @@
+-- Demand 3, whole: one statement over every list of calls from a freshly opened index. The words of the demand stand over the clauses that say them.
+use mathlib.Core.Path.{_≡_}
+use mathlib.Core.Bool.{Bool, true, false}
+use mathlib.Core.List.{List, [], _∷_}
+use Prim.Native.Nat.{ℕ, _≤_, _<_}
+use lib.ListN.{length}
+use lib.Seq.{sets}
+use Rattle.history.specs.Words.{Operation, Block}
+use Rattle.history.specs.Ledger.{Opening, Ledger, opened, finished}
+use Rattle.history.specs.Reads.{Found, blockBy, findBy}
+use Rattle.history.specs.Refusals.{Answer, accepted, refused, maxEndTick}
+use Rattle.history.specs.Calls.{Call, recordCall, finishCall, answers, afterAll, history}
+use Rattle.history.specs.Law.{Faithful, FindLaw}
+use Rattle.layout.specs.Tables.{Tables}
+use Rattle.layout.specs.Relations.{openingOf, OpenedBy, RecordedBy, FinishedBy, Counts, FoundBy, Fields, blockIn, BlockGivenBy}
+
+-- ── lists of calls ──
+
+-- what a call does: the relation that is its contract
+abbrev pub CallDone : Call → (t t′ : Tables) → Answer Unit → Type 0
+CallDone (recordCall scratch o) t t′ answer = RecordedBy scratch o t t′ answer
+CallDone finishCall t t′ answer = FinishedBy t t′ answer
+
+-- a list of calls, each with the scratch it is lent, and their answers, refused ones included: every call finds the tables as the one before left them
+pub data Run : Tables → List Call → List (Answer Unit) → Tables → Type 0 where
+  run-nil : {t : Tables} → Run t [] [] t
+  run-cons : {t t₁ t′ : Tables} {k : Call} {ks : List Call} {a : Answer Unit} {given : List (Answer Unit)} → CallDone k t t₁ a → Run t₁ ks given t′ → Run t (k ∷ ks) (a ∷ given) t′
+
+-- ── after an accepted finish ──
+
+-- the ledger after the calls, and the history that they leave
+module _ (l : Ledger) (h : List Operation) (t : Tables) where
+  pub record Finished : Type 0 where
+    -- block by number gives the ledger's blocks in its order, bytes included, and refuses 15 from their number on;
+    pub blocks : (k : ℕ) (answer : Answer Fields) → BlockGivenBy t k answer → k < length (l .now .blocks)
+        → (f : Fields) × (answer ≡ accepted f) × (blockIn (t .store) f ≡ blockBy l k)
+    pub no-more : (k : ℕ) (answer : Answer Fields) → BlockGivenBy t k answer → length (l .now .blocks) ≤ k → answer ≡ refused 15
+    -- at every tick below the end a live block holds a cell exactly when a call of the history, of that tick or earlier, covered it, and its byte is
+    -- the last such call's; no two live blocks share a cell;
+    pub cells : Faithful (l .opening .end) (l .now .blocks) h
+    -- for every start ≤ end find lists exactly the live blocks whose first cell is in [start, end), each once, in document 01's order,
+    pub finds : (tick start stop : ℕ) → tick < l .opening .end → FindLaw l tick start stop
+    -- and says how many, if the lent answer holds them, and else refuses 16.
+    pub found : (tick start stop : ℕ) (out out′ : List ℕ) (answer : Answer Counts) → tick < l .opening .end → start ≤ stop
+        → FoundBy t tick start stop out out′ answer → length (findBy l tick start stop .numbers) ≤ length out
+        → (answer ≡ accepted (record { count = length (findBy l tick start stop .numbers); visited = findBy l tick start stop .visited }))
+        × (out′ ≡ sets out 0 (findBy l tick start stop .numbers))
+    pub no-room : (tick start stop : ℕ) (out out′ : List ℕ) (answer : Answer Counts) → tick < l .opening .end → start ≤ stop
+        → FoundBy t tick start stop out out′ answer → length out < length (findBy l tick start stop .numbers) → (answer ≡ refused 16) × (out′ ≡ out)
+
+-- ── the demand ──
+
+-- For one opening: the end tick, the kind, and tables of any lengths and contents.
+pub record Demand (end kind : ℕ) (t t₀ : Tables) (opening : Answer Unit) : Type 0 where
+  -- opening is accepted;
+  pub opens : opening ≡ accepted tt
+  -- each call gets the answer of the ledger (of tables too short, 2 every time);
+  pub answered : (ks : List Call) (given : List (Answer Unit)) (t′ : Tables) → Run t₀ ks given t′ → given ≡ answers (opened (openingOf end kind t)) ks
+  -- after an accepted finish all the above.
+  pub done : (ks : List Call) (given : List (Answer Unit)) (t′ : Tables) → Run t₀ ks given t′ → finished (afterAll (opened (openingOf end kind t)) ks) ≡ true
+      → Finished (afterAll (opened (openingOf end kind t)) ks) (history [] (opened (openingOf end kind t)) ks) t′
+
+-- For every end tick from 1 to 2^63, every kind, every length of all that is lent.
+abbrev pub Demand3 : Type 0
+Demand3 = (end kind : ℕ) → 1 ≤ end → end ≤ maxEndTick → kind ≤ 4 → (t t₀ : Tables) (opening : Answer Unit) → OpenedBy end kind t t₀ opening
+    → Demand end kind t t₀ opening

@@ -1,0 +1,9 @@
+// Demand 3: the theorem over every list of calls, built from the relations that are the public contracts.
+//
+//   specs/Theorem   the statement, clause by clause
+ghost use Rattle.demand.specs.Theorem.{Demand3};
+
+// The theorem as the contract of a function that does nothing: without its proof nothing here is built.
+pub fn demand_3()
+    ensures { λ _. ⌜ Demand3 ⌝ }
+{}

@@ -1,0 +1,2 @@
+pub mod RowsTested
+pub mod BoardTested

@@ -1,0 +1,155 @@
+-- What each call does, as a relation between the tables at entry and at exit and its answer: the public contracts are these relations, and demand 3
+-- links calls by them. Definitions alone.
+use mathlib.Core.Path.{_≡_}
+use mathlib.Core.Bool.{Bool, true, false, cond}
+use mathlib.Core.Option.{Option, none, some}
+use mathlib.Core.List.{List, [], _∷_}
+use Prim.Native.Nat.{ℕ, suc, _+_, _*_, _≤_, _<_}
+use lib.ListN.{length, getD, set, take, drop, replicate}
+use lib.Seq.{sets}
+use Rattle.history.specs.Words.{Operation, Block, firstCell, size}
+use Rattle.history.specs.Lent.{rowWidth}
+use Rattle.history.specs.Ledger.{Opening, Ledger, isRead, recordBy, finishBy}
+use Rattle.history.specs.Reads.{Found}
+use Rattle.history.specs.Refusals.{Answer, accepted, refused, openAnswer, recordAnswer, finishAnswer, findAnswer, blockAnswer}
+use Rattle.history.specs.Sound.{Sound, SoundForFinish}
+use Rattle.tables.specs.Columns.{blockBase, headLast, headUsed, headCount, blockNext, blockColumn}
+use Rattle.layout.specs.Tables.{Tables, tables, lengthsOf, headAt}
+use Rattle.layout.specs.Encodes.{Encodes, openState}
+use Rattle.layout.specs.Formed.{WellFormed, WellFormedForFinish}
+
+-- ── open ──
+
+-- what opening is fed
+abbrev pub openingOf : (end kind : ℕ) → Tables → Opening
+openingOf e kind t = record { end = e; kind = kind; lent = lengthsOf t }
+
+abbrev zeros : List ℕ → List ℕ
+zeros l = replicate (length l) 0
+
+-- pieces, nodes and entries zeros; blocks its head, then zeros; the store as it was
+unfoldable pub openedTables : (end kind : ℕ) → Tables → Tables
+openedTables e kind t = tables (zeros (t .pieces)) (sets (zeros (t .blocks)) blockBase (openState ∷ e ∷ kind ∷ [])) (t .store) (zeros (t .nodes)) (zeros (t .entries))
+
+-- what is left: on a refusal everything as it was
+unfoldable pub leftBy : Answer Unit → (refusedLeft acceptedLeft : Tables) → Tables
+leftBy (accepted a) t t′ = t′
+leftBy (refused n) t t′ = t
+
+pub record OpenedBy (end kind : ℕ) (t t′ : Tables) (answer : Answer Unit) : Type 0 where
+  pub answered : answer ≡ openAnswer (openingOf end kind t)
+  pub left : t′ ≡ leftBy answer t (openedTables end kind t)
+
+-- ── record ──
+
+-- the place of a column of the head
+abbrev pub headPlace : (c : ℕ) → ℕ
+headPlace c = blockBase + c
+
+-- a read: blocks with the last tick set; all else as it was
+abbrev pub readTables : (tick : ℕ) → Tables → Tables
+readTables tick t = tables (t .pieces) (set (t .blocks) (headPlace headLast) tick) (t .store) (t .nodes) (t .entries)
+
+-- The rows appended behind the first n, and the head's columns count, used and last: all else of the block table is as it was.
+pub record Appended (blocks blocks′ : List ℕ) (n m : ℕ) : Type 0 where
+  pub len : length blocks′ ≡ length blocks
+  pub head : (i : ℕ) → i < blockBase + rowWidth → (i ≡ headPlace headCount → ⊥) → (i ≡ headPlace headUsed → ⊥) → (i ≡ headPlace headLast → ⊥)
+      → getD blocks′ i 0 ≡ getD blocks i 0
+  pub rows : (i : ℕ) → blockBase + rowWidth ≤ i → i < blockBase + rowWidth * suc n → getD blocks′ i 0 ≡ getD blocks i 0
+  pub rest : (i : ℕ) → blockBase + rowWidth * suc m ≤ i → getD blocks′ i 0 ≡ getD blocks i 0
+
+-- an update: the bytes written at the store use; block rows appended and the head set; nodes and entries as they were; the pieces stand for the ledger's
+pub record UpdatedTables (l : Ledger) (o : Operation) (t t′ : Tables) : Type 0 where
+  pub store : t′ .store ≡ sets (t .store) (length (l .now .store)) (o .bytes)
+  pub blocks : Appended (t .blocks) (t′ .blocks) (length (l .now .blocks)) (length (recordBy l o .now .blocks))
+  pub pieces : length (t′ .pieces) ≡ length (t .pieces)
+  pub nodes : t′ .nodes ≡ t .nodes
+  pub entries : t′ .entries ≡ t .entries
+
+-- a read leaves the tables with the last tick set; an update as above
+abbrev pub RecordedTables : (isRead : Bool) → Ledger → Operation → (t t′ : Tables) → Type 0
+RecordedTables true l o t t′ = t′ ≡ readTables (o .tick) t
+RecordedTables false l o t t′ = UpdatedTables l o t t′
+
+-- what an answer of record leaves: the tables stand for the ledger's next state, or nothing has changed
+abbrev pub RecordLeaves : Answer Unit → Ledger → Operation → (t t′ : Tables) → Type 0
+RecordLeaves (accepted a) l o t t′ = Encodes t′ (recordBy l o) × RecordedTables (isRead (l .now) o) l o t t′
+RecordLeaves (refused n) l o t t′ = t′ ≡ t
+
+pub record RecordedBy (scratch : ℕ) (o : Operation) (t t′ : Tables) (answer : Answer Unit) : Type 0 where
+  pub formed : (l : Ledger) → Encodes t l → Sound l → (answer ≡ recordAnswer l scratch o) × RecordLeaves (recordAnswer l scratch o) l o t t′
+  pub unformed : (WellFormed t → ⊥) → (answer ≡ refused 2) × (t′ ≡ t)
+
+-- ── finish ──
+
+-- Rows appended behind the first n, and the order of all: every other number of the old rows, and what lies past the rows, is as it was.
+pub record AppendedInOrder (blocks blocks′ : List ℕ) (n m : ℕ) : Type 0 where
+  pub len : length blocks′ ≡ length blocks
+  pub rows : (link c : ℕ) → 0 < link → link ≤ n → c < rowWidth → (c ≡ blockNext → ⊥) → blockColumn blocks′ link c ≡ blockColumn blocks link c
+  pub rest : (i : ℕ) → blockBase + rowWidth * suc m ≤ i → getD blocks′ i 0 ≡ getD blocks i 0
+
+-- pieces zeros; the store as it was; blocks appended, ordered and the head set. Nodes and entries stand for the ledger's tree.
+pub record FinishedTables (l : Ledger) (t t′ : Tables) : Type 0 where
+  pub pieces : t′ .pieces ≡ zeros (t .pieces)
+  pub store : t′ .store ≡ t .store
+  pub blocks : AppendedInOrder (t .blocks) (t′ .blocks) (length (l .now .blocks)) (length (finishBy l .now .blocks))
+
+abbrev pub FinishLeaves : Answer Unit → Ledger → (t t′ : Tables) → Type 0
+FinishLeaves (accepted a) l t t′ = Encodes t′ (finishBy l) × FinishedTables l t t′
+FinishLeaves (refused n) l t t′ = t′ ≡ t
+
+pub record FinishedBy (t t′ : Tables) (answer : Answer Unit) : Type 0 where
+  pub formed : (w : WellFormedForFinish t) → (answer ≡ finishAnswer (w .ledger)) × FinishLeaves (finishAnswer (w .ledger)) (w .ledger) t t′
+  pub unformed : (WellFormedForFinish t → ⊥) → (answer ≡ refused 2) × (t′ ≡ t)
+
+-- ── find ──
+
+-- what find answers: how many it lists, and how many nodes it visits
+pub record Counts : Type 0 where
+  pub count : ℕ
+  pub visited : ℕ
+
+unfoldable pub countsOf : Answer Found → Answer Counts
+countsOf (accepted f) = accepted (record { count = length (f .numbers); visited = f .visited })
+countsOf (refused n) = refused n
+
+-- the answer up to its count, and the rest as it was
+unfoldable pub answerLeft : Answer Found → List ℕ → List ℕ
+answerLeft (accepted f) out = sets out 0 (f .numbers)
+answerLeft (refused n) out = out
+
+pub record FoundBy (t : Tables) (tick start stop : ℕ) (out out′ : List ℕ) (answer : Answer Counts) : Type 0 where
+  pub formed : (l : Ledger) → Encodes t l → Sound l
+      → (answer ≡ countsOf (findAnswer l tick start stop (length out))) × (out′ ≡ answerLeft (findAnswer l tick start stop (length out)) out)
+  pub unformed : (WellFormed t → ⊥) → (answer ≡ refused 2) × (out′ ≡ out)
+
+-- ── block by number ──
+
+-- a block's fields, its bytes named by their place in the store
+pub record Fields : Type 0 where
+  pub kind : ℕ
+  pub first : ℕ
+  pub length : ℕ
+  pub created : ℕ
+  pub destroyed : ℕ
+  pub offset : ℕ
+
+-- the block that fields stand for
+abbrev pub blockIn : (store : List ℕ) → Fields → Block
+blockIn store f =
+    record {
+      kind = f .kind;
+      stretch = record { first = f .first; bytes = take (f .length) (drop (f .offset) store) };
+      created = f .created;
+      destroyed = f .destroyed;
+    }
+
+unfoldable pub blockOfFields : (store : List ℕ) → Answer Fields → Answer Block
+blockOfFields store (accepted f) = accepted (blockIn store f)
+blockOfFields store (refused n) = refused n
+
+-- the fields are the ledger's block, whole: its bytes are there
+pub record BlockGivenBy (t : Tables) (k : ℕ) (answer : Answer Fields) : Type 0 where
+  pub formed : (l : Ledger) → Encodes t l → Sound l → blockOfFields (t .store) answer ≡ blockAnswer l k
+  pub whole : (f : Fields) → answer ≡ accepted f → f .offset + f .length ≤ length (t .store)
+  pub unformed : (WellFormed t → ⊥) → answer ≡ refused 2
