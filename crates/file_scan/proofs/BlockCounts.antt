@@ -8,7 +8,7 @@ use Rattle.lists.specs.Lists.{sumOf}
 use Rattle.lists.proofs.Numbers.{suc-of}
 use Rattle.history.specs.Words.{Block, size}
 use Rattle.history.specs.File.{Read, got, fault, onward, _>>=_, give, many, readBlock}
-use Rattle.history.proofs.FileReads.{got-value, got-next}
+use Rattle.history.proofs.FileYields.{got-value, got-next}
 use Rattle.file_scan.specs.declared.blocks.Blocks.{Blocks}
 use Rattle.file_scan.specs.declared.blocks.Blocks.the-variants as passed
 use Rattle.file_scan.specs.declared.rows.BlockRow.{BlockRow}

@@ -8,7 +8,7 @@ use native.Mathlib.Omega.{arith}
 use lib.ListN.{length}
 use lib.Dec.{eqb, leb}
 use Rattle.history.specs.File.{Nodes, absent, present, Read, got, fault, Reader, onward, _>>=_, give, refuse_unless_, number, many, readNodes, readRoot}
-use Rattle.history.proofs.FileReads.{got-value, got-next, fault-got}
+use Rattle.history.proofs.FileYields.{got-value, got-next, fault-got}
 use Rattle.fields.proofs.Reading.{number-end}
 use Rattle.file_scan.specs.Rows.{Head, headAbsent, headPresent, readPresent, readHead}
 use Rattle.file_scan.proofs.Readers.{onward-through, onward-same, onward-gives, onward-got, Passes}

@@ -11,7 +11,7 @@ use lib.Dec.{leb}
 use borrow.Author.Tests.{le-leb, lt-leb}
 use Rattle.lists.proofs.Numbers.{le-or-lt}
 use Rattle.history.specs.File.{numberOf, Read, got, fault, Reader, onward, _>>=_, give, refuse_unless_, field, number, many}
-use Rattle.history.proofs.FileReads.{got-value, got-next, fault-got}
+use Rattle.history.proofs.FileYields.{got-value, got-next, fault-got}
 use Rattle.fields.proofs.Reading.{number-got, number-end}
 use Rattle.file_scan.specs.Rows.{Numbers, readFour}
 

@@ -11,7 +11,7 @@ use borrow.Author.Tests.{eqb-true}
 use Rattle.lists.proofs.Numbers.{le-or-lt}
 use Rattle.history.specs.Words.{Block, size}
 use Rattle.history.specs.File.{numberOf, got, _>>=_, give, number, many, readBlock}
-use Rattle.history.proofs.FileReads.{got-value, fault-got}
+use Rattle.history.proofs.FileYields.{got-value, fault-got}
 use Rattle.file_scan.specs.Rows.{rowHead, headAbsent, headPresent, readPresent, readHead}
 use Rattle.file_scan.proofs.Readers.{onward-got, refuse-got, Passes, number-passes, four-passes, field-got, field-passes, numbersAt, many-got, many-end, many-passes}
 use Rattle.file_scan.proofs.RowReads.{block-parts, present-parts}

@@ -9,7 +9,7 @@ use lib.Dec.{eqb, leb}
 use borrow.Author.Tests.{eq-eqb, ne-eqb, le-leb, lt-leb}
 use Rattle.history.specs.Words.{Block, size}
 use Rattle.history.specs.File.{Read, got, fault, Reader, onward, _>>=_, give, refuse_unless_, field, number, many, readBlock}
-use Rattle.history.proofs.FileReads.{got-value, got-next}
+use Rattle.history.proofs.FileYields.{got-value, got-next}
 use Rattle.fields.specs.Fields.{readOf}
 use Rattle.fields.specs.declared.Field.{Field}
 use Rattle.fields.specs.declared.Field.the-variants.{Got, End}

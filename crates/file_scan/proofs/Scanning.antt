@@ -10,7 +10,7 @@ use Rattle.lists.specs.Lists.{sumOf}
 use Rattle.history.specs.Words.{Block, size}
 use Rattle.history.specs.Tree.{nodeCount, entryCount}
 use Rattle.history.specs.File.{Nodes, Read, got, fault, onward, _>>=_, give, refuse_unless_, number, many, readBlock, readRoot, readFile, treeFrom}
-use Rattle.history.proofs.FileReads.{got-value, got-next}
+use Rattle.history.proofs.FileYields.{got-value, got-next}
 use Rattle.fields.specs.Fields.{readOf}
 use Rattle.fields.specs.declared.Field.{Field}
 use Rattle.fields.specs.declared.Field.the-variants.{Got, End}
