@@ -8,18 +8,17 @@ use Rattle.lists.specs.Lists.{sumOf}
 use Rattle.lists.proofs.Numbers.{suc-of}
 use Rattle.history.specs.Words.{Block, size}
 use Rattle.history.specs.File.{Read, got, fault, onward, _>>=_, give, many, readBlock}
-use Rattle.history.proofs.FileYields.{got-value, got-next}
 use Rattle.file_scan.specs.declared.blocks.Blocks.{Blocks}
 use Rattle.file_scan.specs.declared.blocks.Blocks.the-variants as passed
 use Rattle.file_scan.specs.declared.rows.BlockRow.{BlockRow}
 use Rattle.file_scan.specs.declared.rows.BlockRow.the-variants as block
-use Rattle.file_scan.specs.Rows.{rowHead, blockRow}
+use Rattle.file_scan.specs.Rows.{blockRow}
 use Rattle.file_scan.specs.Counts.{bytesIn, blocksFrom}
-use Rattle.file_scan.proofs.Readers.{onward-got, Passes}
 use Rattle.file_scan.proofs.RowReads.{block-passes}
 
 -- ── what a row says of the reading ──
 
+-- a block's row comes of a block that was read, and a fault of a fault
 row-block : (at : ℕ) {a b c d q n : ℕ} {G : Type 0} (o : Read Block) → block.Block a b c d q n ≡ blockRow at o
     → ((x : Block) → o ≡ got x n → size (x .stretch) ≡ b → G) → G
 unfolding blockRow
@@ -58,6 +57,7 @@ pub record Counts (kind : ℕ) (file : List ℕ) (whole : Blocks) (left bytes pl
   pub same : blocksFrom bytes (many (readBlock kind) left file place) ≡ whole
   pub bound : bytes ≤ place
 
+-- nothing is counted yet
 pub pass-start : (kind : ℕ) (file : List ℕ) (left place : ℕ) → Counts kind file (blocksFrom 0 (many (readBlock kind) left file place)) left 0 place
 pass-start kind file left place = record { same = refl; bound = omega arith }
 
@@ -70,6 +70,7 @@ module _ {kind : ℕ} {file : List ℕ} {whole : Blocks} {left bytes place : ℕ
         let p = block-passes kind file place g in
         omega (arith, s .bound)
 
+    -- one block more
     pub pass-turn : 0 < left → Counts kind file whole (left - 1) (bytes + b) n
     pass-turn h =
         row-block place (readBlock kind file place) (sym t ∙ e) λ x g z.

@@ -4,7 +4,6 @@ use mathlib.Core.Path.{_≡_, refl, sym, _∙_, ap, ap₂}
 use mathlib.Core.List.{List, [], _∷_, map}
 use Prim.Native.Nat.{ℕ, zero, suc, _+_, _*_, _-_, _≤_, _<_}
 use native.Mathlib.Omega.{arith}
-use native.Mathlib.Numerals.{add-one}
 use lib.ListN.{length}
 use Rattle.lists.specs.Lists.{sumOf}
 use Rattle.lists.proofs.Numbers.{suc-of}
@@ -16,12 +15,12 @@ use Rattle.file_scan.specs.declared.rows.NodeRow.{NodeRow}
 use Rattle.file_scan.specs.declared.rows.NodeRow.the-variants as node
 use Rattle.file_scan.specs.Rows.{rowHead, Head, headAbsent, headPresent, readHead, nodeRow}
 use Rattle.file_scan.specs.Counts.{nodesFrom}
-use Rattle.file_scan.proofs.Readers.{Passes}
-use Rattle.file_scan.proofs.RowReads.{headSize, head-passes}
-use Rattle.file_scan.proofs.Forest.{childrenBy, root-parts}
+use Rattle.file_scan.proofs.RowReads.{head-passes}
+use Rattle.file_scan.proofs.Forest.{root-parts}
 
 -- ── what a row says of the reading ──
 
+-- a node's row comes of a node that was read, an absent child of an absent child, and a fault of a fault
 row-present : (at : ℕ) {a b c d q n : ℕ} {G : Type 0} (o : Read Head) → node.Present a b c d q n ≡ nodeRow at o
     → ((es : List ℕ) → o ≡ got (headPresent a b c es) n → length es ≡ d → G) → G
 unfolding nodeRow
@@ -124,6 +123,7 @@ pub record Awaits (file : List ℕ) (whole : Trees) (awaited nodes entries place
   pub bound : rowHead * nodes + 8 * entries ≤ place
   pub few : awaited ≤ nodes + 1
 
+-- the root is awaited, and nothing is counted yet
 pub pass-start : (file : List ℕ) (place : ℕ) → Awaits file (nodesFrom (readRoot file place)) 1 0 0 place
 pass-start file place = record { same = forest-one file place; bound = omega arith; few = omega arith }
 
@@ -136,6 +136,7 @@ module _ {file : List ℕ} {whole : Trees} {awaited nodes entries place : ℕ} (
         let p = head-passes file place g in
         (omega (arith, s .bound), omega arith, omega arith)
 
+    -- one node more, and its two subtrees are awaited
     pub pass-present : 0 < awaited → Awaits file whole (awaited + 1) (nodes + 1) (entries + d) n
     pass-present h =
         row-present place (readHead file place) (sym t ∙ e) λ es g z.
@@ -144,6 +145,7 @@ module _ {file : List ℕ} {whole : Trees} {awaited nodes entries place : ℕ} (
         record { same = sym turn ∙ s .same; bound = present-room .0; few = omega (arith, s .few) }
 
   module _ {r : NodeRow} {n : ℕ} (t : r ≡ node.Absent n) (e : r ≡ nodeRow place (readHead file place)) where
+    -- the position behind an absent child
     pub absent-room : (place < n) × (n ≤ length file)
     absent-room =
         let p = head-passes file place (row-absent place (readHead file place) (sym t ∙ e)) in

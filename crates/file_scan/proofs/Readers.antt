@@ -32,11 +32,12 @@ module _ {A B : Type 0} where
   onward-same (got x n) h = h x n refl
   onward-same (fault i) h = refl
 
+  -- a reading that has given x goes on with it
   pub onward-gives : (x : A) (n : ℕ) (k : A → ℕ → Read B) → k x n ≡ onward (got x n) k
   unfolding onward
   onward-gives x n k = refl
 
-  -- whoever has succeeded has succeeded at first
+  -- a reading that succeeds has succeeded in its first part
   pub onward-got : (o : Read A) (k : A → ℕ → Read B) {y : B} {n : ℕ} {G : Type 0} → onward o k ≡ got y n
       → ((x : A) (m : ℕ) → o ≡ got x m → k x m ≡ got y n → G) → G
   unfolding onward
@@ -58,6 +59,7 @@ pub record Passes (file : List ℕ) (at size next : ℕ) : Type 0 where
   pub inside : next ≤ length file
 
 module _ (file : List ℕ) (at : ℕ) where
+  -- a number, or a field, that was read is as wide as it should be
   pub number-passes : (width : ℕ) {v n : ℕ} → number width file at ≡ got v n → Passes file at width n
   number-passes width {v} {n} e =
       ⊎-elim
@@ -114,6 +116,7 @@ unfolding numbersAt
 numbersAt-length file at zero = refl
 numbersAt-length file at (suc count) = ap suc (numbersAt-length file (at + 8) count)
 
+-- they are read where all of them are inside the file ..
 pub many-got : (file : List ℕ) (at count : ℕ) → at + 8 * count ≤ length file → many (number 8) count file at ≡ got (numbersAt file at count) (at + 8 * count)
 unfolding many numbersAt _>>=_ onward give
 many-got file at zero h = ap (got []) (omega arith)
@@ -121,6 +124,7 @@ many-got file at (suc count) h =
     let e : at + 8 + 8 * count ≡ at + 8 * suc count = omega arith in
     rw (number-got file at 8 (omega arith), many-got file (at + 8) count (omega arith), e) refl
 
+-- .. and nowhere else
 pub many-end : (file : List ℕ) (at count : ℕ) → at ≤ length file → length file < at + 8 * count → many (number 8) count file at ≡ fault 17
 unfolding many _>>=_ onward give
 many-end file at zero i h = absurd (omega arith)

@@ -1,28 +1,29 @@
 -- Rows of the file: one step for each return of `four_from`, `block_at` and `node_at`, and where a row ends. Assumes nothing.
 use mathlib.Core.Path.{_≡_, refl, sym, _∙_, ap}
 use mathlib.Core.Bool.{Bool, true, false, cond}
-use mathlib.Core.List.{List, [], _∷_}
+use mathlib.Core.List.{List}
 use Prim.Native.Nat.{ℕ, _+_, _*_, _-_, _/_, _≤_, _<_}
 use native.Mathlib.Omega.{arith}
-use lib.ListN.{length, take, drop}
-use lib.Dec.{eqb, leb}
+use lib.ListN.{length}
+use lib.Dec.{eqb}
 use borrow.Author.Tests.{eq-eqb, ne-eqb, le-leb, lt-leb}
 use Rattle.history.specs.Words.{Block, size}
-use Rattle.history.specs.File.{Read, got, fault, Reader, onward, _>>=_, give, refuse_unless_, field, number, many, readBlock}
+use Rattle.history.specs.File.{Read, got, onward, _>>=_, give, refuse_unless_, field, number, many, readBlock}
 use Rattle.history.proofs.FileYields.{got-value, got-next}
 use Rattle.fields.specs.Fields.{readOf}
 use Rattle.fields.specs.declared.Field.{Field}
 use Rattle.fields.specs.declared.Field.the-variants.{Got, End}
+use Rattle.file_scan.specs.declared.rows.Four.{Four}
 use Rattle.file_scan.specs.declared.rows.Four.the-variants as four
 use Rattle.file_scan.specs.declared.rows.BlockRow.the-variants as block
 use Rattle.file_scan.specs.declared.rows.NodeRow.the-variants as node
-use Rattle.file_scan.specs.declared.rows.Four.{Four}
 use Rattle.file_scan.specs.Rows.{Numbers, readFour, fourOf, rowHead, blockRow, Head, headAbsent, headPresent, readPresent, readHead, nodeRow}
-use Rattle.file_scan.proofs.Readers.{onward-through, onward-same, onward-gives, onward-got, refuse-got, Passes, number-passes, four-passes, field-got, field-end, field-passes, taken-length, numbersAt, numbersAt-length, many-got, many-end, many-passes}
+use Rattle.file_scan.proofs.Readers.{onward-through, onward-same, onward-gives, onward-got, refuse-got, Passes, number-passes, four-passes}
+use Rattle.file_scan.proofs.Readers.{field-got, field-end, field-passes, taken-length, numbersAt-length, many-got, many-end, many-passes}
 
--- ── four numbers ──
+-- ── the returns of `four_from` ──
 
--- each field has answered o
+-- o is what the read of a field has answered; each field begins where the one before it ends
 module _ (file : List ℕ) (at : ℕ) where
   pub four-first : {o : Field} → o ≡ End → readOf o ≡ number 8 file at → fourOf four.End ≡ readFour file at
   unfolding readFour _>>=_ onward give
@@ -47,7 +48,7 @@ module _ (file : List ℕ) (at : ℕ) where
         unfolding readFour _>>=_ onward give
         four-all t₄ e₄ = rw (← e, t, ← e₂, t₂, ← e₃, t₃, ← e₄, t₄) refl
 
-pub ruleset fourth = (four-first, four-second, four-third, four-fourth, four-all)
+pub ruleset numbering = (four-first, four-second, four-third, four-fourth, four-all)
 
 -- ── a block ──
 
@@ -85,6 +86,9 @@ block-passes kind file at {b} {n} e =
     let z : size (b .stretch) ≡ length bytes = ap (λ (x : Block). size (x .stretch)) (sym (got-value r₄)) in
     record { place = omega arith; inside = omega arith }
 
+-- ── the returns of `block_at` ──
+
+-- o is what the read of the kind byte has answered, f that of the four numbers
 module _ (kind : ℕ) (file : List ℕ) (at : ℕ) where
   pub block-ends : {o : Field} → o ≡ End → readOf o ≡ number 1 file at → block.Fault 17 ≡ blockRow at (readBlock kind file at)
   unfolding onward blockRow
@@ -122,6 +126,7 @@ pub ruleset blocking = (block-ends, block-kind, block-four-ends, block-short, bl
 abbrev pub presentRest : (file : List ℕ) → Numbers → ℕ → Read Head
 presentRest file q at = onward (many (number 8) (q .d) file at) (λ es next. got (headPresent (q .a) (q .b) (q .c) es) next)
 
+-- a node that is present is four numbers and its entries
 pub present-parts : (file : List ℕ) (at : ℕ) → readPresent file at ≡ onward (readFour file at) (presentRest file)
 unfolding readPresent readFour _>>=_ give
 present-parts file at =
@@ -153,6 +158,9 @@ head-passes file at {h} {n} e =
         let (s₃, l) = many-passes file p₂ (q .d) (s₂ .inside) e₃ in
         rw (← (got-value r₃), ← (got-next r₃)) (record { place = omega arith; inside = omega arith })
 
+-- ── the returns of `node_at` ──
+
+-- o is what the read of the presence byte has answered, f that of the four numbers
 module _ (file : List ℕ) (at : ℕ) where
   pub node-ends : {o : Field} → o ≡ End → readOf o ≡ number 1 file at → node.Fault 17 ≡ nodeRow at (readHead file at)
   unfolding readHead _>>=_ onward nodeRow
