@@ -6,3 +6,4 @@ pub mod BlockCounts
 pub mod Forest
 pub mod NodeCounts
 pub mod Scanning
+pub mod FileParts

@@ -1,5 +1,6 @@
 // The loader's first pass over a file: nothing is written. Fields are read one after the other, in loops, so that no file is too deep; every count is
-// bounded by the bytes that were read for it. The second pass reads the same rows.
+// bounded by the bytes that were read for it. A turn reads one block, node or absent child and passes its bytes or entries by, so there are fewer
+// turns than bytes. The second pass reads the same rows.
 //
 //   rows              a block or a node of the file, without what follows its numbers
 //   blocks, nodes     all of them, counted

@@ -14,6 +14,11 @@ pub const KIND: u64 = 18;
 
 pub const PRESENCE: u64 = 19;
 
+// The presence bytes.
+const ABSENT: u64 = 0;
+
+const PRESENT: u64 = 1;
+
 // Bytes in an entry.
 const ENTRY: u64 = 8;
 
@@ -117,10 +122,10 @@ pub fn node_at(file: &[u8], at: usize) -> NodeRow
     let Field::Got(presence, min_at) = reader::byte_from(file, at) else {
         return NodeRow::Fault { number: ENDS };
     };
-    if 1 < presence {
+    if PRESENT < presence {
         return NodeRow::Fault { number: PRESENCE };
     }
-    if presence == 0 {
+    if presence == ABSENT {
         return NodeRow::Absent { next: min_at };
     }
     let Four::Got(min, max, middle, count, entries) = four_from(file, min_at) else {
