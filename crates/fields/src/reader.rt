@@ -13,24 +13,28 @@ pub struct Reader<'a> {
     pub at: usize,
 }
 
+// The byte where the reader stands.
 pub fn read_byte<'a>(reader: Reader<'a>) -> Field
     ensures { λ r. ⌜ readOf r ≡ number 1 (now (reader .entry .file)) (reader .entry .at) ⌝ }
 {
     byte_at(reader.file, reader.at)
 }
 
+// The number where the reader stands.
 pub fn read_number<'a>(reader: Reader<'a>) -> Field
     ensures { λ r. ⌜ readOf r ≡ number 8 (now (reader .entry .file)) (reader .entry .at) ⌝ }
 {
     number_at(reader.file, reader.at)
 }
 
+// The byte at a position, read by a reader that stands there.
 pub fn byte_from(file: &[u8], at: usize) -> Field
     ensures { λ r. ⌜ readOf r ≡ number 1 (now (file .entry)) at ⌝ }
 {
     read_byte(Reader { file, at })
 }
 
+// The number at a position, read by a reader that stands there.
 pub fn number_from(file: &[u8], at: usize) -> Field
     ensures { λ r. ⌜ readOf r ≡ number 8 (now (file .entry)) at ⌝ }
 {
