@@ -1,6 +1,7 @@
 -- What any index has, open or closed, said of its tables: heads, numbers, rows, pieces. Definitions alone; with its order or its tree it is `WellFormed`.
 use mathlib.Core.Path.{_≡_}
-use mathlib.Core.Bool.{false}
+use mathlib.Core.Bool.{Bool, false}
+use Rattle.lists.specs.Tests.{Decides}
 use mathlib.Core.List.{List}
 use Prim.Native.Nat.{ℕ, _+_, _≤_, _<_}
 use lib.ListN.{length}
@@ -46,13 +47,21 @@ pub record OpenFormed (t : Tables) : Type 0 where
   pub state : headAt t headState ≡ openState
   pub unordered : Unordered (t .blocks) (headAt t headCount)
 
-pub record ClosedFormed (t : Tables) : Type 0 where
-  pub board : BoardFormed t
-  pub state : headAt t headState ≡ closedState
+-- what a closed index has besides its board
+pub record ClosedPart (t : Tables) : Type 0 where
   pub no-pieces : column (t .pieces) 0 piecesCount ≡ 0
   pub order : InOrder (t .blocks) (headAt t headCount)
   pub apart : Apart (blocksOf (t .store) (t .blocks) (headAt t headCount))
   pub tree : ClosedTree (treeTables t) (headAt t headKind) (headAt t headEnd) (blocksOf (t .store) (t .blocks) (headAt t headCount))
+
+-- of tables that pass as a board the test decides it
+pub record TestedClosed (t : Tables) (r : Bool) : Type 0 where
+  pub decides : BoardFormed t → Decides r (ClosedPart t)
+
+pub record ClosedFormed (t : Tables) : Type 0 where
+  pub board : BoardFormed t
+  pub state : headAt t headState ≡ closedState
+  pub part : ClosedPart t
 
 -- ── the test ──
 

@@ -4,7 +4,7 @@
 //   board   what any index has, open or closed
 ghost use mathlib.Core.Path.{_≡_};
 ghost use Rattle.layout.specs.Tables.{tables};
-ghost use Rattle.index_test.specs.Board.{Outcome};
+ghost use Rattle.index_test.specs.Board.{Outcome, TestedClosed};
 
 mod board;
 mod rows;
@@ -20,7 +20,9 @@ pub enum State {
 }
 
 // Whether the tables that pass as a board are those of a closed index. Linear in the rows in use, and in the pairs that start in one another.
-fn test_closed(pieces: &[u64], blocks: &[u64], nodes: &[u64], entries: &[u64]) -> bool {
+fn test_closed(pieces: &[u64], blocks: &[u64], store: &[u8], nodes: &[u64], entries: &[u64]) -> bool
+    ensures { λ r. ⌜ TestedClosed (tables (now (pieces .entry)) (now (blocks .entry)) (now (store .entry)) (now (nodes .entry)) (now (entries .entry))) r ⌝ }
+{
     if tables::get(pieces, 0, piece::COUNT) != 0 {
         return false;
     }
@@ -53,7 +55,7 @@ pub fn test(pieces: &[u64], blocks: &[u64], store: &[u8], nodes: &[u64], entries
     if state != block::CLOSED {
         return State::Bad;
     }
-    if test_closed(pieces, blocks, nodes, entries) {
+    if test_closed(pieces, blocks, store, nodes, entries) {
         return State::Closed;
     }
     State::Bad

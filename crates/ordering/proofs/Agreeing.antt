@@ -1,16 +1,15 @@
 -- Rule 24 over the rows of a table is rule 24 of history over the blocks that they stand for. Assumes nothing.
-use mathlib.Core.Path.{_≡_, refl, sym}
-use mathlib.Core.Logic.{_⊎_, inl, inr, ⊎-elim}
+use mathlib.Core.Path.{_≡_, refl}
+use mathlib.Core.Logic.{_⊎_, ⊎-elim}
 use mathlib.Core.Bool.{Bool, true, false}
 use mathlib.Core.List.{List}
 use Prim.Native.Nat.{ℕ, zero, suc, _+_, _-_, _≤_, _<_}
 use native.Mathlib.Omega.{arith}
 use lib.ListN.{length, getD}
-use Rattle.lists.specs.Lists.{Pairs}
 use Rattle.lists.specs.Tests.{Decides}
 use Rattle.lists.proofs.Lists.{pairs-at, pairs-of-at}
 use Rattle.lists.proofs.Numbers.{lt-or-le, decides-iff}
-use Rattle.history.specs.Words.{Block, HasCell, Holds}
+use Rattle.history.specs.Words.{Holds}
 use Rattle.history.specs.Tree.{noBlock}
 use Rattle.history.specs.Rules.{apart, Apart}
 use Rattle.history.proofs.RulesLaws.{apart-decides}

@@ -1,7 +1,7 @@
 -- Laws of the blocks that the rows of a block table stand for: how many, which, and what of table and store they depend on. Assumes nothing.
 use mathlib.Core.Path.{_≡_, refl, sym, ap, _∙_}
 use mathlib.Core.List.{List, [], _∷_, _++_, map}
-use Prim.Native.Nat.{ℕ, zero, suc, _+_, _*_, _≤_, _<_}
+use Prim.Native.Nat.{ℕ, zero, suc, _+_, _≤_, _<_}
 use native.Mathlib.Omega.{arith}
 use lib.ListN.{length, getD, take, drop, length-drop}
 use lib.Seq.{length-take-le, take-take}
@@ -9,7 +9,7 @@ use Rattle.lists.specs.Lists.{All, all-nil, all-cons, countFrom}
 use Rattle.lists.proofs.Lists.{count-from-length, count-from-at}
 use Rattle.lists.proofs.Maps.{map-append, length-of-map, getD-of-map, map-all}
 use Rattle.history.specs.Words.{Block, firstCell}
-use Rattle.history.specs.Tree.{noBlock, blockAt, keyIn}
+use Rattle.history.specs.Tree.{noBlock, keyIn}
 use Rattle.tables.specs.Columns.{blockColumn, blockFirst, blockLength, blockCreated, blockDestroyed, blockOffset, blockOwner, blockNext}
 use Rattle.ordering.specs.Order.{firstCellAt, OnlyOrder}
 use Rattle.ordering.specs.Blocks.{lengthAt, offsetAt, bytesAt, blockOfRow, blocksOf, SameRows, Stored}

@@ -242,7 +242,7 @@ fn compare_sorted(tally: &mut [u64], plain: &[u64], whole: &[u64], parts: &[u64]
         plainly_in_order(whole),
     );
     compare(tally, ordering::apart(whole, BLOCKS), plainly_apart(whole));
-    compare(tally, true, plainly_in_order(whole));
+    compare(tally, ordering::unordered(whole, BLOCKS), false);
     compare(tally, true, alike(whole, parts));
 }
 
@@ -250,6 +250,7 @@ fn compare_sorted(tally: &mut [u64], plain: &[u64], whole: &[u64], parts: &[u64]
 fn compare_cleared(tally: &mut [u64], plain: &[u64], whole: &[u64], parts: &[u64]) {
     compare(tally, true, alike(whole, plain));
     compare(tally, true, alike(parts, plain));
+    compare(tally, ordering::unordered(whole, BLOCKS), true);
 }
 
 // Sorts a pattern at once and in two parts.

@@ -1,6 +1,6 @@
 -- Rows written to the answer: one step for the turn of `extend_from_self` and for each of its returns. Assumes nothing.
-use mathlib.Core.Path.{_≡_, refl, sym, _∙_, ap}
-use mathlib.Core.List.{List, [], _∷_, _++_}
+use mathlib.Core.Path.{_≡_, refl, _∙_}
+use mathlib.Core.List.{List, [], _∷_}
 use Prim.Native.Nat.{ℕ, _+_, _-_, _≤_, _<_}
 use native.Mathlib.Omega.{arith}
 use lib.ListN.{length, set, length-set}
@@ -8,8 +8,8 @@ use lib.Seq.{sets}
 use Rattle.lists.proofs.Stores.{sets-append}
 use Rattle.segment_table.specs.Closed.{run, blockIn}
 use Rattle.segment_table.proofs.Closed.{run-length, run-append}
-use Rattle.segment_find.specs.declared.Rows.{Rows}
-use Rattle.segment_find.specs.Walking.{tableRows}
+use Rattle.segment_find.specs.declared.rows.Rows.{Rows}
+use Rattle.segment_find.specs.Rowing.{tableRows}
 use Rattle.segment_find.specs.Listing.{Extends}
 
 -- ── no room ──

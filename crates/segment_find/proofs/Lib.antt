@@ -4,3 +4,4 @@ pub mod Windows
 pub mod Extending
 pub mod Searching
 pub mod Neighbouring
+pub mod Agreeing

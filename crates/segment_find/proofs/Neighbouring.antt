@@ -1,25 +1,28 @@
 -- Neighbours of a place: in a run, in two lists, on the way down. One step for each return. Assumes nothing.
-use mathlib.Core.Path.{_≡_, refl, sym, _∙_, ap}
+use mathlib.Core.Path.{_≡_, refl}
 use mathlib.Core.Logic.{⊎-elim}
-use mathlib.Core.List.{List, [], _∷_, _++_}
-use Prim.Native.Nat.{ℕ, zero, suc, _+_, _-_, _≤_, _<_}
+use mathlib.Core.Bool.{Bool, true}
+use mathlib.Core.List.{List, _++_}
+use Prim.Native.Nat.{ℕ, _+_, _-_, _≤_, _<_}
 use native.Mathlib.Omega.{arith}
-use Rattle.lists.specs.Lists.{All, all-nil, all-cons, Mem}
+use Rattle.lists.specs.Lists.{All, all-nil}
 use Rattle.lists.proofs.Lists.{all-append, all-map, mem-left, mem-right}
+use Rattle.lists.specs.Tests.{Decides}
 use Rattle.lists.proofs.Numbers.{le-or-lt}
 use Rattle.history.specs.Tree.{Tree, hole, node}
 use Rattle.history.specs.Find.{path}
 use Rattle.segment_table.specs.Closed.{TreeAt, run, blockIn, firstCellIn}
 use Rattle.segment_table.proofs.Closed.{run-all, run-mem}
-use Rattle.segment_find.specs.declared.Node.{Node}
-use Rattle.segment_find.specs.declared.Rows.{Rows}
-use Rattle.segment_find.specs.declared.Side.{Side}
-use Rattle.segment_find.specs.declared.Side.the-variants.{From, Before}
-use Rattle.segment_find.specs.declared.Neighbour.{Neighbour}
-use Rattle.segment_find.specs.declared.Neighbour.the-variants.{Block, Nothing}
-use Rattle.segment_find.specs.Walking.{Stands, Rooted, rootAt, halfAt, rowsAt, keyAt, RunOf, Lower}
+use Rattle.segment_find.specs.declared.walk.Node.{Node}
+use Rattle.segment_find.specs.declared.rows.Rows.{Rows}
+use Rattle.segment_find.specs.declared.neighbour.Side.{Side}
+use Rattle.segment_find.specs.declared.neighbour.Side.the-variants.{From, Before}
+use Rattle.segment_find.specs.declared.neighbour.Neighbour.{Neighbour}
+use Rattle.segment_find.specs.declared.neighbour.Neighbour.the-variants.{Block, Nothing}
+use Rattle.segment_find.specs.Walking.{Stands, rootAt, Absent, halfAt}
+use Rattle.segment_find.specs.Rowing.{rowsAt, keyAt, RunOf, Lower}
 use Rattle.segment_find.specs.Neighbours.{Beside, AsNear, Nearest, Neighbours, OwnNeighbour, Nearer, NearestBelow, NearestLive}
-use Rattle.segment_find.proofs.Halving.{Down, down}
+use Rattle.segment_find.proofs.Halving.{Present, present, absent-hole, Down, down}
 use Rattle.segment_find.proofs.Windows.{run-of}
 
 -- ── answers ──
@@ -95,7 +98,8 @@ module _ {entries : List ℕ} {rows : Rows} {place row : ℕ} (l : Lower entries
         of-run = λ blocks xs own.
             let p = l .parts (own .room) (own .ordered) in
             rw (← own .lists)
-            (no-block (run-all entries (rows .from) (rows .to - rows .from) (λ i a b before. omega (arith, own .keyed i a (omega arith), p .above i (omega arith) (omega arith)))));
+            (no-block
+            (run-all entries (rows .from) (rows .to - rows .from) (λ i a b before. omega (arith, own .keyed i a (omega arith), p .above i (omega arith) (omega arith)))));
       }
 
   pub own-is-from : {side : Side} {r : Neighbour} → side ≡ From → row < rows .to → r ≡ Block (blockIn entries row) (keyAt entries row)
@@ -185,28 +189,19 @@ pub ruleset nearing = (nearer-below, nearer-own, nearer-from-below, nearer-from-
 -- ── the returns of `nearest` ──
 
 module _ {nodes entries : List ℕ} {n : Node} {tick : ℕ} {side : Side} {place : ℕ} where
-  nowhere : (0 < n .link → n .min < n .max → ⊥) → NearestBelow nodes entries n tick side place Nothing
-  unfolding TreeAt path
-  nowhere no-node = record { of-way = go }
-    where
-      go : (blocks : List ℕ) (kind : ℕ) (tree : Tree) → Stands blocks nodes entries kind n tree → Neighbours side (firstCellIn blocks) place (path tick (n .min) (n .max) tree) Nothing
-      go blocks kind hole s = no-block all-nil
-      go blocks kind (node xs l r) s = absurd (no-node (s .stood .0 .some) (s .wide (s .stood .0 .some)))
-
-  pub nearest-none : n .link ≡ 0 → NearestBelow nodes entries n tick side place Nothing
-  nearest-none z = nowhere (λ some wide. omega arith)
-
-  pub nearest-flat : n .max ≤ n .min → NearestBelow nodes entries n tick side place Nothing
-  nearest-flat h = nowhere (λ some wide. omega arith)
+  pub nearest-none : {t : Bool} → Decides t (Absent n) → t ≡ true → NearestBelow nodes entries n tick side place Nothing
+  unfolding path
+  nearest-none d e = record { of-way = λ blocks kind tree s. rw (absent-hole (d .yes e) s) (no-block all-nil) }
 
   -- the nearer of a node's own neighbour and that of its half
-  pub nearest-both : {rows : Rows} {h : Node} {own below r : Neighbour} → (n .link ≡ 0 → ⊥) → rows ≡ rowsAt nodes entries (n .link) → OwnNeighbour entries rows side place own
+  pub nearest-both : {rows : Rows} {h : Node} {own below r : Neighbour} → Present n → rows ≡ rowsAt nodes entries (n .link) → OwnNeighbour entries rows side place own
       → h ≡ halfAt nodes tick n → NearestBelow nodes entries h tick side place below → Nearer side own below r → NearestBelow nodes entries n tick side place r
   unfolding TreeAt
-  nearest-both {rows} {h} {own} {below} {r} some e here half there both = record { of-way = go }
+  nearest-both {rows} {h} {own} {below} {r} at e here half there both = record { of-way = go }
     where
-      go : (blocks : List ℕ) (kind : ℕ) (tree : Tree) → Stands blocks nodes entries kind n tree → Neighbours side (firstCellIn blocks) place (path tick (n .min) (n .max) tree) r
-      go blocks kind hole s = absurd (some (s .stood))
+      go : (blocks : List ℕ) (kind : ℕ) (tree : Tree) → Stands blocks nodes entries kind n tree
+          → Neighbours side (firstCellIn blocks) place (path tick (n .min) (n .max) tree) r
+      go blocks kind hole s = absurd (at .row (s .stood))
       go blocks kind (node xs l r′) s =
           let d : Down blocks nodes entries kind tick n h xs (node xs l r′) = down blocks nodes entries kind tick n xs l r′ s h half in
           let run : RunOf blocks entries rows xs = rw e (run-of blocks nodes entries kind n xs l r′ s) in
@@ -214,7 +209,7 @@ module _ {nodes entries : List ℕ} {n : Node} {tick : ℕ} {side : Side} {place
           (both .of-both (firstCellIn blocks) place xs (path tick (h .min) (h .max) (d .below)) (here .of-run blocks xs run)
           (there .of-way blocks kind (d .below) (d .stands)))
 
-pub ruleset approaching = (nearest-none, nearest-flat, nearest-both)
+pub ruleset approaching = (present, nearest-none, nearest-both)
 
 -- ── the whole tree ──
 
@@ -223,6 +218,6 @@ pub nearest-live : {nodes entries : List ℕ} {kind end tick : ℕ} {side : Side
 nearest-live {nodes} {entries} {kind} {end} {tick} {side} {place} {root} {r} e below =
     record {
       of-tree = λ blocks tree s.
-          let st : Stands blocks nodes entries kind root tree = rw e (record { stood = s .stood; ascend = s .ascend; wide = λ _. s .some }) in
+          let st : Stands blocks nodes entries kind root tree = rw e s in
           rw e at (below .of-way blocks kind tree st);
     }

@@ -3,8 +3,8 @@ use mathlib.Core.Path.{_≡_}
 use mathlib.Core.List.{List}
 use Prim.Native.Nat.{ℕ, _+_, _≤_, _<_}
 use native.Mathlib.Omega.{arith}
-use Rattle.segment_find.specs.declared.Rows.{Rows}
-use Rattle.segment_find.specs.Walking.{tableRows, keyAt, Ordered, Parts, Lower}
+use Rattle.segment_find.specs.declared.rows.Rows.{Rows}
+use Rattle.segment_find.specs.Rowing.{tableRows, keyAt, Ordered, Lower}
 
 -- rows before lo have keys below x, rows from hi on have not; between them nothing is settled
 pub record Between (entries : List ℕ) (rows : Rows) (x lo hi : ℕ) : Type 0 where

@@ -6,13 +6,14 @@ use Rattle.lists.specs.Lists.{All, Mem}
 use Rattle.history.specs.Tree.{Tree}
 use Rattle.history.specs.Find.{path}
 use Rattle.segment_table.specs.Closed.{firstCellIn}
-use Rattle.segment_find.specs.declared.Node.{Node}
-use Rattle.segment_find.specs.declared.Rows.{Rows}
-use Rattle.segment_find.specs.declared.Side.{Side}
-use Rattle.segment_find.specs.declared.Side.the-variants.{From, Before}
-use Rattle.segment_find.specs.declared.Neighbour.{Neighbour}
-use Rattle.segment_find.specs.declared.Neighbour.the-variants.{Block, Nothing}
-use Rattle.segment_find.specs.Walking.{Stands, Rooted, RunOf}
+use Rattle.segment_find.specs.declared.walk.Node.{Node}
+use Rattle.segment_find.specs.declared.rows.Rows.{Rows}
+use Rattle.segment_find.specs.declared.neighbour.Side.{Side}
+use Rattle.segment_find.specs.declared.neighbour.Side.the-variants.{From, Before}
+use Rattle.segment_find.specs.declared.neighbour.Neighbour.{Neighbour}
+use Rattle.segment_find.specs.declared.neighbour.Neighbour.the-variants.{Block, Nothing}
+use Rattle.segment_find.specs.Walking.{Stands, Rooted}
+use Rattle.segment_find.specs.Rowing.{RunOf}
 
 -- ── over lists ──
 

@@ -1,10 +1,10 @@
 -- The heads: a step for each return of the tests of `head`. Assumes nothing.
-use mathlib.Core.Path.{_≡_, refl, sym, _∙_}
+use mathlib.Core.Path.{_≡_, sym, _∙_}
 use mathlib.Core.Bool.{Bool, true, false, not}
 use mathlib.Core.List.{List}
-use Prim.Native.Nat.{ℕ, zero, suc, _+_, _-_, _*_, _/_, _≤_, _<_}
+use Prim.Native.Nat.{ℕ, _+_, _-_, _/_, _≤_, _<_}
 use native.Mathlib.Omega.{arith}
-use lib.ListN.{length, getD}
+use lib.ListN.{length}
 use lib.Dec.{leb, eqb}
 use borrow.Author.Tests.{leb-true, leb-false, eqb-true, eqb-false, not-true, not-false}
 use borrow.Author.Count.{below-more}
@@ -12,7 +12,8 @@ use Rattle.lists.specs.Tests.{Decides}
 use Rattle.lists.proofs.Numbers.{confirm, refute}
 use Rattle.history.specs.Lent.{rowWidth, blockHead, nodeHead, entryHead, entryWidth}
 use Rattle.tables.specs.Columns.{column, nodesCount, entriesCount}
-use Rattle.segment_test.specs.Test.{lent, Room, Inside, Unrooted, OtherKinds, Rooted, Heads}
+use Rattle.segment_test.specs.Test.{lent}
+use Rattle.segment_test.specs.Parts.{Room, Inside, Unrooted, OtherKinds, Rooted, Heads}
 
 -- ── room ──
 

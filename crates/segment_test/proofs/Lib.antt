@@ -7,3 +7,4 @@ pub mod Links
 pub mod Widths
 pub mod Heading
 pub mod Testing
+pub mod ClosedTree

@@ -1,22 +1,18 @@
 -- The rows that a tree stands in are all rows in use, each once: its links are distinct, as min and max name a row's only place, and there are as many as
 -- the count says. So a sum over the nodes of the tree is a sum over the rows. Assumes nothing.
-use mathlib.Core.Path.{_≡_, refl, sym, ap, ap₂, _∙_}
-use mathlib.Core.Logic.{_⊎_, inl, inr, ⊎-elim}
-use mathlib.Core.Bool.{Bool, true, false, cond}
+use mathlib.Core.Path.{_≡_, refl, sym, _∙_}
+use mathlib.Core.Logic.{inl, inr, ⊎-elim}
 use mathlib.Core.List.{List, [], _∷_, _++_, map}
-use Prim.Native.Nat.{ℕ, zero, suc, _+_, _-_, _*_, _≤_, _<_}
-use native.Mathlib.Nat.{add-mul}
+use Prim.Native.Nat.{ℕ, suc, _+_, _-_, _*_, _≤_, _<_}
 use native.Mathlib.Omega.{arith}
-use lib.ListN.{length, getD, length-append}
-use lib.Dec.{eqb}
-use borrow.Author.Tests.{eq-eqb, ne-eqb, eqb-true, eqb-false}
-use Rattle.lists.specs.Lists.{All, all-nil, all-cons, Mem, here, there, Distinct, count, sumOf}
-use Rattle.lists.proofs.Numbers.{bool-cases, eq-or-ne, le-or-lt, lt-or-le}
+use lib.ListN.{length, length-append}
+use Rattle.lists.specs.Lists.{All, all-nil, all-cons, Distinct, sumOf}
+use Rattle.lists.proofs.Numbers.{le-or-lt}
 use Rattle.lists.proofs.Lists.{all-append, all-map, all-mem, mem-split, sum-append}
 use Rattle.lists.proofs.Maps.{map-append}
 use Rattle.history.specs.Tree.{Tree, hole, node, mid, nodeCount, entryCount}
 use Rattle.tables.specs.Columns.{column, nodeMin, nodeMax}
-use Rattle.segment_table.specs.Closed.{Tables, nodesUsed, leftAt, rightAt, firstAt, countAt, run, NodeRow, TreeAt}
+use Rattle.segment_table.specs.Closed.{Tables, nodesUsed, leftAt, rightAt, firstAt, countAt, NodeRow, TreeAt}
 use Rattle.segment_test.specs.Total.{sumTo, entriesOfRow, widthAt, widthsOfRow, allWidths}
 use Rattle.segment_test.proofs.Sums.{distinct-append, mem-none, sum-all}
 use Rattle.segment_table.proofs.Closed.{run-length}

@@ -1,24 +1,25 @@
 -- What stands in the tables, in the words of history: the layout's tree with numbers, places and order of rule 23, both ways. Assumes nothing.
 use mathlib.Core.Path.{_≡_, refl, sym, ap, _∙_}
-use mathlib.Core.Logic.{_⊎_, inl, inr}
-use mathlib.Core.Bool.{Bool, true, false, true≢false, false≢true, _&&_, not}
-use mathlib.Core.List.{List, [], _∷_}
-use Prim.Native.Nat.{ℕ, zero, suc, _+_, _-_, _*_, _≤_, _<_}
+use mathlib.Core.Logic.{inl, inr}
+use mathlib.Core.Bool.{Bool, true, _&&_, not}
+use mathlib.Core.List.{List}
+use Prim.Native.Nat.{ℕ, zero, suc, _+_, _-_, _<_}
 use native.Mathlib.Omega.{arith}
 use lib.ListN.{length, getD}
-use lib.Dec.{leb, ltb, eqb}
-use borrow.Author.Tests.{ltb-true, lt-ltb, le-ltb, not-true}
-use Rattle.lists.specs.Lists.{All, all-nil, all-cons, Pairs, Ascending}
-use Rattle.lists.proofs.Numbers.{le-or-lt, lt-or-le, and-left, and-right, and-both}
+use lib.Dec.{ltb}
+use borrow.Author.Tests.{ltb-true, lt-ltb, not-true}
+use Rattle.lists.specs.Lists.{All}
+use Rattle.lists.proofs.Numbers.{lt-or-le, and-left, and-right, and-both}
 use Rattle.lists.proofs.Lists.{all-at, all-of-at, pairs-at, pairs-of-at}
 use Rattle.history.specs.Words.{Block}
 use Rattle.history.specs.Tree.{Tree, hole, node, mid, covers, blockAt, keyIn}
 use Rattle.history.specs.Rules.{every, numbered, placed, ascends, sorted}
 use Rattle.history.proofs.RulesLaws.{every-all, all-every, decided, ascends-decides, coversNode, numbered-node, numbered-here, numbered-left, numbered-right, placed-node, placed-here, placed-left, placed-right, sorted-node, sorted-here, sorted-left, sorted-right}
-use Rattle.tables.specs.Columns.{column, entryColumn, entryKey}
-use Rattle.segment_table.specs.Closed.{Tables, leftAt, rightAt, firstAt, countAt, blockIn, firstCellIn, run, Keyed, NodeRow, TreeAt}
+use Rattle.tables.specs.Columns.{entryColumn, entryKey}
+use Rattle.segment_table.specs.Closed.{Tables, leftAt, rightAt, firstAt, countAt, blockIn, run, Keyed, NodeRow, TreeAt}
 use Rattle.segment_table.proofs.Closed.{run-length, run-at}
-use Rattle.segment_test.specs.Test.{createdIn, destroyedIn, coversAbove, BlockRows, EntryRow, Follows, RunRows, NodeStands, TreeStands}
+use Rattle.segment_test.specs.Test.{createdIn, destroyedIn, BlockRows}
+use Rattle.segment_test.specs.Parts.{coversAbove, EntryRow, RunRows, NodeStands, TreeStands}
 
 -- ── the list of a run ──
 

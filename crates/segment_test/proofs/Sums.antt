@@ -1,15 +1,15 @@
 -- Laws of sums: up to a bound, and over a list of numbers, by how often each stands in it. Assumes nothing.
 use mathlib.Core.Path.{_≡_, refl, ap, sym, _∙_}
-use mathlib.Core.Logic.{_⊎_, inl, inr, ⊎-elim}
-use mathlib.Core.Bool.{Bool, true, false, cond}
+use mathlib.Core.Logic.{inl, inr, ⊎-elim}
+use mathlib.Core.Bool.{cond}
 use mathlib.Core.List.{List, [], _∷_, _++_, map}
-use Prim.Native.Nat.{ℕ, zero, suc, _+_, _-_, _*_, _≤_, _<_}
+use Prim.Native.Nat.{ℕ, zero, suc, _+_, _*_, _≤_, _<_}
 use native.Mathlib.Nat.{add-mul}
 use native.Mathlib.Omega.{arith}
 use lib.ListN.{length}
 use lib.Dec.{eqb}
 use borrow.Author.Tests.{eq-eqb, ne-eqb}
-use Rattle.lists.specs.Lists.{All, all-nil, all-cons, Mem, here, there, Distinct, Pairs, pairs-nil, pairs-cons, Ascending, count, sumOf}
+use Rattle.lists.specs.Lists.{All, all-nil, all-cons, Mem, here, there, Distinct, pairs-nil, pairs-cons, Ascending, count, sumOf}
 use Rattle.lists.proofs.Numbers.{eq-or-ne, le-or-lt}
 use Rattle.lists.proofs.Lists.{all-mem, mem-split}
 use Rattle.segment_test.specs.Total.{sumTo}

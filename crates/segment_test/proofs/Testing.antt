@@ -1,27 +1,24 @@
 -- What the tests of the tables say together is that they hold the tree of a closed index, both ways; a step for each return of `test_tree`. Assumes nothing.
-use mathlib.Core.Path.{_≡_, refl, sym, ap, _∙_}
-use mathlib.Core.Logic.{_⊎_, inl, inr}
+use mathlib.Core.Path.{_≡_, refl, sym, _∙_}
 use mathlib.Core.Bool.{Bool, true, false, not, true≢false, false≢true}
 use mathlib.Core.List.{List, [], _∷_}
-use Prim.Native.Nat.{ℕ, zero, suc, _+_, _-_, _*_, _≤_, _<_}
+use Prim.Native.Nat.{ℕ, zero, suc, _+_, _<_}
 use native.Mathlib.Omega.{arith}
-use lib.ListN.{length, getD}
-use lib.Dec.{eqb}
+use lib.ListN.{length}
 use borrow.Author.Tests.{not-true, not-false}
 use Rattle.lists.specs.Tests.{Decides}
-use Rattle.lists.proofs.Numbers.{eq-or-ne, confirm, refute, decides-iff}
-use Rattle.history.specs.Lent.{rowWidth, blockHead, nodeHead}
+use Rattle.lists.proofs.Numbers.{refute, decides-iff}
 use Rattle.history.specs.Words.{Block, life}
-use Rattle.history.specs.Tree.{Tree, hole, node, mid, nodeCount, entryCount, blockAt, keyIn, widths}
+use Rattle.history.specs.Tree.{Tree, hole, node, mid, blockAt, widths}
 use Rattle.history.specs.Rules.{isHole, halved, rule23}
 use Rattle.history.specs.Sound.{isEmpty}
 use Rattle.history.proofs.RulesLaws.{decided, halved-node, Rule23, rule23-decides}
-use Rattle.tables.specs.Columns.{column, nodesCount}
-use Rattle.segment_table.specs.Closed.{Tables, nodesUsed, entriesUsed, leftAt, rightAt, firstAt, countAt, TreeAt, Consecutive, Closed}
-use Rattle.segment_test.specs.Total.{sumTo, twoWords, entriesOfRow, widthsOfRow, lifeIn, Same}
-use Rattle.segment_test.specs.Test.{lent, BlockRows, ClosedTree, TreeStands, Walked, Rooted, Heads, Tiled, TreeTables}
+use Rattle.tables.specs.Columns.{column}
+use Rattle.segment_table.specs.Closed.{Tables, nodesUsed, leftAt, rightAt, firstAt, countAt, TreeAt, Consecutive}
+use Rattle.segment_test.specs.Total.{sumTo, entriesOfRow, widthsOfRow, lifeIn, Same}
+use Rattle.segment_test.specs.Test.{lent, BlockRows, ClosedTree}
+use Rattle.segment_test.specs.Parts.{Rooted, Heads, AllRows, Tiled, TreeTables}
 use Rattle.segment_test.proofs.Sums.{sum-same}
-use Rattle.segment_test.proofs.Walking.{stands-one}
 use Rattle.segment_test.proofs.Ruling.{at-hole, RuledAt, stands-ruled, ruled-stands}
 use Rattle.segment_test.proofs.Links.{rows-entries, rows-widths}
 use Rattle.segment_test.proofs.Widths.{total-each, each-total}
@@ -82,30 +79,30 @@ module _ (t : Tables) (kind e : ℕ) (bs : List Block) (known : BlockRows (t .bl
 
   pub tables-closed : TreeTables t (length bs) kind e → ClosedTree t kind e bs
   tables-closed s = record {
-    tree = s .tree;
+    tree = s .rows .tree;
     block-room = s .heads .block-room .fits;
     entry-room = omega (arith, s .heads .entry-room .fits);
     closed = record {
       stands = ruled .stands;
       other-kinds = λ k h z. s .heads .others .each k h .none z;
-      all-rows = s .all-rows;
+      all-rows = s .rows .all-rows;
       room = omega (arith, s .heads .node-room .fits);
-      all-entries = sym (s .tiled .total) ∙ rows-entries t kind root e (s .tree) (ruled .stands) (s .all-rows);
+      all-entries = sym (s .tiled .total) ∙ rows-entries t kind root e (s .rows .tree) (ruled .stands) (s .rows .all-rows);
       consecutive = begins-consecutive (t .nodes) (s .tiled .begins);
     };
-    rule-23 = decided (rule23 e bs (s .tree)) (rule23-decides e bs (s .tree)) (record { numbers = ruled .numbers; places = ruled .places; order = ruled .order; sums = sums });
-    rooted = root-hole t kind root e bs (s .tree) (s .heads .rooted) (ruled .stands);
-    rule-21 = at-halved t kind root 0 e (s .tree) (ruled .stands);
+    rule-23 = decided (rule23 e bs (s .rows .tree)) (rule23-decides e bs (s .rows .tree)) (record { numbers = ruled .numbers; places = ruled .places; order = ruled .order; sums = sums });
+    rooted = root-hole t kind root e bs (s .rows .tree) (s .heads .rooted) (ruled .stands);
+    rule-21 = at-halved t kind root 0 e (s .rows .tree) (ruled .stands);
   }
     where
       root : ℕ
       root = column (t .nodes) 0 kind
 
-      ruled : RuledAt t bs kind root 0 e (λ k. false) (s .tree)
-      ruled = stands-ruled t bs kind known root 0 e 0 0 (λ k. false) (λ k h. refl) (s .tree) (s .stands)
+      ruled : RuledAt t bs kind root 0 e (λ k. false) (s .rows .tree)
+      ruled = stands-ruled t bs kind known root 0 e 0 0 (λ k. false) (λ k h. refl) (s .rows .tree) (s .rows .stands)
 
-      sums : (k : ℕ) → k < length bs → widths k 0 e (s .tree) ≡ life (blockAt bs k)
-      sums = total-each bs e (s .tree) (ruled .numbers) (ruled .places) (ruled .order) (sym (rows-widths t kind root e (s .tree) (ruled .stands) (s .all-rows)) ∙ s .summed ∙ lives-same)
+      sums : (k : ℕ) → k < length bs → widths k 0 e (s .rows .tree) ≡ life (blockAt bs k)
+      sums = total-each bs e (s .rows .tree) (ruled .numbers) (ruled .places) (ruled .order) (sym (rows-widths t kind root e (s .rows .tree) (ruled .stands) (s .rows .all-rows)) ∙ s .summed ∙ lives-same)
 
   pub closed-tables : ClosedTree t kind e bs → TreeTables t (length bs) kind e
   closed-tables s = record {
@@ -117,11 +114,13 @@ module _ (t : Tables) (kind e : ℕ) (bs : List Block) (known : BlockRows (t .bl
       rooted = hole-root t kind root e bs (s .tree) (s .rooted) (s .closed .stands);
     };
     tiled = record { begins = consecutive-begins (t .nodes) (s .closed .consecutive); total = rows-entries t kind root e (s .tree) (s .closed .stands) (s .closed .all-rows) ∙ sym (s .closed .all-entries) };
-    tree = s .tree;
-    stands =
-        ruled-stands t bs kind known root 0 e 0 0 (λ k. false) (λ k h. refl) (s .tree)
-        (record { stands = s .closed .stands; numbers = rules .numbers; places = rules .places; order = rules .order });
-    all-rows = s .closed .all-rows;
+    rows = record {
+      tree = s .tree;
+      stands =
+          ruled-stands t bs kind known root 0 e 0 0 (λ k. false) (λ k h. refl) (s .tree)
+          (record { stands = s .closed .stands; numbers = rules .numbers; places = rules .places; order = rules .order });
+      all-rows = s .closed .all-rows;
+    };
     summed =
         rows-widths t kind root e (s .tree) (s .closed .stands) (s .closed .all-rows) ∙ each-total bs e (s .tree) (rules .numbers) (rules .places) (rules .order) (rules .sums)
         ∙ sym lives-same;
@@ -149,39 +148,15 @@ module _ {blocks nodes entries : List ℕ} {n kind e : ℕ} where
   pub tree-untiled : {r : Bool} → Decides r (Tiled nodes entries) → not r ≡ true → Decides false (TreeTables (lent blocks nodes entries) n kind e)
   tree-untiled {r} d f = refute (λ s. d .not (not-true r f) (s .tiled))
 
-  module _ {used root rest : ℕ} (count : used ≡ column nodes 0 nodesCount) (top : root ≡ column nodes 0 kind)
-      (walk : Walked (lent blocks nodes entries) n kind root 0 e 0 0 (used + 1) rest) where
-    -- from the root of the kind, with one row more than are in use
-    walked : Walked (lent blocks nodes entries) n kind (column nodes 0 kind) 0 e 0 0 (nodesUsed nodes + 1) rest
-    walked = rw (count, top) at walk
+  pub tree-wrong : {r : Bool} → Decides r (AllRows (lent blocks nodes entries) n kind e) → not r ≡ true → Decides false (TreeTables (lent blocks nodes entries) n kind e)
+  tree-wrong {r} d f = refute (λ s. d .not (not-true r f) (s .rows))
 
-    pub tree-wrong : (rest ≡ 1 → ⊥) → Decides false (TreeTables (lent blocks nodes entries) n kind e)
-    tree-wrong z = refute go
-      where
-        go : TreeTables (lent blocks nodes entries) n kind e → ⊥
-        go s =
-            elim (eq-or-ne rest 0) [
-              | inl none ↦ walked .wrong none (s .tree) (s .stands) (omega (arith, s .all-rows))
-              | inr some ↦
-                  let u = walked .stood (omega arith) in
-                  let same : u .0 ≡ s .tree = stands-one (lent blocks nodes entries) n kind (column nodes 0 kind) 0 e 0 0 (u .0) (s .tree) (u .1) (s .stands) in
-                  let left : nodesUsed nodes + 1 ≡ rest + nodeCount (s .tree) = rw same at (u .2) in
-                  z (omega (arith, s .all-rows))
-            ]
-
-    pub tree-rest : {a b r : Bool} {x y : ℕ} → Decides a (Heads (lent blocks nodes entries) n kind) → not a ≡ false → Decides b (Tiled nodes entries) → not b ≡ false
-        → rest ≡ 1 → x ≡ sumTo (widthsOfRow nodes) (nodesUsed nodes) → y ≡ sumTo (lifeIn blocks) n
-        → Decides r (Same x y) → Decides r (TreeTables (lent blocks nodes entries) n kind e)
-    tree-rest {a} {b} {r} da ea db eb one wide lives same = record {
-      yes = λ t. (let u = walked .stood (omega arith) in record {
-        heads = da .yes (not-false a ea);
-        tiled = db .yes (not-false b eb);
-        tree = u .0;
-        stands = u .1;
-        all-rows = omega (arith, u .2);
-        summed = sym wide ∙ same .yes t .equal ∙ lives;
-      });
-      not = λ t s. same .not t (record { equal = wide ∙ s .summed ∙ sym lives });
-    }
+  pub tree-rest : {a b c r : Bool} {x y : ℕ} → Decides a (Heads (lent blocks nodes entries) n kind) → not a ≡ false → Decides b (Tiled nodes entries) → not b ≡ false
+      → Decides c (AllRows (lent blocks nodes entries) n kind e) → not c ≡ false
+      → x ≡ sumTo (widthsOfRow nodes) (nodesUsed nodes) → y ≡ sumTo (lifeIn blocks) n → Decides r (Same x y) → Decides r (TreeTables (lent blocks nodes entries) n kind e)
+  tree-rest {a} {b} {c} da ea db eb dc ec wide lives same = record {
+    yes = λ t. record { heads = da .yes (not-false a ea); tiled = db .yes (not-false b eb); rows = dc .yes (not-false c ec); summed = sym wide ∙ same .yes t .equal ∙ lives };
+    not = λ t s. same .not t (record { equal = wide ∙ s .summed ∙ sym lives });
+  }
 
 pub ruleset testing-tree = (tree-heads, tree-untiled, tree-wrong, tree-rest)

@@ -1,21 +1,20 @@
 -- All rows: a step for each turn and return of the loops of `total`. Assumes nothing.
-use mathlib.Core.Path.{_≡_, refl, sym, ap, _∙_}
-use mathlib.Core.Bool.{Bool, true, false}
+use mathlib.Core.Path.{_≡_, refl, sym, _∙_}
+use mathlib.Core.Bool.{false}
 use mathlib.Core.List.{List}
-use Prim.Native.Nat.{ℕ, zero, suc, _+_, _-_, _*_, _^_, _≤_, _<_}
+use Prim.Native.Nat.{ℕ, suc, _+_, _-_, _*_, _^_, _≤_, _<_}
 use native.Mathlib.Nat.{add-mul}
 use native.Mathlib.Omega.{arith}
 use native.Mathlib.Numerals.{add-one}
-use lib.ListN.{length, getD}
 use lib.Dec.{eqb}
 use borrow.Author.Tests.{eqb-true, eqb-false}
 use borrow.Author.Count.{below-more}
 use Rattle.lists.specs.Tests.{Decides}
-use Rattle.lists.proofs.Numbers.{confirm, refute}
+use Rattle.lists.proofs.Numbers.{refute}
 use Rattle.tables.specs.Columns.{column, blockColumn, nodesCount, nodeFirst, nodeEntries, nodeMin, nodeMax, entriesCount, blockCreated, blockDestroyed}
-use Rattle.segment_table.specs.Closed.{nodesUsed, entriesUsed, firstAt, countAt}
-use Rattle.segment_test.specs.Test.{Tiled}
-use Rattle.segment_test.specs.Total.{sumTo, twoWords, entriesOfRow, widthAt, widthsOfRow, lifeIn, Same}
+use Rattle.segment_table.specs.Closed.{nodesUsed, firstAt, countAt}
+use Rattle.segment_test.specs.Parts.{Tiled}
+use Rattle.segment_test.specs.Total.{sumTo, twoWords, entriesOfRow, widthsOfRow, lifeIn, Same}
 use Rattle.segment_test.proofs.Sums.{sum-more, sum-start, sum-front}
 
 -- ── test_runs ──

@@ -1,21 +1,20 @@
 -- The walk over all nodes: one tree at most stands at a link; a step for each return of the tests of `walk`. Assumes nothing.
-use mathlib.Core.Path.{_≡_, refl, sym, ap, ap₂, _∙_}
-use mathlib.Core.Bool.{Bool, true, false, true≢false, false≢true}
-use mathlib.Core.List.{List, [], _∷_}
-use Prim.Native.Nat.{ℕ, zero, suc, _+_, _-_, _*_, _/_, _≤_, _<_}
+use mathlib.Core.Path.{_≡_, refl, sym, _∙_}
+use mathlib.Core.Bool.{Bool, true, false}
+use mathlib.Core.List.{List}
+use Prim.Native.Nat.{ℕ, _+_, _-_, _/_, _≤_, _<_}
 use native.Mathlib.Omega.{arith}
-use lib.ListN.{length, getD}
-use lib.Dec.{leb, ltb, eqb}
+use lib.Dec.{eqb}
 use borrow.Author.Tests.{eqb-true, eqb-false}
 use Rattle.lists.specs.Tests.{Decides}
-use mathlib.Core.Logic.{_⊎_, inl, inr}
+use mathlib.Core.Logic.{inl, inr}
 use Rattle.lists.proofs.Numbers.{eq-or-ne, confirm, refute}
-use Rattle.history.specs.Lent.{entryHead, entryWidth}
 use Rattle.history.specs.Tree.{Tree, hole, node, mid, nodeCount}
-use Rattle.tables.specs.Columns.{column, entryColumn, nodeMin, nodeMax, nodeLeft, nodeRight, nodeFirst, nodeEntries, nodeKind, nodesCount}
-use Rattle.segment_table.specs.Closed.{Tables, nodesUsed, leftAt, rightAt, firstAt, countAt, run, Keyed, NodeRow, TreeAt}
+use Rattle.tables.specs.Columns.{column, nodeMin, nodeMax, nodeKind, nodesCount}
+use Rattle.segment_table.specs.Closed.{Tables, leftAt, rightAt, firstAt, countAt, TreeAt, nodesUsed}
 use Rattle.segment_table.proofs.Closed.{tree-one}
-use Rattle.segment_test.specs.Test.{lent, EntryRow, RunRows, Inside, Bare, RowStands, NodeStands, TreeStands, Walked}
+use Rattle.segment_test.specs.Test.{lent}
+use Rattle.segment_test.specs.Parts.{RunRows, Inside, Bare, RowStands, NodeStands, TreeStands, Walked, AllRows}
 
 -- ── bare ──
 
@@ -183,3 +182,29 @@ module _ {t : Tables} {n kind link lo hi from to budget : ℕ} where
 
 -- the steps of `walk`
 pub ruleset walking = (walk-hole, walk-spent, walk-wrong, walk-narrow, walk-wide)
+
+-- ── test_nodes ──
+
+-- from the root of the kind, with one row more than are in use
+pub nodes-rest : {blocks nodes entries : List ℕ} {n kind e used root rest : ℕ} → used ≡ column nodes 0 nodesCount → root ≡ column nodes 0 kind
+    → Walked (lent blocks nodes entries) n kind root 0 e 0 0 (used + 1) rest → Decides (eqb rest 1) (AllRows (lent blocks nodes entries) n kind e)
+nodes-rest {blocks} {nodes} {entries} {n} {kind} {e} {used} {root} {rest} count top walk = record { yes = all; not = some }
+  where
+    walked : Walked (lent blocks nodes entries) n kind (column nodes 0 kind) 0 e 0 0 (nodesUsed nodes + 1) rest
+    walked = rw (count, top) at walk
+
+    all : eqb rest 1 ≡ true → AllRows (lent blocks nodes entries) n kind e
+    all t =
+        let u = walked .stood (omega (arith, eqb-true rest 1 t)) in
+        record { tree = u .0; stands = u .1; all-rows = omega (arith, u .2, eqb-true rest 1 t) }
+
+    some : eqb rest 1 ≡ false → AllRows (lent blocks nodes entries) n kind e → ⊥
+    some t s =
+        elim (eq-or-ne rest 0) [
+          | inl none ↦ walked .wrong none (s .tree) (s .stands) (omega (arith, s .all-rows))
+          | inr more ↦
+              let u = walked .stood (omega arith) in
+              let same : u .0 ≡ s .tree = stands-one (lent blocks nodes entries) n kind (column nodes 0 kind) 0 e 0 0 (u .0) (s .tree) (u .1) (s .stands) in
+              let left : nodesUsed nodes + 1 ≡ rest + nodeCount (s .tree) = rw same at (u .2) in
+              eqb-false rest 1 t (omega (arith, s .all-rows))
+        ]

@@ -1,10 +1,10 @@
 -- Rule 23's total. An entry's block covers its node and not the node above, so no node below lists it again: the widths of a block's nodes
 -- lie side by side within its life. So they are at most its life, and all of them are equal to it exactly when the totals are. Assumes nothing.
-use mathlib.Core.Path.{_≡_, refl, ap, sym, _∙_}
-use mathlib.Core.Logic.{_⊎_, inl, inr}
-use mathlib.Core.Bool.{Bool, true, false, true≢false, _&&_}
-use mathlib.Core.List.{List, [], _∷_}
-use Prim.Native.Nat.{ℕ, zero, suc, _+_, _-_, _*_, _/_, _≤_, _<_, min, max}
+use mathlib.Core.Path.{_≡_, refl, sym, _∙_}
+use mathlib.Core.Logic.{inl, inr}
+use mathlib.Core.Bool.{Bool, true, false, true≢false}
+use mathlib.Core.List.{List}
+use Prim.Native.Nat.{ℕ, _+_, _-_, _*_, _≤_, _<_}
 use native.Mathlib.Omega.{arith}
 use lib.ListN.{length}
 use lib.Dec.{ltb}
@@ -14,10 +14,10 @@ use Rattle.lists.proofs.Numbers.{le-or-lt}
 use Rattle.lists.proofs.Lists.{all-map}
 use Rattle.history.specs.Words.{Block, life}
 use Rattle.history.specs.Tree.{Tree, hole, node, mid, covers, blockAt, keyIn, widths}
-use Rattle.history.specs.Rules.{every, numbered, placed, ascends, sorted}
+use Rattle.history.specs.Rules.{numbered, placed, sorted}
 use Rattle.history.proofs.RulesLaws.{every-all, coversNode, ascends-decides, numbered-here, numbered-left, numbered-right, placed-left, placed-right, placed-covers, placed-above, sorted-here, sorted-left, sorted-right}
 use Rattle.history.proofs.TreeAdding.{covers-yes, covers-inside}
-use Rattle.history.proofs.TreeWidths.{overlap, overlap-split, widths-node}
+use Rattle.history.proofs.TreeWidths.{overlap, overlap-split}
 use Rattle.segment_test.specs.Total.{sumTo, allWidths}
 use Rattle.segment_test.proofs.Sums.{sum-add, sum-times, sum-none, sum-same, sum-tight, sum-length, count-distinct, ascending-distinct}
 

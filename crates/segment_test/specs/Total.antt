@@ -1,8 +1,8 @@
 -- Sums: of numbers up to a bound, of a tree's widths, and in two words. Definitions alone: their laws stand in proofs/.
 use mathlib.Core.Path.{_≡_}
 use Prim.Native.Nat.{ℕ, zero, suc, _+_, _-_, _*_, _^_}
-use lib.ListN.{length, getD}
-use mathlib.Core.List.{List, [], _∷_}
+use lib.ListN.{length}
+use mathlib.Core.List.{List}
 use Rattle.history.specs.Tree.{Tree, hole, node, mid}
 use Rattle.tables.specs.Columns.{column, blockColumn, nodeMin, nodeMax, blockCreated, blockDestroyed}
 use Rattle.segment_table.specs.Closed.{countAt}

@@ -1,9 +1,9 @@
 // The heads: counts inside the tables, and roots.
-ghost use mathlib.Core.Path.{_≡_};
-ghost use Prim.Native.Nat.{ℕ, _+_, _*_, _≤_, _<_};
+ghost use Prim.Native.Nat.{_<_};
 ghost use Rattle.lists.specs.Tests.{Decides};
 ghost use Rattle.tables.specs.Columns.{nodesCount};
-ghost use Rattle.segment_test.specs.Test.{lent, Room, Inside, Unrooted, OtherKinds, Rooted, Heads};
+ghost use Rattle.segment_test.specs.Test.{lent};
+ghost use Rattle.segment_test.specs.Parts.{Room, Inside, Unrooted, OtherKinds, Rooted, Heads};
 
 // Whether a table has room for its head and this many rows. Constant time.
 fn room(table: &[u64], head: usize, rows: u64) -> bool
@@ -54,7 +54,7 @@ fn other_kinds(nodes: &[u64], kind: u64) -> bool
     true
 }
 
-// Whether an index of n blocks without blocks has no root, and one with blocks has one. Constant time.
+// Whether there is no root where there are no blocks, and one where there are n. Constant time.
 fn rooted(root: u64, n: u64) -> bool
     ensures { λ r. ⌜ Decides r (Rooted root n) ⌝ }
 {

@@ -6,10 +6,10 @@ use Rattle.segment_find.proofs.extend_from_self.Statement.{statement}
 use Rattle.segment_find.proofs.extend_from_self.Tie as tie
 
 abbrev Inv-loop : tie.InvT-loop
-Inv-loop entries answer₀ at from to many i₀ answer i = (i ≤ many) × Extended entries answer₀ at from answer i
+Inv-loop entries answer₀ at from to count i₀ answer i = (i ≤ count) × Extended entries answer₀ at from answer i
 
 abbrev μ-loop : tie.MeasureT-loop
-μ-loop entries answer₀ at from to many i₀ answer i = many - i
+μ-loop entries answer₀ at from to count i₀ answer i = count - i
 
 pub extend-from-self-spec : {M : Type 1} → statement M
 extend-from-self-spec =

@@ -1,6 +1,6 @@
 -- `head::other_kinds` meets its contract: after k turns none of the first k kinds has a root. Assumes nothing.
 use Prim.Native.Nat.{_-_, _≤_}
-use Rattle.segment_test.specs.Test.{OtherKinds}
+use Rattle.segment_test.specs.Parts.{OtherKinds}
 use borrow.Author.Needs.{needs}
 use Rattle.segment_test.proofs.Heading.{testing-kinds}
 use Rattle.segment_test.proofs.head.other_kinds.Statement.{statement}

@@ -1,5 +1,4 @@
 -- `head::rooted` meets its contract: each return is a step of `testing-root`. Assumes nothing.
-use borrow.Author.Needs.{needs}
 use Rattle.segment_test.proofs.Heading.{testing-root}
 use Rattle.segment_test.proofs.head.rooted.Statement.{statement}
 use Rattle.segment_test.proofs.head.rooted.Tie as tie

@@ -17,8 +17,9 @@ abbrev μ-loop : tie.MeasureT-loop
 pub lives-spec : {M : Type 1} → statement M
 lives-spec =
     tie.close
-    (tie.spec Inv-loop μ-loop (λ c. (omega arith, words-start _, omega arith)) (λ c. search needs) (λ c κs. search needs) (λ c. search needs) (λ c κs. search needs)
-    (λ c κs. search needs) (λ c κs. search needs) (λ c. search needs) (λ c. search needs) (λ c. let turn = c .before .before .before .before .before .loop in
-    (omega arith, lives-more (c .before .before .before .before .before .before .before .args .blocks .now) (turn .k) _ _ _ _ (turn .inv .1) (c .before .before .before .get .ensures) (c .before .before .get2 .ensures) (omega (arith, c .plus-one .ensures .0, c .before .lasts .ensures)), omega arith))
+    (tie.spec Inv-loop μ-loop (λ c. (omega arith, words-start _, omega arith)) (λ c κs. search needs) (λ c κs. search needs) (λ c κs. search needs) (λ c κs. search needs)
+    (λ c. search needs) (λ c. search needs)
+    (λ c. let turn = c .before .before .before .before .before .loop in
+    (omega arith, lives-more (c .before .before .before .before .before .before .before .args .blocks .now) (turn .k) _ _ _ _ (turn .inv .1) (c .before .before .before .block .ensures) (c .before .before .block2 .ensures) (omega (arith, c .plus-one .ensures .0, c .before .lasts .ensures)), omega arith))
     (λ c. let e : c .before .loop .k ≡ c .before .before .before .args .n = omega arith in
     rw e at (c .before .loop .inv .1)))

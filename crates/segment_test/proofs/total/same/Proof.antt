@@ -1,6 +1,5 @@
 -- `total::same` meets its contract: two words are determined by the number that they stand for. Assumes nothing.
 use native.Mathlib.Omega.{arith}
-use borrow.Author.Needs.{needs}
 use Rattle.segment_test.proofs.Totalling.{same-apart, same-rest}
 use Rattle.segment_test.proofs.total.same.Statement.{statement}
 use Rattle.segment_test.proofs.total.same.Tie as tie

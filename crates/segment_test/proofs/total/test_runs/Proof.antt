@@ -7,10 +7,10 @@ use Rattle.segment_test.proofs.total.test_runs.Statement.{statement}
 use Rattle.segment_test.proofs.total.test_runs.Tie as tie
 
 abbrev Inv-loop : tie.InvT-loop
-Inv-loop nodes entries used total row₀ k₀ row k = (k ≤ used) × TiledTo nodes total row k
+Inv-loop nodes entries used total begin₀ k₀ begin k = (k ≤ used) × TiledTo nodes total begin k
 
 abbrev μ-loop : tie.MeasureT-loop
-μ-loop nodes entries used total row₀ k₀ row k = used - k
+μ-loop nodes entries used total begin₀ k₀ begin k = used - k
 
 pub test-runs-spec : {M : Type 1} → statement M
 test-runs-spec =
@@ -19,5 +19,5 @@ test-runs-spec =
     (λ c. search testing-runs) (λ c. search needs) (λ c κs. search needs) (λ c. search needs) (λ c. search testing-runs) (λ c. search needs) (λ c. search needs)
     (λ c. search needs)
     (λ c. let turn = c .before .before .before in
-    (search needs, tiled-more (turn .before .before .loop .inv .1) (turn .get3 .ensures) (c .before .before .if1 .left) (c .before .get4 .ensures) (c .if2 .left) refl))
+    (search needs, tiled-more (turn .before .before .loop .inv .1) (turn .node .ensures) (c .before .before .if1 .left) (c .before .node2 .ensures) (c .if2 .left) refl))
     (λ c. search testing-runs))
