@@ -4,3 +4,6 @@ mod Records
 pub mod Walking
 mod Checking
 pub mod Meeting
+pub mod Putting
+mod Digits
+pub mod Lines

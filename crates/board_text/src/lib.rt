@@ -4,3 +4,4 @@
 //   input   the opening and the records
 //   line    the lines, into a lent buffer
 pub mod input;
+pub mod line;

@@ -1,0 +1,13 @@
+-- `board_text::line::op_refused` meets its contract. Assumes nothing.
+use borrow.Author.Needs.{needs}
+use Rattle.board_text.proofs.Putting.{put-append}
+use Rattle.board_text.proofs.Lines.{refused-put}
+use Rattle.board_text.proofs.line.op_refused.Statement.{statement}
+use Rattle.board_text.proofs.line.op_refused.Tie as tie
+
+returns : tie.Need-returns
+returns c =
+    refused-put _ (c .before .before .before .before .before .before .before .before .before .before .before .before .before .before .args .number) (put-append (c .before .before .before .before .before .before .before .before .before .before .text .ensures) (c .before .before .before .before .before .before .decimal .ensures)) (c .before .before .refused .ensures)
+
+pub op-refused-spec : {M : Type 1} → statement M
+op-refused-spec = tie.close (tie.spec (λ c. search needs) (λ c κs. search needs) (λ c κs. search needs) (λ c κs. search needs) (λ c. search needs) returns)
