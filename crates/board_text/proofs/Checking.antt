@@ -7,7 +7,7 @@ use native.Mathlib.Omega.{arith}
 use lib.ListN.{length, take, drop}
 use Rattle.history.specs.Words.{Operation}
 use Rattle.history.specs.Printed.{Records, bad, all, onto}
-use Rattle.board_text.specs.Input.{itemAt, recordsAt, recordsOf, checkOf}
+use Rattle.board_text.specs.Input.{itemAt, recordsAt, recordsOf, checkOf, firstRecord}
 use Rattle.board_text.specs.declared.input.Item.{Item}
 use Rattle.board_text.specs.declared.input.Item.the-variants.{End, Bad, Record}
 use Rattle.board_text.specs.declared.input.Check.{Check}
@@ -25,10 +25,10 @@ unfolding onto
 check-onto o (bad k) = refl
 check-onto o (all os) = refl
 
-pub check-short : (input : List ℕ) → length input < 9 → BadAt 0 ≡ checkOf (recordsOf input)
+pub check-short : (input : List ℕ) → length input < firstRecord → BadAt 0 ≡ checkOf (recordsOf input)
 check-short input h = sym (ap checkOf (records-short input h))
 
-pub check-start : (input : List ℕ) → 9 ≤ length input → Checking input 9 1
+pub check-start : (input : List ℕ) → firstRecord ≤ length input → Checking input firstRecord 1
 check-start input h = record { counted = omega arith; left = sym (ap checkOf (records-start input h)) }
 
 module _ {input : List ℕ} {at k : ℕ} {r : Item} (c : Checking input at k) (stands : r ≡ itemAt input at) where

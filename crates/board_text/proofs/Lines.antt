@@ -9,9 +9,9 @@ use lib.Seq.{take-suc, take-all}
 use Rattle.history.specs.Reads.{clockLabel}
 use Rattle.history.specs.Printed.{digit, decimal, fourDigits, hexDigit, hexBytes, blockLine, refusedLine, refusedText, space, newline}
 use Rattle.history.specs.Words.{Block, firstCell}
-use Rattle.board_text.specs.Line.{Put, blockFront, blockLineOf, LawOfLines}
+use Rattle.board_text.specs.Line.{Put, blockFront, blockLineOf, frontMost, LawOfLines}
 use Rattle.board_text.proofs.Digits.{digits-front, digits-length}
-use Rattle.board_text.proofs.Putting.{put-none, put-append}
+use Rattle.board_text.proofs.Putting.{put-none, put-append, put-shown}
 
 -- ── bytes in hexadecimal ──
 
@@ -100,7 +100,7 @@ label-length : (n : ℕ) (text : List ℕ) → length (fourDigits n text) ≡ 4 
 unfolding fourDigits
 label-length n text = omega arith
 
-front-fits : (first cells created destroyed : ℕ) → length (blockFront first cells created destroyed) ≤ 89
+front-fits : (first cells created destroyed : ℕ) → length (blockFront first cells created destroyed) ≤ frontMost
 unfolding blockFront
 front-fits first cells created destroyed =
     let label = fourDigits (clockLabel first) (space ∷ []) in
@@ -132,4 +132,12 @@ line-parts b =
     ∙ label-text (clockLabel (firstCell b)) rest))))
 
 pub law-of-lines : LawOfLines
-law-of-lines = record { in-parts = line-parts; of-bytes = hex-append; front-length = front-fits; bytes-length = hex-length }
+law-of-lines =
+    record {
+      shown = λ out at text after next. put-shown;
+      in-parts = line-parts;
+      of-bytes = hex-append;
+      front-length = front-fits;
+      bytes-length = hex-length;
+      number-length = digits-length 20;
+    }

@@ -8,7 +8,7 @@ use lib.ListN.{length, take, drop}
 use Rattle.lists.proofs.Numbers.{le-or-lt}
 use Rattle.history.specs.Words.{Operation}
 use Rattle.history.specs.Printed.{Records, bad, all, onto, parsed}
-use Rattle.board_text.specs.Input.{itemAt, recordsAt, inputFrom, recordsOf}
+use Rattle.board_text.specs.Input.{itemAt, recordsAt, inputFrom, recordsOf, firstRecord}
 use Rattle.board_text.specs.Walk.{Walk, walk-end, walk-on, LawOfInput}
 use Rattle.board_text.specs.declared.input.Item.{Item}
 use Rattle.board_text.specs.declared.input.Item.the-variants.{End, Bad, Record}
@@ -70,8 +70,8 @@ law-of-input =
       first-bytes = λ bytes. refl;
       all-met = λ input os e.
           ⊎-elim
-          (λ h. walk-met input os 1 9 (sym (records-start input h) ∙ e))
+          (λ h. walk-met input os 1 firstRecord (sym (records-start input h) ∙ e))
           (λ h. absurd (bad-all (sym (records-short input h) ∙ e)))
-          (le-or-lt 9 (length input));
+          (le-or-lt firstRecord (length input));
       no-others = λ input os h w. records-start input h ∙ walk-all input 1 w;
     }

@@ -5,8 +5,8 @@ use mathlib.Core.List.{List, [], _∷_, _++_}
 use Prim.Native.Nat.{ℕ, zero, suc, _+_, _≤_, _<_, min, max}
 use native.Mathlib.Numerals.{add-one}
 use native.Mathlib.Omega.{arith}
-use lib.ListN.{length, getD, set, take, length-append}
-use lib.Seq.{sets, length-sets, set-out, take-suc, take-all}
+use lib.ListN.{length, getD, set, take, drop, length-append}
+use lib.Seq.{sets, length-sets, set-out, sets-eq, take-suc, take-all, take-at, length-take-le}
 use Rattle.lists.proofs.Numbers.{le-or-lt}
 use Rattle.lists.proofs.Stores.{sets-append}
 use Rattle.board_text.specs.Line.{Put}
@@ -49,6 +49,16 @@ put-append {out} {mid} {after} {xs} {ys} {at} {p} {q} a b =
       stands = b .stands ∙ second ∙ ap (λ (l : List ℕ). sets l (at + length xs) ys) (a .stands) ∙ sym (sets-append out at xs ys);
       ends = rw (length-append xs ys) (rw same at (b .ends) ∙ reached-more at (length xs) (length ys) (length out) p at-p);
     }
+
+-- what is put where there is room stands there, up to the next position
+pub put-shown : {out after text : List ℕ} {at next : ℕ} → Put out at text after next → at + length text ≤ length out → take next after ≡ take at out ++ text
+put-shown {out} {after} {text} {at} {next} p h =
+    let e : next ≡ at + length text = omega (arith, p .ends) in
+    let n : length (take at out ++ text) ≡ at + length text =
+    length-append (take at out) text ∙ ap (λ (k : ℕ). k + length text) (length-take-le at out (omega arith)) in
+    let all : after ≡ (take at out ++ text) ++ drop (at + length text) out =
+    p .stands ∙ sets-eq text out at h in
+    rw (e, all) (take-at (take at out ++ text) (drop (at + length text) out) (at + length text) n)
 
 -- ── the returns of `put` ──
 

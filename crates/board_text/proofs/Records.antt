@@ -13,7 +13,7 @@ use Rattle.lists.proofs.Numbers.{le-or-lt, bool-cases}
 use Rattle.history.specs.Words.{Operation}
 use Rattle.history.specs.File.{numberOf, Read, got, fault, onward, _>>=_, give, refuse_unless_, field, number}
 use Rattle.history.specs.Printed.{readRecord}
-use Rattle.board_text.specs.Input.{NumberAt, startOf, itemFrom, itemAt}
+use Rattle.board_text.specs.Input.{NumberAt, startOf, itemFrom, itemAt, recordFront, firstRecord}
 use Rattle.board_text.specs.declared.input.Start.{Start}
 use Rattle.board_text.specs.declared.input.Start.the-variants.{Short, Open}
 use Rattle.board_text.specs.declared.input.Item.{Item}
@@ -37,7 +37,7 @@ module _ (input : List ℕ) where
 -- ── the returns of `opening` ──
 
 module _ (input : List ℕ) where
-  pub start-short : length input < 9 → Short ≡ startOf input
+  pub start-short : length input < firstRecord → Short ≡ startOf input
   unfolding startOf
   start-short h =
       ⊎-elim
@@ -45,7 +45,7 @@ module _ (input : List ℕ) where
       (λ k. rw (number-past input 8 0 k) refl)
       (le-or-lt (0 + 8) (length input))
 
-  pub start-open : {end kind : ℕ} → 9 ≤ length input → NumberAt input 0 8 end → NumberAt input 8 1 kind → Open end kind ≡ startOf input
+  pub start-open : {end kind : ℕ} → firstRecord ≤ length input → NumberAt input 0 8 end → NumberAt input 8 1 kind → Open end kind ≡ startOf input
   unfolding startOf
   start-open h e k = rw (number-here input 8 0 (omega arith), number-here input 1 8 h, ← (e .says), ← (k .says)) refl
 
@@ -96,7 +96,7 @@ module _ (input : List ℕ) (at : ℕ) where
   mark-cut h = rw (number-past input 2 at h) refl
 
   -- whatever its mark, a record whose front is cut is none
-  pub front-cut : length input < at + 20 → itemFrom at (readRecord input at) ≡ Bad
+  pub front-cut : length input < at + recordFront → itemFrom at (readRecord input at) ≡ Bad
   front-cut h =
       ⊎-elim
       (λ whole.
@@ -118,11 +118,11 @@ module _ (input : List ℕ) (at : ℕ) where
   abbrev pub operationAt : (bytes : List ℕ) → Operation
   operationAt bytes = record { tick = numberAt input (at + 2) 8; first = numberAt input (at + 2 + 8) 8; bytes = bytes }
 
-  pub front-whole : at + 20 ≤ length input → eqb (numberAt input at 2) marked ≡ true
-      → readRecord input at ≡ onward (field cellsAt input (at + 20)) (λ bytes next. got (operationAt bytes) next)
+  pub front-whole : at + recordFront ≤ length input → eqb (numberAt input at 2) marked ≡ true
+      → readRecord input at ≡ onward (field cellsAt input (at + recordFront)) (λ bytes next. got (operationAt bytes) next)
   unfolding readRecord _>>=_ onward refuse_unless_ give
   front-whole h mark =
-      let start : at + 2 + 8 + 8 + 2 ≡ at + 20 = omega arith in
+      let start : at + 2 + 8 + 8 + 2 ≡ at + recordFront = omega arith in
       rw (
         number-here input 2 at (omega arith),
         mark,
@@ -133,28 +133,28 @@ module _ (input : List ℕ) (at : ℕ) where
       )
       refl
 
-  pub item-short : at < length input → length input - at < 20 → Bad ≡ itemAt input at
+  pub item-short : at < length input → length input - at < recordFront → Bad ≡ itemAt input at
   item-short h k = sym (front-cut (omega arith)) ∙ item-within h
 
-  pub item-wrong : {mark : ℕ} → 20 ≤ length input - at → NumberAt input at 2 mark → (mark ≡ marked → ⊥) → Bad ≡ itemAt input at
+  pub item-wrong : {mark : ℕ} → recordFront ≤ length input - at → NumberAt input at 2 mark → (mark ≡ marked → ⊥) → Bad ≡ itemAt input at
   item-wrong {mark} h m n =
       let e : eqb (numberAt input at 2) marked ≡ false = ne-eqb (numberAt input at 2) marked (λ p. n (m .says ∙ p)) in
       sym (wrong-mark (omega arith) e) ∙ item-within (omega arith)
 
-  module _ {mark cells : ℕ} (front : 20 ≤ length input - at) (is-mark : NumberAt input at 2 mark) (right : mark ≡ marked) (is-length : NumberAt input (at + 20 - 2) 2 cells) where
-    marks : readRecord input at ≡ onward (field cells input (at + 20)) (λ bytes next. got (operationAt bytes) next)
+  module _ {mark cells : ℕ} (front : recordFront ≤ length input - at) (is-mark : NumberAt input at 2 mark) (right : mark ≡ marked) (is-length : NumberAt input (at + recordFront - 2) 2 cells) where
+    marks : readRecord input at ≡ onward (field cells input (at + recordFront)) (λ bytes next. got (operationAt bytes) next)
     marks =
-        let there : at + 20 - 2 ≡ at + 2 + 8 + 8 = omega arith in
+        let there : at + recordFront - 2 ≡ at + 2 + 8 + 8 = omega arith in
         let are : cells ≡ cellsAt = rw there at (is-length .says) in
         rw are (front-whole (omega arith) (eq-eqb (numberAt input at 2) marked (sym (is-mark .says) ∙ right)))
 
-    pub item-cut : length input - (at + 20) < cells → Bad ≡ itemAt input at
+    pub item-cut : length input - (at + recordFront) < cells → Bad ≡ itemAt input at
     unfolding onward field
-    item-cut h = sym (rw (marks, lt-leb (at + 20 + cells) (length input) (omega arith)) refl) ∙ item-within (omega arith)
+    item-cut h = sym (rw (marks, lt-leb (at + recordFront + cells) (length input) (omega arith)) refl) ∙ item-within (omega arith)
 
-    pub item-record : {tick first : ℕ} → cells ≤ length input - (at + 20) → NumberAt input (at + 2) 8 tick → NumberAt input (at + 2 + 8) 8 first
-        → Record tick first (at + 20) cells (at + 20 + cells) ≡ itemAt input at
+    pub item-record : {tick first : ℕ} → cells ≤ length input - (at + recordFront) → NumberAt input (at + 2) 8 tick → NumberAt input (at + 2 + 8) 8 first
+        → Record tick first (at + recordFront) cells (at + recordFront + cells) ≡ itemAt input at
     unfolding onward field
     item-record h t f =
-        let sized : length (take cells (drop (at + 20) input)) ≡ cells = length-take-le cells (drop (at + 20) input) (rw (length-drop (at + 20) input) h) in
-        sym (rw (marks, le-leb (at + 20 + cells) (length input) (omega arith), sized, ← (t .says), ← (f .says)) refl) ∙ item-within (omega arith)
+        let sized : length (take cells (drop (at + recordFront) input)) ≡ cells = length-take-le cells (drop (at + recordFront) input) (rw (length-drop (at + recordFront) input) h) in
+        sym (rw (marks, le-leb (at + recordFront + cells) (length input) (omega arith), sized, ← (t .says), ← (f .says)) refl) ∙ item-within (omega arith)

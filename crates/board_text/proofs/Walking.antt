@@ -15,7 +15,7 @@ use Rattle.history.specs.Words.{Operation}
 use Rattle.history.specs.File.{Read, got, fault, onward, field, number}
 use Rattle.history.specs.Printed.{Records, bad, all, onto, nextRecord, readRecord, recordsFrom, inputOf}
 use Rattle.history.proofs.FileReads.{got-value, got-next, fault-got}
-use Rattle.board_text.specs.Input.{itemFrom, itemAt, recordsAt, inputFrom, recordsOf}
+use Rattle.board_text.specs.Input.{itemFrom, itemAt, recordsAt, inputFrom, recordsOf, recordFront, firstRecord}
 use Rattle.board_text.specs.declared.input.Item.{Item}
 use Rattle.board_text.specs.declared.input.Item.the-variants.{End, Bad, Record}
 use Rattle.board_text.proofs.Records.{numberAt, marked, cellsAt, operationAt, number-here, number-past, front-cut, wrong-mark, front-whole}
@@ -24,8 +24,8 @@ use Rattle.board_text.proofs.Records.{numberAt, marked, cellsAt, operat
 
 -- where the bytes of an operation stand, and where the next record does
 pub record Stands (input : List ℕ) (at : ℕ) (o : Operation) (n : ℕ) : Type 0 where
-  pub bytes : o .bytes ≡ take (length (o .bytes)) (drop (at + 20) input)
-  pub next : n ≡ at + 20 + length (o .bytes)
+  pub bytes : o .bytes ≡ take (length (o .bytes)) (drop (at + recordFront) input)
+  pub next : n ≡ at + recordFront + length (o .bytes)
   pub inside : n ≤ length input
 
 -- the record at a position, and those behind it
@@ -37,23 +37,23 @@ pub record OneMore (input : List ℕ) (k at tick first start cells next : ℕ) :
 
 bad-record : (at : ℕ) {r : Read Operation} {o : Operation} {n : ℕ} → itemFrom at r ≡ Bad → r ≡ got o n → ⊥
 bad-record at {r} {o} {n} e g =
-    let f : Record (o .tick) (o .first) (at + 20) (length (o .bytes)) n ≡ Bad = rw g at e in
+    let f : Record (o .tick) (o .first) (at + recordFront) (length (o .bytes)) n ≡ Bad = rw g at e in
     let z : _≡_ {A = ℕ} 0 1 = cc in
     omega arith
 
 module _ (input : List ℕ) (at : ℕ) where
-  field-got : (cells : ℕ) {o : Operation} {n : ℕ} → onward (field cells input (at + 20)) (λ bytes next. got (operationAt input at bytes) next) ≡ got o n
+  field-got : (cells : ℕ) {o : Operation} {n : ℕ} → onward (field cells input (at + recordFront)) (λ bytes next. got (operationAt input at bytes) next) ≡ got o n
       → Stands input at o n
   unfolding onward field
-  field-got cells {o} {n} e = go (leb (at + 20 + cells) (length input)) refl e
+  field-got cells {o} {n} e = go (leb (at + recordFront + cells) (length input)) refl e
     where
-      go : (t : Bool) → leb (at + 20 + cells) (length input) ≡ t
-          → onward (cond t (got (take cells (drop (at + 20) input)) (at + 20 + cells)) (fault 17)) (λ bytes next. got (operationAt input at bytes) next) ≡ got o n
+      go : (t : Bool) → leb (at + recordFront + cells) (length input) ≡ t
+          → onward (cond t (got (take cells (drop (at + recordFront) input)) (at + recordFront + cells)) (fault 17)) (λ bytes next. got (operationAt input at bytes) next) ≡ got o n
           → Stands input at o n
       go true h g =
-          let room : at + 20 + cells ≤ length input = leb-true (at + 20 + cells) (length input) h in
-          let sized : length (take cells (drop (at + 20) input)) ≡ cells =
-          length-take-le cells (drop (at + 20) input) (rw (length-drop (at + 20) input) (omega arith)) in
+          let room : at + recordFront + cells ≤ length input = leb-true (at + recordFront + cells) (length input) h in
+          let sized : length (take cells (drop (at + recordFront) input)) ≡ cells =
+          length-take-le cells (drop (at + recordFront) input) (rw (length-drop (at + recordFront) input) (omega arith)) in
           rw (← (got-value g), ← (got-next g)) (record { bytes = rw sized refl; next = rw sized refl; inside = room })
       go false h g = absurd (fault-got g)
 
@@ -66,7 +66,7 @@ module _ (input : List ℕ) (at : ℕ) where
       (λ mark. absurd (bad-record at (wrong-mark input at (omega arith) mark) e))
       (bool-cases (eqb (numberAt input at 2) marked)))
       (λ cut. absurd (bad-record at (front-cut input at cut) e))
-      (le-or-lt (at + 20) (length input))
+      (le-or-lt (at + recordFront) (length input))
 
 -- ── the records from a position on ──
 
@@ -147,7 +147,7 @@ module _ (input : List ℕ) (k at : ℕ) where
           ap (λ (f : ℕ). recordsFrom f k input at) (suc-of (length input) (omega arith)) ∙ records-fault input (length input - 1) k at within q
 
   -- the record that was read, and those behind it
-  one-more : {o : Operation} {n : ℕ} → at < length input → readRecord input at ≡ got o n → OneMore input k at (o .tick) (o .first) (at + 20) (length (o .bytes)) n
+  one-more : {o : Operation} {n : ℕ} → at < length input → readRecord input at ≡ got o n → OneMore input k at (o .tick) (o .first) (at + recordFront) (length (o .bytes)) n
   one-more {o} {n} within q =
       let s : Stands input at o n = record-stands input at q in
       let there : recordsAt k input at ≡ onto o (recordsAt (suc k) input n) =
@@ -192,13 +192,13 @@ module _ (input : List ℕ) where
   unfolding inputFrom
   fields e k = ap₂ (λ (a b : Read ℕ). inputOf a b (recordsAt 1 input) .records) e k
 
-  pub records-short : length input < 9 → recordsOf input ≡ bad 0
+  pub records-short : length input < firstRecord → recordsOf input ≡ bad 0
   records-short h =
       ⊎-elim
       (λ k. fields (number-here input 8 0 k) (number-past input 1 8 h) ∙ no-kind (recordsAt 1 input) (numberAt input 0 8) 8 17)
       (λ k. fields (number-past input 8 0 k) refl ∙ no-end (recordsAt 1 input) 17 (number 1 input 8))
       (le-or-lt (0 + 8) (length input))
 
-  pub records-start : 9 ≤ length input → recordsOf input ≡ recordsAt 1 input 9
+  pub records-start : firstRecord ≤ length input → recordsOf input ≡ recordsAt 1 input firstRecord
   records-start h =
-      fields (number-here input 8 0 (omega arith)) (number-here input 1 8 h) ∙ whole-input (recordsAt 1 input) (numberAt input 0 8) 8 (numberAt input 8 1) 9
+      fields (number-here input 8 0 (omega arith)) (number-here input 1 8 h) ∙ whole-input (recordsAt 1 input) (numberAt input 0 8) 8 (numberAt input 8 1) firstRecord

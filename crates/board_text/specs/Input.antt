@@ -40,18 +40,22 @@ startOf input = startFrom (number 8 input 0) (number 1 input 8)
 
 -- ── a record ──
 
--- the bytes of a record at `at` stand behind its mark (2), tick (8), first cell (8) and length (2)
-abbrev pub bytesFrom : (at : ℕ) → ℕ
-bytesFrom at = at + 20
+-- a record's bytes stand behind its mark (2), tick (8), first cell (8) and length (2)
+abbrev pub recordFront : ℕ
+recordFront = 20
 
 abbrev pub itemFrom : (at : ℕ) → Read Operation → Item
-itemFrom at (got o next) = Record (o .tick) (o .first) (bytesFrom at) (length (o .bytes)) next
+itemFrom at (got o next) = Record (o .tick) (o .first) (at + recordFront) (length (o .bytes)) next
 itemFrom at (fault n) = Bad
 
 unfoldable pub itemAt : (input : List ℕ) (at : ℕ) → Item
 itemAt input at = cond (leb (length input) at) End (itemFrom at (readRecord input at))
 
 -- ── the records ──
+
+-- the first one stands behind end tick (8) and kind (1)
+abbrev pub firstRecord : ℕ
+firstRecord = 9
 
 -- the records from a position on, counted from k
 abbrev pub recordsAt : (k : ℕ) (input : List ℕ) (at : ℕ) → Records

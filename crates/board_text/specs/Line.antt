@@ -2,9 +2,9 @@
 use mathlib.Core.Path.{_≡_}
 use mathlib.Core.List.{List, [], _∷_, _++_}
 use Prim.Native.Nat.{ℕ, _+_, _*_, _≤_, min, max}
-use lib.ListN.{length}
+use lib.ListN.{length, take}
 use lib.Seq.{sets}
-use Rattle.history.specs.Words.{Block, firstCell, size}
+use Rattle.history.specs.Words.{Block, firstCell}
 use Rattle.history.specs.Reads.{clockLabel}
 use Rattle.history.specs.Printed.{space, newline, decimal, fourDigits, hexBytes, blockLine}
 
@@ -26,9 +26,17 @@ blockFront first cells created destroyed =
 unfoldable pub blockLineOf : (first created destroyed : ℕ) (bytes : List ℕ) → List ℕ
 blockLineOf first created destroyed bytes = blockFront first (length bytes) created destroyed ++ (hexBytes bytes [] ++ (newline ∷ []))
 
--- The parts appended are the line, the bytes may be given part after part, and no part is longer than this.
+-- no front is longer: four numbers, the label, and a space behind each
+abbrev pub frontMost : ℕ
+frontMost = 89
+
+-- What is put where there is room stands there, up to the next position; the parts appended are the line; the bytes may be given part after part; and
+-- no text is longer than this.
 pub record LawOfLines : Type 0 where
+  pub shown : (out : List ℕ) (at : ℕ) (text after : List ℕ) (next : ℕ) → Put out at text after next → at + length text ≤ length out
+      → take next after ≡ take at out ++ text
   pub in-parts : (b : Block) → blockLine b ≡ blockLineOf (firstCell b) (b .created) (b .destroyed) (b .stretch .bytes)
   pub of-bytes : (xs ys : List ℕ) → hexBytes (xs ++ ys) [] ≡ hexBytes xs [] ++ hexBytes ys []
-  pub front-length : (first cells created destroyed : ℕ) → length (blockFront first cells created destroyed) ≤ 89
+  pub front-length : (first cells created destroyed : ℕ) → length (blockFront first cells created destroyed) ≤ frontMost
   pub bytes-length : (bytes : List ℕ) → length (hexBytes bytes []) ≡ 2 * length bytes
+  pub number-length : (n : ℕ) (text : List ℕ) → length (decimal n text) ≤ 20 + length text

@@ -5,7 +5,7 @@ use Prim.Native.Nat.{ℕ, _≤_}
 use lib.ListN.{length, take, drop}
 use Rattle.history.specs.Words.{Operation}
 use Rattle.history.specs.Printed.{Input, Records, all, inputMost, parsed}
-use Rattle.board_text.specs.Input.{itemAt, inputFrom, recordsOf}
+use Rattle.board_text.specs.Input.{itemAt, firstRecord, inputFrom, recordsOf}
 use Rattle.board_text.specs.declared.input.Item.the-variants.{End, Record}
 
 -- the operations met from a position on, up to the end
@@ -18,5 +18,5 @@ pub data Walk (input : List ℕ) : (at : ℕ) → List Operation → Type 0 wher
 -- the first one on meets exactly its operations.
 pub record LawOfInput : Type 0 where
   pub first-bytes : (standardInput : List ℕ) → parsed standardInput ≡ inputFrom (take inputMost standardInput)
-  pub all-met : (input : List ℕ) (os : List Operation) → recordsOf input ≡ all os → Walk input 9 os
-  pub no-others : (input : List ℕ) (os : List Operation) → 9 ≤ length input → Walk input 9 os → recordsOf input ≡ all os
+  pub all-met : (input : List ℕ) (os : List Operation) → recordsOf input ≡ all os → Walk input firstRecord os
+  pub no-others : (input : List ℕ) (os : List Operation) → firstRecord ≤ length input → Walk input firstRecord os → recordsOf input ≡ all os

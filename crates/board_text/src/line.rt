@@ -11,6 +11,8 @@ ghost use Rattle.board_text.specs.Line.{Put, blockFront, blockLineOf, La
 
 // No number of 64 bits has more digits.
 const DIGITS: usize = 20;
+// No front of a block's line is longer: four numbers, the label, and a space behind each.
+pub const FRONT: usize = 4 * (DIGITS + 1) + 5;
 
 const SPACE: u8 = b' ';
 
@@ -47,7 +49,7 @@ pub fn put(out: &mut [u8], at: usize, character: u8) -> usize
 }
 
 // Characters one after the other.
-pub fn text(out: &mut [u8], at: usize, characters: &[u8]) -> usize
+fn text(out: &mut [u8], at: usize, characters: &[u8]) -> usize
     ensures { λ r. ⌜ Put (now (out .entry)) at (now (characters .entry)) (now (out .exit)) r ⌝ }
 {
     let mut next = at;
@@ -62,7 +64,7 @@ pub fn text(out: &mut [u8], at: usize, characters: &[u8]) -> usize
 // ── numbers ──
 
 // A number in decimal. Its digits are spelled from the last to the first.
-pub fn decimal(out: &mut [u8], at: usize, n: u64) -> usize
+fn decimal(out: &mut [u8], at: usize, n: u64) -> usize
     ensures { λ r. ⌜ Put (now (out .entry)) at (Printed·decimal n []) (now (out .exit)) r ⌝ }
 {
     let mut digits = [0u8; DIGITS];
@@ -99,7 +101,7 @@ pub fn hex(out: &mut [u8], at: usize, bytes: &[u8]) -> usize
 }
 
 // The clock label of a cell, in four digits.
-pub fn label(out: &mut [u8], at: usize, cell: u64) -> usize
+fn label(out: &mut [u8], at: usize, cell: u64) -> usize
     ensures { λ r. ⌜ Put (now (out .entry)) at (fourDigits (clockLabel cell) []) (now (out .exit)) r ⌝ }
 {
     let n = clock::clock_label(cell);
