@@ -4,9 +4,5 @@ use Rattle.board_text.proofs.Putting.{put-append}
 use Rattle.board_text.proofs.line.bad_record.Statement.{statement}
 use Rattle.board_text.proofs.line.bad_record.Tie as tie
 
-returns : tie.Need-returns
-returns c =
-    put-append (c .before .before .before .before .before .before .text .ensures) (c .before .before .last-field .ensures)
-
 pub bad-record-spec : {M : Type 1} → statement M
-bad-record-spec = tie.close (tie.spec (λ c. search needs) (λ c κs. search needs) (λ c κs. search needs) (λ c. search needs) returns)
+bad-record-spec = tie.close (tie.spec (λ c. search needs) (λ c κs. search needs) (λ c κs. search needs) (λ c. search needs) (λ c. search put-append))

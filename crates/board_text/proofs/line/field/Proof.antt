@@ -4,9 +4,5 @@ use Rattle.board_text.proofs.Lines.{field-put}
 use Rattle.board_text.proofs.line.field.Statement.{statement}
 use Rattle.board_text.proofs.line.field.Tie as tie
 
-returns : tie.Need-returns
-returns c =
-    field-put (c .before .before .before .before .before .before .before .before .before .args .n) (c .before .before .before .before .before .before .decimal .ensures) (c .before .before .put .ensures)
-
 pub field-spec : {M : Type 1} → statement M
-field-spec = tie.close (tie.spec (λ c κs. search needs) (λ c κs. search needs) (λ c. search needs) returns)
+field-spec = tie.close (tie.spec (λ c κs. search needs) (λ c κs. search needs) (λ c. search needs) (λ c. search field-put))

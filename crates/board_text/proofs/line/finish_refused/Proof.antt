@@ -4,9 +4,5 @@ use Rattle.board_text.proofs.Lines.{refused-put}
 use Rattle.board_text.proofs.line.finish_refused.Statement.{statement}
 use Rattle.board_text.proofs.line.finish_refused.Tie as tie
 
-returns : tie.Need-returns
-returns c =
-    refused-put _ (c .before .before .before .before .before .before .before .before .before .before .args .number) (c .before .before .before .before .before .before .text .ensures) (c .before .before .refused .ensures)
-
 pub finish-refused-spec : {M : Type 1} → statement M
-finish-refused-spec = tie.close (tie.spec (λ c. search needs) (λ c κs. search needs) (λ c κs. search needs) (λ c. search needs) returns)
+finish-refused-spec = tie.close (tie.spec (λ c. search needs) (λ c κs. search needs) (λ c κs. search needs) (λ c. search needs) (λ c. search refused-put))

@@ -4,13 +4,5 @@ use Rattle.board_text.proofs.Lines.{hex-byte}
 use Rattle.board_text.proofs.line.hex_byte.Statement.{statement}
 use Rattle.board_text.proofs.line.hex_byte.Tie as tie
 
-returns : tie.Need-returns
-returns c =
-    hex-byte (c .before .before .before .before .before .before .before .before .before .before .before .args .byte)
-    (c .before .before .before .before .before .before .before .before .hex-digit .ensures) (c .before .before .before .hex-digit2 .ensures)
-    (c .before .before .before .before .before .before .before .put .ensures) (c .before .before .put2 .ensures)
-
 pub hex-byte-spec : {M : Type 1} → statement M
-hex-byte-spec =
-    tie.close
-    (tie.spec (λ c κs. search needs) (λ c κs. search needs) (λ c κs. search needs) (λ c κs. search needs) (λ c. search needs) returns)
+hex-byte-spec = tie.close (tie.spec (λ c κs. search needs) (λ c κs. search needs) (λ c κs. search needs) (λ c κs. search needs) (λ c. search needs) (λ c. search hex-byte))

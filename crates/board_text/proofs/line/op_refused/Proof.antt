@@ -5,9 +5,5 @@ use Rattle.board_text.proofs.Lines.{refused-put}
 use Rattle.board_text.proofs.line.op_refused.Statement.{statement}
 use Rattle.board_text.proofs.line.op_refused.Tie as tie
 
-returns : tie.Need-returns
-returns c =
-    refused-put _ (c .before .before .before .before .before .before .before .before .before .before .before .before .before .before .args .number) (put-append (c .before .before .before .before .before .before .before .before .before .before .text .ensures) (c .before .before .before .before .before .before .decimal .ensures)) (c .before .before .refused .ensures)
-
 pub op-refused-spec : {M : Type 1} → statement M
-op-refused-spec = tie.close (tie.spec (λ c. search needs) (λ c κs. search needs) (λ c κs. search needs) (λ c κs. search needs) (λ c. search needs) returns)
+op-refused-spec = tie.close (tie.spec (λ c. search needs) (λ c κs. search needs) (λ c κs. search needs) (λ c κs. search needs) (λ c. search needs) (λ c. search (refused-put, put-append)))
