@@ -1,16 +1,15 @@
 -- The loop of `check_records`: the check of what is left is the check of all. Assumes nothing.
 use mathlib.Core.Path.{_≡_, refl, sym, _∙_, ap}
 use mathlib.Core.List.{List}
-use Prim.Native.Nat.{ℕ, suc, _+_, _-_, _≤_, _<_}
+use Prim.Native.Nat.{ℕ, _+_, _-_, _≤_, _<_}
 use native.Mathlib.Numerals.{add-one}
 use native.Mathlib.Omega.{arith}
-use lib.ListN.{length, take, drop}
+use lib.ListN.{length}
 use Rattle.history.specs.Words.{Operation}
 use Rattle.history.specs.Printed.{Records, bad, all, onto}
 use Rattle.board_text.specs.Input.{itemAt, recordsAt, recordsOf, checkOf, firstRecord}
 use Rattle.board_text.specs.declared.input.Item.{Item}
 use Rattle.board_text.specs.declared.input.Item.the-variants.{End, Bad, Record}
-use Rattle.board_text.specs.declared.input.Check.{Check}
 use Rattle.board_text.specs.declared.input.Check.the-variants.{Good, Bad as BadAt}
 use Rattle.board_text.proofs.Walking.{OneMore, records-end, records-bad, records-on, records-short, records-start}
 

@@ -1,15 +1,15 @@
 -- Digits: decimal ones spelled from the last to the first, and hexadecimal ones. Assumes nothing.
 use mathlib.Core.Path.{_≡_, refl, sym, _∙_, ap}
-use mathlib.Core.Logic.{_⊎_, inl, inr, ⊎-elim}
+use mathlib.Core.Logic.{_⊎_, ⊎-elim}
 use mathlib.Core.List.{List, [], _∷_, _++_}
-use Prim.Native.Nat.{ℕ, zero, suc, _+_, _*_, _-_, _/_, _%_, _^_, _≤_, _<_}
+use Prim.Native.Nat.{ℕ, zero, suc, _+_, _-_, _/_, _%_, _^_, _≤_, _<_}
 use native.Mathlib.Nat.{pow-suc}
 use native.Mathlib.Omega.{arith}
-use lib.ListN.{length, getD, set, take, drop, length-set, length-drop, drop-of-length-le}
+use lib.ListN.{length, set, take, drop, length-set, length-drop, drop-of-length-le}
 use lib.Seq.{take-all, drop-cons, lt-length-set, getD-set-same, drop-set-lt}
 use borrow.Author.Tests.{lt-ltb, le-ltb}
 use Rattle.lists.proofs.Numbers.{le-or-lt, suc-of}
-use Rattle.history.specs.Printed.{digit, digits, decimal, hexDigit, hexBytes}
+use Rattle.history.specs.Printed.{digit, digits, decimal, hexDigit}
 
 -- ── the returns of `hex_digit` ──
 

@@ -1,21 +1,20 @@
 -- The law of the input: the walk meets the operations that the input has, and no others. Assumes nothing.
 use mathlib.Core.Path.{_≡_, refl, sym, _∙_, ap}
-use mathlib.Core.Logic.{_⊎_, inl, inr, ⊎-elim}
+use mathlib.Core.Logic.{_⊎_, ⊎-elim}
 use mathlib.Core.List.{List, [], _∷_}
-use Prim.Native.Nat.{ℕ, zero, suc, _+_, _≤_, _<_}
+use Prim.Native.Nat.{ℕ, suc}
 use native.Mathlib.Omega.{arith}
 use lib.ListN.{length, take, drop}
 use Rattle.lists.proofs.Numbers.{le-or-lt}
 use Rattle.history.specs.Words.{Operation}
 use Rattle.history.specs.Printed.{Records, bad, all, onto, inputOf, parsed}
 use Rattle.history.specs.File.{Read, got, fault, number}
-use Rattle.board_text.specs.Input.{startFrom, startOf, itemAt, recordsAt, inputFrom, recordsOf, firstRecord}
-use Rattle.board_text.specs.declared.input.Start.{Start}
+use Rattle.board_text.specs.Input.{startFrom, startOf, itemAt, recordsAt, inputFrom, firstRecord}
 use Rattle.board_text.specs.declared.input.Start.the-variants.{Short, Open}
 use Rattle.board_text.specs.Walk.{Walk, walk-end, walk-on, LawOfInput}
 use Rattle.board_text.specs.declared.input.Item.{Item}
 use Rattle.board_text.specs.declared.input.Item.the-variants.{End, Bad, Record}
-use Rattle.board_text.proofs.Walking.{OneMore, records-end, records-bad, records-on, records-short, records-start}
+use Rattle.board_text.proofs.Walking.{records-end, records-bad, records-on, records-short, records-start}
 
 -- ── records apart ──
 

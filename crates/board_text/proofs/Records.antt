@@ -1,22 +1,20 @@
 -- What stands at a position of the input: a step for each return of `opening` and `record_at`. Assumes nothing.
-use mathlib.Core.Path.{_≡_, refl, sym, _∙_, ap}
-use mathlib.Core.Logic.{_⊎_, inl, inr, ⊎-elim}
-use mathlib.Core.Bool.{Bool, true, false, cond}
-use mathlib.Core.List.{List, [], _∷_}
-use Prim.Native.Nat.{ℕ, zero, suc, _+_, _*_, _-_, _≤_, _<_}
+use mathlib.Core.Path.{_≡_, refl, sym, _∙_}
+use mathlib.Core.Logic.{_⊎_, ⊎-elim}
+use mathlib.Core.Bool.{true, false}
+use mathlib.Core.List.{List}
+use Prim.Native.Nat.{ℕ, _+_, _-_, _≤_, _<_}
 use native.Mathlib.Omega.{arith}
-use lib.Dec.{leb, eqb}
+use lib.Dec.{eqb}
 use lib.ListN.{length, take, drop, length-drop}
 use lib.Seq.{length-take-le}
 use borrow.Author.Tests.{le-leb, lt-leb, eq-eqb, ne-eqb}
 use Rattle.lists.proofs.Numbers.{le-or-lt, bool-cases}
 use Rattle.history.specs.Words.{Operation}
-use Rattle.history.specs.File.{numberOf, Read, got, fault, onward, _>>=_, give, refuse_unless_, field, number}
+use Rattle.history.specs.File.{numberOf, got, fault, onward, _>>=_, give, refuse_unless_, field, number}
 use Rattle.history.specs.Printed.{readRecord}
 use Rattle.board_text.specs.Input.{NumberAt, startOf, itemFrom, itemAt, recordFront, firstRecord}
-use Rattle.board_text.specs.declared.input.Start.{Start}
 use Rattle.board_text.specs.declared.input.Start.the-variants.{Short, Open}
-use Rattle.board_text.specs.declared.input.Item.{Item}
 use Rattle.board_text.specs.declared.input.Item.the-variants.{End, Bad, Record}
 
 -- ── numbers ──

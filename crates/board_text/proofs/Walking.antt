@@ -1,22 +1,21 @@
 -- Going from record to record by `record_at`, from the first one on, gives the records of the input: the laws of `recordsAt`, one for each thing that
 -- may stand at a position. Assumes nothing.
 use mathlib.Core.Path.{_≡_, refl, sym, _∙_, ap, ap₂}
-use mathlib.Core.Logic.{_⊎_, inl, inr, ⊎-elim}
+use mathlib.Core.Logic.{_⊎_, ⊎-elim}
 use mathlib.Core.Bool.{Bool, true, false, cond}
-use mathlib.Core.List.{List, [], _∷_}
-use Prim.Native.Nat.{ℕ, zero, suc, _+_, _*_, _-_, _≤_, _<_}
+use mathlib.Core.List.{List, []}
+use Prim.Native.Nat.{ℕ, zero, suc, _+_, _-_, _≤_, _<_}
 use native.Mathlib.Omega.{arith}
 use lib.Dec.{leb, eqb}
 use lib.ListN.{length, take, drop, length-drop}
 use lib.Seq.{length-take-le}
-use borrow.Author.Tests.{le-leb, lt-leb, leb-true, leb-false, eqb-true}
+use borrow.Author.Tests.{le-leb, lt-leb, leb-true, leb-false}
 use Rattle.lists.proofs.Numbers.{le-or-lt, bool-cases, suc-of}
 use Rattle.history.specs.Words.{Operation}
 use Rattle.history.specs.File.{Read, got, fault, onward, field, number}
 use Rattle.history.specs.Printed.{Records, bad, all, onto, nextRecord, readRecord, recordsFrom, inputOf}
 use Rattle.history.proofs.FileReads.{got-value, got-next, fault-got}
 use Rattle.board_text.specs.Input.{itemFrom, itemAt, recordsAt, inputFrom, recordsOf, recordFront, firstRecord}
-use Rattle.board_text.specs.declared.input.Item.{Item}
 use Rattle.board_text.specs.declared.input.Item.the-variants.{End, Bad, Record}
 use Rattle.board_text.proofs.Records.{numberAt, marked, cellsAt, operationAt, number-here, number-past, front-cut, wrong-mark, front-whole}
 

@@ -4,7 +4,7 @@ use mathlib.Core.List.{List, [], _∷_}
 use Prim.Native.Nat.{ℕ, _≤_}
 use lib.ListN.{length, take, drop}
 use Rattle.history.specs.Words.{Operation}
-use Rattle.history.specs.Printed.{Input, Records, bad, all, inputMost, parsed}
+use Rattle.history.specs.Printed.{bad, all, inputMost, parsed}
 use Rattle.board_text.specs.Input.{startOf, itemAt, firstRecord, inputFrom, recordsOf}
 use Rattle.board_text.specs.declared.input.Start.the-variants.{Short, Open}
 use Rattle.board_text.specs.declared.input.Item.the-variants.{End, Record}

@@ -1,5 +1,4 @@
 -- `board_text::input::number_at` meets its contract. The loop's invariant: the bytes from `i` on are read. Assumes nothing.
-use Prim.Native.Nat.{_≤_}
 use borrow.Author.Needs.{needs}
 use native.Mathlib.Omega.{arith}
 use Rattle.board_text.proofs.Numbers.{Reached, reached-none, reached-one, reached-room, reached-all}

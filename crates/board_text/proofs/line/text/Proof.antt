@@ -1,10 +1,10 @@
 -- `board_text::line::text` meets its contract. The loop's invariant: the first `i` characters are put. Assumes nothing.
 use mathlib.Core.Path.{_≡_}
-use Prim.Native.Nat.{_≤_, _-_}
+use Prim.Native.Nat.{_-_}
 use borrow.Author.Needs.{needs}
 use lib.ListN.{length, take}
 use Rattle.board_text.specs.Line.{Put}
-use Rattle.board_text.proofs.Putting.{put-none, put-one, put-all}
+use Rattle.board_text.proofs.Putting.{put-one, put-all}
 use Rattle.board_text.proofs.line.text.Statement.{statement}
 use Rattle.board_text.proofs.line.text.Tie as tie
 
