@@ -12,7 +12,7 @@ use Rattle.history.specs.Ledger.{opened, firstChange, changed, readBy, u
 use Rattle.history.specs.Reads.{findBy, shows, seen, cellsBy, labelOf, clockLabel}
 use Rattle.history.specs.Refusals.{firstOf, openRefusals, recordRefusals, finishRefusals, windowRefusals, blockRefusals}
 use Rattle.history.specs.Calls.{answerTo, acceptedBy, leaves, after, answers, afterAll}
-use Rattle.history.specs.Boards.{marked, edges, loading, told, played, expected, loadedAs, Load, listingInput, listingOutput, MarkedBoards}
+use Rattle.history.specs.Boards.{marked, edges, loading, told, played, expected, loadedAs, Load, listingInput, listingOutput, refusedInput, refusedOutput, MarkedBoards}
 use Rattle.history.specs.Printed.{printed, parsed, inputOf, recordsFrom, nextRecord, onto, readRecord, recordLines, openLines, linesFrom, lastLines, opLine, refusedLine, blockLine, digits, fourDigits, hexDigit, hexBytes}
 
 marked-right : map played marked ≡ map expected marked
@@ -31,6 +31,10 @@ listing-printed : printed listingInput ≡ listingOutput
 unfolding printed listingInput listingOutput parsed inputOf recordsFrom nextRecord onto readRecord number field give onward _>>=_ refuse_unless_ numberOf bytesOf recordLines openLines linesFrom lastLines opLine refusedLine blockLine digits fourDigits hexDigit hexBytes flatten flatMap opened answers afterAll after leaves answerTo acceptedBy recordBy finishBy settled readBy updateBy changed firstChange has stretchOf byteAt heldAt clip clipPiece below inside above filterMap firstOf openRefusals recordRefusals finishRefusals windowRefusals blockRefusals tooShort pieceSpace insert addLocation addAll treeOf nodeCount entryCount path visited window find findBy shows seen cellsBy countFrom labelOf clockLabel
 listing-printed = refl
 
+refusal-printed : printed refusedInput ≡ refusedOutput
+unfolding printed refusedInput refusedOutput parsed inputOf recordsFrom nextRecord onto readRecord number field give onward _>>=_ refuse_unless_ numberOf bytesOf recordLines openLines linesFrom lastLines opLine refusedLine blockLine digits fourDigits hexDigit hexBytes flatten flatMap opened answers afterAll after leaves answerTo acceptedBy recordBy finishBy settled readBy updateBy changed firstChange has stretchOf byteAt heldAt clip clipPiece below inside above filterMap firstOf openRefusals recordRefusals finishRefusals windowRefusals blockRefusals tooShort pieceSpace insert addLocation addAll treeOf nodeCount entryCount path visited window find findBy shows seen cellsBy countFrom labelOf clockLabel
+refusal-printed = refl
+
 pub boards-right : MarkedBoards
 unfolding printed listingInput listingOutput parsed inputOf recordsFrom nextRecord onto readRecord number field give onward _>>=_ refuse_unless_ numberOf bytesOf recordLines openLines linesFrom lastLines opLine refusedLine blockLine digits fourDigits hexDigit hexBytes flatten flatMap opened answers afterAll after leaves answerTo acceptedBy recordBy finishBy settled readBy updateBy changed firstChange has stretchOf byteAt heldAt clip clipPiece below inside above filterMap firstOf openRefusals recordRefusals finishRefusals windowRefusals blockRefusals tooShort pieceSpace insert addLocation addAll treeOf nodeCount entryCount path visited window find findBy shows seen cellsBy countFrom labelOf clockLabel
 boards-right = record {
@@ -38,6 +42,7 @@ boards-right = record {
   refusals = edges-right;
   files = files-right;
   printed-listing = listing-printed;
+  printed-refusal = refusal-printed;
   cut-record = refl;
   wrong-mark = refl;
   short-input = refl;

@@ -171,7 +171,7 @@ law-finish l h e law = record {
 
 -- ── a call, and a list of calls ──
 
-law-after : (l : Ledger) (h : List Operation) (k : Call) → LedgerLaw l h → LedgerLaw (after l k) (noted h k (answerTo l k))
+pub law-after : (l : Ledger) (h : List Operation) (k : Call) → LedgerLaw l h → LedgerLaw (after l k) (noted h k (answerTo l k))
 unfolding after leaves noted answerTo acceptedBy
 law-after l h (recordCall scratch o) law = go (recordAnswer l scratch o) refl
   where

@@ -1,15 +1,13 @@
 -- Two files: one small enough to be read field by field, and that of the listing of document 01. Assumes nothing.
 use mathlib.Core.Path.{_≡_, refl}
-use lib.ListN.{length}
-use mathlib.Core.Bool.{Bool, true, false}
 use mathlib.Core.List.{List, [], _∷_, flatten, flatMap}
 use Rattle.lists.specs.Lists.{has, count, countFrom, sumOf}
 use Prim.Native.Nat.{ℕ}
 use Rattle.history.specs.Words.{Block}
 use Rattle.history.specs.Lent.{Lent}
-use Rattle.history.specs.Tree.{Tree, treeOf, addAll, addLocation, insert, entriesIn, nodeCount, entryCount, widths}
+use Rattle.history.specs.Tree.{treeOf, addAll, addLocation, insert, entriesIn, nodeCount, entryCount, widths}
 use Rattle.history.specs.Rules.{every, halved, filled, lived, numbered, placed, sorted, ascends, summed, rule23, apart, shares}
-use Rattle.history.specs.File.{fileOf, contents, fileBytes, blockBytes, nodeBytes, bytesOf, numberOf, thoseWith, placeIn, mapTree, nodesOf, Read, got, fault, _>>=_, onward, give, refuse_unless_, field, number, many, readBlock, readNodes, readRoot, readFile, treeFrom, placedIn, rule20, rule21, rule22, Loaded, load}
+use Rattle.history.specs.File.{fileOf, contents, fileBytes, blockBytes, nodeBytes, bytesOf, numberOf, thoseWith, placeIn, mapTree, nodesOf, got, _>>=_, onward, give, refuse_unless_, field, number, many, readBlock, readNodes, readRoot, readFile, treeFrom, placedIn, rule20, rule21, rule22, load}
 
 -- ── field by field ──
 
@@ -48,6 +46,7 @@ earlyFile =
     ∷ (0 ∷ [])
     ∷ [])
 
+-- its bytes
 pub early-written : fileOf 3 2 early (treeOf 2 early) ≡ earlyFile
 unfolding fileOf contents fileBytes blockBytes nodeBytes bytesOf thoseWith placeIn mapTree nodesOf flatten flatMap has countFrom treeOf addAll addLocation insert entriesIn
 early-written = refl

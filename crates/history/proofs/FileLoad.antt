@@ -1,24 +1,25 @@
 -- Loading: what it answers, rule by rule; what is true of an index that it gives; a file that was written is read back, and a loaded index writes
 -- the bytes read. Assumes nothing.
 use mathlib.Core.Path.{_≡_, refl, sym, _∙_, ap}
-use mathlib.Core.Logic.{_⊎_, inl, inr, ⊎-elim}
-use mathlib.Core.Bool.{Bool, true, false, cond, _&&_}
+use mathlib.Core.Logic.{⊎-elim}
+use mathlib.Core.Bool.{Bool, true, false}
 use mathlib.Core.List.{List, [], _∷_, _++_}
-use Prim.Native.Nat.{ℕ, zero, suc, _+_, _-_, _^_, _≤_, _<_}
+use Prim.Native.Nat.{ℕ, _<_, _≤_, _+_, _-_}
 use native.Mathlib.Omega.{arith}
 use lib.ListN.{length, take, drop}
-use lib.Dec.{leb, ltb}
-use borrow.Author.Tests.{ltb-true, lt-leb}
-use Rattle.lists.proofs.Numbers.{le-or-lt, and-left, and-right}
+use Rattle.lists.proofs.Numbers.{le-or-lt}
 use Rattle.history.specs.Words.{Block}
-use Rattle.history.specs.Lent.{Lent}
 use Rattle.history.specs.Tree.{Tree}
-use Rattle.history.specs.Rules.{every, halved, filled, lived, rule23, apart}
-use Rattle.history.specs.File.{Nodes, File, fileBytes, contents, fileOf, nodesOf, Read, got, fault, Reader, onward, _>>=_, give, refuse_unless_, field, number, readFile, treeFrom, endOf, placedIn, rule20, rule21, rule22, Loaded, loadedFrom, load}
+use Rattle.history.specs.File.{fileOf, contents, fileBytes, got, _>>=_, onward, give, refuse_unless_, readFile, treeFrom, rule20, rule21, rule22, load, endOf, Read, fault, Loaded, File, loadedFrom}
+use Rattle.history.specs.Rules.{rule23, apart}
+use Rattle.history.specs.Lent.{Lent}
 use Rattle.history.proofs.FileNumbers.{Bytes}
-use Rattle.history.proofs.FileReads.{Stands, Reads, Spans, spans-taken, Yields, Yielded, got-value, got-next, fault-got}
-use Rattle.history.proofs.FileRoundTrip.{FileFits, reads-file, gives-file}
-use Rattle.history.proofs.FileWritten.{and-parts, nodesOf-treeFrom, Entered, contents-same, IndexFits, contents-fits, rules-enter}
+use Rattle.history.proofs.FileReads.{number-cut}
+use Rattle.history.proofs.FileYields.{spans-taken, got-value, got-next, fault-got, Yielded}
+use Rattle.history.proofs.FileRoundTrip.{reads-file, gives-file, FileFits}
+use Rattle.history.proofs.FileRules.{rule21-decides, rule22-decides, Rule21, Rule22}
+use Rattle.history.proofs.FileIntervals.{nodesOf-treeFrom}
+use Rattle.history.proofs.FileContents.{rules-enter, contents-same, contents-fits, Entered, IndexFits}
 
 -- ── written and read ──
 
@@ -26,10 +27,6 @@ fileOf-some : (kind e : ℕ) (bs : List Block) (tree : Tree) → 0 < length bs �
 unfolding fileOf
 fileOf-some kind e [] tree h = absurd (omega arith)
 fileOf-some kind e (b ∷ bs) tree h = refl
-
-blocks-some : (e : ℕ) (bs : List Block) → rule22 e bs ≡ true → 0 < length bs
-unfolding rule22
-blocks-some e bs h = ltb-true 0 (length bs) (and-left (ltb 0 (length bs)) (every (λ b. filled (b .stretch) && lived e b) bs) h)
 
 -- A file that was written is read back, wherever it stands: the blocks with an entry, and the nodes with their intervals and new numbers.
 pub read-written : (kind e : ℕ) (bs : List Block) (tree : Tree) → 0 < length bs → IndexFits kind e bs tree → (before behind : List ℕ)
@@ -50,33 +47,40 @@ pub record Accepted (n : Lent) (f : File) : Type 0 where
   pub disjoint : apart (f .blocks) ≡ true
 
 module _ (n : Lent) (file : List ℕ) (at : ℕ) where
+  -- 17, 18, 19: whichever comes first in the file
   pub load-fault : (i : ℕ) → readFile file at ≡ fault i → load n file at ≡ fault i
   unfolding load _>>=_ onward
   load-fault i e = rw e refl
 
   module _ (f : File) (next : ℕ) (read : readFile file at ≡ got f next) where
+    -- 20
     pub load-room : rule20 n f ≡ false → load n file at ≡ fault 20
     unfolding load _>>=_ onward refuse_unless_
     load-room a = rw (read, a) refl
 
+    -- 21
     pub load-halves : rule20 n f ≡ true → rule21 (f .nodes) ≡ false → load n file at ≡ fault 21
     unfolding load _>>=_ onward refuse_unless_
     load-halves a b = rw (read, a, b) refl
 
+    -- 22
     pub load-blocks : rule20 n f ≡ true → rule21 (f .nodes) ≡ true → rule22 (endOf (f .nodes)) (f .blocks) ≡ false → load n file at ≡ fault 22
     unfolding load _>>=_ onward refuse_unless_
     load-blocks a b c = rw (read, a, b, c) refl
 
+    -- 23
     pub load-entries : rule20 n f ≡ true → rule21 (f .nodes) ≡ true → rule22 (endOf (f .nodes)) (f .blocks) ≡ true
         → rule23 (endOf (f .nodes)) (f .blocks) (treeFrom (f .nodes)) ≡ false → load n file at ≡ fault 23
     unfolding load _>>=_ onward refuse_unless_
     load-entries a b c d = rw (read, a, b, c, d) refl
 
+    -- 24
     pub load-disjoint : rule20 n f ≡ true → rule21 (f .nodes) ≡ true → rule22 (endOf (f .nodes)) (f .blocks) ≡ true
         → rule23 (endOf (f .nodes)) (f .blocks) (treeFrom (f .nodes)) ≡ true → apart (f .blocks) ≡ false → load n file at ≡ fault 24
     unfolding load _>>=_ onward refuse_unless_
     load-disjoint a b c d e = rw (read, a, b, c, d, e) refl
 
+    -- else it is taken
     pub load-taken : Accepted n f → load n file at ≡ got (loadedFrom f) next
     unfolding load _>>=_ onward refuse_unless_ give
     load-taken h = rw (read, h .room, h .halves, h .blocks, h .entries, h .disjoint) refl
@@ -102,6 +106,7 @@ unfolding refuse_unless_ onward
 refuse-got i true file at k e f = f refl e
 refuse-got i false file at k e f = absurd (fault-got e)
 
+-- an index that was loaded passed every rule
 pub load-accepted : (n : Lent) (file : List ℕ) (at : ℕ) (x : Loaded) (next : ℕ) → load n file at ≡ got x next → LoadedOf n file at x next
 unfolding load _>>=_ give
 load-accepted n file at x next e =
@@ -117,23 +122,20 @@ load-accepted n file at x next e =
 
 -- what was read began inside the file
 pub read-inside : (file : List ℕ) (at : ℕ) (f : File) (next : ℕ) → readFile file at ≡ got f next → at ≤ length file
-unfolding readFile number field _>>=_ onward
+unfolding readFile _>>=_ onward
 read-inside file at f next e =
-    ⊎-elim (λ h. h) (λ h. absurd (fault-got (rw (lt-leb (at + 1) (length file) (omega arith)) at e))) (le-or-lt at (length file))
+    ⊎-elim (λ h. h) (λ h. absurd (fault-got (rw (number-cut 1 file at (omega arith)) at e))) (le-or-lt at (length file))
 
 -- What was read, written again, is the bytes read, if rule 21 holds and every block has an entry.
 pub written-read : (file : List ℕ) → Bytes file → (at : ℕ) (f : File) (next : ℕ) → readFile file at ≡ got f next
-    → rule21 (f .nodes) ≡ true → 0 < length (f .blocks) → Entered (f .blocks) (treeFrom (f .nodes))
+    → Rule21 (f .nodes) → 0 < length (f .blocks) → Entered (f .blocks) (treeFrom (f .nodes))
     → fileOf (f .kind) (endOf (f .nodes)) (f .blocks) (treeFrom (f .nodes)) ≡ take (next - at) (drop at file)
-unfolding rule21
-written-read file small at f next read halves some entered =
+written-read file small at f next read halves some-block entered =
     let e : ℕ = endOf (f .nodes) in
-    let (range, rest) = and-parts (ltb 0 e && leb e (2 ^ 63)) (placedIn 0 e (f .nodes) && halved 0 e (treeFrom (f .nodes))) halves in
-    let nodes : nodesOf 0 e (treeFrom (f .nodes)) ≡ f .nodes = nodesOf-treeFrom 0 e (f .nodes) (and-left (placedIn 0 e (f .nodes)) (halved 0 e (treeFrom (f .nodes))) rest) in
     let says : contents (f .kind) e (f .blocks) (treeFrom (f .nodes)) ≡ f =
-    contents-same (f .kind) e (f .blocks) (treeFrom (f .nodes)) entered ∙ (rw nodes refl) in
+    contents-same (f .kind) e (f .blocks) (treeFrom (f .nodes)) entered ∙ (rw (nodesOf-treeFrom 0 e (f .nodes) (halves .places)) refl) in
     let y : Yielded file (λ g w. FileFits g × (w ≡ fileBytes g)) at f next = (gives-file file small) .yields at f next (read-inside file at f next read) read in
-    fileOf-some (f .kind) e (f .blocks) (treeFrom (f .nodes)) some ∙ ap fileBytes says ∙ sym (y .says .1) ∙ sym (spans-taken (y .spans))
+    fileOf-some (f .kind) e (f .blocks) (treeFrom (f .nodes)) some-block ∙ ap fileBytes says ∙ sym (y .says .1) ∙ sym (spans-taken (y .spans))
 
 -- A loaded index is written with the bytes read.
 pub loaded-written : (n : Lent) (file : List ℕ) → Bytes file → (at : ℕ) (x : Loaded) (next : ℕ) → load n file at ≡ got x next
@@ -141,6 +143,6 @@ pub loaded-written : (n : Lent) (file : List ℕ) → Bytes file → (at : ℕ) 
 loaded-written n file small at x next e =
     let z : LoadedOf n file at x next = load-accepted n file at x next e in
     let f : File = z .said in
-    rw (z .same)
-    (written-read file small at f next (z .read) (z .rules .halves) (blocks-some (endOf (f .nodes)) (f .blocks) (z .rules .blocks))
-    (rules-enter (endOf (f .nodes)) (f .blocks) (treeFrom (f .nodes)) (z .rules .blocks) (z .rules .entries)))
+    let halves : Rule21 (f .nodes) = rule21-decides (f .nodes) .yes (z .rules .halves) in
+    let blocks : Rule22 (endOf (f .nodes)) (f .blocks) = rule22-decides (endOf (f .nodes)) (f .blocks) .yes (z .rules .blocks) in
+    rw (z .same) (written-read file small at f next (z .read) halves (blocks .some-block) (rules-enter (f .nodes) (f .blocks) halves blocks (z .rules .entries)))

@@ -1,20 +1,42 @@
--- Bytes that stand in a file, and readers one after the other: what a reader gives of written bytes, and which bytes stand where a reader
--- has succeeded. Assumes nothing.
-use mathlib.Core.Path.{_≡_, refl, sym, _∙_, ap, ap₂, subst}
-use mathlib.Core.Logic.{_⊎_, inl, inr, ⊎-elim}
-use mathlib.Core.Bool.{Bool, true, false, cond}
-use mathlib.Core.List.{List, [], _∷_, _++_, append-assoc, append-nil, flatMap}
-use Prim.Native.Nat.{ℕ, zero, suc, _+_, _*_, _-_, _^_, _≤_, _<_}
+-- Written and read: bytes that stand in a file, and what readers, one after the other, give of them. Assumes nothing.
+use mathlib.Core.Path.{_≡_, refl, sym, _∙_, ap}
+use mathlib.Core.Bool.{Bool, true}
+use mathlib.Core.List.{List, [], _∷_, flatMap, _++_, append-assoc}
+use Prim.Native.Nat.{ℕ, _<_, _≤_, _^_, _+_}
 use native.Mathlib.Omega.{arith}
-use lib.ListN.{length, take, drop, length-append, length-take, length-drop, take-append-drop}
-use lib.Seq.{take-at, drop-at, length-take-le}
-use lib.Dec.{leb}
-use borrow.Author.Tests.{leb-true, leb-false, le-leb}
+use lib.ListN.{length, getD, take, drop, length-append}
+use lib.Seq.{take-at, drop-at, drop-cons}
+use borrow.Author.Tests.{lt-leb, le-leb}
 use Rattle.lists.specs.Lists.{All, all-nil, all-cons}
 use Rattle.lists.proofs.Lists.{all-left, all-right}
-use Rattle.lists.proofs.Numbers.{bool-cases}
-use Rattle.history.specs.File.{bytesOf, numberOf, Read, got, fault, Reader, onward, _>>=_, _>>_, give, refuse_unless_, field, number, many}
-use Rattle.history.proofs.FileNumbers.{Bytes, bytesOf-length, bytesOf-numberOf, numberOf-bytesOf, numberOf-below}
+use Rattle.history.specs.File.{bytesOf, numberOf, got, _>>=_, onward, give, refuse_unless_, field, number, many, fault, Reader, _>>_}
+use Rattle.history.proofs.FileNumbers.{bytesOf-length, numberOf-bytesOf, Bytes}
+
+-- ── a field at a position ──
+
+module _ (width : ℕ) (file : List ℕ) (at : ℕ) where
+  -- all of it
+  pub field-read : at + width ≤ length file → field width file at ≡ got (take width (drop at file)) (at + width)
+  unfolding field
+  field-read h = rw (le-leb (at + width) (length file) h) refl
+
+  -- 17: bytes end inside it
+  pub field-cut : length file < at + width → field width file at ≡ fault 17
+  unfolding field
+  field-cut h = rw (lt-leb (at + width) (length file) h) refl
+
+  pub number-read : at + width ≤ length file → number width file at ≡ got (numberOf (take width (drop at file))) (at + width)
+  unfolding number _>>=_ onward give
+  number-read h = rw (field-read h) refl
+
+  pub number-cut : length file < at + width → number width file at ≡ fault 17
+  unfolding number _>>=_ onward
+  number-cut h = rw (field-cut h) refl
+
+-- a byte
+pub byte-read : (file : List ℕ) (at : ℕ) → at < length file → number 1 file at ≡ got (getD file at 0) (at + 1)
+unfolding numberOf
+byte-read file at h = number-read 1 file at (omega arith) ∙ rw (drop-cons file at 0 h) (ap (λ (b : ℕ). got b (at + 1)) (omega arith))
 
 -- ── bytes in a file ──
 
@@ -26,10 +48,12 @@ pub record Stands (file : List ℕ) (at : ℕ) (bytes : List ℕ) : Type 0 where
   pub whole : file ≡ before ++ (bytes ++ behind)
 
 module _ {file : List ℕ} {at : ℕ} where
+  -- the first of two parts
   pub stands-left : (u v : List ℕ) → Stands file at (u ++ v) → Stands file at u
   stands-left u v s =
       record { before = s .before; behind = v ++ s .behind; place = s .place; whole = s .whole ∙ ap (λ (r : List ℕ). s .before ++ r) (append-assoc u v (s .behind)) }
 
+  -- and the second, behind it
   pub stands-right : (u v : List ℕ) → Stands file at (u ++ v) → Stands file (at + length u) v
   stands-right u v s =
       record {
@@ -44,9 +68,11 @@ module _ {file : List ℕ} {at : ℕ} where
   stands-fits {w} s =
       rw (s .whole, ← (s .place)) (simp length-append (omega arith))
 
+  -- they are what lies there
   pub stands-taken : {w : List ℕ} → Stands file at w → take (length w) (drop at file) ≡ w
   stands-taken {w} s = rw (s .whole, drop-at (s .before) (w ++ s .behind) at (s .place)) (take-at w (s .behind) (length w) refl)
 
+  -- in a file of bytes they are bytes
   pub stands-bytes : {w : List ℕ} → Stands file at w → Bytes file → Bytes w
   stands-bytes {w} s h =
       let all : Bytes (s .before ++ (w ++ s .behind)) = rw (s .whole) at h in
@@ -74,11 +100,13 @@ pub record Reads {A : Type 0} (r : Reader A) (bytes : List ℕ) (x : A) : Type 0
   pub gives : (file : List ℕ) (at : ℕ) → Stands file at bytes → r file at ≡ got x (at + length bytes)
 
 module _ {A : Type 0} where
+  -- a value without bytes
   pub reads-give : (x : A) → Reads (give x) [] x
   unfolding give
   reads-give x = record { gives = λ file at s. ap (got x) (omega arith) }
 
 module _ {A B : Type 0} where
+  -- one after the other
   pub reads-bind : (k : A → Reader B) {r : Reader A} {u v : List ℕ} {x : A} {y : B} → Reads r u x → Reads (k x) v y → Reads (r >>= k) (u ++ v) y
   unfolding _>>=_ onward
   reads-bind k {r} {u} {v} {x} {y} p q =
@@ -88,6 +116,7 @@ module _ {A B : Type 0} where
       }
 
 module _ {A : Type 0} where
+  -- a test that holds takes no bytes
   pub reads-check : (number : ℕ) (t : Bool) {s : Reader A} {v : List ℕ} {y : A} → t ≡ true → Reads s v y → Reads (refuse number unless t >> s) v y
   unfolding _>>=_ onward refuse_unless_
   reads-check i t e q = record { gives = λ file at z. rw e (q .gives file at z) }
@@ -98,159 +127,19 @@ module _ {A B : Type 0} where
   unfolding _>>=_ onward give
   reads-map f p = record { gives = λ file at s. rw (p .gives file at s) refl }
 
+-- a field
 pub reads-field : (width : ℕ) (bytes : List ℕ) → length bytes ≡ width → Reads (field width) bytes bytes
-unfolding field
 reads-field width w e =
-    rw (← e) (record { gives = λ file at s. rw (le-leb (at + length w) (length file) (stands-fits s), stands-taken s) refl })
+    rw (← e) (record { gives = λ file at s. rw (field-read (length w) file at (stands-fits s), stands-taken s) refl })
 
+-- a number that fits
 pub reads-number : (width n : ℕ) → n < 256 ^ width → Reads (number width) (bytesOf width n) n
 unfolding number
 reads-number width n h = rw (numberOf-bytesOf width n h) at (reads-map numberOf (reads-field width (bytesOf width n) (bytesOf-length width n)))
 
 module _ {A : Type 0} where
+  -- a list
   pub reads-many : (r : Reader A) (bytes : A → List ℕ) {xs : List A} → All (λ x. Reads r (bytes x) x) xs → Reads (many r (length xs)) (flatMap bytes xs) xs
   unfolding many flatMap
   reads-many r bytes all-nil = reads-give []
   reads-many r bytes (all-cons {x} p ps) = reads-bind _ p (reads-map (λ (ys : List A). x ∷ ys) (reads-many r bytes ps))
-
--- ── which bytes stand where a reader has succeeded ──
-
--- the bytes stand from a position up to the next one
-pub record Spans (file : List ℕ) (at to : ℕ) (bytes : List ℕ) : Type 0 where
-  pub stands : Stands file at bytes
-  pub next : to ≡ at + length bytes
-
-module _ {file : List ℕ} where
-  pub spans-append : (u v : List ℕ) {at m n : ℕ} → Spans file at m u → Spans file m n v → Spans file at n (u ++ v)
-  spans-append u v {at} {m} {n} p q =
-      record {
-        stands = stands-append u v (p .stands) (rw (p .next) at (q .stands));
-        next = rw (length-append u v) (omega (arith, p .next, q .next));
-      }
-
-  pub spans-nil : (at : ℕ) → at ≤ length file → Spans file at at []
-  spans-nil at h =
-      record {
-        stands = record { before = take at file; behind = drop at file; place = length-take-le at file h; whole = sym (take-append-drop at file) };
-        next = omega arith;
-      }
-
-  pub spans-fits : {w : List ℕ} {at n : ℕ} → Spans file at n w → n ≤ length file
-  spans-fits p = omega (arith, stands-fits (p .stands), p .next)
-
-  -- they are what lies between the two positions
-  pub spans-taken : {w : List ℕ} {at n : ℕ} → Spans file at n w → take (n - at) (drop at file) ≡ w
-  spans-taken {w} {at} {n} p =
-      let e : n - at ≡ length w = omega (arith, p .next) in
-      rw e (stands-taken (p .stands))
-
-module _ {A : Type 0} where
-  pub got-value : {x y : A} {m n : ℕ} → got x m ≡ got y n → x ≡ y
-  got-value e = cc
-
-  pub got-next : {x y : A} {m n : ℕ} → got x m ≡ got y n → m ≡ n
-  got-next e = cc
-
-  pub fault-got : {i : ℕ} {y : A} {n : ℕ} → _≡_ {A = Read A} (fault i) (got y n) → ⊥
-  fault-got e = let z : _≡_ {A = ℕ} 0 1 = cc in omega arith
-
-module _ (file : List ℕ) where
-  -- the reader has given x, and Q holds of x and of the bytes between the two positions
-  pub record Yielded {A : Type 0} (Q : A → List ℕ → Type 0) (at : ℕ) (x : A) (n : ℕ) : Type 0 where
-    pub bytes : List ℕ
-    pub says : Q x bytes
-    pub spans : Spans file at n bytes
-
-  -- so it does wherever it succeeds
-  pub record Yields {A : Type 0} (r : Reader A) (Q : A → List ℕ → Type 0) : Type 0 where
-    pub yields : (at : ℕ) (x : A) (n : ℕ) → at ≤ length file → r file at ≡ got x n → Yielded Q at x n
-
-  -- the bytes are those that x is written with, and P holds of x
-  abbrev pub Gives : {A : Type 0} → Reader A → (A → List ℕ) → (A → Type 0) → Type 0
-  Gives r write P = Yields r (λ x w. P x × (w ≡ write x))
-
-  module _ {A : Type 0} where
-    pub yields-give : {Q : A → List ℕ → Type 0} (x : A) → Q x [] → Yields (give x) Q
-    unfolding give
-    yields-give x q =
-        record { yields = λ at y n h e. rw (← (got-value e), ← (got-next e)) (record { bytes = []; says = q; spans = spans-nil at h }) }
-
-    pub yields-check : {Q : A → List ℕ → Type 0} (i : ℕ) (t : Bool) {s : Reader A} → (t ≡ true → Yields s Q) → Yields (refuse i unless t >> s) Q
-    unfolding _>>=_ onward refuse_unless_
-    yields-check i true f = record { yields = λ at y n h e. (f refl) .yields at y n h e }
-    yields-check i false f = record { yields = λ at y n h e. absurd (fault-got e) }
-
-    pub yields-cond : {Q : A → List ℕ → Type 0} (t : Bool) {a b : Reader A} → (t ≡ true → Yields a Q) → (t ≡ false → Yields b Q) → Yields (cond t a b) Q
-    yields-cond true f g = f refl
-    yields-cond false f g = g refl
-
-  module _ {A B : Type 0} where
-    pub yields-bind : {Q : B → List ℕ → Type 0} {P : A → Type 0} {write : A → List ℕ} (k : A → Reader B) {r : Reader A} → Gives r write P
-        → ((x : A) → P x → Yields (k x) (λ y v. Q y (write x ++ v))) → Yields (r >>= k) Q
-    unfolding _>>=_ onward
-    yields-bind {Q} {P} {write} k {r} g f = record { yields = λ at y n h e. go at y n h (r file at) refl e }
-      where
-        go : (at : ℕ) (y : B) (n : ℕ) → at ≤ length file → (o : Read A) → r file at ≡ o → onward o (λ x m. k x file m) ≡ got y n → Yielded Q at y n
-        go at y n h (got x m) p e =
-            let a : Yielded (λ x w. P x × (w ≡ write x)) at x m = g .yields at x m h p in
-            let first : Spans file at m (write x) = rw (a .says .1) at (a .spans) in
-            let b : Yielded (λ y v. Q y (write x ++ v)) m y n = (f x (a .says .0)) .yields m y n (spans-fits first) e in
-            record { bytes = write x ++ b .bytes; says = b .says; spans = spans-append (write x) (b .bytes) first (b .spans) }
-        go at y n h (fault i) p e = absurd (fault-got e)
-
-  -- a reader whose value is taken further
-  module _ {A B : Type 0} where
-    pub gives-map : {P : A → Type 0} {R : B → Type 0} {write : A → List ℕ} {write′ : B → List ℕ} (f : A → B) {r : Reader A} → Gives r write P
-        → ((x : A) → P x → R (f x) × (write x ≡ write′ (f x))) → Gives (r >>= (λ x. give (f x))) write′ R
-    gives-map {P} {R} {write} {write′} f g h = yields-bind _ g (λ x p. yields-give (f x) (h x p .0, append-nil (write x) ∙ h x p .1))
-
-  pub gives-field : (width : ℕ) → Gives (field width) (λ w. w) (λ w. length w ≡ width)
-  unfolding field
-  gives-field width = record { yields = λ at x n h e. go at x n (leb (at + width) (length file)) refl e }
-    where
-      go : (at : ℕ) (w : List ℕ) (n : ℕ) (t : Bool) → leb (at + width) (length file) ≡ t
-          → cond t (got (take width (drop at file)) (at + width)) (fault 17) ≡ got w n → Yielded (λ x v. (length x ≡ width) × (v ≡ x)) at w n
-      go at w n true h e =
-          let room : at + width ≤ length file = leb-true (at + width) (length file) h in
-          let size : length (take width (drop at file)) ≡ width = length-take-le width (drop at file) (rw (length-drop at file) (omega arith)) in
-          let span : Spans file at (at + width) (take width (drop at file)) =
-          record {
-            stands = record {
-              before = take at file;
-              behind = drop width (drop at file);
-              place = length-take-le at file (omega arith);
-              whole = sym (ap (λ (r : List ℕ). take at file ++ r) (take-append-drop width (drop at file)) ∙ take-append-drop at file);
-            };
-            next = ap (λ (k : ℕ). at + k) (sym size);
-          } in
-          rw (← (got-value e), ← (got-next e)) (record { bytes = take width (drop at file); says = (size, refl); spans = span })
-      go at w n false h e = absurd (fault-got e)
-
-  module _ {A : Type 0} where
-    pub gives-many : (r : Reader A) {P : A → Type 0} {write : A → List ℕ} → Gives r write P
-        → (count : ℕ) → Gives (many r count) (flatMap write) (λ xs. (length xs ≡ count) × All P xs)
-    unfolding many flatMap
-    gives-many r g zero = yields-give [] ((refl, all-nil), refl)
-    gives-many r {P} {write} g (suc c) =
-        yields-bind _ g
-        (λ x p.
-        yields-bind _ (gives-many r g c)
-        (λ xs q. yields-give (x ∷ xs) ((ap suc (q .0), all-cons p (q .1)), ap (λ (v : List ℕ). write x ++ v) (append-nil (flatMap write xs)))))
-
--- ── what is read of a file of bytes ──
-
-module _ (file : List ℕ) (bytes : Bytes file) where
-  gives-bytes : {A : Type 0} {r : Reader A} {P : A → Type 0} {write : A → List ℕ} → Gives file r write P → Gives file r write (λ x. P x × Bytes (write x))
-  gives-bytes {A} {r} {P} {write} g =
-      record {
-        yields = λ at x n h e.
-            let y : Yielded file (λ x w. P x × (w ≡ write x)) at x n = g .yields at x n h e in
-            let small : Bytes (write x) = rw (y .says .1) at (stands-bytes (y .spans .stands) bytes) in
-            record { bytes = y .bytes; says = ((y .says .0, small), y .says .1); spans = y .spans };
-      }
-
-  pub gives-number : (width : ℕ) → Gives file (number width) (bytesOf width) (λ n. n < 256 ^ width)
-  unfolding number
-  gives-number width =
-      gives-map file numberOf (gives-bytes (gives-field file width))
-      (λ w p. (rw (p .0) at (numberOf-below w (p .1)), sym (rw (p .0) at (bytesOf-numberOf w (p .1)))))

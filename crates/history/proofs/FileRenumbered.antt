@@ -1,46 +1,21 @@
 -- A tree with other block numbers: where the blocks behind the numbers are the same, every rule holds as before. Assumes nothing.
 use mathlib.Core.Path.{_≡_, refl, sym, _∙_, ap, ap₂}
-use mathlib.Core.Bool.{Bool, true, false, cond, _&&_, _||_, not}
-use mathlib.Core.List.{List, [], _∷_, _++_, map}
-use Prim.Native.Nat.{ℕ, zero, suc, _+_, _*_, _-_, _≤_, _<_}
-use native.Mathlib.Omega.{arith}
-use lib.ListN.{length}
-use lib.Dec.{eqb, ltb}
-use Rattle.lists.specs.Lists.{All, all-nil, all-cons, count}
-use Rattle.lists.proofs.Lists.{all-map, all-both, all-left, all-right, all-of-map}
-use Rattle.lists.proofs.Maps.{map-append, length-of-map}
+use mathlib.Core.Bool.{Bool, true, cond, _&&_, not}
+use mathlib.Core.List.{List, [], map, _∷_, _++_}
+use Prim.Native.Nat.{ℕ, _<_}
+use lib.Dec.{ltb, eqb}
+use Rattle.lists.specs.Lists.{All, all-nil, all-cons}
+use Rattle.lists.proofs.Lists.{all-map, all-of-map, all-both, all-left, all-right}
+use Rattle.lists.proofs.Maps.{length-of-map, map-append}
 use Rattle.history.specs.Words.{Block, within}
-use Rattle.history.specs.Tree.{Tree, hole, node, mid, halves, covers, nodeCount, entryCount, entriesIn, widths}
+use Rattle.history.specs.Tree.{Tree, hole, node, mid, halves, entriesIn, nodeCount, entryCount, widths, covers}
 use Rattle.history.specs.Find.{path, visited, window}
-use Rattle.history.specs.Rules.{every, isHole, halved, numbered, placed, ascends, sorted}
 use Rattle.history.specs.File.{mapTree}
-use Rattle.history.proofs.RulesLaws.{decided, numbered-decides}
+use Rattle.history.specs.Rules.{numbered, halved, placed, sorted, isHole}
+use Rattle.history.proofs.RulesLaws.{numbered-decides, decided}
+use Rattle.history.proofs.FileLists.{map-same, map-cond, every-map, ascends-map, count-map}
 
--- ── lists ──
-
-module _ {A B : Type 0} where
-  pub every-map : (f : A → B) (p : B → Bool) (q : A → Bool) {xs : List A} → All (λ x. p (f x) ≡ q x) xs → every p (map f xs) ≡ every q xs
-  unfolding every
-  every-map f p q all-nil = refl
-  every-map f p q (all-cons e es) = ap₂ (λ (a b : Bool). a && b) e (every-map f p q es)
-
-pub ascends-map : (f : ℕ → ℕ) (key′ key : ℕ → ℕ) {xs : List ℕ} → All (λ x. key′ (f x) ≡ key x) xs → ascends key′ (map f xs) ≡ ascends key xs
-unfolding ascends
-ascends-map f key′ key all-nil = refl
-ascends-map f key′ key (all-cons {x} {xs} e es) =
-    ap₂ (λ (a b : Bool). a && b)
-    (every-map f (λ y. ltb (key′ (f x)) (key′ y)) (λ y. ltb (key x) (key y)) (all-map (λ y d. ap₂ ltb e d) es))
-    (ascends-map f key′ key es)
-
-pub count-map : (f : ℕ → ℕ) (j i : ℕ) {xs : List ℕ} → All (λ x. eqb j (f x) ≡ eqb i x) xs → count j (map f xs) ≡ count i xs
-unfolding count
-count-map f j i all-nil = refl
-count-map f j i (all-cons e es) = ap₂ (λ (t : Bool) (n : ℕ). cond t 1 0 + n) e (count-map f j i es)
-
-module _ {A B : Type 0} where
-  pub map-cond : (f : A → B) (t : Bool) (xs ys : List A) → map f (cond t xs ys) ≡ cond t (map f xs) (map f ys)
-  map-cond f true xs ys = refl
-  map-cond f false xs ys = refl
+-- ── entries ──
 
 -- what holds of all entries holds of a node's own, and of those of its halves
 module _ {P : ℕ → Type 0} (es : List ℕ) (l r : Tree) where
@@ -59,6 +34,7 @@ module _ {P : ℕ → Type 0} (es : List ℕ) (l r : Tree) where
 -- ── the tree with numbers mapped ──
 
 module _ (f : ℕ → ℕ) where
+  -- the entries, mapped
   pub mapTree-entries : (t : Tree) → entriesIn (mapTree f t) ≡ map f (entriesIn t)
   unfolding mapTree entriesIn
   mapTree-entries hole = refl
@@ -80,15 +56,18 @@ module _ (f : ℕ → ℕ) where
   mapTree-isHole hole = refl
   mapTree-isHole (node es l r) = refl
 
+  -- 21
   pub mapTree-halved : (lo hi : ℕ) (t : Tree) → halved lo hi (mapTree f t) ≡ halved lo hi t
   unfolding mapTree halved
   mapTree-halved lo hi hole = refl
   mapTree-halved lo hi (node es l r) =
       rw (mapTree-isHole l, mapTree-isHole r, mapTree-halved lo (mid lo hi) l, mapTree-halved (mid lo hi) hi r) refl
 
+  -- 23: no number too high
   pub mapTree-numbered : (n : ℕ) (t : Tree) → All (λ k. f k < n) (entriesIn t) → numbered n (mapTree f t) ≡ true
   mapTree-numbered n t h = decided (numbered n (mapTree f t)) (numbered-decides n (mapTree f t)) (rw (mapTree-entries t) (all-of-map f h))
 
+  -- 23: each entry covers its node and not the parent
   pub mapTree-placed : (at′ at : ℕ → Block) (above′ above : ℕ → Bool) (lo hi : ℕ) (t : Tree) → All (λ k. at′ (f k) ≡ at k) (entriesIn t)
       → All (λ k. above′ (f k) ≡ above k) (entriesIn t) → placed at′ above′ lo hi (mapTree f t) ≡ placed at above lo hi t
   unfolding mapTree placed
@@ -102,12 +81,14 @@ module _ (f : ℕ → ℕ) where
       (mapTree-placed at′ at _ _ lo (mid lo hi) l (entries-left es l r h) (over _ (entries-left es l r h)))
       (mapTree-placed at′ at _ _ (mid lo hi) hi r (entries-right es l r h) (over _ (entries-right es l r h))))
 
+  -- 23: first cells ascend
   pub mapTree-sorted : (key′ key : ℕ → ℕ) (t : Tree) → All (λ k. key′ (f k) ≡ key k) (entriesIn t) → sorted key′ (mapTree f t) ≡ sorted key t
   unfolding mapTree sorted
   mapTree-sorted key′ key hole h = refl
   mapTree-sorted key′ key (node es l r) h =
       rw (ascends-map f key′ key (entries-here es l r h), mapTree-sorted key′ key l (entries-left es l r h), mapTree-sorted key′ key r (entries-right es l r h)) refl
 
+  -- 23: a block's widths
   pub mapTree-widths : (j i lo hi : ℕ) (t : Tree) → All (λ k. eqb j (f k) ≡ eqb i k) (entriesIn t) → widths j lo hi (mapTree f t) ≡ widths i lo hi t
   unfolding mapTree widths
   mapTree-widths j i lo hi hole h = refl
@@ -116,6 +97,7 @@ module _ (f : ℕ → ℕ) where
 
   -- ── find ──
 
+  -- the way down
   pub mapTree-path : (t lo hi : ℕ) (T : Tree) → path t lo hi (mapTree f T) ≡ map f (path t lo hi T)
   unfolding mapTree path
   mapTree-path t lo hi hole = refl
@@ -127,13 +109,22 @@ module _ (f : ℕ → ℕ) where
       rw (mapTree-path t lo (mid lo hi) l, mapTree-path t (mid lo hi) hi r)
       (sym (map-append f es (cond (halves lo hi) (cond (ltb t (mid lo hi)) a b) []) ∙ ap (λ (v : List ℕ). map f es ++ v) below))
 
+  -- as many nodes
   pub mapTree-visited : (t lo hi : ℕ) (T : Tree) → visited t lo hi (mapTree f T) ≡ visited t lo hi T
   unfolding mapTree visited
   mapTree-visited t lo hi hole = refl
   mapTree-visited t lo hi (node es l r) = rw (mapTree-visited t lo (mid lo hi) l, mapTree-visited t (mid lo hi) hi r) refl
 
+  -- the same first cells in the window
   pub window-map : (key′ key : ℕ → ℕ) (s e : ℕ) {ks : List ℕ} → All (λ k. key′ (f k) ≡ key k) ks → window key′ s e (map f ks) ≡ map f (window key s e ks)
   unfolding window
   window-map key′ key s e all-nil = refl
   window-map key′ key s e (all-cons {x} {xs} d ds) =
       rw (d, window-map key′ key s e ds) (sym (map-cond f (within s e (key x)) (x ∷ window key s e xs) (window key s e xs)))
+
+-- numbers that stay leave the tree as it is
+pub mapTree-same : (f : ℕ → ℕ) (t : Tree) → All (λ k. f k ≡ k) (entriesIn t) → mapTree f t ≡ t
+unfolding mapTree
+mapTree-same f hole h = refl
+mapTree-same f (node es l r) h =
+    rw (map-same f (entries-here es l r h), mapTree-same f l (entries-left es l r h), mapTree-same f r (entries-right es l r h)) refl

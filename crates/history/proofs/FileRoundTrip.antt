@@ -1,18 +1,19 @@
 -- A file that is written and read is the file, and the bytes of a file that was read are those read: block, nodes, file. Assumes nothing.
-use mathlib.Core.Path.{_≡_, refl, sym, _∙_, ap}
-use mathlib.Core.Bool.{Bool, true, false, cond}
-use mathlib.Core.List.{List, [], _∷_, _++_, flatMap, flatten, append-nil}
-use Prim.Native.Nat.{ℕ, zero, suc, _+_, _^_, _≤_, _<_}
+use mathlib.Core.Path.{_≡_, refl, _∙_, ap}
+use mathlib.Core.Bool.{true}
+use mathlib.Core.List.{List, [], flatten, _++_, append-nil}
+use Prim.Native.Nat.{ℕ, _<_, _≤_, _^_, _+_, zero, suc}
 use native.Mathlib.Omega.{arith}
 use lib.ListN.{length, length-append}
-use lib.Dec.{leb, eqb}
-use borrow.Author.Tests.{leb-true, le-leb, eqb-true, eqb-false, eq-eqb}
-use Rattle.lists.specs.Lists.{All, all-nil, all-cons}
+use lib.Dec.{eqb, leb}
+use borrow.Author.Tests.{eqb-true, eq-eqb, le-leb, leb-true, eqb-false}
+use Rattle.lists.specs.Lists.{All}
 use Rattle.lists.proofs.Lists.{all-map}
-use Rattle.history.specs.Words.{Block, size, firstCell}
-use Rattle.history.specs.File.{Nodes, absent, present, File, bytesOf, blockBytes, nodeBytes, fileBytes, Read, got, fault, Reader, onward, _>>=_, give, number, field, many, readBlock, readNodes, readRoot, readFile}
-use Rattle.history.proofs.FileNumbers.{Bytes, bytesOf-length}
-use Rattle.history.proofs.FileReads.{Stands, stands-fits, Reads, reads-give, reads-bind, reads-check, reads-field, reads-number, reads-many, Spans, Yields, Gives, yields-give, yields-check, yields-cond, yields-bind, fault-got, gives-field, gives-number, gives-many}
+use Rattle.history.specs.Words.{Block, firstCell, size}
+use Rattle.history.specs.File.{fileBytes, blockBytes, nodeBytes, bytesOf, number, readBlock, readNodes, readRoot, readFile, Nodes, absent, present, File}
+use Rattle.history.proofs.FileNumbers.{bytesOf-length, Bytes}
+use Rattle.history.proofs.FileReads.{stands-fits, reads-give, reads-bind, reads-check, reads-field, reads-number, reads-many, Reads}
+use Rattle.history.proofs.FileYields.{fault-got, yields-give, yields-check, yields-cond, yields-bind, gives-field, gives-many, gives-number, Gives}
 
 -- ── every number fits its field ──
 
@@ -24,11 +25,13 @@ pub record BlockFits (kind : ℕ) (b : Block) : Type 0 where
   pub born : b .created < 2 ^ 64
   pub died : b .destroyed < 2 ^ 64
 
+-- intervals, counts and block numbers
 pub data NodesFit : Nodes → Type 0 where
   absent-fits : NodesFit absent
   present-fits : {min max middle : ℕ} {es : List ℕ} {l r : Nodes} → min < 2 ^ 64 → max < 2 ^ 64 → middle < 2 ^ 64
       → length es < 2 ^ 64 → All (λ k. k < 2 ^ 64) es → NodesFit l → NodesFit r → NodesFit (present min max middle es l r)
 
+-- a known kind, and all of them
 pub record FileFits (f : File) : Type 0 where
   pub kindly : f .kind ≤ 4
   pub count : length (f .blocks) < 2 ^ 64
@@ -37,6 +40,7 @@ pub record FileFits (f : File) : Type 0 where
 
 -- ── written and read ──
 
+-- a block
 pub reads-block : (kind : ℕ) → kind ≤ 4 → (b : Block) → BlockFits kind b → Reads (readBlock kind) (blockBytes b) b
 unfolding readBlock blockBytes flatten
 reads-block kind h b f =
@@ -57,6 +61,7 @@ unfolding nodeBytes
 nodes-some absent = omega (arith, bytesOf-length 1 0)
 nodes-some (present min max middle es l r) = omega (arith, nodes-shorter min max middle es l r)
 
+-- the nodes, with fuel for their bytes
 pub reads-nodes : (fuel : ℕ) (t : Nodes) → length (nodeBytes t) ≤ fuel → NodesFit t → Reads (readNodes fuel) (nodeBytes t) t
 unfolding readNodes nodeBytes flatten bytesOf
 reads-nodes zero t h f = absurd (omega (arith, nodes-some t))
@@ -74,6 +79,7 @@ reads-nodes (suc n) t h (present-fits {min} {max} {middle} {es} {l} {r} a b c d 
     (reads-bind _ (reads-many (number 8) (bytesOf 8) (all-map (λ k p. reads-number 8 k p) e))
     (reads-bind _ left (reads-bind _ right (reads-give (present min max middle es l r))))))))))
 
+-- with a file for fuel
 pub reads-root : (t : Nodes) → NodesFit t → Reads readRoot (nodeBytes t) t
 unfolding readRoot
 reads-root t f =
@@ -83,6 +89,7 @@ reads-root t f =
           (reads-nodes (length file) t room f) .gives file at s;
     }
 
+-- a file
 pub reads-file : (f : File) → FileFits f → Reads readFile (fileBytes f) f
 unfolding readFile fileBytes flatten
 reads-file f h =
@@ -96,6 +103,7 @@ reads-file f h =
 -- ── read and written ──
 
 module _ (file : List ℕ) (bytes : Bytes file) where
+  -- a block
   pub gives-block : (kind : ℕ) → Gives file (readBlock kind) blockBytes (BlockFits kind)
   unfolding readBlock blockBytes flatten
   gives-block kind =
@@ -108,6 +116,7 @@ module _ (file : List ℕ) (bytes : Bytes file) where
       yields-bind file _ (gives-field file cells) λ bs e.
       yields-give file _ (record { own = eqb-true own kind same; first = a; cells = rw e b; born = c; died = d }, rw e refl)
 
+  -- the nodes
   pub gives-nodes : (fuel : ℕ) → Gives file (readNodes fuel) nodeBytes NodesFit
   unfolding readNodes nodeBytes flatten
   gives-nodes zero = record { yields = λ at x n h e. absurd (fault-got e) }
@@ -127,10 +136,12 @@ module _ (file : List ℕ) (bytes : Bytes file) where
       yields-bind file _ (gives-nodes fuel) λ r g.
       yields-give file _ (present-fits a b c (rw (e .0) d) (e .1) f g, rw (one, e .0) refl)
 
+  -- the root
   pub gives-root : Gives file readRoot nodeBytes NodesFit
   unfolding readRoot
   gives-root = record { yields = λ at x n h e. (gives-nodes (length file)) .yields at x n h e }
 
+  -- a file
   pub gives-file : Gives file readFile fileBytes FileFits
   unfolding readFile fileBytes flatten
   gives-file =

@@ -226,6 +226,17 @@ edges =
           ∷ whatBlocks is blocks (blockOn 5 (1 ∷ []) 4 8 ∷ [])
           ∷ [];
     }
+    -- an operation of which two conditions hold gets the first: 5 and 6 before 7, 8 before 9, 9 before 10, 10 before 11
+    ∷ record {
+      opening = on 8 (lengths 1 1 1 1024 4096);
+      calls = op 8 5 [] ∷ op 8 (2 ^ 64 - 1) (1 ∷ []) ∷ op 4 5 (1 ∷ []) ∷ op 3 9 (1 ∷ 1 ∷ []) ∷ op 4 9 (1 ∷ 1 ∷ []) ∷ [];
+      cases = whatAnswers is answered (refused 5 ∷ refused 6 ∷ yes! ∷ refused 8 ∷ refused 9 ∷ []) ∷ [];
+    }
+    ∷ record {
+      opening = on 8 (lengths 2 1 1 1024 4096);
+      calls = op 4 5 (1 ∷ []) ∷ op 4 9 (1 ∷ 1 ∷ []) ∷ [];
+      cases = whatAnswers is answered (yes! ∷ refused 10 ∷ []) ∷ [];
+    }
     -- 4: no read of an open index
     ∷ record {
       opening = on 8 ample;
@@ -252,7 +263,8 @@ edges =
       calls = op 0 5 (replicate 6 1) ∷ op 1 11 (2 ∷ []) ∷ op 2 5 (1 ∷ []) ∷ [];
       cases = whatAnswers is answered (yes! ∷ refused 11 ∷ yes! ∷ []) ∷ [];
     }
-    -- 12 and 13: the listing needs 10 nodes and 12 entries
+    -- 12 and 13: the listing needs 10 nodes and 12 entries; 12 comes before 13
+    ∷ record { opening = on 8 (lengths 9 9 9 9 11); calls = listing; cases = whatAnswers is answered (yes! ∷ yes! ∷ yes! ∷ yes! ∷ refused 12 ∷ []) ∷ [] }
     ∷ record { opening = on 8 (lengths 9 9 9 9 12); calls = listing; cases = whatAnswers is answered (yes! ∷ yes! ∷ yes! ∷ yes! ∷ refused 12 ∷ []) ∷ [] }
     ∷ record { opening = on 8 (lengths 9 9 9 10 11); calls = listing; cases = whatAnswers is answered (yes! ∷ yes! ∷ yes! ∷ yes! ∷ refused 13 ∷ []) ∷ [] }
     ∷ record { opening = on 8 (lengths 9 9 9 10 12); calls = listing; cases = whatAnswers is answered (yes! ∷ yes! ∷ yes! ∷ yes! ∷ yes! ∷ []) ∷ [] }
@@ -375,6 +387,22 @@ listingOutput =
     ∷ (newline ∷ [])
     ∷ [])
 
+-- a refused record, a block of no life, and letters in the bytes: (1, 100, ab), (0, 100, 01), (1, 100, cd)
+unfoldable pub refusedInput : List ℕ
+refusedInput =
+    bytesOf 8 8 ++ (bytesOf 1 1 ++ (recordBytes 1 100 (0xab ∷ []) ++ (recordBytes 0 100 (1 ∷ []) ++ recordBytes 1 100 (0xcd ∷ []))))
+
+-- the header, "op 2 refused 8", "100 1 1 1 0140 ab" and "100 1 1 8 0140 cd"
+unfoldable pub refusedOutput : List ℕ
+refusedOutput =
+    flatten
+    (headerText
+    ∷ (10 ∷ 111 ∷ 112 ∷ 32 ∷ 50 ∷ 32 ∷ 114 ∷ 101 ∷ 102 ∷ 117 ∷ 115 ∷ 101 ∷ 100 ∷ 32 ∷ 56 ∷ [])
+    ∷ (10 ∷ 49 ∷ 48 ∷ 48 ∷ 32 ∷ 49 ∷ 32 ∷ 49 ∷ 32 ∷ 49 ∷ 32 ∷ 48 ∷ 49 ∷ 52 ∷ 48 ∷ 32 ∷ 97 ∷ 98 ∷ [])
+    ∷ (10 ∷ 49 ∷ 48 ∷ 48 ∷ 32 ∷ 49 ∷ 32 ∷ 49 ∷ 32 ∷ 56 ∷ 32 ∷ 48 ∷ 49 ∷ 52 ∷ 48 ∷ 32 ∷ 99 ∷ 100 ∷ [])
+    ∷ (newline ∷ [])
+    ∷ [])
+
 -- ── the result ──
 
 -- every board and every file comes out as it must
@@ -382,6 +410,7 @@ pub record MarkedBoards : Type 0 where
   pub boards : map played marked ≡ map expected marked
   pub refusals : map played edges ≡ map expected edges
   pub printed-listing : printed listingInput ≡ listingOutput
+  pub printed-refusal : printed refusedInput ≡ refusedOutput
   pub cut-record : printed (take 40 listingInput) ≡ badRecordText ++ decimal 2 (newline ∷ [])
   pub wrong-mark : printed (set listingInput 9 0) ≡ badRecordText ++ decimal 1 (newline ∷ [])
   pub short-input : printed (take 8 listingInput) ≡ badRecordText ++ decimal 0 (newline ∷ [])

@@ -1,7 +1,7 @@
 -- The file of a closed index (01, "spacetime_index.rs"): its bytes as a function, its reader field after field, and the loader with its refusals
 -- 17 to 24. Definitions alone: their laws stand in proofs/.
-use mathlib.Core.Bool.{Bool, true, false, cond, _&&_, not}
-use mathlib.Core.List.{List, [], _∷_, _++_, map, flatMap, flatten}
+use mathlib.Core.Bool.{Bool, true, false, cond, _&&_}
+use mathlib.Core.List.{List, [], _∷_, map, flatMap, flatten}
 use Prim.Native.Nat.{ℕ, zero, suc, _+_, _*_, _^_, _/_, _%_}
 use lib.ListN.{length, take, drop}
 use lib.Dec.{leb, ltb, eqb}
@@ -11,6 +11,8 @@ use Rattle.history.specs.Lent.{Lent, blockRows, nodeRows, entryRows}
 use Rattle.history.specs.Tree.{Tree, hole, node, mid, blockAt, nodeCount, entryCount, entriesIn}
 use Rattle.history.specs.Rules.{every, halved, filled, lived, rule23, apart}
 
+infixl 20 _>>=_ _>>_
+infix 25 refuse_unless_
 -- ── what a file says ──
 
 -- the nodes with min, max and mid as they stand in the file: an absent child, or a node
@@ -42,53 +44,56 @@ numberOf (b ∷ bs) = b + 256 * numberOf bs
 unfoldable pub blockBytes : Block → List ℕ
 blockBytes b =
     flatten
-    (bytesOf 1 (b .kind)
-    ∷ bytesOf 8 (firstCell b)
-    ∷ bytesOf 8 (size (b .stretch))
-    ∷ bytesOf 8 (b .created)
-    ∷ bytesOf 8 (b .destroyed)
-    ∷ b .stretch .bytes
-    ∷ [])
+    (bytesOf 1 (b .kind) ∷ bytesOf 8 (firstCell b) ∷ bytesOf 8 (size (b .stretch))
+    ∷ bytesOf 8 (b .created) ∷ bytesOf 8 (b .destroyed) ∷ b .stretch .bytes ∷ [])
 
 -- A node is byte 1, min, max, mid, entry count, block numbers; an absent child is byte 0. Root first, left before right.
 unfoldable pub nodeBytes : Nodes → List ℕ
 nodeBytes absent = bytesOf 1 0
 nodeBytes (present min max middle es l r) =
     flatten
-    (bytesOf 1 1
-    ∷ bytesOf 8 min
-    ∷ bytesOf 8 max
-    ∷ bytesOf 8 middle
-    ∷ bytesOf 8 (length es)
-    ∷ flatMap (bytesOf 8) es
-    ∷ nodeBytes l
-    ∷ nodeBytes r
-    ∷ [])
+    (bytesOf 1 1 ∷ bytesOf 8 min ∷ bytesOf 8 max ∷ bytesOf 8 middle
+    ∷ bytesOf 8 (length es) ∷ flatMap (bytesOf 8) es ∷ nodeBytes l ∷ nodeBytes r ∷ [])
 
+-- the kind, the block count, the blocks, the nodes
 unfoldable pub fileBytes : File → List ℕ
 fileBytes f =
     flatten (bytesOf 1 (f .kind) ∷ bytesOf 8 (length (f .blocks)) ∷ flatMap blockBytes (f .blocks) ∷ nodeBytes (f .nodes) ∷ [])
 
--- Only blocks with an entry are written, in recorded order: the numbers of those ..
+-- those of the block numbers that have an entry
 unfoldable pub thoseWith : (entries : List ℕ) → List ℕ → List ℕ
 thoseWith es [] = []
 thoseWith es (k ∷ ks) =
     let rest = thoseWith es ks in
     cond (has k es) (k ∷ rest) rest
 
-abbrev pub written : (blocks : ℕ) → Tree → List ℕ
-written n tree = thoseWith (entriesIn tree) (countFrom 0 n)
+-- Only blocks with an entry are written, in recorded order: their numbers ..
+abbrev pub written : List Block → Tree → List ℕ
+written bs tree = thoseWith (entriesIn tree) (countFrom 0 (length bs))
 
--- .. and numbered so from 0: a number's new one is its place among them
+-- .. and they themselves
+abbrev pub writtenBlocks : List Block → Tree → List Block
+writtenBlocks bs tree = map (blockAt bs) (written bs tree)
+
+-- a number's place in a list
 unfoldable pub placeIn : List ℕ → (k : ℕ) → ℕ
 placeIn [] k = 0
 placeIn (x ∷ xs) k =
     let later = suc (placeIn xs k) in
     cond (eqb k x) 0 later
 
+-- the tree with other block numbers
 unfoldable pub mapTree : (ℕ → ℕ) → Tree → Tree
 mapTree f hole = hole
 mapTree f (node es l r) = node (map f es) (mapTree f l) (mapTree f r)
+
+-- They are numbered so from 0: a block's new number is its place among those written.
+abbrev pub newNumber : List Block → Tree → (k : ℕ) → ℕ
+newNumber bs tree = placeIn (written bs tree)
+
+-- the tree with the new numbers
+abbrev pub renumbered : List Block → Tree → Tree
+renumbered bs tree = mapTree (newNumber bs tree) tree
 
 -- a tree's nodes with their intervals, passed down from [lo, hi)
 unfoldable pub nodesOf : (lo hi : ℕ) → Tree → Nodes
@@ -97,9 +102,7 @@ nodesOf lo hi (node es l r) = present lo hi (mid lo hi) es (nodesOf lo (mid lo h
 
 -- what the file of a closed index says
 unfoldable pub contents : (kind end : ℕ) → List Block → Tree → File
-contents kind e bs tree =
-    let ks = written (length bs) tree in
-    record { kind = kind; blocks = map (blockAt bs) ks; nodes = nodesOf 0 e (mapTree (placeIn ks) tree) }
+contents kind e bs tree = record { kind = kind; blocks = writtenBlocks bs tree; nodes = nodesOf 0 e (renumbered bs tree) }
 
 -- An index without blocks writes no bytes.
 unfoldable pub fileOf : (kind end : ℕ) → List Block → Tree → List ℕ
@@ -117,20 +120,20 @@ pub data Read (A : Type 0) : Type 0 where
 abbrev pub Reader : Type 0 → Type 0
 Reader A = (file : List ℕ) (at : ℕ) → Read A
 
-infixl 20 _>>=_
-infixl 20 _>>_
-infix 25 refuse_unless_
+-- a fault ends the reading
 unfoldable pub onward : {A B : Type 0} → Read A → (A → ℕ → Read B) → Read B
 onward (got x next) k = k x next
 onward (fault n) k = fault n
 
--- one reader, then that which its value leads to; a fault ends the reading
+-- one reader, then that which its value leads to
 unfoldable pub _>>=_ : {A B : Type 0} → Reader A → (A → Reader B) → Reader B
 _>>=_ r k file at = onward (r file at) (λ x next. k x file next)
 
+-- one reader, then another
 abbrev pub _>>_ : {A B : Type 0} → Reader A → Reader B → Reader B
 r >> s = r >>= (λ _. s)
 
+-- a value, without reading
 unfoldable pub give : {A : Type 0} → A → Reader A
 give x file at = got x at
 
@@ -144,6 +147,7 @@ field width file at =
     let bytes = got (take width (drop at file)) (at + width) in
     cond (leb (at + width) (length file)) bytes (fault 17)
 
+-- Every number is 8 bytes, little-endian; a kind or presence is 1 byte.
 unfoldable pub number : (width : ℕ) → Reader ℕ
 number width = do
   bytes ← field width
@@ -169,10 +173,9 @@ readBlock kind = do
   bytes ← field cells
   give (record { kind = own; stretch = record { first = first; bytes = bytes }; created = created; destroyed = destroyed })
 
--- 19: a presence byte other than 0 or 1. Each node takes a byte: with as much fuel as bytes are left, none is left when it is spent.
-unfoldable pub readNodes : (fuel : ℕ) → Reader Nodes
-readNodes zero = λ file at. fault 17
-readNodes (suc fuel) = do
+-- a node, whose children are read by `child`. 19: a presence byte other than 0 or 1.
+abbrev pub readNode : (child : Reader Nodes) → Reader Nodes
+readNode child = do
   presence ← number 1
   refuse 19 unless (leb presence 1)
   let node = do
@@ -181,11 +184,17 @@ readNodes (suc fuel) = do
     middle ← number 8
     count ← number 8
     entries ← many (number 8) count
-    left ← readNodes fuel
-    right ← readNodes fuel
+    left ← child
+    right ← child
     give (present min max middle entries left right)
   cond (eqb presence 0) (give absent) node
 
+-- Each node takes a byte: with as much fuel as bytes are left, none is left when it is spent.
+unfoldable pub readNodes : (fuel : ℕ) → Reader Nodes
+readNodes zero = λ file at. fault 17
+readNodes (suc fuel) = readNode (λ file at. readNodes fuel file at)
+
+-- no more nodes than the file has bytes
 unfoldable pub readRoot : Reader Nodes
 readRoot file at = readNodes (length file) file at
 
@@ -217,18 +226,18 @@ placedIn lo hi absent = true
 placedIn lo hi (present min max middle es l r) =
     (eqb min lo && (eqb max hi && eqb middle (mid lo hi))) && (placedIn lo (mid lo hi) l && placedIn (mid lo hi) hi r)
 
--- 20: blocks, nodes, entries or bytes exceed a table
+-- unless 20: blocks, nodes, entries or bytes exceed a table
 unfoldable pub rule20 : Lent → File → Bool
 rule20 n f =
     leb (length (f .blocks)) (blockRows n)
     && (leb (nodeCount (treeFrom (f .nodes))) (nodeRows n)
     && (leb (entryCount (treeFrom (f .nodes))) (entryRows n) && leb (sumOf (map (λ b. size (b .stretch)) (f .blocks))) (n .store)))
 
--- 21: no root, root min not 0, E out of range, a wrong mid, a child that isn't the half, a child of a node of width 1
+-- unless 21: no root, root min not 0, E out of range, a wrong mid, a child that isn't the half, a child of a node of width 1
 unfoldable pub rule21 : Nodes → Bool
 rule21 t = (ltb 0 (endOf t) && leb (endOf t) (2 ^ 63)) && (placedIn 0 (endOf t) t && halved 0 (endOf t) (treeFrom t))
 
--- 22: no block, or one with length 0, an end above 2^64 − 1, created ≥ destroyed, or destroyed > E
+-- unless 22: no block, or one with length 0, an end above 2^64 − 1, created ≥ destroyed, or destroyed > E
 unfoldable pub rule22 : (end : ℕ) → List Block → Bool
 rule22 e bs = ltb 0 (length bs) && every (λ b. filled (b .stretch) && lived e b) bs
 
@@ -239,6 +248,7 @@ pub record Loaded : Type 0 where
   pub blocks : List Block
   pub tree : Tree
 
+-- what the file says, as an index
 abbrev pub loadedFrom : File → Loaded
 loadedFrom f = record { end = endOf (f .nodes); kind = f .kind; blocks = f .blocks; tree = treeFrom (f .nodes) }
 

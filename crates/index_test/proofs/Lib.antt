@@ -1,1 +1,4 @@
 pub mod RowsTested
+pub mod BoardTested
+pub mod Ledgers
+pub mod Tested

@@ -5,11 +5,8 @@ use mathlib.Core.Bool.{Bool, true, false}
 use mathlib.Core.List.{List}
 use Prim.Native.Nat.{ℕ, _-_, _≤_, _<_}
 use native.Mathlib.Omega.{arith}
-use borrow.Author.Tests.{not-true, not-false}
 use Rattle.lists.specs.Tests.{Decides}
 use Rattle.lists.proofs.Numbers.{confirm, refute, eq-or-ne}
-use Rattle.ordering.specs.Order.{nextAt}
-use Rattle.layout.specs.Encodes.{Unordered}
 use Rattle.index_test.specs.Rows.{Bounds, RowSound, RowsSound}
 
 -- ── rows from the last one down ──
@@ -35,23 +32,3 @@ rows-fail blocks b low n r some most e d = refute (λ s. d .not e (s .rows low s
 
 pub rows-all : (blocks : List ℕ) (b : Bounds) (low n : ℕ) → low ≤ 0 → RowsSound blocks b low n → Decides true (RowsSound blocks b 0 n)
 rows-all blocks b low n none s = let e : low ≡ 0 = omega arith in confirm (subst (λ (k : ℕ). RowsSound blocks b k n) e s)
-
--- ── no order ──
-
--- the rows above low up to n have no next block, nor has the head
-pub record NoneAbove (blocks : List ℕ) (low n : ℕ) : Type 0 where
-  pub head : nextAt blocks 0 ≡ 0
-  pub rows : (link : ℕ) → low < link → link ≤ n → nextAt blocks link ≡ 0
-
-pub none-more : (blocks : List ℕ) (low n : ℕ) → 0 < low → nextAt blocks low ≡ 0 → NoneAbove blocks low n → NoneAbove blocks (low - 1) n
-none-more blocks low n some e s = record { head = s .head; rows = above-more (λ k. nextAt blocks k ≡ 0) low n some e (s .rows) }
-
-pub none-all : (blocks : List ℕ) (low n : ℕ) → low ≤ 0 → NoneAbove blocks low n → Decides true (Unordered blocks n)
-none-all blocks low n zero s = confirm (record { none = all })
-  where
-    all : (link : ℕ) → link ≤ n → nextAt blocks link ≡ 0
-    all link h = go (eq-or-ne link 0)
-      where
-        go : (link ≡ 0) ⊎ (link ≡ 0 → ⊥) → nextAt blocks link ≡ 0
-        go (inl e) = rw e (s .head)
-        go (inr e) = s .rows link (omega arith) h

@@ -1,4 +1,62 @@
 // Whether lent tables are well formed: the tests behind refusal 2, on any tables at all.
 //
 //   rows    the rows of the block table, one by one
+//   board   what any index has, open or closed
+ghost use mathlib.Core.Path.{_≡_};
+ghost use Rattle.layout.specs.Tables.{tables};
+ghost use Rattle.index_test.specs.Board.{Outcome, TestedClosed};
+
+mod board;
 mod rows;
+
+use tables::block;
+use tables::piece;
+
+// What tables are found to be.
+pub enum State {
+    Bad,
+    Open,
+    Closed,
+}
+
+// Whether the tables that pass as a board are those of a closed index. Linear in the rows in use, and in the pairs that start in one another.
+fn test_closed(pieces: &[u64], blocks: &[u64], store: &[u8], nodes: &[u64], entries: &[u64]) -> bool
+    ensures { λ r. ⌜ TestedClosed (tables (now (pieces .entry)) (now (blocks .entry)) (now (store .entry)) (now (nodes .entry)) (now (entries .entry))) r ⌝ }
+{
+    if tables::get(pieces, 0, piece::COUNT) != 0 {
+        return false;
+    }
+    let count = block::get(blocks, 0, block::COUNT);
+    if !ordering::in_order(blocks, count) {
+        return false;
+    }
+    if !ordering::apart(blocks, count) {
+        return false;
+    }
+    let kind = block::get(blocks, 0, block::KIND);
+    let end = block::get(blocks, 0, block::END);
+    segment_test::test_tree(blocks, nodes, entries, kind, end, count)
+}
+
+// What the tables are: of an open index, of a closed one, or not well formed.
+pub fn test(pieces: &[u64], blocks: &[u64], store: &[u8], nodes: &[u64], entries: &[u64]) -> State
+    ensures { λ r. ⌜ Outcome r (tables (now (pieces .entry)) (now (blocks .entry)) (now (store .entry)) (now (nodes .entry)) (now (entries .entry))) ⌝ }
+{
+    if !board::test_board(pieces, blocks, store, nodes, entries) {
+        return State::Bad;
+    }
+    let state = block::get(blocks, 0, block::STATE);
+    if state == block::OPEN {
+        if ordering::unordered(blocks, block::get(blocks, 0, block::COUNT)) {
+            return State::Open;
+        }
+        return State::Bad;
+    }
+    if state != block::CLOSED {
+        return State::Bad;
+    }
+    if test_closed(pieces, blocks, store, nodes, entries) {
+        return State::Closed;
+    }
+    State::Bad
+}

@@ -1,8 +1,5 @@
 // The rows of the block table, one by one.
-ghost use mathlib.Core.Path.{_≡_};
-ghost use Prim.Native.Nat.{ℕ};
 ghost use Rattle.lists.specs.Tests.{Decides};
-ghost use Rattle.layout.specs.Encodes.{Unordered};
 ghost use Rattle.index_test.specs.Rows.{RowSound, RowsSound};
 use tables::block;
 
@@ -47,23 +44,6 @@ pub fn test_rows(blocks: &[u64], n: u64, kind: u64, end: u64, used: u64) -> bool
     let mut link = n;
     while 0 < link {
         if !test_row(blocks, link, kind, end, used) {
-            return false;
-        }
-        link -= 1;
-    }
-    true
-}
-
-// Whether neither the head nor the rows 1 to n have a next block. Linear in n.
-pub fn test_unordered(blocks: &[u64], n: u64) -> bool
-    ensures { λ r. ⌜ Decides r (Unordered (now (blocks .entry)) n) ⌝ }
-{
-    if block::get(blocks, 0, block::NEXT) != 0 {
-        return false;
-    }
-    let mut link = n;
-    while 0 < link {
-        if block::get(blocks, link, block::NEXT) != 0 {
             return false;
         }
         link -= 1;

@@ -22,7 +22,7 @@ use Rattle.merge_set.specs.Table.{Shape}
 use Rattle.ordering.specs.Order.{nextAt}
 use Rattle.ordering.specs.Blocks.{blocksOf, Stored}
 use Rattle.layout.specs.Tables.{Tables, tables, lengthsOf, headAt}
-use Rattle.layout.specs.Encodes.{Links, Unordered, openState, Encodes}
+use Rattle.layout.specs.Encodes.{Links, openState, Encodes}
 use Rattle.layout.specs.Formed.{Blank}
 use Rattle.layout.specs.Relations.{openingOf, openedTables}
 use Rattle.layout.proofs.Lengths.{lent-same, Heads, heads-fit}

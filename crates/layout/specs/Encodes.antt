@@ -14,7 +14,7 @@ use Rattle.merge_set.specs.Tree.{Tree, rows, Balanced}
 use Rattle.merge_set.specs.Table.{Shape}
 use Rattle.piece_table.specs.Piece.{PieceRow, pieceAt}
 use Rattle.piece_table.specs.Shown.{shown}
-use Rattle.ordering.specs.Order.{nextAt, InOrder}
+use Rattle.ordering.specs.Order.{InOrder, Unordered}
 use Rattle.ordering.specs.Blocks.{blocksOf, Stored}
 use Rattle.segment_table.specs.Closed.{Closed}
 use Rattle.layout.specs.Tables.{Tables, lengthsOf, headAt, treeTables}
@@ -44,10 +44,6 @@ closedState = 2
 abbrev pub stateOf : Option segment.Tree → ℕ
 stateOf none = openState
 stateOf (some tree) = closedState
-
--- no block has a next one: the order column of an open index
-pub record Unordered (blocks : List ℕ) (n : ℕ) : Type 0 where
-  pub none : (link : ℕ) → link ≤ n → nextAt blocks link ≡ 0
 
 -- an open index has no order; a closed one has its order column, and its tree in the node and entry tables
 abbrev pub TreeIn : Tables → Ledger → Option segment.Tree → Type 0

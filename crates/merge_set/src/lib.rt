@@ -24,7 +24,7 @@ const DEEP: u64 = 1 << 63;
 const TURNS: u64 = 1;
 
 // The depth of the tree at `link`.
-fn depth(table: &[u64], link: u64) -> u64
+pub fn depth(table: &[u64], link: u64) -> u64
     ensures { λ r. ⌜ r ≡ deepAt (now (table .entry)) link ⌝ }
 {
     if link == 0 {

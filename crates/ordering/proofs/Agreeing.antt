@@ -1,18 +1,18 @@
 -- Rule 24 over the rows of a table is rule 24 of history over the blocks that they stand for. Assumes nothing.
-use mathlib.Core.Path.{_≡_, sym}
-use mathlib.Core.Logic.{_⊎_, inl, inr, ⊎-elim}
-use mathlib.Core.Bool.{Bool}
+use mathlib.Core.Path.{_≡_, refl}
+use mathlib.Core.Logic.{_⊎_, ⊎-elim}
+use mathlib.Core.Bool.{Bool, true, false}
 use mathlib.Core.List.{List}
 use Prim.Native.Nat.{ℕ, zero, suc, _+_, _-_, _≤_, _<_}
 use native.Mathlib.Omega.{arith}
 use lib.ListN.{length, getD}
-use Rattle.lists.specs.Lists.{Pairs}
 use Rattle.lists.specs.Tests.{Decides}
 use Rattle.lists.proofs.Lists.{pairs-at, pairs-of-at}
 use Rattle.lists.proofs.Numbers.{lt-or-le, decides-iff}
-use Rattle.history.specs.Words.{Block, HasCell, Holds}
+use Rattle.history.specs.Words.{Holds}
 use Rattle.history.specs.Tree.{noBlock}
-use Rattle.history.specs.Rules.{Apart}
+use Rattle.history.specs.Rules.{apart, Apart}
+use Rattle.history.proofs.RulesLaws.{apart-decides}
 use Rattle.ordering.specs.Order.{InOrder}
 use Rattle.ordering.specs.Blocks.{lengthAt, offsetAt, blockOfRow, blocksOf, Filled, Stored}
 use Rattle.ordering.specs.Apart.{HoldsAt, Clash, Unshared, TestedApart}
@@ -42,6 +42,13 @@ module _ (store t : List ℕ) (link : ℕ) (inside : offsetAt t link + lengthAt 
       }
 
 -- ── all of them ──
+
+-- two tests of one statement give one answer
+decides-same : (r q : Bool) {P : Type 0} → Decides r P → Decides q P → r ≡ q
+decides-same true true d e = refl
+decides-same true false d e = absurd (e .not refl (d .yes refl))
+decides-same false true d e = absurd (d .not refl (e .yes refl))
+decides-same false false d e = refl
 
 module _ (store : List ℕ) {t : List ℕ} {n : ℕ} (stored : Stored (length store) t n) where
   pub unshared-apart : Unshared t n → Apart (blocksOf store t n)
@@ -82,5 +89,9 @@ module _ (store : List ℕ) {t : List ℕ} {n : ℕ} (stored : Stored (length st
           less h = omega arith
 
   -- rule 24 by order decides rule 24 of history
-  pub apart-decides : {r : Bool} → TestedApart t n r → InOrder t n → Filled t n → Decides r (Apart (blocksOf store t n))
-  apart-decides {r} d o f = decides-iff r unshared-apart apart-unshared (d .decides o f)
+  pub tested-decides : {r : Bool} → TestedApart t n r → InOrder t n → Filled t n → Decides r (Apart (blocksOf store t n))
+  tested-decides {r} d o f = decides-iff r unshared-apart apart-unshared (d .decides o f)
+
+  -- so its answer is history's test by pairs
+  pub tested-is : {r : Bool} → TestedApart t n r → InOrder t n → Filled t n → r ≡ apart (blocksOf store t n)
+  tested-is {r} d o f = decides-same r (apart (blocksOf store t n)) (tested-decides d o f) (apart-decides (blocksOf store t n))

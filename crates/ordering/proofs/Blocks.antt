@@ -1,21 +1,19 @@
 -- Laws of the blocks that the rows of a block table stand for: how many, which, and what of table and store they depend on. Assumes nothing.
 use mathlib.Core.Path.{_≡_, refl, sym, ap, _∙_}
-use mathlib.Core.Logic.{_⊎_, inl, inr}
 use mathlib.Core.List.{List, [], _∷_, _++_, map}
-use Prim.Native.Nat.{ℕ, zero, suc, _+_, _*_, _≤_, _<_}
+use Prim.Native.Nat.{ℕ, zero, suc, _+_, _≤_, _<_}
 use native.Mathlib.Omega.{arith}
-use lib.ListN.{length, getD, set, take, drop, length-drop}
-use lib.Seq.{length-take-le, take-take, take-nil, drop-nil, getD-set-other, sets}
+use lib.ListN.{length, getD, take, drop, length-drop}
+use lib.Seq.{length-take-le, take-take}
 use Rattle.lists.specs.Lists.{All, all-nil, all-cons, countFrom}
 use Rattle.lists.proofs.Lists.{count-from-length, count-from-at}
 use Rattle.lists.proofs.Maps.{map-append, length-of-map, getD-of-map, map-all}
-use Rattle.lists.proofs.Stores.{getD-sets-out}
-use Rattle.history.specs.Lent.{rowWidth, blockHead}
 use Rattle.history.specs.Words.{Block, firstCell}
-use Rattle.history.specs.Tree.{noBlock, blockAt, keyIn}
-use Rattle.tables.specs.Columns.{blockColumn, blockBase, blockFirst, blockLength, blockCreated, blockDestroyed, blockOffset, blockOwner, blockNext}
-use Rattle.ordering.specs.Order.{firstCellAt, nextPlace, OnlyOrder}
-use Rattle.ordering.specs.Blocks.{lengthAt, createdAt, destroyedAt, offsetAt, ownerAt, bytesAt, blockOfRow, blocksOf, Stored}
+use Rattle.history.specs.Tree.{noBlock, keyIn}
+use Rattle.tables.specs.Columns.{blockColumn, blockFirst, blockLength, blockCreated, blockDestroyed, blockOffset, blockOwner, blockNext}
+use Rattle.ordering.specs.Order.{firstCellAt, OnlyOrder}
+use Rattle.ordering.specs.Blocks.{lengthAt, offsetAt, bytesAt, blockOfRow, blocksOf, SameRows, Stored}
+use Rattle.ordering.proofs.Keeping.{kept-column, order-column}
 
 -- ── numbers from a number on ──
 
@@ -80,30 +78,19 @@ blocks-same store t t′ n f =
     map-all (blockOfRow store t′) (blockOfRow store t)
     (all-count-from 1 n (λ link a b. row-same store t t′ link (λ c h. f link c (omega arith) (omega arith) h)))
 
--- what stands in the head or behind the rows is nothing to them
-pub blocks-inside : (store t t′ : List ℕ) (n : ℕ) → ((i : ℕ) → blockHead ≤ i → i < blockHead + rowWidth * n → getD t′ i 0 ≡ getD t i 0)
-    → blocksOf store t′ n ≡ blocksOf store t n
-blocks-inside store t t′ n f =
-    blocks-same store t t′ n (λ link c a b h. f (rowWidth * link + (blockBase + c)) (omega arith) (omega arith))
-
-pub blocks-set : (store t : List ℕ) (n i v : ℕ) → (i < blockHead) ⊎ (blockHead + rowWidth * n ≤ i)
-    → blocksOf store (set t i v) n ≡ blocksOf store t n
-blocks-set store t n i v (inl h) = blocks-inside store t (set t i v) n (λ j a b. getD-set-other t i j v 0 (λ e. omega arith))
-blocks-set store t n i v (inr h) = blocks-inside store t (set t i v) n (λ j a b. getD-set-other t i j v 0 (λ e. omega arith))
-
-pub blocks-sets : (store t : List ℕ) (n at : ℕ) (vs : List ℕ) → blockHead + rowWidth * n ≤ at → blocksOf store (sets t at vs) n ≡ blocksOf store t n
-blocks-sets store t n at vs h = blocks-inside store t (sets t at vs) n (λ j a b. getD-sets-out vs t at j (inl (omega arith)))
+-- the head and what stands behind the rows are nothing to them
+pub blocks-kept : (store : List ℕ) {t t′ : List ℕ} {n : ℕ} → SameRows t t′ n → blocksOf store t′ n ≡ blocksOf store t n
+blocks-kept store {t} {t′} {n} s = blocks-same store t t′ n (λ link c a b h. kept-column s link c a b (omega arith))
 
 -- nor is the order
-pub blocks-order : (store t t′ : List ℕ) (n m : ℕ) → OnlyOrder t t′ m → blocksOf store t′ n ≡ blocksOf store t n
-blocks-order store t t′ n m o =
-    blocks-same store t t′ n (λ link c a b h. o .same (rowWidth * link + (blockBase + c)) (λ k l e. omega arith))
+pub blocks-order : (store : List ℕ) {t t′ : List ℕ} {m : ℕ} (n : ℕ) → OnlyOrder t t′ m → blocksOf store t′ n ≡ blocksOf store t n
+blocks-order store {t} {t′} n o = blocks-same store t t′ n (λ link c a b h. order-column o link c (omega arith) (λ e. omega arith))
 
 -- rows written behind n rows that stay
-pub blocks-append : (store t t′ : List ℕ) (n m : ℕ) → ((i : ℕ) → blockHead ≤ i → i < blockHead + rowWidth * n → getD t′ i 0 ≡ getD t i 0)
+pub blocks-append : (store : List ℕ) {t t′ : List ℕ} {n : ℕ} (m : ℕ) → SameRows t t′ n
     → blocksOf store t′ (n + m) ≡ blocksOf store t n ++ map (blockOfRow store t′) (countFrom (suc n) m)
-blocks-append store t t′ n m f =
-    blocks-more store t′ n m ∙ ap (λ (l : List Block). l ++ map (blockOfRow store t′) (countFrom (suc n) m)) (blocks-inside store t t′ n f)
+blocks-append store {t} {t′} {n} m s =
+    blocks-more store t′ n m ∙ ap (λ (l : List Block). l ++ map (blockOfRow store t′) (countFrom (suc n) m)) (blocks-kept store s)
 
 -- ── what of the store they depend on ──
 

@@ -6,7 +6,9 @@ pub mod Testing
 pub mod Dense
 pub mod Parting
 pub mod Clearing
+pub mod Keeping
 pub mod Blocks
 pub mod Agreeing
 pub mod Unique
 pub mod Numbering
+pub mod Explicit

@@ -2,18 +2,18 @@
 use mathlib.Core.Path.{_≡_, refl, sym, _∙_}
 use mathlib.Core.Bool.{Bool, true, false}
 use mathlib.Core.List.{List, [], _∷_}
-use Prim.Native.Nat.{ℕ, suc, _+_, _-_, _*_, _≤_, _<_, max, _^_}
+use Prim.Native.Nat.{ℕ, _-_, _≤_, _<_, max, _^_}
 use native.Mathlib.Omega.{arith}
 use borrow.Author.Tests.{ltb-true, ltb-false, not-true, not-false}
 use lib.Dec.{ltb}
 use lib.ListN.{length}
-use Rattle.lists.specs.Lists.{All, all-nil, all-cons, Pairs, pairs-nil, pairs-cons, Mem, here, there, Distinct}
+use Rattle.lists.specs.Lists.{all-nil, all-cons, pairs-nil, pairs-cons, Mem, here, there}
 use Rattle.lists.specs.Tests.{Decides}
 use Rattle.lists.proofs.Lists.{all-mem, all-of-mem}
 use Rattle.lists.proofs.Numbers.{confirm, refute, decides-iff}
-use Rattle.ordering.specs.Order.{firstCellAt, nextAt, rankOf, rank, Trail, end, link, InOrder}
+use Rattle.ordering.specs.Order.{firstCellAt, nextAt, rank, Trail, end, link}
 use Rattle.ordering.specs.Blocks.{lengthAt, createdAt, destroyedAt, Filled}
-use Rattle.ordering.specs.Apart.{HoldsAt, Clash, Unshared, StartsWithin, LivesMeet, Clear, AllClear, FollowersApart, RowsApart, TestedApart}
+use Rattle.ordering.specs.Apart.{Clash, Unshared, StartsWithin, LivesMeet, Clear, AllClear, FollowersApart, RowsApart, TestedApart}
 use Rattle.ordering.proofs.Rank.{rank-first}
 use Rattle.ordering.proofs.Trail.{trail-wider}
 use Rattle.ordering.proofs.Dense.{Met, trail-met, trail-distinct, order-dense}
@@ -98,6 +98,11 @@ module _ {t : List ℕ} {j k fuel : ℕ} where
       go [] h = confirm all-nil
       go (x ∷ xs) h = absurd (omega arith)
 
+  pub followers-lifeless : {c d : ℕ} → c ≡ createdAt t j → d ≡ destroyedAt t j → d ≤ c → FollowersApart t j k fuel true
+  followers-lifeless ec ed h = record {
+    decides = λ n links small f tr fits. confirm (all-of-mem links (λ y m c. omega (arith, c .one .born, c .one .alive)));
+  }
+
   pub followers-none : k ≡ 0 → FollowersApart t j k fuel true
   followers-none z = record { decides = λ n links small f tr fits. go n links tr }
     where
@@ -160,7 +165,7 @@ pub followers-end : {t : List ℕ} {j k₀ fuel₀ k fuel : ℕ} {r : Bool} → 
     → FollowersApart t j k₀ fuel₀ r
 followers-end {r = r} a b = a .whole r b
 
-pub ruleset following = (followers-start, followers-turn, followers-end, followers-spent, followers-none, followers-past, followers-clash, not-true, not-false)
+pub ruleset following = (followers-start, followers-turn, followers-end, followers-lifeless, followers-spent, followers-none, followers-past, followers-clash, not-true, not-false)
 
 -- ── the returns of `rows_apart` ──
 

@@ -1,8 +1,10 @@
 -- The blocks of history that the rows of a block table stand for; their bytes are parts of the store. Definitions alone.
+use mathlib.Core.Path.{_≡_}
 use mathlib.Core.List.{List, map}
-use Prim.Native.Nat.{ℕ, _+_, _≤_, _<_}
-use lib.ListN.{length, take, drop}
+use Prim.Native.Nat.{ℕ, _+_, _*_, _≤_, _<_}
+use lib.ListN.{getD, take, drop}
 use Rattle.lists.specs.Lists.{countFrom}
+use Rattle.history.specs.Lent.{rowWidth, blockHead}
 use Rattle.history.specs.Words.{Block}
 use Rattle.tables.specs.Columns.{blockColumn, blockLength, blockCreated, blockDestroyed, blockOffset, blockOwner}
 use Rattle.ordering.specs.Order.{firstCellAt}
@@ -43,6 +45,12 @@ blockOfRow store blocks link =
 -- the blocks of the rows 1 to n: block k is the row of link k + 1
 unfoldable pub blocksOf : (store blocks : List ℕ) (n : ℕ) → List Block
 blocksOf store blocks n = map (blockOfRow store blocks) (countFrom 1 n)
+
+-- ── what holds of all rows ──
+
+-- the rows 1 to n are as they were; the head and what stands behind them may have changed
+pub record SameRows (blocks blocks′ : List ℕ) (n : ℕ) : Type 0 where
+  pub same : (i : ℕ) → blockHead ≤ i → i < blockHead + rowWidth * n → getD blocks′ i 0 ≡ getD blocks i 0
 
 -- none of the blocks 1 to n is empty
 pub record Filled (blocks : List ℕ) (n : ℕ) : Type 0 where

@@ -3,5 +3,7 @@ pub mod Parts
 pub mod Removing
 pub mod Seeking
 pub mod Writing
+pub mod Seeing
 pub mod Held
 pub mod Showing
+pub mod Testing

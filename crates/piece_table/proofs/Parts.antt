@@ -1,5 +1,6 @@
 -- The parts of pieces below a cell, in a range and from a cell on: one piece, then lists. Assumes nothing.
 use mathlib.Core.Bool.{Bool, true, false, cond}
+use mathlib.Core.Logic.{_⊎_, inl, inr}
 use mathlib.Core.List.{List, [], _∷_, _++_, filterMap, filterMap-append, filterMap-some, append-nil, Option·toList}
 use mathlib.Core.Option.{Option, none, some, Option·some-injective, Option·none-ne-some}
 use mathlib.Core.Path.{_≡_, refl, sym, ap, ap₂, subst, _∙_}
@@ -10,7 +11,7 @@ use borrow.Author.Tests.{lt-ltb, le-ltb, ltb-true}
 use Rattle.lists.proofs.Lists.{all-any, all-both, all-map}
 use Rattle.lists.proofs.Maps.{all-filterMap, filterMap-all, filterMap-none, filterMap-cons}
 use Rattle.lists.specs.Lists.{All}
-use Rattle.piece_table.specs.Piece.{PieceRow, rowEnd, part, clipRow, rowsBelow, rowsAbove, Filled}
+use Rattle.piece_table.specs.Piece.{PieceRow, rowEnd, part, clipRow, rowsBelow, rowsAbove, rowsInside, Filled}
 
 -- ── one piece ──
 
@@ -101,6 +102,34 @@ above-right x a b = keep (λ p. clipRow x (rowEnd p) p) (all-both (λ p r n. hig
 above-left : (x : ℕ) {ps : List PieceRow} → Left x ps → rowsAbove x ps ≡ []
 unfolding rowsAbove
 above-left x a = lose (λ p. clipRow x (rowEnd p) p) (all-map (λ p l. high-none x p l) a)
+
+-- of what lies in [f, e)
+inside-none : (f e : ℕ) (p : PieceRow) → (rowEnd p ≤ f) ⊎ (e ≤ p .first) → clipRow f e p ≡ none
+inside-none f e p (inl h) = clip-none f e p (omega arith)
+inside-none f e p (inr h) = clip-none f e p (omega arith)
+
+inside-some : (f e : ℕ) (p : PieceRow) → f < e → 0 < p .size → p .first < e → f < rowEnd p → clipRow f e p ≡ some (part (max f (p .first)) (min e (rowEnd p)) p)
+inside-some f e p h s lo hi = clip-some f e p (max f (p .first)) (min e (rowEnd p)) refl refl (omega arith)
+
+pub inside-left : (f e : ℕ) {ps : List PieceRow} → Left f ps → rowsInside f e ps ≡ []
+unfolding rowsInside
+inside-left f e a = lose (clipRow f e) (all-map (λ p l. inside-none f e p (inl l)) a)
+
+pub inside-right : (f e : ℕ) {ps : List PieceRow} → Right e ps → rowsInside f e ps ≡ []
+unfolding rowsInside
+inside-right f e a = lose (clipRow f e) (all-map (λ p r. inside-none f e p (inr r)) a)
+
+-- what ends left of it is passed over
+pub inside-skip : (f e : ℕ) (qs rs : List PieceRow) → Left f qs → rowsInside f e (qs ++ rs) ≡ rowsInside f e rs
+unfolding rowsInside
+inside-skip f e qs rs l = filterMap-append (clipRow f e) qs rs ∙ ap (λ (u : List PieceRow). u ++ filterMap (clipRow f e) rs) (inside-left f e l)
+
+-- the lowest piece that meets it comes first
+pub inside-here : (f e : ℕ) (qs : List PieceRow) (p : PieceRow) (rs : List PieceRow) → Left f qs → f < e → 0 < p .size → p .first < e → f < rowEnd p
+    → rowsInside f e (qs ++ p ∷ rs) ≡ part (max f (p .first)) (min e (rowEnd p)) p ∷ rowsInside f e rs
+unfolding rowsInside Option·toList
+inside-here f e qs p rs l h s lo hi =
+    inside-skip f e qs (p ∷ rs) l ∙ filterMap-cons (clipRow f e) p rs ∙ ap (λ (o : Option PieceRow). Option·toList o ++ filterMap (clipRow f e) rs) (inside-some f e p h s lo hi)
 
 -- one piece among others
 one : (g : PieceRow → Option PieceRow) (qs : List PieceRow) (p : PieceRow) (rs : List PieceRow) → filterMap g (qs ++ p ∷ rs) ≡ filterMap g qs ++ (Option·toList (g p) ++ filterMap g rs)

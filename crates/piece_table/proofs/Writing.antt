@@ -32,10 +32,11 @@ column-set-same t k d v h w = getD-set-same t (rowWidth * k + d) v 0 (omega (ari
 column-set-other : (t : List ℕ) (k j c d v : ℕ) → c < rowWidth → d < rowWidth → (j ≡ k → c ≡ d → ⊥) → column (set t (rowWidth * k + d) v) j c ≡ column t j c
 column-set-other t k j c d v hc hd n = getD-set-other t (rowWidth * k + d) (rowWidth * j + c) v 0 (λ e. let s : (j ≡ k) × (c ≡ d) = column-eq j c k d hc hd e in n (s .0) (s .1))
 
-abbrev piece : ℕ → ℕ → ℕ → ℕ → ℕ → PieceRow
+abbrev pub piece : ℕ → ℕ → ℕ → ℕ → ℕ → PieceRow
 piece a b c d e = record { first = a; size = b; written = c; offset = d; owner = e }
 
-piece-eq : {a b c d e a′ b′ c′ d′ e′ : ℕ} → a ≡ a′ → b ≡ b′ → c ≡ c′ → d ≡ d′ → e ≡ e′ → piece a b c d e ≡ piece a′ b′ c′ d′ e′
+-- a piece is its five numbers
+pub piece-eq : {a b c d e a′ b′ c′ d′ e′ : ℕ} → a ≡ a′ → b ≡ b′ → c ≡ c′ → d ≡ d′ → e ≡ e′ → piece a b c d e ≡ piece a′ b′ c′ d′ e′
 piece-eq p q r s u = rw (p, q, r, s, u)
 
 -- ── `write_row` ──

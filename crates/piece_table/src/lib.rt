@@ -3,15 +3,20 @@
 //   specs/Piece     a piece by offsets, its parts, the order
 //   specs/Rep       which pieces a table stands for: the layout
 //   specs/Calls     what each function ensures
+//   specs/Test      what makes a table well formed
 //   specs/Shown     the ledger's piece that a row's piece stands for
 //   proofs/Order    lists in order
 //   proofs/Parts    the parts of pieces below a cell, in a range and from a cell on
 //   proofs/Showing  clipping rows is clipping the ledger's pieces
 //   proofs/Seeking, Removing, Writing    one step for each return
+//   proofs/Testing  the test decides it
 //   proofs/Held     the contracts by links are contracts by pieces
 ghost use mathlib.Core.Path.{_≡_};
 ghost use Rattle.piece_table.specs.Calls.{HeadSet, WroteRow, EndsAfter, SoughtFrom, Sought, RemovedPiece, InsertedPiece, TrimmedBack, TrimmedFront};
+ghost use Rattle.lists.specs.Tests.{Decides};
+ghost use Rattle.piece_table.specs.Test.{RowStands, RowFits, Walked, WellFormed};
 use tables::piece::COUNT;
+use tables::piece::DEPTH;
 use tables::piece::FIRST;
 use tables::piece::LEFT;
 use tables::piece::LENGTH;
@@ -166,4 +171,132 @@ pub fn trim_front(table: &mut [u64], link: u64, first: u64)
     tables::put(table, link, FIRST, first);
     tables::put(table, link, LENGTH, length - cut);
     tables::put(table, link, OFFSET, offset + cut);
+}
+
+// What the pieces of a table may be: how many, their kind, the bytes in use, the last accepted tick.
+pub struct Limits {
+    pub count: u64,
+    pub kind: u64,
+    pub used: u64,
+    pub last: u64,
+}
+
+// What a walk through a tree finds: something wrong, or how many pieces it has seen now, and where the last one ends.
+pub enum Walk {
+    Bad,
+    Fine(u64, u64),
+}
+
+// Whether the row of a link can be a node of the tree, at most `fuel` deep: its depth and its children's say so. It is asked before the walk goes down.
+fn row_stands(table: &[u64], count: u64, link: u64, fuel: u64) -> bool
+    ensures { λ r. ⌜ Decides r (RowStands (now (table .entry)) count link fuel) ⌝ }
+{
+    if count < link {
+        return false;
+    }
+    let own = tables::get(table, link, DEPTH);
+    if own == 0 {
+        return false;
+    }
+    if fuel < own {
+        return false;
+    }
+    let d = merge_set::depth(table, tables::get(table, link, LEFT));
+    let e = merge_set::depth(table, tables::get(table, link, RIGHT));
+    if d < e {
+        if 1 < e - d {
+            return false;
+        }
+        return own - 1 == e;
+    }
+    if 1 < d - e {
+        return false;
+    }
+    own - 1 == d
+}
+
+// Whether the piece of a link is allowed, and starts at `low` or past it.
+fn row_fits(table: &[u64], link: u64, low: u64, kind: u64, used: u64, last: u64) -> bool
+    ensures { λ r. ⌜ Decides r (RowFits (now (table .entry)) link low kind used last) ⌝ }
+{
+    let first = tables::get(table, link, FIRST);
+    let length = tables::get(table, link, LENGTH);
+    let written = tables::get(table, link, WRITTEN);
+    let offset = tables::get(table, link, OFFSET);
+    let owner = tables::get(table, link, OWNER);
+    if first < low {
+        return false;
+    }
+    if length == 0 {
+        return false;
+    }
+    if LARGEST - first < length {
+        return false;
+    }
+    if used < length {
+        return false;
+    }
+    if used - length < offset {
+        return false;
+    }
+    if last < written {
+        return false;
+    }
+    owner == kind
+}
+
+// Walks through the tree at `link` in order. It is at most `fuel` deep, its pieces start at `low` or past it, and `seen` pieces stand before them. It
+// ends at the first fault. A row that comes again starts before the last end, so every row passes once: after `count` rows and at most `fuel` more on
+// the way down it has ended, on any table.
+fn walk_tree(table: &[u64], limits: Limits, link: u64, low: u64, seen: u64, fuel: u64) -> Walk
+    ensures { λ w. ⌜ Walked (now (table .entry)) limits link low seen fuel w ⌝ }
+{
+    if link == 0 {
+        return Walk::Fine(seen, low);
+    }
+    if fuel == 0 {
+        return Walk::Bad;
+    }
+    if !row_stands(table, limits.count, link, fuel) {
+        return Walk::Bad;
+    }
+    let l = tables::get(table, link, LEFT);
+    let r = tables::get(table, link, RIGHT);
+    let before = walk_tree(table, limits, l, low, seen, fuel - 1);
+    match before {
+        Walk::Bad => Walk::Bad,
+        Walk::Fine(n, end) => {
+            if limits.count <= n {
+                return Walk::Bad;
+            }
+            if !row_fits(table, link, end, limits.kind, limits.used, limits.last) {
+                return Walk::Bad;
+            }
+            let first = tables::get(table, link, FIRST);
+            let length = tables::get(table, link, LENGTH);
+            walk_tree(table, limits, r, first + length, n + 1, fuel - 1)
+        }
+    }
+}
+
+// Whether a piece table is well formed, for an index of one kind, with so many bytes of the store in use and that last accepted tick.
+pub fn test_pieces(table: &[u64], kind: u64, used: u64, last: u64) -> bool
+    ensures { λ r. ⌜ Decides r (WellFormed (now (table .entry)) kind used last) ⌝ }
+{
+    let count = tables::get(table, 0, COUNT);
+    if table.len() / tables::ROW <= count as usize {
+        return false;
+    }
+    let root = tables::get(table, 0, ROOT);
+    let limits = Limits {
+        count: count,
+        kind: kind,
+        used: used,
+        last: last,
+    };
+    let found = walk_tree(table, limits, root, 0, 0, DEEPEST);
+    match found {
+        Walk::Bad => false,
+        Walk::Fine(n, _) => n == count,
+    }
 }

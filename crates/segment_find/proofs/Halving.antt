@@ -1,24 +1,58 @@
 -- The way down by halves: one step for each return of `half`, and what a half is to the tree of its node. Assumes nothing.
-use mathlib.Core.Path.{_≡_, refl, sym, _∙_, ap}
-use mathlib.Core.Logic.{_⊎_, inl, inr, ⊎-elim}
-use mathlib.Core.Bool.{Bool, true, false, cond, _&&_}
-use mathlib.Core.List.{List, [], _∷_, _++_}
-use Prim.Native.Nat.{ℕ, zero, suc, _+_, _-_, _/_, _≤_, _<_}
+use mathlib.Core.Path.{_≡_, refl, sym}
+use mathlib.Core.Logic.{_⊎_, ⊎-elim}
+use mathlib.Core.Bool.{Bool, true, false}
+use mathlib.Core.List.{List, _++_}
+use Prim.Native.Nat.{ℕ, suc, _+_, _-_, _/_, _≤_, _<_}
 use native.Mathlib.Omega.{arith}
-use lib.ListN.{length}
-use lib.Dec.{ltb}
-use borrow.Author.Tests.{lt-ltb, le-ltb}
-use Rattle.lists.proofs.Numbers.{le-or-lt, lt-or-le, and-left, and-right}
+use lib.Dec.{leb}
+use borrow.Author.Tests.{lt-ltb, le-ltb, leb-true, leb-false}
+use Rattle.lists.specs.Tests.{Decides}
+use Rattle.lists.proofs.Numbers.{le-or-lt, lt-or-le, confirm}
 use Rattle.history.specs.Tree.{Tree, hole, node, mid, halves}
 use Rattle.history.specs.Find.{path, visited}
-use Rattle.history.specs.Rules.{sorted, ascends}
+use Rattle.history.specs.Rules.{sorted}
+use Rattle.history.proofs.RulesLaws.{sorted-left, sorted-right}
 use Rattle.tables.specs.Columns.{column}
 use Rattle.segment_table.specs.Closed.{TreeAt, leftAt, rightAt, firstCellIn}
-use Rattle.segment_find.specs.declared.Node.{Node}
-use Rattle.segment_find.specs.Walking.{Stands, rootAt, noNode, leftHalf, rightHalf, halfAt}
+use Rattle.segment_find.specs.declared.walk.Node.{Node}
+use Rattle.segment_find.specs.Walking.{Stands, rootAt, Absent, no-row, no-tick, noNode, leftHalf, rightHalf, halfAt}
 
 pub root-at : (nodes : List ℕ) (kind end link : ℕ) → link ≡ column nodes 0 kind → record { link = link; min = 0; max = end } ≡ rootAt nodes kind end
 root-at nodes kind end link e = rw e
+
+-- ── the returns of `absent` ──
+
+pub absent-row : {n : Node} → n .link ≡ 0 → Decides true (Absent n)
+absent-row e = confirm (no-row e)
+
+pub absent-tick : {n : Node} → (n .link ≡ 0 → ⊥) → Decides (leb (n .max) (n .min)) (Absent n)
+absent-tick {n} some = record { yes = λ e. no-tick (leb-true (n .max) (n .min) e); not = λ e a. go e a }
+  where
+    go : leb (n .max) (n .min) ≡ false → Absent n → ⊥
+    go e (no-row z) = some z
+    go e (no-tick h) = omega (arith, leb-false (n .max) (n .min) e)
+
+pub ruleset absence = (absent-row, absent-tick)
+
+-- a node that is there
+pub record Present (n : Node) : Type 0 where
+  pub row : n .link ≡ 0 → ⊥
+  pub wide : n .min < n .max
+
+pub present : {n : Node} {q : Bool} → Decides q (Absent n) → q ≡ false → Present n
+present {n} {q} d e =
+    record {
+      row = λ z. d .not e (no-row z);
+      wide = ⊎-elim (λ (h : n .max ≤ n .min). absurd (d .not e (no-tick h))) (λ (h : n .min < n .max). h) (le-or-lt (n .max) (n .min));
+    }
+
+-- no tree but a hole stands where there is no node
+pub absent-hole : {blocks nodes entries : List ℕ} {kind : ℕ} {n : Node} {tree : Tree} → Absent n → Stands blocks nodes entries kind n tree → tree ≡ hole
+unfolding TreeAt
+absent-hole {tree = hole} a s = refl
+absent-hole {tree = node xs l r} (no-row z) s = absurd (omega (arith, s .stood .0 .some))
+absent-hole {tree = node xs l r} (no-tick h) s = absurd (omega (arith, s .wide (s .stood .0 .some)))
 
 -- ── the half by width and tick ──
 
@@ -57,8 +91,9 @@ module _ (nodes : List ℕ) (t : ℕ) (n : Node) where
 
   -- ── the width falls ──
 
-  pub half-falls : (h : Node) → n .min < n .max → h ≡ halfAt nodes t n → h .max - h .min < n .max - n .min
-  half-falls h w e =
+  pub half-falls : (h : Node) → Present n → h ≡ halfAt nodes t n → h .max - h .min < n .max - n .min
+  half-falls h there e =
+      let w : n .min < n .max = there .wide in
       ⊎-elim (λ (s : n .max ≤ n .min + 1). rw (e, narrow s) (omega arith))
       (λ (s : n .min + 1 < n .max).
       ⊎-elim (λ (l : t < mid (n .min) (n .max)). rw (e, goes-left s l) (omega arith))
@@ -76,14 +111,6 @@ pub record Down (blocks nodes entries : List ℕ) (kind t : ℕ) (n h : Node) (x
   pub stands : Stands blocks nodes entries kind h below
   pub way : path t (n .min) (n .max) tree ≡ xs ++ path t (h .min) (h .max) below
   pub steps : visited t (n .min) (n .max) tree ≡ suc (visited t (h .min) (h .max) below)
-
-sorted-left : (key : ℕ → ℕ) (xs : List ℕ) (l r : Tree) → sorted key (node xs l r) ≡ true → sorted key l ≡ true
-unfolding sorted
-sorted-left key xs l r e = and-left (sorted key l) (sorted key r) (and-right (ascends key xs) (sorted key l && sorted key r) e)
-
-sorted-right : (key : ℕ → ℕ) (xs : List ℕ) (l r : Tree) → sorted key (node xs l r) ≡ true → sorted key r ≡ true
-unfolding sorted
-sorted-right key xs l r e = and-right (sorted key l) (sorted key r) (and-right (ascends key xs) (sorted key l && sorted key r) e)
 
 module _ (blocks nodes entries : List ℕ) (kind t : ℕ) (n : Node) (xs : List ℕ) (l r : Tree) (s : Stands blocks nodes entries kind n (node xs l r)) where
   down-narrow : n .max ≤ n .min + 1 → Down blocks nodes entries kind t n noNode xs (node xs l r)

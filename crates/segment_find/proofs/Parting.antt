@@ -3,8 +3,8 @@ use mathlib.Core.Path.{_≡_}
 use mathlib.Core.List.{List}
 use Prim.Native.Nat.{ℕ, _+_, _≤_, _<_}
 use native.Mathlib.Omega.{arith}
-use Rattle.segment_find.specs.declared.Rows.{Rows}
-use Rattle.segment_find.specs.Walking.{keyAt, Ordered, Parts, Lower}
+use Rattle.segment_find.specs.declared.rows.Rows.{Rows}
+use Rattle.segment_find.specs.Rowing.{tableRows, keyAt, Ordered, Lower}
 
 -- rows before lo have keys below x, rows from hi on have not; between them nothing is settled
 pub record Between (entries : List ℕ) (rows : Rows) (x lo hi : ℕ) : Type 0 where
@@ -49,7 +49,11 @@ pub between-one : {entries : List ℕ} {rows : Rows} {x lo hi : ℕ} → Between
 between-one {entries} {rows} {x} {lo} {hi} s h =
     record {
       inside = λ w. (s .low, omega (arith, s .order w, s .high));
-      parts = λ o. record { below = s .below o; above = λ i a b. s .above o i (omega arith) b };
+      parts = λ _ o. record { below = s .below o; above = λ i a b. s .above o i (omega arith) b };
     }
 
-pub ruleset parting = (between-all, between-one)
+-- rows past the table's end are not searched
+pub lower-outside : {entries : List ℕ} {rows : Rows} {x room : ℕ} → room ≡ tableRows entries → room < rows .to → Lower entries rows x (rows .from)
+lower-outside {entries} {rows} {x} {room} e h = record { inside = λ w. (omega arith, w); parts = λ r o. absurd (omega arith) }
+
+pub ruleset parting = (lower-outside, between-all, between-one)

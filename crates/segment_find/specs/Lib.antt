@@ -1,2 +1,4 @@
 pub mod Walking
+pub mod Rowing
 pub mod Listing
+pub mod Neighbours

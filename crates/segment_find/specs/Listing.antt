@@ -1,29 +1,35 @@
 -- What find answers: how many it lists and how many nodes it visits, or that the answer is too small; and what it leaves in the answer.
 -- Definitions alone.
 use mathlib.Core.Path.{_≡_}
-use mathlib.Core.Bool.{Bool, true, false, cond}
+use mathlib.Core.Bool.{cond}
 use mathlib.Core.List.{List}
-use Prim.Native.Nat.{ℕ, _+_, _-_, _≤_, _<_}
+use Prim.Native.Nat.{ℕ, _+_, _-_, _≤_}
 use lib.ListN.{length}
 use lib.Seq.{sets}
 use lib.Dec.{leb}
 use Rattle.history.specs.Tree.{Tree}
 use Rattle.history.specs.Find.{path, visited, window}
 use Rattle.segment_table.specs.Closed.{firstCellIn}
-use Rattle.segment_find.specs.declared.Node.{Node}
-use Rattle.segment_find.specs.declared.Rows.{Rows}
+use Rattle.segment_find.specs.declared.walk.Node.{Node}
+use Rattle.segment_find.specs.declared.rows.Rows.{Rows}
 use Rattle.segment_find.specs.declared.Query.{Query}
 use Rattle.segment_find.specs.declared.Found.{Found}
 use Rattle.segment_find.specs.declared.Found.the-variants.{Listed, TooSmall}
-use Rattle.segment_find.specs.Walking.{Stands, Rooted, RunOf, rowsAt, blocksIn}
+use Rattle.segment_find.specs.Walking.{Stands, Rooted}
+use Rattle.segment_find.specs.Rowing.{RunOf, tableRows, rowsAt, blocksIn}
 
 -- ── rows in the window ──
 
 -- r is the part of a node's rows whose keys are in [start, stop)
 pub record InWindow (nodes entries : List ℕ) (link start stop : ℕ) (r : Rows) : Type 0 where
   pub order : r .from ≤ r .to
+  pub room : r .to ≤ tableRows entries
   pub lists : (blocks xs : List ℕ) → RunOf blocks entries (rowsAt nodes entries link) xs
       → blocksIn entries r ≡ window (firstCellIn blocks) start stop xs
+
+-- the block numbers of rows go into the answer from place `at` on
+pub record Extends (entries : List ℕ) (rows : Rows) (answer : List ℕ) (at : ℕ) (answer′ : List ℕ) : Type 0 where
+  pub written : rows .from ≤ rows .to → rows .to ≤ tableRows entries → at + (rows .to - rows .from) ≤ length answer → answer′ ≡ sets answer at (blocksIn entries rows)
 
 -- ── what is listed ──
 
@@ -48,7 +54,7 @@ pub record Searched (nodes entries : List ℕ) (n : Node) (q : Query) (answer : 
 
 -- ── find ──
 
--- The list goes into the answer, or is too long for it: then nothing changes.
+-- The same from place 0 on.
 pub record Fills (list : List ℕ) (nodes : ℕ) (answer answer′ : List ℕ) (r : Found) : Type 0 where
   pub result : r ≡ cond (leb (length list) (length answer)) (Listed (length list) nodes) TooSmall
   pub left : answer′ ≡ cond (leb (length list) (length answer)) (sets answer 0 list) answer

@@ -1,14 +1,14 @@
 -- Laws of the closed layout: runs of entries by rows, and one tree for each table. Assumes nothing.
-use mathlib.Core.Path.{_≡_, refl, sym, _∙_, ap, ap₂}
+use mathlib.Core.Path.{_≡_, refl, sym, _∙_, ap}
 use mathlib.Core.Logic.{⊎-elim}
-use mathlib.Core.List.{List, [], _∷_, _++_}
+use mathlib.Core.List.{List, _∷_, _++_}
 use Prim.Native.Nat.{ℕ, zero, suc, _+_, _-_, _≤_, _<_}
 use native.Mathlib.Omega.{arith}
 use lib.ListN.{length, getD}
 use Rattle.lists.specs.Lists.{All, all-nil, all-cons, Mem, here, there}
 use Rattle.lists.proofs.Numbers.{eq-or-ne}
 use Rattle.history.specs.Tree.{Tree, hole, node, mid}
-use Rattle.segment_table.specs.Closed.{Tables, TreeAt, NodeRow, run, blockIn, firstAt, countAt, leftAt, rightAt}
+use Rattle.segment_table.specs.Closed.{Tables, TreeAt, run, blockIn, leftAt, rightAt}
 
 -- ── runs of entries ──
 

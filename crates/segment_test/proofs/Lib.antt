@@ -1,2 +1,10 @@
 pub mod Running
 pub mod Walking
+pub mod Sums
+pub mod Totalling
+pub mod Ruling
+pub mod Links
+pub mod Widths
+pub mod Heading
+pub mod Testing
+pub mod ClosedTree

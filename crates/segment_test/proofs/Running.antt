@@ -1,11 +1,10 @@
 -- One node's entries: a step for each return of the tests of `run`. Assumes nothing.
-use mathlib.Core.Path.{_≡_, refl, sym, ap, _∙_}
-use mathlib.Core.Bool.{Bool, true, false, true≢false, false≢true, _&&_, not}
+use mathlib.Core.Path.{_≡_, sym, _∙_}
+use mathlib.Core.Bool.{Bool, true, false, true≢false, false≢true, not}
 use mathlib.Core.List.{List}
-use Prim.Native.Nat.{ℕ, zero, suc, _+_, _-_, _*_, _≤_, _<_}
+use Prim.Native.Nat.{ℕ, suc, _+_, _-_, _≤_, _<_}
 use native.Mathlib.Omega.{arith}
-use lib.ListN.{length, getD}
-use lib.Dec.{leb, ltb, eqb}
+use lib.Dec.{leb, ltb}
 use borrow.Author.Tests.{ltb-true, ltb-false, lt-leb, le-leb, lt-ltb, le-ltb}
 use borrow.Author.Count.{below-more}
 use Rattle.lists.specs.Tests.{Decides}
@@ -13,15 +12,16 @@ use Rattle.lists.proofs.Numbers.{confirm, refute}
 use Rattle.history.specs.Tree.{covers}
 use Rattle.tables.specs.Columns.{entryColumn, blockColumn, blockFirst, entryKey}
 use Rattle.segment_table.specs.Closed.{blockIn, firstCellIn}
-use Rattle.segment_test.specs.Test.{createdOf, destroyedOf, createdIn, destroyedIn, coversAbove, EntryRow, Follows, RunRows}
+use Rattle.segment_test.specs.Test.{createdOf, destroyedOf, createdIn, destroyedIn}
+use Rattle.segment_test.specs.Parts.{coversAbove, EntryRow, Follows, RunRows}
 
 -- ── covers_node, covers_above ──
 
-pub covers-node-late : (c d lo hi x : ℕ) → x ≡ c → lo < x → false ≡ covers c d lo hi
-covers-node-late c d lo hi x e h = rw (lt-leb c lo (omega arith))
+pub covers-node-late : (c d lo hi : ℕ) → lo < c → false ≡ covers c d lo hi
+covers-node-late c d lo hi h = rw (lt-leb c lo h)
 
-pub covers-node-rest : (c d lo hi x y : ℕ) → x ≡ c → x ≤ lo → y ≡ d → leb hi y ≡ covers c d lo hi
-covers-node-rest c d lo hi x y e h g = rw (g, le-leb c lo (omega arith))
+pub covers-node-rest : (c d lo hi : ℕ) → c ≤ lo → leb hi d ≡ covers c d lo hi
+covers-node-rest c d lo hi h = rw (le-leb c lo h)
 
 pub ruleset covering = (covers-node-late, covers-node-rest)
 
@@ -46,27 +46,25 @@ module _ {blocks entries : List ℕ} {n row lo hi from to k : ℕ} (read : k ≡
       let own : _ ≡ firstCellIn blocks (blockIn entries row) = rw link at q in
       refute (λ e. h (p ∙ e .keyed ∙ sym own))
 
-  pub entry-above : {above : Bool} → above ≡ coversAbove (createdOf blocks (k + 1)) (destroyedOf blocks (k + 1)) from to → above ≡ true
-      → Decides false (EntryRow blocks entries n row lo hi from to)
-  entry-above p h =
-      let link : k + 1 ≡ suc (blockIn entries row) = omega arith in
-      let own : _ ≡ coversAbove (createdIn blocks (blockIn entries row)) (destroyedIn blocks (blockIn entries row)) from to = rw link at p in
-      refute (λ e. true≢false (sym h ∙ own ∙ e .not-above))
+  module _ {c d : ℕ} (created : c ≡ createdOf blocks (k + 1)) (destroyed : d ≡ destroyedOf blocks (k + 1)) where
+    pub entry-above : {above : Bool} → above ≡ coversAbove c d from to → above ≡ true → Decides false (EntryRow blocks entries n row lo hi from to)
+    entry-above p h =
+        let link : k + 1 ≡ suc (blockIn entries row) = omega arith in
+        let own : _ ≡ coversAbove (createdIn blocks (blockIn entries row)) (destroyedIn blocks (blockIn entries row)) from to = rw (created, destroyed, link) at p in
+        refute (λ e. true≢false (sym h ∙ own ∙ e .not-above))
 
-  pub entry-rest : {key first : ℕ} {above here : Bool} → k < n
-      → key ≡ entryColumn entries row entryKey → first ≡ blockColumn blocks (k + 1) blockFirst → key ≡ first
-      → above ≡ coversAbove (createdOf blocks (k + 1)) (destroyedOf blocks (k + 1)) from to → above ≡ false
-      → here ≡ covers (createdOf blocks (k + 1)) (destroyedOf blocks (k + 1)) lo hi
-      → Decides here (EntryRow blocks entries n row lo hi from to)
-  entry-rest low p q keyed u above here =
-      let link : k + 1 ≡ suc (blockIn entries row) = omega arith in
-      let first : _ ≡ firstCellIn blocks (blockIn entries row) = rw link at q in
-      let up : _ ≡ coversAbove (createdIn blocks (blockIn entries row)) (destroyedIn blocks (blockIn entries row)) from to = rw link at u in
-      let own : _ ≡ covers (createdIn blocks (blockIn entries row)) (destroyedIn blocks (blockIn entries row)) lo hi = rw link at here in
-      record {
-        yes = λ e. record { known = omega arith; keyed = sym p ∙ keyed ∙ first; covering = sym own ∙ e; not-above = sym up ∙ above };
-        not = λ e row. false≢true (sym e ∙ own ∙ row .covering);
-      }
+    pub entry-rest : {key first : ℕ} {above here : Bool} → k < n
+        → key ≡ entryColumn entries row entryKey → first ≡ blockColumn blocks (k + 1) blockFirst → key ≡ first
+        → above ≡ coversAbove c d from to → above ≡ false → here ≡ covers c d lo hi → Decides here (EntryRow blocks entries n row lo hi from to)
+    entry-rest low p q keyed u above here =
+        let link : k + 1 ≡ suc (blockIn entries row) = omega arith in
+        let first : _ ≡ firstCellIn blocks (blockIn entries row) = rw link at q in
+        let up : _ ≡ coversAbove (createdIn blocks (blockIn entries row)) (destroyedIn blocks (blockIn entries row)) from to = rw (created, destroyed, link) at u in
+        let own : _ ≡ covers (createdIn blocks (blockIn entries row)) (destroyedIn blocks (blockIn entries row)) lo hi = rw (created, destroyed, link) at here in
+        record {
+          yes = λ e. record { known = omega arith; keyed = sym p ∙ keyed ∙ first; covering = sym own ∙ e; not-above = sym up ∙ above };
+          not = λ e row. false≢true (sym e ∙ own ∙ row .covering);
+        }
 
 pub ruleset testing-entry = (entry-high, entry-unkeyed, entry-above, entry-rest)
 

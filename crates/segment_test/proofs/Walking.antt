@@ -1,38 +1,20 @@
 -- The walk over all nodes: one tree at most stands at a link; a step for each return of the tests of `walk`. Assumes nothing.
-use mathlib.Core.Path.{_≡_, refl, sym, ap, ap₂, _∙_}
-use mathlib.Core.Bool.{Bool, true, false, true≢false, false≢true}
-use mathlib.Core.List.{List, [], _∷_}
-use Prim.Native.Nat.{ℕ, zero, suc, _+_, _-_, _*_, _/_, _≤_, _<_}
+use mathlib.Core.Path.{_≡_, refl, sym, _∙_}
+use mathlib.Core.Bool.{Bool, true, false}
+use mathlib.Core.List.{List}
+use Prim.Native.Nat.{ℕ, _+_, _-_, _/_, _≤_, _<_}
 use native.Mathlib.Omega.{arith}
-use lib.ListN.{length, getD}
-use lib.Dec.{leb, ltb, eqb}
-use borrow.Author.Tests.{leb-true, leb-false, eqb-true, eqb-false}
+use lib.Dec.{eqb}
+use borrow.Author.Tests.{eqb-true, eqb-false}
 use Rattle.lists.specs.Tests.{Decides}
-use mathlib.Core.Logic.{_⊎_, inl, inr}
+use mathlib.Core.Logic.{inl, inr}
 use Rattle.lists.proofs.Numbers.{eq-or-ne, confirm, refute}
-use Rattle.history.specs.Lent.{entryHead, entryWidth}
 use Rattle.history.specs.Tree.{Tree, hole, node, mid, nodeCount}
-use Rattle.tables.specs.Columns.{column, entryColumn, nodeMin, nodeMax, nodeLeft, nodeRight, nodeFirst, nodeEntries, nodeKind, nodesCount}
-use Rattle.segment_table.specs.Closed.{Tables, nodesUsed, leftAt, rightAt, firstAt, countAt, run, Keyed, NodeRow}
-use Rattle.segment_test.specs.Test.{lent, EntryRow, RunRows, Inside, Bare, RowStands, NodeStands, TreeStands, Walked}
-
--- ── inside ──
-
-pub inside-head : {entries : List ℕ} {row n : ℕ} → length entries < entryHead → Decides false (Inside entries row n)
-inside-head h = refute (λ i. omega (arith, i .fits))
-
-pub inside-past : {entries : List ℕ} {row n rows : ℕ} → entryHead ≤ length entries → rows ≡ (length entries - entryHead) / entryWidth → rows < row
-    → Decides false (Inside entries row n)
-inside-past a e h = refute (λ i. omega (arith, i .fits))
-
-pub inside-rest : {entries : List ℕ} {row n rows : ℕ} → entryHead ≤ length entries → rows ≡ (length entries - entryHead) / entryWidth → row ≤ rows
-    → Decides (leb n (rows - row)) (Inside entries row n)
-inside-rest {entries} {row} {n} {rows} a e h = record {
-  yes = λ t. record { fits = omega (arith, leb-true n (rows - row) t) };
-  not = λ t i. omega (arith, leb-false n (rows - row) t, i .fits);
-}
-
-pub ruleset testing-inside = (inside-head, inside-past, inside-rest)
+use Rattle.tables.specs.Columns.{column, nodeMin, nodeMax, nodeKind, nodesCount}
+use Rattle.segment_table.specs.Closed.{Tables, leftAt, rightAt, firstAt, countAt, TreeAt, nodesUsed}
+use Rattle.segment_table.proofs.Closed.{tree-one}
+use Rattle.segment_test.specs.Test.{lent}
+use Rattle.segment_test.specs.Parts.{RunRows, Inside, Bare, RowStands, NodeStands, TreeStands, Walked, AllRows}
 
 -- ── bare ──
 
@@ -120,17 +102,20 @@ pub ruleset testing-node = (node-row, node-outside, node-rest)
 
 -- ── walk ──
 
--- one tree at most stands at a link
+-- what stands is the layout's tree
+pub stands-at : (t : Tables) (n kind link lo hi from to : ℕ) (T : Tree) → TreeStands t n kind link lo hi from to T → TreeAt t kind link lo hi T
+unfolding TreeStands TreeAt
+stands-at t n kind link lo hi from to hole s = s
+stands-at t n kind link lo hi from to (node xs l r) s = (
+  rw (s .0) at (s .1 .row),
+  stands-at t n kind (leftAt (t .nodes) link) lo (mid lo hi) lo hi l (s .2),
+  stands-at t n kind (rightAt (t .nodes) link) (mid lo hi) hi lo hi r (s .3),
+)
+
+-- so one tree at most stands at a link
 pub stands-one : (t : Tables) (n kind link lo hi from to : ℕ) (T U : Tree) → TreeStands t n kind link lo hi from to T → TreeStands t n kind link lo hi from to U → T ≡ U
-unfolding TreeStands
-stands-one t n kind link lo hi from to hole hole s u = refl
-stands-one t n kind link lo hi from to hole (node ys a b) s u = absurd (omega (arith, u .1 .row .some))
-stands-one t n kind link lo hi from to (node xs l r) hole s u = absurd (omega (arith, s .1 .row .some))
-stands-one t n kind link lo hi from to (node xs l r) (node ys a b) s u =
-    let e : xs ≡ ys = sym (s .0) ∙ u .0 in
-    let p : l ≡ a = stands-one t n kind (leftAt (t .nodes) link) lo (mid lo hi) lo hi l a (s .2) (u .2) in
-    let q : r ≡ b = stands-one t n kind (rightAt (t .nodes) link) (mid lo hi) hi lo hi r b (s .3) (u .3) in
-    rw (e, p, q)
+stands-one t n kind link lo hi from to T U s u =
+    tree-one t kind link lo hi T U (stands-at t n kind link lo hi from to T s) (stands-at t n kind link lo hi from to U u)
 
 module _ {t : Tables} {n kind link lo hi from to budget : ℕ} where
   pub walk-hole : link ≡ 0 → Walked t n kind link lo hi from to budget budget
@@ -197,3 +182,29 @@ module _ {t : Tables} {n kind link lo hi from to budget : ℕ} where
 
 -- the steps of `walk`
 pub ruleset walking = (walk-hole, walk-spent, walk-wrong, walk-narrow, walk-wide)
+
+-- ── test_nodes ──
+
+-- from the root of the kind, with one row more than are in use
+pub nodes-rest : {blocks nodes entries : List ℕ} {n kind e used root rest : ℕ} → used ≡ column nodes 0 nodesCount → root ≡ column nodes 0 kind
+    → Walked (lent blocks nodes entries) n kind root 0 e 0 0 (used + 1) rest → Decides (eqb rest 1) (AllRows (lent blocks nodes entries) n kind e)
+nodes-rest {blocks} {nodes} {entries} {n} {kind} {e} {used} {root} {rest} count top walk = record { yes = all; not = some }
+  where
+    walked : Walked (lent blocks nodes entries) n kind (column nodes 0 kind) 0 e 0 0 (nodesUsed nodes + 1) rest
+    walked = rw (count, top) at walk
+
+    all : eqb rest 1 ≡ true → AllRows (lent blocks nodes entries) n kind e
+    all t =
+        let u = walked .stood (omega (arith, eqb-true rest 1 t)) in
+        record { tree = u .0; stands = u .1; all-rows = omega (arith, u .2, eqb-true rest 1 t) }
+
+    some : eqb rest 1 ≡ false → AllRows (lent blocks nodes entries) n kind e → ⊥
+    some t s =
+        elim (eq-or-ne rest 0) [
+          | inl none ↦ walked .wrong none (s .tree) (s .stands) (omega (arith, s .all-rows))
+          | inr more ↦
+              let u = walked .stood (omega arith) in
+              let same : u .0 ≡ s .tree = stands-one (lent blocks nodes entries) n kind (column nodes 0 kind) 0 e 0 0 (u .0) (s .tree) (u .1) (s .stands) in
+              let left : nodesUsed nodes + 1 ≡ rest + nodeCount (s .tree) = rw same at (u .2) in
+              eqb-false rest 1 t (omega (arith, s .all-rows))
+        ]

@@ -1,20 +1,16 @@
--- What the tests of a closed index's tree decide: the layout, the root and rule 23, for any tables; and the parts that inner tests decide.
--- Definitions alone: their laws stand in proofs/.
+-- What the test of a closed index's tree decides: the layout, the root, and rules 21 and 23 of document 01. Definitions alone: laws stand in proofs/ClosedTree.
 use mathlib.Core.Path.{_≡_}
-use mathlib.Core.Bool.{Bool, true, false, _&&_, not}
-use mathlib.Core.List.{List, [], _∷_}
-use Prim.Native.Nat.{ℕ, zero, suc, _+_, _*_, _≤_, _<_}
-use lib.ListN.{length, getD}
-use lib.Dec.{ltb, eqb}
+use mathlib.Core.Bool.{true}
+use mathlib.Core.List.{List}
+use Prim.Native.Nat.{ℕ, suc, _+_, _*_, _≤_, _<_}
+use lib.ListN.{length}
 use Rattle.history.specs.Lent.{rowWidth, entryWidth, blockHead, entryHead}
-use Rattle.history.specs.Words.{Block, firstCell}
-use Rattle.history.specs.Tree.{Tree, hole, node, mid, covers, blockAt, keyIn, nodeCount}
-use Rattle.history.specs.Rules.{isHole, every, numbered, placed, ascends, sorted, rule23}
-use Rattle.tables.specs.Columns.{column, blockColumn, entryColumn, blockFirst, blockCreated, blockDestroyed, nodeMin, nodeMax, nodeKind, nodesCount, entryKey}
-use Rattle.segment_table.specs.Closed.{Tables, nodesUsed, entriesUsed, leftAt, rightAt, firstAt, countAt, blockIn, firstCellIn, run, NodeRow, TreeAt, Closed}
-use Rattle.segment_test.specs.Total.{sumTo, entriesOfRow}
-
--- ── what is decided ──
+use Rattle.history.specs.Words.{Block}
+use Rattle.history.specs.Tree.{Tree, blockAt, keyIn}
+use Rattle.history.specs.Rules.{isHole, halved, rule23}
+use Rattle.history.specs.Sound.{isEmpty}
+use Rattle.tables.specs.Columns.{blockColumn, blockCreated, blockDestroyed}
+use Rattle.segment_table.specs.Closed.{Tables, entriesUsed, firstCellIn, Closed}
 
 -- the lent tables as one
 abbrev pub lent : (blocks nodes entries : List ℕ) → Tables
@@ -40,85 +36,14 @@ pub record BlockRows (blocks : List ℕ) (n : ℕ) (bs : List Block) : Type 0 wh
   pub created : (k : ℕ) → k < n → blockAt bs k .created ≡ createdIn blocks k
   pub destroyed : (k : ℕ) → k < n → blockAt bs k .destroyed ≡ destroyedIn blocks k
 
--- The tables hold the tree of a closed index of the kind with the end tick e and the blocks bs: the counts are inside the tables, the tree keeps rule 23,
--- an index without blocks has no node, and one with blocks has a root.
+-- The tables hold the tree of a closed index of the kind with the end tick e and the blocks bs: the counts are inside the tables, and document 01's rules
+-- hold of the tree.
 pub record ClosedTree (t : Tables) (kind e : ℕ) (bs : List Block) : Type 0 where
   pub tree : Tree
   pub block-room : blockHead + rowWidth * length bs ≤ length (t .blocks)
+  pub entry-room : entryHead + entryWidth * entriesUsed (t .entries) ≤ length (t .entries)
   pub closed : Closed t kind e tree
-  pub ruled : rule23 e bs tree ≡ true
-  pub rooted : isHole tree ≡ eqb (length bs) 0
-
--- ── one node's entries ──
-
--- A life covers the node above, which is [lo, hi); an empty interval stands for none, above the root.
-abbrev pub coversAbove : (created destroyed lo hi : ℕ) → Bool
-coversAbove c d lo hi = ltb lo hi && covers c d lo hi
-
--- The entry row names a block below n and carries its first cell; the block covers the node [lo, hi), and not the node above, [from, to).
-pub record EntryRow (blocks entries : List ℕ) (n row lo hi from to : ℕ) : Type 0 where
-  pub known : blockIn entries row < n
-  pub keyed : entryColumn entries row entryKey ≡ firstCellIn blocks (blockIn entries row)
-  pub covering : covers (createdIn blocks (blockIn entries row)) (destroyedIn blocks (blockIn entries row)) lo hi ≡ true
-  pub not-above : coversAbove (createdIn blocks (blockIn entries row)) (destroyedIn blocks (blockIn entries row)) from to ≡ false
-
--- the j-th of the rows from a row on has a key above that of the row before it, if j is not the first
-pub record Follows (entries : List ℕ) (row j : ℕ) : Type 0 where
-  pub after : (i : ℕ) → suc i ≡ j → entryColumn entries (row + i) entryKey < entryColumn entries (row + j) entryKey
-
--- each of n entry rows from a row on is right, and their keys ascend strictly
-pub record RunRows (blocks entries : List ℕ) (n row many lo hi from to : ℕ) : Type 0 where
-  pub each : (j : ℕ) → j < many → EntryRow blocks entries n (row + j) lo hi from to
-  pub ascending : (j : ℕ) → j < many → Follows entries row j
-
--- ── one node ──
-
--- the node at a link has no half
-pub record Bare (nodes : List ℕ) (link : ℕ) : Type 0 where
-  pub left : leftAt nodes link ≡ 0
-  pub right : rightAt nodes link ≡ 0
-
--- the row of a link is in use and holds the node [lo, hi) of the kind; a node of width 1 has no halves
-pub record RowStands (nodes : List ℕ) (kind link lo hi : ℕ) : Type 0 where
-  pub some : 0 < link
-  pub used : link ≤ nodesUsed nodes
-  pub low : column nodes link nodeMin ≡ lo
-  pub high : column nodes link nodeMax ≡ hi
-  pub own-kind : column nodes link nodeKind ≡ kind
-  pub narrow : hi ≤ lo + 1 → (leftAt nodes link ≡ 0) × (rightAt nodes link ≡ 0)
-
--- n entry rows from a row on lie in the table
-pub record Inside (entries : List ℕ) (row n : ℕ) : Type 0 where
-  pub fits : entryHead + entryWidth * (row + n) ≤ length entries
-
--- the row of a link is as the layout asks, and so is its run of entries
-pub record NodeStands (t : Tables) (n kind link lo hi from to : ℕ) : Type 0 where
-  pub row : NodeRow t kind link lo hi (run (t .entries) (firstAt (t .nodes) link) (countAt (t .nodes) link))
-  pub rows : RunRows (t .blocks) (t .entries) n (firstAt (t .nodes) link) (countAt (t .nodes) link) lo hi from to
-
--- ── a tree ──
-
--- every node of the tree stands in the tables, with its entries
-unfoldable pub TreeStands : (t : Tables) (n kind link lo hi from to : ℕ) → Tree → Type 0
-TreeStands t n kind link lo hi from to hole = link ≡ 0
-TreeStands t n kind link lo hi from to (node xs l r) =
-    (run (t .entries) (firstAt (t .nodes) link) (countAt (t .nodes) link) ≡ xs)
-    × NodeStands t n kind link lo hi from to
-    × TreeStands t n kind (leftAt (t .nodes) link) lo (mid lo hi) lo hi l
-    × TreeStands t n kind (rightAt (t .nodes) link) (mid lo hi) hi lo hi r
-
--- What is left of a budget of node rows after a walk: each node takes one. None is left where the tree is wrong, or takes all.
-pub record Walked (t : Tables) (n kind link lo hi from to budget rest : ℕ) : Type 0 where
-  pub stood : 0 < rest → (tree : Tree) × TreeStands t n kind link lo hi from to tree × (budget ≡ rest + nodeCount tree)
-  pub wrong : rest ≡ 0 → (tree : Tree) → TreeStands t n kind link lo hi from to tree → nodeCount tree < budget → ⊥
-
--- ── all rows ──
-
--- runs begin where those before end, and end with the entry count
-pub record Tiled (nodes entries : List ℕ) : Type 0 where
-  pub begins : (k : ℕ) → k < nodesUsed nodes → firstAt nodes (suc k) ≡ sumTo (entriesOfRow nodes) k
-  pub total : sumTo (entriesOfRow nodes) (nodesUsed nodes) ≡ entriesUsed entries
-
--- no kind but this has a root
-pub record OtherKinds (nodes : List ℕ) (kind below : ℕ) : Type 0 where
-  pub none : (k : ℕ) → k < below → (k ≡ kind → ⊥) → column nodes 0 k ≡ 0
+  -- 21: an index without blocks has no node, any other has a root; no child of a node of width 1
+  pub rooted : isHole tree ≡ isEmpty bs
+  pub rule-21 : halved 0 e tree ≡ true
+  pub rule-23 : rule23 e bs tree ≡ true

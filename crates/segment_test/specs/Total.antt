@@ -1,7 +1,8 @@
 -- Sums: of numbers up to a bound, of a tree's widths, and in two words. Definitions alone: their laws stand in proofs/.
+use mathlib.Core.Path.{_≡_}
 use Prim.Native.Nat.{ℕ, zero, suc, _+_, _-_, _*_, _^_}
-use lib.ListN.{length, getD}
-use mathlib.Core.List.{List, [], _∷_}
+use lib.ListN.{length}
+use mathlib.Core.List.{List}
 use Rattle.history.specs.Tree.{Tree, hole, node, mid}
 use Rattle.tables.specs.Columns.{column, blockColumn, nodeMin, nodeMax, blockCreated, blockDestroyed}
 use Rattle.segment_table.specs.Closed.{countAt}
@@ -14,6 +15,10 @@ sumTo f (suc n) = sumTo f n + f n
 -- The number that two words stand for. Callers bound the high word alone.
 unfoldable pub twoWords : (high low : ℕ) → ℕ
 twoWords high low = high * 2 ^ 64 + low
+
+-- two sums are the same number
+pub record Same (a b : ℕ) : Type 0 where
+  pub equal : a ≡ b
 
 -- ── of the tables ──
 

@@ -1,53 +1,45 @@
 // Every node of the tree, from the root down by halves. A row's min and max name its only place, so a walk meets no row twice, whatever the links are.
+use crate::head;
+use crate::read;
 use crate::run;
-ghost use mathlib.Core.Path.{_≡_};
-ghost use Prim.Native.Nat.{ℕ, _+_, _*_, _≤_, _<_};
+ghost use Prim.Native.Nat.{_+_, _*_, _≤_, _<_};
 ghost use lib.ListN.{length};
 ghost use Rattle.lists.specs.Tests.{Decides};
-ghost use Rattle.segment_test.specs.Test.{lent, Inside, Bare, RowStands, NodeStands, Walked};
-
-// Whether `many` entry rows from `first` on lie in the table. Constant time.
-fn inside(entries: &[u64], first: u64, many: u64) -> bool
-    ensures { λ r. ⌜ Decides r (Inside (now (entries .entry)) first many) ⌝ }
-{
-    if entries.len() < tables::entry::HEAD {
-        return false;
-    }
-    let rows = ((entries.len() - tables::entry::HEAD) / tables::entry::WIDTH) as u64;
-    if rows < first {
-        return false;
-    }
-    many <= rows - first
-}
+ghost use Rattle.history.specs.Lent.{rowWidth, blockHead, nodeHead};
+ghost use Rattle.segment_table.specs.Closed.{nodesUsed};
+ghost use Rattle.segment_test.specs.Test.{lent};
+ghost use Rattle.segment_test.specs.Parts.{Room, Bare, RowStands, NodeStands, Walked, AllRows};
 
 // Whether the node at a link has no half. Constant time.
 fn bare(nodes: &[u64], link: u64) -> bool
+    requires { ⌜ rowWidth * link + rowWidth ≤ length (now nodes) ⌝ }
     ensures { λ r. ⌜ Decides r (Bare (now (nodes .entry)) link) ⌝ }
 {
-    if tables::get(nodes, link, tables::node::LEFT) != 0 {
+    if read::node(nodes, link, tables::node::LEFT) != 0 {
         return false;
     }
-    tables::get(nodes, link, tables::node::RIGHT) == 0
+    read::node(nodes, link, tables::node::RIGHT) == 0
 }
 
 // Whether the row of a link is in use and holds the node [min, max) of the kind; one of width 1 has no halves. Constant time.
 fn test_row(nodes: &[u64], kind: u64, link: u64, min: u64, max: u64) -> bool
     requires { ⌜ min ≤ max ⌝ }
+    requires { ⌜ Room (now nodes) nodeHead (nodesUsed (now nodes)) ⌝ }
     ensures { λ r. ⌜ Decides r (RowStands (now (nodes .entry)) kind link min max) ⌝ }
 {
     if link == 0 {
         return false;
     }
-    if tables::get(nodes, 0, tables::node::COUNT) < link {
+    if read::node(nodes, 0, tables::node::COUNT) < link {
         return false;
     }
-    if tables::get(nodes, link, tables::node::MIN) != min {
+    if read::node(nodes, link, tables::node::MIN) != min {
         return false;
     }
-    if tables::get(nodes, link, tables::node::MAX) != max {
+    if read::node(nodes, link, tables::node::MAX) != max {
         return false;
     }
-    if tables::get(nodes, link, tables::node::KIND) != kind {
+    if read::node(nodes, link, tables::node::KIND) != kind {
         return false;
     }
     if max - min <= 1 {
@@ -70,14 +62,16 @@ fn test_node(
     to: u64,
 ) -> bool
     requires { ⌜ min ≤ max ⌝ }
+    requires { ⌜ Room (now blocks) blockHead n ⌝ }
+    requires { ⌜ Room (now nodes) nodeHead (nodesUsed (now nodes)) ⌝ }
     ensures { λ r. ⌜ Decides r (NodeStands (lent (now (blocks .entry)) (now (nodes .entry)) (now (entries .entry))) n kind link min max from to) ⌝ }
 {
     if !test_row(nodes, kind, link, min, max) {
         return false;
     }
-    let first = tables::get(nodes, link, tables::node::FIRST);
-    let many = tables::get(nodes, link, tables::node::ENTRIES);
-    if !inside(entries, first, many) {
+    let first = read::node(nodes, link, tables::node::FIRST);
+    let many = read::node(nodes, link, tables::node::ENTRIES);
+    if !head::inside(entries, first, many) {
         return false;
     }
     run::test_run(blocks, entries, n, first, many, min, max, from, to)
@@ -85,7 +79,7 @@ fn test_node(
 
 // What is left of a budget of node rows after every node at or below a link took one; none where a node is wrong, or the nodes take all.
 // Linear in the rows and entries met; at most 64 frames deep up to the largest end tick, 2^63.
-pub fn walk(
+fn walk(
     blocks: &[u64],
     nodes: &[u64],
     entries: &[u64],
@@ -99,6 +93,8 @@ pub fn walk(
     budget: u64,
 ) -> u64
     requires { ⌜ min ≤ max ⌝ }
+    requires { ⌜ Room (now blocks) blockHead n ⌝ }
+    requires { ⌜ Room (now nodes) nodeHead (nodesUsed (now nodes)) ⌝ }
     ensures { λ r. ⌜ Walked (lent (now (blocks .entry)) (now (nodes .entry)) (now (entries .entry))) n kind link min max from to budget r ⌝ }
 {
     if link == 0 {
@@ -114,7 +110,8 @@ pub fn walk(
         return budget - 1;
     }
     let mid = min + (max - min) / 2;
-    let left = tables::get(nodes, link, tables::node::LEFT);
+    let left = read::node(nodes, link, tables::node::LEFT);
+    let right = read::node(nodes, link, tables::node::RIGHT);
     let rest = walk(
         blocks,
         nodes,
@@ -128,7 +125,6 @@ pub fn walk(
         max,
         budget - 1,
     );
-    let right = tables::get(nodes, link, tables::node::RIGHT);
     walk(
         blocks,
         nodes,
@@ -142,4 +138,35 @@ pub fn walk(
         max,
         rest,
     )
+}
+
+// Whether a tree stands from the root of the kind on and takes every row in use. Linear in nodes and entries.
+pub fn test_nodes(
+    blocks: &[u64],
+    nodes: &[u64],
+    entries: &[u64],
+    kind: u64,
+    end: u64,
+    n: u64,
+) -> bool
+    requires { ⌜ Room (now blocks) blockHead n ⌝ }
+    requires { ⌜ Room (now nodes) nodeHead (nodesUsed (now nodes)) ⌝ }
+    ensures { λ r. ⌜ Decides r (AllRows (lent (now (blocks .entry)) (now (nodes .entry)) (now (entries .entry))) n kind end) ⌝ }
+{
+    let used = tables::get(nodes, 0, tables::node::COUNT);
+    let root = tables::get(nodes, 0, kind as usize);
+    let rest = walk(
+        blocks,
+        nodes,
+        entries,
+        n,
+        kind,
+        root,
+        0,
+        end,
+        0,
+        0,
+        used + 1,
+    );
+    rest == 1
 }

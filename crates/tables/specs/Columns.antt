@@ -79,6 +79,10 @@ blockOwner = 5
 abbrev pub blockNext : ℕ
 blockNext = 6
 
+-- not used: 0
+abbrev pub blockSpare : ℕ
+blockSpare = 7
+
 -- 0 none, 1 open, 2 closed
 abbrev pub headState : ℕ
 headState = 0

@@ -18,6 +18,8 @@ pub const OFFSET: usize = 4;
 pub const OWNER: usize = 5;
 // The next block by first cell, then number; in the head, the first one.
 pub const NEXT: usize = 6;
+// Not used: 0.
+pub const SPARE: usize = 7;
 
 pub const STATE: usize = 0;
 

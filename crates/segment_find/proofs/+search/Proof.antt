@@ -4,13 +4,14 @@ use native.Mathlib.Omega.{arith}
 use borrow.Author.Needs.{needs}
 use borrow.Fn.Kinds.{In}
 use borrow.Fn.PlainCycle.{Measures, is, falls, and}
-use Rattle.segment_find.proofs.Halving.{half-falls}
+use Rattle.segment_find.proofs.Halving.{present, half-falls}
 use Rattle.segment_find.proofs.Searching.{count-fits, searching}
 use Rattle.segment_find.proofs.search.Reads as search′
 use Rattle.segment_find.proofs.search.Kinds as search-kinds
 use Rattle.segment_find.proofs.+search.Lts-search as search-lts
 use Rattle.segment_find.proofs.extend_from_self.Reads as extend-from-self-reads
-use Rattle.segment_find.proofs.half.Reads as half-reads
+use Rattle.segment_find.proofs.walk.absent.Reads as absent-reads
+use Rattle.segment_find.proofs.walk.half.Reads as half-reads
 use Rattle.segment_find.proofs.in_window.Reads as in-window-reads
 use Rattle.segment_find.proofs.+search.{statement}
 use Rattle.segment_find.proofs.+search.Tie.{close}
@@ -28,11 +29,21 @@ search-below t = and 3 search-kinds.ps (falls 3 search-kinds.ps _<_ μ-search t)
 pub +search-spec : {M : Type 1} → statement M
 +search-spec =
     close μ-search
-    (λ t. search-lts.spec
-    (in-window-reads.Asked, in-window-reads.Learnt, half-reads.Asked, half-reads.Learnt, search-below t, search′.Post, extend-from-self-reads.Asked, extend-from-self-reads.Learnt)
+    (λ t. search-lts.spec (
+      absent-reads.Asked,
+      absent-reads.Learnt,
+      in-window-reads.Asked,
+      in-window-reads.Learnt,
+      half-reads.Asked,
+      half-reads.Learnt,
+      search-below t,
+      search′.Post,
+      extend-from-self-reads.Asked,
+      extend-from-self-reads.Learnt,
+    )
     (search-at t)
     search′.Post
-    (λ c. search searching)
+    (λ c κs. search needs)
     (λ c. search searching)
     (λ c κs. search needs)
     (λ c. search needs)
@@ -41,14 +52,19 @@ pub +search-spec : {M : Type 1} → statement M
     (λ c. search searching)
     (λ c κs. search needs)
     (λ c. search needs)
-    (λ c κs. (omega (arith, half-falls _ _ _ _ (c .before .before .before .before .before .before .if2 .left) (c .before .half .ensures), c .before .before .before .before .before .before .before .before .before .before .before .before .before .pre .0), tt))
+    (λ c κs.
+    let test = c .before .before .before .before .before .before in
+    let start = test .before .before .before .before .before in
+    (omega (arith, start .pre .0, half-falls _ _ _ _ (present (test .before .absent .ensures) (test .if1 .left)) (c .before .half .ensures)), tt))
     (λ c. search needs)
     (λ c κs. search needs)
     (λ c.
-    let s = c .before .before .before .before .before in
-    let d = s .before .before .before .before in
-    let w = d .before .before .before .before .before .before .before in
-    omega (arith, w .before .struct-known2 .given, count-fits _ _ _ _ _ _ _ _ _ _ _ (w .if2 .left) (d .before .before .half .ensures) (d .search .ensures) (s .found .given .1)))
+    let arm = c .before .before .before .before .before in
+    let call = arm .before .before .before .before in
+    let test = call .before .before .before .before .before .before .before in
+    let start = test .before .before .before .before .before in
+    let there = present (test .before .absent .ensures) (test .if1 .left) in
+    omega (arith, start .good, count-fits _ _ _ _ _ _ _ _ _ _ _ there (call .before .before .half .ensures) (call .search .ensures) (arm .found .given .1)))
     (λ c. search needs)
     (λ c. search needs)
     (λ c. search searching)

@@ -7,5 +7,5 @@ use Rattle.segment_test.proofs.run.test_entry.Tie as tie
 pub test-entry-spec : {M : Type 1} → statement M
 test-entry-spec =
     tie.close
-    (tie.spec (λ c κs. search needs) (λ c. search testing-entry) (λ c κs. search needs) (λ c. search needs) (λ c κs. search needs) (λ c. search testing-entry)
-    (λ c. search needs) (λ c κs. search needs) (λ c. search testing-entry) (λ c. search needs) (λ c κs. search needs) (λ c. search testing-entry))
+    (tie.spec (λ c κs. search needs) (λ c. search testing-entry) (λ c κs. search needs) (λ c κs. search needs) (λ c. search testing-entry) (λ c κs. search needs)
+    (λ c κs. search needs) (λ c κs. search needs) (λ c. search testing-entry) (λ c κs. search needs) (λ c. search testing-entry))

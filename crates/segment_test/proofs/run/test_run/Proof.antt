@@ -2,7 +2,7 @@
 use Prim.Native.Nat.{_-_, _≤_}
 use borrow.Author.Needs.{needs}
 use borrow.Author.Tests.{not-true, not-false}
-use Rattle.segment_test.specs.Test.{RunRows}
+use Rattle.segment_test.specs.Parts.{RunRows}
 use Rattle.segment_test.proofs.Running.{testing-run, run-more}
 use Rattle.segment_test.proofs.run.test_run.Statement.{statement}
 use Rattle.segment_test.proofs.run.test_run.Tie as tie

@@ -1,0 +1,241 @@
+-- Demand 3, proved: along every list of calls the tables stand for the ledger, so the answers are the ledger's, and after a finish the reads give what
+-- the ledger has. Assumes nothing.
+use mathlib.Core.Path.{_≡_, refl, ap, ap₂, sym, _∙_, subst}
+use mathlib.Core.Logic.{_⊎_, inl, inr}
+use mathlib.Core.Bool.{Bool, true, false, cond, true≢false, false≢true}
+use mathlib.Core.Option.{Option, none, some}
+use mathlib.Core.List.{List, [], _∷_}
+use Prim.Native.Nat.{ℕ, _≤_, _<_}
+use native.Mathlib.Omega.{arith}
+use lib.Dec.{leb, ltb}
+use lib.ListN.{length, replicate}
+use lib.Seq.{sets}
+use borrow.Author.Tests.{lt-leb, le-leb, le-ltb, lt-ltb}
+use Rattle.lists.proofs.Numbers.{bool-cases}
+use Rattle.history.specs.Words.{Operation, Block}
+use Rattle.history.specs.Lent.{tooShort}
+use Rattle.history.specs.Ledger.{Opening, Ledger, opened, finished, isRead, recordBy, finishBy}
+use Rattle.history.specs.Reads.{Found, blockBy, findBy}
+use Rattle.history.specs.Refusals.{Answer, accepted, refused, firstOf, maxEndTick, openAnswer, recordRefusals, recordAnswer, finishRefusals, finishAnswer, windowRefusals, findAnswer, blockRefusals, blockAnswer}
+use Rattle.history.specs.Calls.{Call, recordCall, finishCall, answerTo, acceptedBy, leaves, after, answers, afterAll, noted, history}
+use Rattle.history.specs.Sound.{Sound, SoundForFinish}
+use Rattle.history.specs.Law.{LedgerLaw, Faithful, FindLaw}
+use Rattle.history.proofs.EveryList.{the-law, every-list, law-after, opening-kept}
+use Rattle.history.proofs.FindSound.{find-sound}
+use Rattle.layout.specs.Tables.{Tables, tables, lengthsOf}
+use Rattle.layout.specs.Encodes.{Encodes}
+use Rattle.layout.specs.Formed.{WellFormed, WellFormedForFinish, Blank}
+use Rattle.layout.specs.Relations.{openingOf, openedTables, leftBy, OpenedBy, readTables, UpdatedTables, RecordedTables, RecordLeaves, RecordedBy, FinishLeaves, FinishedBy, Counts, countsOf, answerLeft, FoundBy, Fields, blockIn, blockOfFields, BlockGivenBy}
+use Rattle.layout.proofs.Opening.{open-accepted, opened-encodes, opened-lengths, opened-blank}
+use Rattle.demand.specs.Theorem.{CallDone, Run, run-nil, run-cons, Finished, Demand, Demand3}
+
+-- ── tables too short ──
+
+-- well-formed tables hold their heads
+formed-heads : (t : Tables) → WellFormed t → tooShort (lengthsOf t) ≡ false
+formed-heads t w = w .encodes .heads
+
+-- of a ledger whose lengths are too short every call is refused 2
+short-answer : (l : Ledger) (k : Call) → tooShort (l .opening .lent) ≡ true → answerTo l k ≡ refused 2
+unfolding answerTo firstOf recordRefusals finishRefusals
+short-answer l (recordCall scratch o) e = rw e
+short-answer l finishCall e = rw e
+
+short-after : (l : Ledger) (k : Call) → tooShort (l .opening .lent) ≡ true → after l k ≡ l
+unfolding after leaves
+short-after l k e = rw (short-answer l k e)
+
+short-call : (k : Call) (t t′ : Tables) (a : Answer Unit) → tooShort (lengthsOf t) ≡ true → CallDone k t t′ a → (a ≡ refused 2) × (t′ ≡ t)
+short-call (recordCall scratch o) t t′ a e d = d .unformed (λ w. true≢false (sym e ∙ w .encodes .heads))
+short-call finishCall t t′ a e d = d .unformed (λ w. true≢false (sym e ∙ w .encodes .heads))
+
+short-run : {t t′ : Tables} {ks : List Call} {given : List (Answer Unit)} (l : Ledger) → tooShort (l .opening .lent) ≡ true → tooShort (lengthsOf t) ≡ true
+    → Run t ks given t′ → (given ≡ answers l ks) × (afterAll l ks ≡ l)
+unfolding answers afterAll
+short-run l e x run-nil = (refl, refl)
+short-run {t} l e x (run-cons {t₁} {k = k} {ks} {a} {given} d r) =
+    let one = short-call k t t₁ a x d in
+    let rest = short-run l e (rw (one .1) x) r in
+    let same : after l k ≡ l = short-after l k e in (
+      ap₂ (λ (b : Answer Unit) (bs : List (Answer Unit)). b ∷ bs) (one .0 ∙ sym (short-answer l k e)) (rest .0 ∙ ap (λ (m : Ledger). answers m ks) (sym same)),
+      ap (λ (m : Ledger). afterAll m ks) same ∙ rest .1,
+    )
+
+-- ── tables that stand for the ledger ──
+
+-- what is known between calls
+record Standing (t : Tables) (l : Ledger) (h : List Operation) : Type 0 where
+  encodes : Encodes t l
+  law : LedgerLaw l h
+  blank : finished l ≡ false → Blank t
+
+-- a record leaves the node and entry tables of an open index as they were
+record-blank : (r : Bool) (l : Ledger) (o : Operation) (t t′ : Tables) → RecordedTables r l o t t′ → Blank t → Blank t′
+record-blank true l o t t′ e b = rw e (record { nodes = b .nodes; entries = b .entries })
+record-blank false l o t t′ u b = record { nodes = rw (u .nodes) (b .nodes); entries = rw (u .entries) (b .entries) }
+
+same-tree : (l : Ledger) (o : Operation) → finished (recordBy l o) ≡ finished l
+unfolding recordBy
+same-tree l o = refl
+
+finish-done : (l : Ledger) → finished (finishBy l) ≡ true
+unfolding finishBy
+finish-done l = refl
+
+step-record : (scratch : ℕ) (o : Operation) (t t′ : Tables) (l : Ledger) (h : List Operation) (a : Answer Unit) → Standing t l h → RecordedBy scratch o t t′ a
+    → (a ≡ recordAnswer l scratch o) × Standing t′ (after l (recordCall scratch o)) (noted h (recordCall scratch o) (recordAnswer l scratch o))
+unfolding after leaves answerTo acceptedBy noted
+step-record scratch o t t′ l h a s d =
+    let f = d .formed l (s .encodes) (s .law .sound .sound) in
+    (f .0, go (recordAnswer l scratch o) (law-after l h (recordCall scratch o) (s .law)) (f .1))
+  where
+    go : (x : Answer Unit) → LedgerLaw (leaves x l (recordBy l o)) (noted h (recordCall scratch o) x) → RecordLeaves x l o t t′
+        → Standing t′ (leaves x l (recordBy l o)) (noted h (recordCall scratch o) x)
+    go (accepted b) law x = record {
+      encodes = x .0;
+      law = law;
+      blank = λ still. record-blank (isRead (l .now) o) l o t t′ (x .1) (s .blank (sym (same-tree l o) ∙ still));
+    }
+    go (refused n) law x = rw x (record { encodes = s .encodes; law = law; blank = s .blank })
+
+step-finish : (t t′ : Tables) (l : Ledger) (h : List Operation) (a : Answer Unit) → Standing t l h → FinishedBy t t′ a
+    → (a ≡ finishAnswer l) × Standing t′ (after l finishCall) (noted h finishCall (finishAnswer l))
+unfolding after leaves answerTo acceptedBy noted
+step-finish t t′ l h a s d =
+    let w : WellFormedForFinish t = record { ledger = l; encodes = s .encodes; sound = s .law .sound; blank = s .blank } in
+    let f = d .formed w in
+    (f .0, go (finishAnswer l) (law-after l h finishCall (s .law)) (f .1))
+  where
+    go : (x : Answer Unit) → LedgerLaw (leaves x l (finishBy l)) (noted h finishCall x) → FinishLeaves x l t t′ → Standing t′ (leaves x l (finishBy l)) (noted h finishCall x)
+    go (accepted b) law x = record { encodes = x .0; law = law; blank = λ still. absurd (true≢false (sym (finish-done l) ∙ still)) }
+    go (refused n) law x = rw x (record { encodes = s .encodes; law = law; blank = s .blank })
+
+step : (k : Call) (t t′ : Tables) (l : Ledger) (h : List Operation) (a : Answer Unit) → Standing t l h → CallDone k t t′ a
+    → (a ≡ answerTo l k) × Standing t′ (after l k) (noted h k (answerTo l k))
+unfolding answerTo
+step (recordCall scratch o) t t′ l h a s d = step-record scratch o t t′ l h a s d
+step finishCall t t′ l h a s d = step-finish t t′ l h a s d
+
+runs : {t t′ : Tables} {ks : List Call} {given : List (Answer Unit)} (l : Ledger) (h : List Operation) → Standing t l h → Run t ks given t′
+    → (given ≡ answers l ks) × Standing t′ (afterAll l ks) (history h l ks)
+unfolding answers afterAll history
+runs l h s run-nil = (refl, s)
+runs {t} l h s (run-cons {t₁} {k = k} {ks} {a} d r) =
+    let one = step k t t₁ l h a s d in
+    let rest = runs (after l k) (noted h k (answerTo l k)) (one .1) r in
+    (ap₂ (λ (b : Answer Unit) (bs : List (Answer Unit)). b ∷ bs) (one .0) (rest .0), rest .1)
+
+-- ── reads of a finished index ──
+
+module _ (l : Ledger) (h : List Operation) (t : Tables) (s : Standing t l h) (done : finished l ≡ true) where
+  fits : tooShort (l .opening .lent) ≡ false
+  fits = rw (s .encodes .lengths) (s .encodes .heads)
+
+  sound : Sound l
+  sound = s .law .sound .sound
+
+  block-there : (k : ℕ) → k < length (l .now .blocks) → blockAnswer l k ≡ accepted (blockBy l k)
+  unfolding blockRefusals firstOf
+  block-there k h = rw (fits, done, lt-leb (length (l .now .blocks)) k h)
+
+  block-past : (k : ℕ) → length (l .now .blocks) ≤ k → blockAnswer l k ≡ refused 15
+  unfolding blockRefusals firstOf
+  block-past k h = rw (fits, done, le-leb (length (l .now .blocks)) k h)
+
+  find-fits : (tick start stop room : ℕ) → tick < l .opening .end → start ≤ stop → length (findBy l tick start stop .numbers) ≤ room
+      → findAnswer l tick start stop room ≡ accepted (findBy l tick start stop)
+  unfolding windowRefusals firstOf
+  find-fits tick start stop room a b c =
+      rw (fits, done, lt-leb (l .opening .end) tick a, le-ltb stop start b, le-ltb room (length (findBy l tick start stop .numbers)) c)
+
+  find-full : (tick start stop room : ℕ) → tick < l .opening .end → start ≤ stop → room < length (findBy l tick start stop .numbers)
+      → findAnswer l tick start stop room ≡ refused 16
+  unfolding windowRefusals firstOf
+  find-full tick start stop room a b c =
+      rw (fits, done, lt-leb (l .opening .end) tick a, le-ltb stop start b, lt-ltb room (length (findBy l tick start stop .numbers)) c)
+
+-- the fields that an answer must have given
+fields-given : (store : List ℕ) (answer : Answer Fields) (b : Block) → blockOfFields store answer ≡ accepted b → (f : Fields) × (answer ≡ accepted f) × (blockIn store f ≡ b)
+unfolding blockOfFields
+fields-given store (accepted f) b e = (f, refl, inner (blockIn store f) b e)
+  where
+    inner : (x y : Block) → _≡_ {A = Answer Block} (accepted x) (accepted y) → x ≡ y
+    inner x y p = cc
+fields-given store (refused n) b e = let z : _≡_ {A = ℕ} 0 1 = cc in absurd (omega arith)
+
+number-given : (store : List ℕ) (answer : Answer Fields) (n : ℕ) → blockOfFields store answer ≡ refused n → answer ≡ refused n
+unfolding blockOfFields
+number-given store (accepted f) n e = let z : _≡_ {A = ℕ} 0 1 = cc in absurd (omega arith)
+number-given store (refused m) n e = ap {B = Answer Fields} refused (inner e)
+  where
+    inner : _≡_ {A = Answer Block} (refused m) (refused n) → m ≡ n
+    inner p = cc
+
+finished-reads : (l : Ledger) (h : List Operation) (t : Tables) → Standing t l h → finished l ≡ true → Faithful (l .opening .end) (l .now .blocks) h → Finished l h t
+unfolding countsOf answerLeft
+finished-reads l h t s done cells = record {
+  blocks = λ k answer d below. fields-given (t .store) answer (blockBy l k) (d .formed l (s .encodes) (sound l h t s done) ∙ block-there l h t s done k below);
+  no-more = λ k answer d above. number-given (t .store) answer 15 (d .formed l (s .encodes) (sound l h t s done) ∙ block-past l h t s done k above);
+  cells = cells;
+  finds = λ tick start stop below. find-sound l (sound l h t s done) done tick start stop below;
+  found = λ tick start stop out out′ answer below ordered d room.
+      let f = d .formed l (s .encodes) (sound l h t s done) in
+      let e = find-fits l h t s done tick start stop (length out) below ordered room in
+      (f .0 ∙ ap countsOf e, f .1 ∙ ap (λ (x : Answer Found). answerLeft x out) e);
+  no-room = λ tick start stop out out′ answer below ordered d room.
+      let f = d .formed l (s .encodes) (sound l h t s done) in
+      let e = find-full l h t s done tick start stop (length out) below ordered room in
+      (f .0 ∙ ap countsOf e, f .1 ∙ ap (λ (x : Answer Found). answerLeft x out) e);
+}
+
+-- ── the demand ──
+
+opened-opening : (a : Opening) → opened a .opening ≡ a
+unfolding opened
+opened-opening a = refl
+
+opened-open : (a : Opening) → finished (opened a) ≡ false
+unfolding opened
+opened-open a = refl
+
+pub demand : Demand3
+unfolding leftBy afterAll history
+demand end kind a b c t t₀ opening d = go (bool-cases (tooShort (lengthsOf t)))
+  where
+    fed : Opening
+    fed = openingOf end kind t
+
+    taken : openAnswer fed ≡ accepted tt
+    taken = open-accepted fed a b c
+
+    opens : opening ≡ accepted tt
+    opens = d .answered ∙ taken
+
+    left : t₀ ≡ openedTables end kind t
+    left = d .left ∙ ap (λ (x : Answer Unit). leftBy x t (openedTables end kind t)) opens
+
+    same-end : (ks : List Call) → afterAll (opened fed) ks .opening .end ≡ end
+    same-end ks = ap (λ (x : Opening). x .end) (opening-kept ks (opened fed) ∙ opened-opening fed)
+
+    go : (tooShort (lengthsOf t) ≡ true) ⊎ (tooShort (lengthsOf t) ≡ false) → Demand end kind t t₀ opening
+    go (inl short) =
+        let lent : tooShort (opened fed .opening .lent) ≡ true = ap (λ (x : Opening). tooShort (x .lent)) (opened-opening fed) ∙ short in
+        let table : tooShort (lengthsOf t₀) ≡ true = ap tooShort (ap lengthsOf left ∙ sym (opened-lengths end kind t)) ∙ short in
+        record {
+          opens = opens;
+          answered = λ ks given t′ r. short-run (opened fed) lent table r .0;
+          done = λ ks given t′ r e. absurd (false≢true (sym (opened-open fed) ∙ ap finished (sym (short-run (opened fed) lent table r .1)) ∙ e));
+        }
+    go (inr fits) =
+        let s : Standing t₀ (opened fed) [] = record {
+          encodes = subst (λ (x : Tables). Encodes x (opened fed)) (sym left) (opened-encodes end kind t fits);
+          law = the-law fed taken [];
+          blank = λ _. subst Blank (sym left) (opened-blank end kind t);
+        } in
+        record {
+          opens = opens;
+          answered = λ ks given t′ r. runs (opened fed) [] s r .0;
+          done = λ ks given t′ r e.
+              finished-reads (afterAll (opened fed) ks) (history [] (opened fed) ks) t′ (runs (opened fed) [] s r .1) e
+              (subst (λ (n : ℕ). Faithful n (afterAll (opened fed) ks .now .blocks) (history [] (opened fed) ks)) (sym (same-end ks)) (every-list fed taken ks .faithful e));
+        }

@@ -1,0 +1,122 @@
+// The public calls on an index: open, record_op, finalize, block by number, find. Each is total: it takes any slices of any lengths and contents, and
+// gives its answer or the first refusal of document 01 whose condition holds, after which nothing has changed.
+//
+//   specs/Answers     document 01's number and values for every case of an answer
+//   layout's Relations are the contracts: demand 3 links the calls by them
+ghost use mathlib.Core.Path.{_≡_};
+ghost use Rattle.layout.specs.Tables.{tables};
+ghost use Rattle.layout.specs.Relations.{OpenedBy, FoundBy, BlockGivenBy};
+ghost use Rattle.index.specs.Answers.{openedOf, foundOf, givenOf};
+
+mod reads;
+
+use index_test::State;
+use tables::block;
+
+// The type that the calls on an index belong to. It holds nothing: the state stands in the lent tables.
+pub struct Index {}
+
+// The answer of opening.
+pub enum Opened {
+    Opened,
+    Refused(u64),
+}
+
+// The answer of find: how many block numbers it lists, and how many nodes it visited.
+pub enum Found {
+    Listed { count: u64, visited: u64 },
+    Refused(u64),
+}
+
+// The answer of block by number: the block's fields; its bytes are the store's part of that length at the offset.
+pub enum Given {
+    Block {
+        kind: u64,
+        first: u64,
+        length: u64,
+        created: u64,
+        destroyed: u64,
+        offset: u64,
+    },
+    Refused(u64),
+}
+
+impl Index {
+    // The largest end tick.
+    pub const MAX_END_TICK: u64 = 1 << 63;
+
+    // Opens an index of a kind with an end tick in the lent tables.
+    pub fn open(
+        pieces: &mut [u64],
+        blocks: &mut [u64],
+        store: &[u8],
+        nodes: &mut [u64],
+        entries: &mut [u64],
+        end_tick: u64,
+        kind: u8,
+    ) -> Opened
+        ensures { λ r. ⌜ OpenedBy «end_tick» kind
+            (tables (now (pieces .entry)) (now (blocks .entry)) (now (store .entry)) (now (nodes .entry)) (now (entries .entry)))
+            (tables (now (pieces .exit)) (now (blocks .exit)) (now (store .entry)) (now (nodes .exit)) (now (entries .exit))) (openedOf r) ⌝ }
+    {
+        if end_tick == 0 {
+            return Opened::Refused(1);
+        }
+        if Self::MAX_END_TICK < end_tick {
+            return Opened::Refused(1);
+        }
+        if 4 < kind {
+            return Opened::Refused(1);
+        }
+        tables::zero(pieces);
+        tables::zero(blocks);
+        tables::zero(nodes);
+        tables::zero(entries);
+        block::put(blocks, 0, block::STATE, block::OPEN);
+        block::put(blocks, 0, block::END, end_tick);
+        block::put(blocks, 0, block::KIND, kind as u64);
+        Opened::Opened
+    }
+}
+
+// The block of a number.
+pub fn block(
+    pieces: &[u64],
+    blocks: &[u64],
+    store: &[u8],
+    nodes: &[u64],
+    entries: &[u64],
+    number: u64,
+) -> Given
+    ensures { λ r. ⌜ BlockGivenBy (tables (now (pieces .entry)) (now (blocks .entry)) (now (store .entry)) (now (nodes .entry)) (now (entries .entry))) number (givenOf r) ⌝ }
+{
+    let state = index_test::test(pieces, blocks, store, nodes, entries);
+    match state {
+        State::Bad => Given::Refused(2),
+        State::Open => Given::Refused(4),
+        State::Closed => reads::block_closed(blocks, number),
+    }
+}
+
+// The live blocks whose first cell is in [start, end) at a tick: their numbers go into the lent answer.
+pub fn find(
+    pieces: &[u64],
+    blocks: &[u64],
+    store: &[u8],
+    nodes: &[u64],
+    entries: &[u64],
+    tick: u64,
+    start: u64,
+    end: u64,
+    answer: &mut [u64],
+) -> Found
+    ensures { λ r. ⌜ FoundBy (tables (now (pieces .entry)) (now (blocks .entry)) (now (store .entry)) (now (nodes .entry)) (now (entries .entry))) tick start end
+        (now (answer .entry)) (now (answer .exit)) (foundOf r) ⌝ }
+{
+    let state = index_test::test(pieces, blocks, store, nodes, entries);
+    match state {
+        State::Bad => Found::Refused(2),
+        State::Open => Found::Refused(4),
+        State::Closed => reads::find_closed(blocks, nodes, entries, tick, start, end, answer),
+    }
+}

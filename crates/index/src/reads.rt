@@ -1,0 +1,55 @@
+// The reads of a closed index, without the test of its tables: for callers that have tested them.
+ghost use mathlib.Core.Path.{_≡_};
+ghost use Rattle.index.specs.Reads.{BlockClosed, FindClosed};
+ghost use Rattle.index.specs.Answers.{foundOf, givenOf};
+use super::Found;
+use super::Given;
+use tables::block;
+
+// The block of a number: 15 where there is none.
+pub fn block_closed(blocks: &[u64], number: u64) -> Given
+    ensures { λ r. ⌜ BlockClosed (now (blocks .entry)) number (givenOf r) ⌝ }
+{
+    if block::get(blocks, 0, block::COUNT) <= number {
+        return Given::Refused(15);
+    }
+    let link = number + 1;
+    Given::Block {
+        kind: block::get(blocks, link, block::OWNER),
+        first: block::get(blocks, link, block::FIRST),
+        length: block::get(blocks, link, block::LENGTH),
+        created: block::get(blocks, link, block::CREATED),
+        destroyed: block::get(blocks, link, block::DESTROYED),
+        offset: block::get(blocks, link, block::OFFSET),
+    }
+}
+
+// The live blocks whose first cell is in [start, end): 14, 15 and 16 in their order.
+pub fn find_closed(
+    blocks: &[u64],
+    nodes: &[u64],
+    entries: &[u64],
+    tick: u64,
+    start: u64,
+    end: u64,
+    answer: &mut [u64],
+) -> Found
+    ensures { λ r. ⌜ FindClosed (now (blocks .entry)) (now (nodes .entry)) (now (entries .entry)) tick start end (now (answer .entry)) (now (answer .exit)) (foundOf r) ⌝ }
+{
+    let last = block::get(blocks, 0, block::END);
+    if last <= tick {
+        return Found::Refused(14);
+    }
+    if end < start {
+        return Found::Refused(15);
+    }
+    let kind = block::get(blocks, 0, block::KIND);
+    let found = segment_find::find(nodes, entries, kind, last, tick, start, end, answer);
+    match found {
+        segment_find::Found::Listed { count, visited } => Found::Listed {
+            count: count as u64,
+            visited: visited as u64,
+        },
+        segment_find::Found::TooSmall => Found::Refused(16),
+    }
+}

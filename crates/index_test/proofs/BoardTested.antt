@@ -1,0 +1,65 @@
+-- The returns of the tests of a board: a part fails, or all hold. Assumes nothing.
+use mathlib.Core.Path.{_≡_}
+use mathlib.Core.Bool.{Bool, true, false, not}
+use Prim.Native.Nat.{ℕ, _+_, _≤_, _<_}
+use native.Mathlib.Omega.{arith}
+use lib.ListN.{length}
+use borrow.Author.Tests.{not-true, not-false}
+use Rattle.lists.specs.Tests.{Decides}
+use Rattle.lists.proofs.Numbers.{confirm, refute}
+use Rattle.history.specs.Lent.{tooShort, blockRows}
+use Rattle.history.specs.Refusals.{maxEndTick}
+use Rattle.tables.specs.Columns.{column, piecesCount, headEnd, headKind, headCount, headUsed, headLast}
+use Rattle.piece_table.specs.Test as piece
+use Rattle.layout.specs.Tables.{Tables, lengthsOf, headAt}
+use Rattle.index_test.specs.Rows.{RowsSound}
+use Rattle.index_test.specs.Board.{Numbers, boundsOf, BoardFormed}
+
+-- ── numbers ──
+
+pub numbers-rows : (t : Tables) (r : Bool) (count pieces : ℕ) → r ≡ false → count ≡ headAt t headCount → pieces ≡ column (t .pieces) 0 piecesCount
+    → Decides r (count + pieces ≤ blockRows (lengthsOf t)) → Decides false (Numbers t)
+numbers-rows t r count pieces e p q d = refute (λ s. d .not e (rw (p, q) (s .rows-fit)))
+
+pub numbers-yes : (t : Tables) (r : Bool) (count pieces end used kind last : ℕ) → r ≡ true → count ≡ headAt t headCount → pieces ≡ column (t .pieces) 0 piecesCount
+    → end ≡ headAt t headEnd → used ≡ headAt t headUsed → kind ≡ headAt t headKind → last ≡ headAt t headLast
+    → (end ≡ 0 → ⊥) → end ≤ maxEndTick → kind ≤ 4 → last < end → used ≤ length (t .store)
+    → Decides r (count + pieces ≤ blockRows (lengthsOf t)) → Decides true (Numbers t)
+numbers-yes t r count pieces end used kind last e p q a b c d some most known before fits k = confirm (record {
+  some-tick = omega arith;
+  end-most = omega arith;
+  known-kind = omega arith;
+  last-below-end = omega arith;
+  used-fits = omega arith;
+  rows-fit = rw (← p, ← q) (k .yes e);
+})
+
+pub ruleset numbering = (numbers-rows, numbers-yes, arith)
+
+-- ── the board ──
+
+pub board-heads : (t : Tables) (r : Bool) → not r ≡ true → Decides r (tooShort (lengthsOf t) ≡ false) → Decides false (BoardFormed t)
+board-heads t r e d = refute (λ s. d .not (not-true r e) (s .heads))
+
+pub board-numbers : (t : Tables) (r : Bool) → not r ≡ true → Decides r (Numbers t) → Decides false (BoardFormed t)
+board-numbers t r e d = refute (λ s. d .not (not-true r e) (s .numbers))
+
+module _ (t : Tables) (kind end used last count : ℕ) (a : kind ≡ headAt t headKind) (b : end ≡ headAt t headEnd) (c : used ≡ headAt t headUsed)
+    (d : last ≡ headAt t headLast) (n : count ≡ headAt t headCount) where
+  pub board-rows : (r : Bool) → not r ≡ true → Decides r (RowsSound (t .blocks) (record { kind = kind; end = end; used = used }) 0 count) → Decides false (BoardFormed t)
+  board-rows r e k = refute (λ s. k .not (not-true r e) (rw (a, b, c, n) (s .rows)))
+
+  pub board-pieces : (r : Bool) → r ≡ false → Decides r (piece.WellFormed (t .pieces) kind used last) → Decides false (BoardFormed t)
+  board-pieces r e k = refute (λ s. k .not e (rw (a, c, d) (s .pieces)))
+
+  pub board-yes : (h m r p : Bool) → not h ≡ false → not m ≡ false → not r ≡ false → p ≡ true → Decides h (tooShort (lengthsOf t) ≡ false) → Decides m (Numbers t)
+      → Decides r (RowsSound (t .blocks) (record { kind = kind; end = end; used = used }) 0 count) → Decides p (piece.WellFormed (t .pieces) kind used last)
+      → Decides true (BoardFormed t)
+  board-yes h m r p eh em er ep dh dm dr dp = confirm (record {
+    heads = dh .yes (not-false h eh);
+    numbers = dm .yes (not-false m em);
+    rows = rw (← a, ← b, ← c, ← n) (dr .yes (not-false r er));
+    pieces = rw (← a, ← c, ← d) (dp .yes ep);
+  })
+
+pub ruleset boarding = (board-heads, board-numbers, board-rows, board-pieces, board-yes)

@@ -1,0 +1,183 @@
+-- Tables that pass as a board stand for a ledger, and the tables of a sound ledger pass. Assumes nothing.
+use mathlib.Core.Path.{_≡_, refl, ap, sym, _∙_, subst}
+use mathlib.Core.Bool.{Bool, true, false}
+use mathlib.Core.Option.{Option, none, some}
+use mathlib.Core.List.{List, [], _∷_, map}
+use Prim.Native.Nat.{ℕ, zero, suc, _+_, _-_, _*_, _/_, _^_, _≤_, _<_}
+use native.Mathlib.Omega.{arith}
+use lib.ListN.{length, getD, take, drop, length-take, length-drop}
+use lib.Seq.{length-take-le}
+use Rattle.lists.specs.Lists.{All, countFrom}
+use Rattle.lists.proofs.Lists.{all-at, all-of-at, all-map, all-of-map, all-un-map, all-both}
+use Rattle.lists.proofs.Maps.{length-of-map}
+use Rattle.history.specs.Words.{Block, Piece, size}
+use Rattle.history.specs.Lent.{tooShort, rowWidth, pieceHead, blockHead, pieceRows, blockRows}
+use Rattle.history.specs.Tree as segment
+use Rattle.history.specs.Tree.{noBlock}
+use Rattle.history.proofs.FileLists.{map-map}
+use Rattle.history.specs.Ledger.{Ledger}
+use Rattle.history.specs.Sound.{SoundBlock, SoundStretch, SoundBoard, InOrder}
+use Rattle.tables.specs.Columns.{column, piecesCount, headState, headEnd, headKind, headCount, headUsed, headLast}
+use Rattle.piece_table.specs.Piece.{PieceRow, pieceAt, Filled}
+use Rattle.piece_table.specs.Shown.{shown}
+use Rattle.piece_table.specs.Test as piece
+use Rattle.piece_table.proofs.Order.{follow-filled}
+use Rattle.ordering.specs.Order.{firstCellAt}
+use Rattle.ordering.specs.Blocks.{blocksOf, blockOfRow, lengthAt, offsetAt, createdAt, destroyedAt, ownerAt, Stored}
+use Rattle.ordering.proofs.Blocks.{blocks-length, blocks-at}
+use Rattle.layout.specs.Tables.{Tables, lengthsOf, headAt}
+use Rattle.layout.specs.Encodes.{Encodes, TreeIn, stateOf}
+use Rattle.layout.proofs.Lengths.{Heads, heads-fit}
+use Rattle.layout.proofs.Pieces.{used-fits, pieces-formed, rep-links, shown-sound, follow-order, part-front}
+use Rattle.index_test.specs.Rows.{Bounds, RowSound, RowsSound}
+use Rattle.index_test.specs.Board.{Numbers, boundsOf, BoardFormed}
+
+-- ── rows and blocks ──
+
+-- a row whose bytes are in the store has as many cells as it says
+row-size : (store blocks : List ℕ) (link : ℕ) → offsetAt blocks link + lengthAt blocks link ≤ length store → size (blockOfRow store blocks link .stretch) ≡ lengthAt blocks link
+unfolding blockOfRow
+row-size store blocks link h = length-take-le (lengthAt blocks link) (drop (offsetAt blocks link) store) (omega (arith, length-drop (offsetAt blocks link) store))
+
+row-block : (b : Bounds) (store blocks : List ℕ) (link : ℕ) → b .used ≤ length store → RowSound blocks b link → SoundBlock (b .kind) (b .end) (take (b .used) store) (blockOfRow store blocks link)
+unfolding blockOfRow
+row-block b store blocks link fits r =
+    let n = row-size store blocks link (omega (arith, r .stored)) in
+    record {
+      stretch = record {
+        some-cell = omega (arith, r .some-cell);
+        no-wrap = omega (arith, r .no-wrap);
+        stored = record {
+          offset = offsetAt blocks link;
+          inside = omega (arith, r .stored, length-take-le (b .used) store fits);
+          bytes = rw n (sym (part-front (offsetAt blocks link) (lengthAt blocks link) (b .used) store (r .stored)));
+        };
+      };
+      forward = r .forward;
+      by-end = r .by-end;
+      own-kind = r .own-kind;
+    }
+
+block-row : (b : Bounds) (part store blocks : List ℕ) (link : ℕ) → b .used ≤ length store → offsetAt blocks link + lengthAt blocks link ≤ b .used
+    → SoundBlock (b .kind) (b .end) part (blockOfRow store blocks link) → RowSound blocks b link
+unfolding blockOfRow
+block-row b part store blocks link fits inside s =
+    let n = row-size store blocks link (omega arith) in
+    record {
+      some-cell = omega (arith, s .stretch .some-cell);
+      no-wrap = omega (arith, s .stretch .no-wrap);
+      stored = inside;
+      forward = s .forward;
+      by-end = s .by-end;
+      own-kind = s .own-kind;
+    }
+
+-- ── the ledger of tables ──
+
+-- what tables that pass as a board stand for: the pieces are those of the links; with its tree
+unfoldable pub ledgerOf : (t : Tables) (links : List ℕ) → Option segment.Tree → Ledger
+ledgerOf t links tree =
+    record {
+      opening = record { end = headAt t headEnd; kind = headAt t headKind; lent = lengthsOf t };
+      now = record {
+        pieces = map (λ link. shown (t .store) (pieceAt (t .pieces) link)) links;
+        blocks = blocksOf (t .store) (t .blocks) (headAt t headCount);
+        last = headAt t headLast;
+        store = take (headAt t headUsed) (t .store);
+      };
+      tree = tree;
+    }
+
+module _ (t : Tables) (b : BoardFormed t) where
+  unfoldable pub boardLinks : List ℕ
+  boardLinks = b .pieces .rep .links
+
+  same-rows : map (pieceAt (t .pieces)) (b .pieces .rep .links) ≡ b .pieces .pieces
+  same-rows = b .pieces .rep .pieces
+
+  links-allowed : All (λ link. piece.Allowed (headAt t headKind) (headAt t headUsed) (headAt t headLast) (pieceAt (t .pieces) link)) (b .pieces .rep .links)
+  links-allowed = all-un-map (pieceAt (t .pieces)) (b .pieces .rep .links) (subst (All (piece.Allowed (headAt t headKind) (headAt t headUsed) (headAt t headLast))) (sym same-rows) (b .pieces .allowed))
+
+  links-filled : All (λ link. Filled (pieceAt (t .pieces) link)) (b .pieces .rep .links)
+  links-filled = all-un-map (pieceAt (t .pieces)) (b .pieces .rep .links) (follow-filled 0 (map (pieceAt (t .pieces)) (b .pieces .rep .links)) (b .pieces .rep .linked .order))
+
+  pub board-encodes : (tree : Option segment.Tree) → headAt t headState ≡ stateOf tree → TreeIn t (ledgerOf t boardLinks tree) tree → Encodes t (ledgerOf t boardLinks tree)
+  unfolding ledgerOf boardLinks
+  board-encodes tree state in-tree = record {
+    lengths = refl;
+    heads = b .heads;
+    state = state;
+    end = refl;
+    kind = refl;
+    last = refl;
+    used = sym (length-take-le (headAt t headUsed) (t .store) (b .numbers .used-fits));
+    store = refl;
+    count = sym (blocks-length (t .store) (t .blocks) (headAt t headCount));
+    blocks = refl;
+    blocks-stored = record { inside = λ link p q. b .rows .rows link p q .stored };
+    links = b .pieces .rep .links;
+    linked = rep-links (t .pieces) (b .pieces .pieces) (b .pieces .rep);
+    pieces = refl;
+    pieces-stored = all-map (λ link x. x .inside) links-allowed;
+    tree = in-tree;
+  }
+
+  pub board-sound : (tree : Option segment.Tree) → SoundBoard (ledgerOf t boardLinks tree)
+  unfolding ledgerOf boardLinks
+  board-sound tree =
+      let n = b .numbers in
+      let fits = n .used-fits in
+      let counted : length (b .pieces .rep .links) ≡ column (t .pieces) 0 piecesCount = b .pieces .rep .linked .count in
+      record {
+        some-tick = n .some-tick;
+        end-most = n .end-most;
+        known-kind = n .known-kind;
+        last-below-end = n .last-below-end;
+        pieces =
+            all-of-map (λ link. shown (t .store) (pieceAt (t .pieces) link))
+            (all-both (λ link f x. shown-sound (headAt t headKind) (t .store) (headAt t headUsed) (ledgerOf t (b .pieces .rep .links) tree) (pieceAt (t .pieces) link) fits refl f x) links-filled links-allowed);
+        in-order =
+            subst InOrder (map-map (shown (t .store)) (pieceAt (t .pieces)) (b .pieces .rep .links))
+            (follow-order (t .store) 0 (map (pieceAt (t .pieces)) (b .pieces .rep .links)) (all-of-map (pieceAt (t .pieces)) (all-map (λ link x. omega (arith, x .inside)) links-allowed))
+            (b .pieces .rep .linked .order));
+        blocks =
+            all-of-at noBlock (blocksOf (t .store) (t .blocks) (headAt t headCount))
+            (λ k h. let z = blocks-length (t .store) (t .blocks) (headAt t headCount) in
+            rw (blocks-at (t .store) (t .blocks) (headAt t headCount) k noBlock (omega arith))
+            (row-block (boundsOf t) (t .store) (t .blocks) (suc k) fits (b .rows .rows (suc k) (omega arith) (omega arith))));
+        pieces-fit = omega (arith, length-of-map (λ link. shown (t .store) (pieceAt (t .pieces) link)) (b .pieces .rep .links), b .pieces .rep .linked .room);
+        blocks-fit = omega (arith, length-of-map (λ link. shown (t .store) (pieceAt (t .pieces) link)) (b .pieces .rep .links), blocks-length (t .store) (t .blocks) (headAt t headCount), n .rows-fit);
+        store-fits = omega (arith, length-take (headAt t headUsed) (t .store));
+      }
+
+-- ── the tables of a sound ledger pass ──
+
+pub board-formed : (t : Tables) (l : Ledger) → Encodes t l → SoundBoard l → length (t .pieces) < 2 ^ 64 → length (t .store) < 2 ^ 64 → BoardFormed t
+board-formed t l e s few fits =
+    let used = used-fits t l e in
+    let lent : l .opening .lent ≡ lengthsOf t = e .lengths in
+    record {
+      heads = e .heads;
+      numbers = record {
+        some-tick = omega (arith, s .some-tick, e .end);
+        end-most = omega (arith, s .end-most, e .end);
+        known-kind = omega (arith, s .known-kind, e .kind);
+        last-below-end = omega (arith, s .last-below-end, e .end, e .last);
+        used-fits = used;
+        rows-fit = omega (arith, e .count, e .linked .count, pieces-length, rw lent at (s .blocks-fit));
+      };
+      rows = record { rows = row };
+      pieces = pieces-formed t l e s few fits;
+    }
+  where
+    pieces-length : length (l .now .pieces) ≡ length (e .links)
+    pieces-length = ap length (e .pieces) ∙ length-of-map (λ link. shown (t .store) (pieceAt (t .pieces) link)) (e .links)
+
+    row : (link : ℕ) → 0 < link → link ≤ headAt t headCount → RowSound (t .blocks) (boundsOf t) link
+    row zero p q = absurd (omega arith)
+    row (suc k) p q =
+        let n = headAt t headCount in
+        let sound : SoundBlock (l .opening .kind) (l .opening .end) (l .now .store) (getD (l .now .blocks) k noBlock) = all-at noBlock (s .blocks) k (omega (arith, e .count)) in
+        let here : getD (l .now .blocks) k noBlock ≡ blockOfRow (t .store) (t .blocks) (suc k) = ap (λ (bs : List Block). getD bs k noBlock) (e .blocks) ∙ blocks-at (t .store) (t .blocks) n k noBlock (omega arith) in
+        block-row (boundsOf t) (l .now .store) (t .store) (t .blocks) (suc k) (used-fits t l e) (e .blocks-stored .inside (suc k) p q)
+        (rw (e .kind, e .end) (rw here at sound))

@@ -1,0 +1,221 @@
+-- The returns of the test of all tables: open, closed or not well formed. Assumes nothing.
+use mathlib.Core.Path.{_≡_, refl, ap, sym, _∙_, subst}
+use mathlib.Core.Bool.{Bool, true, false, not, true≢false}
+use mathlib.Core.Option.{Option, none, some}
+use mathlib.Core.List.{List, [], _∷_, map}
+use Prim.Native.Nat.{ℕ, suc, _+_, _*_, _^_, _≤_, _<_}
+use native.Mathlib.Omega.{arith}
+use lib.ListN.{length, getD}
+use borrow.Author.Tests.{not-true, not-false}
+use Rattle.lists.specs.Tests.{Decides}
+use Rattle.lists.specs.Lists.{All}
+use Rattle.lists.proofs.Numbers.{confirm, refute, decides-iff}
+use Rattle.history.specs.Words.{Block}
+use Rattle.history.specs.Lent.{Lent, rowWidth, nodeRows, entryRows}
+use Rattle.history.specs.Tree.{Tree, noBlock, blockAt, keyIn}
+use Rattle.history.specs.Rules.{Apart}
+use Rattle.history.specs.Ledger.{Ledger}
+use Rattle.history.specs.Sound.{Sound, SoundTree, SoundClosed, SoundBoard}
+use Rattle.tables.specs.Columns.{column, piecesCount, headState, headEnd, headKind, headCount, headUsed}
+use Rattle.piece_table.specs.Piece.{pieceAt}
+use Rattle.piece_table.specs.Shown.{shown}
+use Rattle.ordering.specs.Order.{InOrder, Unordered}
+use Rattle.ordering.specs.Blocks.{blocksOf, blockOfRow, Filled, Stored}
+use Rattle.ordering.specs.Apart.{TestedApart}
+use Rattle.ordering.proofs.Agreeing.{tested-decides}
+use Rattle.ordering.proofs.Blocks.{blocks-length, blocks-at}
+use Rattle.segment_table.specs.Closed.{Closed, entriesUsed, nodesUsed}
+use Rattle.segment_test.specs.Test.{BlockRows, ClosedTree}
+use Rattle.layout.specs.Tables.{Tables, lengthsOf, headAt, treeTables}
+use Rattle.layout.specs.Encodes.{Encodes, TreeIn, stateOf, openState, closedState}
+use Rattle.layout.specs.Formed.{WellFormed}
+use Rattle.layout.proofs.Lengths.{heads-fit}
+use Rattle.index_test.specs.Rows.{RowsSound}
+use Rattle.index_test.specs.Board.{Numbers, boundsOf, BoardFormed, OpenFormed, ClosedPart, ClosedFormed, TestedClosed, Outcome}
+use Rattle.index_test.specs.declared.State.the-variants.{Bad, Open, Closed as IsClosed}
+use Rattle.index_test.proofs.Ledgers.{ledgerOf, boardLinks, board-encodes, board-sound, board-formed}
+
+-- ── the closed part ──
+
+-- the rows of the block table are the blocks, as far as a tree can tell
+block-rows : (t : Tables) → BlockRows (t .blocks) (headAt t headCount) (blocksOf (t .store) (t .blocks) (headAt t headCount))
+unfolding blockOfRow
+block-rows t =
+    let n = headAt t headCount in
+    record {
+      many = blocks-length (t .store) (t .blocks) n;
+      first = λ k h. ap (λ (b : Block). b .stretch .first) (blocks-at (t .store) (t .blocks) n k noBlock h);
+      created = λ k h. ap (λ (b : Block). b .created) (blocks-at (t .store) (t .blocks) n k noBlock h);
+      destroyed = λ k h. ap (λ (b : Block). b .destroyed) (blocks-at (t .store) (t .blocks) n k noBlock h);
+    }
+
+rows-filled : (t : Tables) → BoardFormed t → Filled (t .blocks) (headAt t headCount)
+rows-filled t b = record { filled = λ link p q. b .rows .rows link p q .some-cell }
+
+rows-stored : (t : Tables) → BoardFormed t → Stored (length (t .store)) (t .blocks) (headAt t headCount)
+rows-stored t b = record { inside = λ link p q. omega (arith, b .rows .rows link p q .stored, b .numbers .used-fits) }
+
+pub closed-pieces : (t : Tables) (n : ℕ) → n ≡ column (t .pieces) 0 piecesCount → (n ≡ 0 → ⊥) → TestedClosed t false
+closed-pieces t n e ne = record { decides = λ b. refute (λ p. ne (e ∙ p .no-pieces)) }
+
+pub closed-order : (t : Tables) (n : ℕ) (r : Bool) → n ≡ headAt t headCount → not r ≡ true → Decides r (InOrder (t .blocks) n) → TestedClosed t false
+closed-order t n r e no-order d = record { decides = λ b. refute (λ p. d .not (not-true r no-order) (rw e (p .order))) }
+
+pub closed-apart : (t : Tables) (n : ℕ) (o r : Bool) → n ≡ headAt t headCount → not o ≡ false → Decides o (InOrder (t .blocks) n) → not r ≡ true → TestedApart (t .blocks) n r
+    → TestedClosed t false
+closed-apart t n o r e ordered d shared test = record {
+  decides = λ b.
+      let order : InOrder (t .blocks) (headAt t headCount) = rw (← e) (d .yes (not-false o ordered)) in
+      let decided = tested-decides (t .store) (rows-stored t b) (rw e at test) order (rows-filled t b) in
+      refute (λ p. decided .not (not-true r shared) (p .apart));
+}
+
+pub closed-tree : (t : Tables) (n kind end : ℕ) (o a r : Bool) (pieces : ℕ) → n ≡ headAt t headCount → kind ≡ headAt t headKind → end ≡ headAt t headEnd
+    → pieces ≡ column (t .pieces) 0 piecesCount → pieces ≡ 0
+    → not o ≡ false → Decides o (InOrder (t .blocks) n) → not a ≡ false → TestedApart (t .blocks) n a
+    → ((bs : List Block) → BlockRows (t .blocks) n bs → Decides r (ClosedTree (treeTables t) kind end bs)) → TestedClosed t r
+closed-tree t n kind end o a r pieces e k f p zero ordered d apart test trees = record {
+  decides = λ b.
+      let order : InOrder (t .blocks) (headAt t headCount) = rw (← e) (d .yes (not-false o ordered)) in
+      let decided = tested-decides (t .store) (rows-stored t b) (rw e at test) order (rows-filled t b) in
+      let tree = rw (k, f) at (trees (blocksOf (t .store) (t .blocks) (headAt t headCount)) (rw e (block-rows t))) in
+      decides-iff r (λ x. record { no-pieces = sym p ∙ zero; order = order; apart = decided .yes (not-false a apart); tree = x }) (λ x. x .tree) tree;
+}
+
+pub ruleset closing = (closed-pieces, closed-order, closed-apart, closed-tree)
+
+-- ── all tables ──
+
+-- what a sound ledger in the tables says of them
+formed-board : (t : Tables) → length (t .pieces) < 2 ^ 64 → length (t .store) < 2 ^ 64 → WellFormed t → BoardFormed t
+formed-board t few fits w = board-formed t (w .ledger) (w .encodes) (w .sound .board) few fits
+
+state-open : (x : Option Tree) → stateOf x ≡ openState → x ≡ none
+state-open none e = refl
+state-open (some y) e = absurd (omega arith)
+
+formed-open : (t : Tables) (l : Ledger) → Encodes t l → headAt t headState ≡ openState → Unordered (t .blocks) (headAt t headCount)
+formed-open t l e s =
+    let open′ : l .tree ≡ none = state-open (l .tree) (sym (e .state) ∙ s) in
+    rw (e .count) (subst (λ (x : Option Tree). TreeIn t l x) open′ (e .tree))
+
+state-closed : (x : Option Tree) → stateOf x ≡ closedState → (y : Tree) × (x ≡ some y)
+state-closed none e = absurd (omega arith)
+state-closed (some y) e = (y, refl)
+
+state-one : (x : Option Tree) → (stateOf x ≡ openState → ⊥) → stateOf x ≡ closedState
+state-one none e = absurd (e refl)
+state-one (some y) e = refl
+
+pub test-board-bad : (t : Tables) (r : Bool) → length (t .pieces) < 2 ^ 64 → length (t .store) < 2 ^ 64 → not r ≡ true → Decides r (BoardFormed t) → Outcome Bad t
+test-board-bad t r few fits e d w = d .not (not-true r e) (formed-board t few fits w)
+
+pub test-open : (t : Tables) (b r : Bool) (state n : ℕ) → not b ≡ false → Decides b (BoardFormed t) → state ≡ headAt t headState → state ≡ openState → n ≡ headAt t headCount
+    → r ≡ true → Decides r (Unordered (t .blocks) n) → Outcome Open t
+test-open t b r state n eb db s is e er dr = record { board = db .yes (not-false b eb); state = sym s ∙ is; unordered = rw (← e) (dr .yes er) }
+
+pub test-open-bad : (t : Tables) (r : Bool) (state n : ℕ) → state ≡ headAt t headState → state ≡ openState → n ≡ headAt t headCount
+    → r ≡ false → Decides r (Unordered (t .blocks) n) → Outcome Bad t
+test-open-bad t r state n s is e er dr w = dr .not er (rw e (formed-open t (w .ledger) (w .encodes) (sym s ∙ is)))
+
+pub test-state-bad : (t : Tables) (state : ℕ) → state ≡ headAt t headState → (state ≡ openState → ⊥) → (state ≡ closedState → ⊥) → Outcome Bad t
+test-state-bad t state s ne nc w =
+    nc (s ∙ w .encodes .state ∙ state-one (w .ledger .tree) (λ e. ne (s ∙ w .encodes .state ∙ e)))
+
+pub test-closed : (t : Tables) (b r : Bool) (state : ℕ) → not b ≡ false → Decides b (BoardFormed t) → state ≡ headAt t headState → state ≡ closedState
+    → r ≡ true → TestedClosed t r → Outcome IsClosed t
+test-closed t b r state eb db s is er dr =
+    let board = db .yes (not-false b eb) in
+    record { board = board; state = sym s ∙ is; part = dr .decides board .yes er }
+
+-- ── a closed ledger in the tables ──
+
+no-links : (links : List ℕ) → {A : Type 0} (f : ℕ → A) → [] ≡ map f links → length links ≡ 0
+no-links [] f e = refl
+no-links (x ∷ xs) f e = let z : _≡_ {A = ℕ} 0 1 = cc in absurd (omega arith)
+
+module _ (t : Tables) (l : Ledger) (tree : Tree) (e : Encodes t l) (s : SoundBoard l) (c : SoundClosed l tree) (in-tree : TreeIn t l (some tree)) where
+  same-blocks : l .now .blocks ≡ blocksOf (t .store) (t .blocks) (headAt t headCount)
+  same-blocks = e .blocks
+
+  no-more : column (t .pieces) 0 piecesCount ≡ 0
+  no-more = sym (e .linked .count) ∙ no-links (e .links) (λ link. shown (t .store) (pieceAt (t .pieces) link)) (sym (c .no-pieces) ∙ e .pieces)
+
+  closed-in : ClosedTree (treeTables t) (headAt t headKind) (headAt t headEnd) (l .now .blocks)
+  closed-in = record {
+    tree = tree;
+    block-room = omega (arith, ap (λ (n : Lent). n .blocks) (e .lengths), s .blocks-fit, ap (λ (bs : List Block). length bs) same-blocks, heads-fit (lengthsOf t) (e .heads) .blocks);
+    entry-room = omega (arith, ap (λ (n : Lent). n .entries) (e .lengths), c .entries-fit, in-tree .1 .all-entries, heads-fit (lengthsOf t) (e .heads) .entries);
+    closed = rw (e .kind, e .end) (in-tree .1);
+    rooted = c .rooted;
+    rule-21 = rw (e .end) (c .rule-21);
+    rule-23 = rw (e .end) (c .rule-23);
+  }
+
+  closed-part : ClosedPart t
+  closed-part = record {
+    no-pieces = no-more;
+    order = rw (e .count) (in-tree .0);
+    apart = subst Apart same-blocks (c .rule-24);
+    tree = subst (λ (bs : List Block). ClosedTree (treeTables t) (headAt t headKind) (headAt t headEnd) bs) same-blocks closed-in;
+  }
+
+pub test-closed-bad : (t : Tables) (b r : Bool) (state : ℕ) → length (t .pieces) < 2 ^ 64 → length (t .store) < 2 ^ 64 → not b ≡ false → Decides b (BoardFormed t)
+    → state ≡ headAt t headState → state ≡ closedState → r ≡ false → TestedClosed t r → Outcome Bad t
+test-closed-bad t b r state few fits eb db s is er dr w =
+    let y = state-closed (w .ledger .tree) (sym (w .encodes .state) ∙ sym s ∙ is) in
+    let in-tree = subst (λ (x : Option Tree). TreeIn t (w .ledger) x) (y .1) (w .encodes .tree) in
+    let closed = subst (λ (x : Option Tree). SoundTree (w .ledger) x) (y .1) (w .sound .closed) in
+    dr .decides (db .yes (not-false b eb)) .not er (closed-part t (w .ledger) (y .0) (w .encodes) (w .sound .board) closed in-tree)
+
+pub ruleset testing = (test-board-bad, test-open, test-open-bad, test-state-bad, test-closed, test-closed-bad)
+
+-- ── tables that pass are well formed ──
+
+-- the ledger of tables that pass, with its tree
+pub record Passes (t : Tables) (x : Option Tree) : Type 0 where
+  pub ledger : Ledger
+  pub encodes : Encodes t ledger
+  pub sound : Sound ledger
+  pub tree : ledger .tree ≡ x
+
+pub passes-formed : {t : Tables} {x : Option Tree} → Passes t x → WellFormed t
+passes-formed p = record { ledger = p .ledger; encodes = p .encodes; sound = p .sound }
+
+pub open-passes : (t : Tables) → OpenFormed t → Passes t none
+unfolding ledgerOf
+open-passes t o = record {
+  ledger = ledgerOf t (boardLinks t (o .board)) none;
+  encodes = board-encodes t (o .board) none (o .state) (rw (blocks-length (t .store) (t .blocks) (headAt t headCount)) (o .unordered));
+  sound = record { board = board-sound t (o .board) none; closed = tt };
+  tree = refl;
+}
+
+pub closed-passes : (t : Tables) (c : ClosedFormed t) → Passes t (some (c .part .tree .tree))
+unfolding ledgerOf boardLinks
+closed-passes t c =
+    let k = c .part .tree in
+    let room = k .closed .room in
+    record {
+      ledger = ledgerOf t (boardLinks t (c .board)) (some (k .tree));
+      encodes =
+          board-encodes t (c .board) (some (k .tree)) (c .state)
+          (rw (blocks-length (t .store) (t .blocks) (headAt t headCount)) (c .part .order), k .closed);
+      sound = record {
+        board = board-sound t (c .board) (some (k .tree));
+        closed = record {
+          no-pieces = none-left (λ link. shown (t .store) (pieceAt (t .pieces) link)) (boardLinks t (c .board)) (c .board .pieces .rep .linked .count ∙ c .part .no-pieces);
+          rooted = k .rooted;
+          rule-21 = k .rule-21;
+          rule-23 = k .rule-23;
+          rule-24 = c .part .apart;
+          nodes-fit = omega (arith, k .closed .all-rows, room);
+          entries-fit = omega (arith, k .closed .all-entries, k .entry-room);
+        };
+      };
+      tree = refl;
+    }
+  where
+    none-left : {A : Type 0} (f : ℕ → A) (links : List ℕ) → length links ≡ 0 → map f links ≡ []
+    none-left f [] e = refl
+    none-left f (x ∷ xs) e = absurd (omega arith)

@@ -1,0 +1,128 @@
+// What any index has, open or closed: heads, numbers, rows of blocks, pieces.
+ghost use mathlib.Core.Path.{_≡_};
+ghost use mathlib.Core.Bool.{false};
+ghost use lib.ListN.{length};
+ghost use Prim.Native.Nat.{_+_, _-_, _/_, _≤_};
+ghost use Rattle.lists.specs.Tests.{Decides};
+ghost use Rattle.history.specs.Lent.{tooShort, rowWidth, blockHead};
+ghost use Rattle.layout.specs.Tables.{tables, lengthsOf};
+ghost use Rattle.index_test.specs.Board.{Numbers, BoardFormed};
+use super::rows;
+use tables::block;
+use tables::entry;
+use tables::node;
+use tables::piece;
+
+// The largest end tick.
+const MOST_END: u64 = 1 << 63;
+
+const MOST_KIND: u64 = 4;
+
+// Whether each table holds its head.
+fn test_heads(pieces: &[u64], blocks: &[u64], store: &[u8], nodes: &[u64], entries: &[u64]) -> bool
+    ensures { λ r. ⌜ Decides r (tooShort (lengthsOf (tables (now (pieces .entry)) (now (blocks .entry)) (now (store .entry)) (now (nodes .entry)) (now (entries .entry)))) ≡ false) ⌝ }
+{
+    if pieces.len() < piece::HEAD {
+        return false;
+    }
+    if blocks.len() < block::HEAD {
+        return false;
+    }
+    if nodes.len() < node::HEAD {
+        return false;
+    }
+    if entries.len() < entry::HEAD {
+        return false;
+    }
+    true
+}
+
+// How many block rows there are.
+fn block_rows(blocks: &[u64]) -> u64
+    ensures { λ r. ⌜ r ≡ (length (now (blocks .entry)) - blockHead) / rowWidth ⌝ }
+{
+    if blocks.len() < block::HEAD {
+        return 0;
+    }
+    ((blocks.len() - block::HEAD) / tables::ROW) as u64
+}
+
+// Whether there are block rows for so many blocks and pieces. It subtracts, as the sum may pass 2^64.
+fn rows_fit(blocks: &[u64], count: u64, pieces: u64) -> bool
+    ensures { λ r. ⌜ Decides r (count + pieces ≤ (length (now (blocks .entry)) - blockHead) / rowWidth) ⌝ }
+{
+    let rows = block_rows(blocks);
+    if rows < count {
+        return false;
+    }
+    if rows - count < pieces {
+        return false;
+    }
+    true
+}
+
+// Whether the numbers of the head are those of an index.
+fn test_numbers(
+    pieces: &[u64],
+    blocks: &[u64],
+    store: &[u8],
+    nodes: &[u64],
+    entries: &[u64],
+) -> bool
+    ensures { λ r. ⌜ Decides r (Numbers (tables (now (pieces .entry)) (now (blocks .entry)) (now (store .entry)) (now (nodes .entry)) (now (entries .entry)))) ⌝ }
+{
+    let end = block::get(blocks, 0, block::END);
+    if end == 0 {
+        return false;
+    }
+    if MOST_END < end {
+        return false;
+    }
+    if MOST_KIND < block::get(blocks, 0, block::KIND) {
+        return false;
+    }
+    if end <= block::get(blocks, 0, block::LAST) {
+        return false;
+    }
+    if store.len() < block::get(blocks, 0, block::USED) as usize {
+        return false;
+    }
+    if rows_fit(
+        blocks,
+        block::get(blocks, 0, block::COUNT),
+        tables::get(pieces, 0, piece::COUNT),
+    ) {
+        return true;
+    }
+    false
+}
+
+// Whether the tables have what any index has. Linear in the rows in use.
+pub fn test_board(
+    pieces: &[u64],
+    blocks: &[u64],
+    store: &[u8],
+    nodes: &[u64],
+    entries: &[u64],
+) -> bool
+    ensures { λ r. ⌜ Decides r (BoardFormed (tables (now (pieces .entry)) (now (blocks .entry)) (now (store .entry)) (now (nodes .entry)) (now (entries .entry)))) ⌝ }
+{
+    if !test_heads(pieces, blocks, store, nodes, entries) {
+        return false;
+    }
+    if !test_numbers(pieces, blocks, store, nodes, entries) {
+        return false;
+    }
+    let kind = block::get(blocks, 0, block::KIND);
+    let end = block::get(blocks, 0, block::END);
+    let used = block::get(blocks, 0, block::USED);
+    let last = block::get(blocks, 0, block::LAST);
+    let count = block::get(blocks, 0, block::COUNT);
+    if !rows::test_rows(blocks, count, kind, end, used) {
+        return false;
+    }
+    if piece_table::test_pieces(pieces, kind, used, last) {
+        return true;
+    }
+    false
+}

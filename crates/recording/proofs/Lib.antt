@@ -1,0 +1,4 @@
+pub mod Blocks
+pub mod Clearing
+pub mod Updating
+pub mod Extracting

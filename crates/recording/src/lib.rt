@@ -1,0 +1,249 @@
+// What one update of the board does to the pieces, and the blocks that it records. Ports the overlaps of merge_set.rs and `Indexer` of mod.rs.
+//
+//   specs/Blocks     blocks appended to the block table
+//   specs/Calls      what each function ensures
+//   proofs/Blocks    laws of appending
+//   proofs/Clearing  one step for each return of `remove_overlapping` and what it calls
+//   proofs/Updating  of `split`, `apply_update`
+//   proofs/Extracting  of `extract_members`
+ghost use mathlib.Core.Path.{_≡_};
+ghost use Prim.Native.Nat.{_+_, min, max};
+ghost use Rattle.recording.specs.Calls.{WroteBlock, AppendedBlock, RecordedPart, Extracted, ExtractedMembers, ClearedOne, Cleared, SplitPiece, RemovedOverlapping, AppliedUpdate};
+use tables::block;
+use tables::piece;
+
+// The largest number.
+const LARGEST: u64 = 18446744073709551615;
+
+// Writes a block to the row of a link. It is in no order yet.
+fn write_block(
+    blocks: &mut [u64],
+    link: u64,
+    first: u64,
+    length: u64,
+    created: u64,
+    destroyed: u64,
+    offset: u64,
+    owner: u64,
+)
+    ensures { λ _. ⌜ WroteBlock (now (blocks .entry)) (now (blocks .exit)) link destroyed
+        (record { first = first; size = length; written = created; offset = offset; owner = owner }) ⌝ }
+{
+    block::put(blocks, link, block::FIRST, first);
+    block::put(blocks, link, block::LENGTH, length);
+    block::put(blocks, link, block::CREATED, created);
+    block::put(blocks, link, block::DESTROYED, destroyed);
+    block::put(blocks, link, block::OFFSET, offset);
+    block::put(blocks, link, block::OWNER, owner);
+    block::put(blocks, link, block::NEXT, 0);
+    block::put(blocks, link, block::SPARE, 0);
+}
+
+// Appends a block behind those that the table has.
+fn append_block(
+    blocks: &mut [u64],
+    first: u64,
+    length: u64,
+    created: u64,
+    destroyed: u64,
+    offset: u64,
+    owner: u64,
+)
+    ensures { λ _. ⌜ AppendedBlock (now (blocks .entry)) (now (blocks .exit)) destroyed
+        (record { first = first; size = length; written = created; offset = offset; owner = owner }) ⌝ }
+{
+    let count = block::get(blocks, 0, block::COUNT);
+    if count == LARGEST {
+        return;
+    }
+    write_block(
+        blocks,
+        count + 1,
+        first,
+        length,
+        created,
+        destroyed,
+        offset,
+        owner,
+    );
+    block::put(blocks, 0, block::COUNT, count + 1);
+}
+
+fn larger(a: u64, b: u64) -> u64
+    ensures { λ r. ⌜ r ≡ max a b ⌝ }
+{
+    if a < b {
+        return b;
+    }
+    a
+}
+
+fn smaller(a: u64, b: u64) -> u64
+    ensures { λ r. ⌜ r ≡ min a b ⌝ }
+{
+    if a < b {
+        return a;
+    }
+    b
+}
+
+// Records the part of a link's piece in [first, end), which it meets, as a block destroyed at `tick`.
+fn record_part(pieces: &[u64], blocks: &mut [u64], link: u64, tick: u64, first: u64, end: u64)
+    ensures { λ _. ⌜ RecordedPart (now (pieces .entry)) (now (blocks .entry)) (now (blocks .exit)) link tick first end ⌝ }
+{
+    let was = tables::get(pieces, link, piece::FIRST);
+    let length = tables::get(pieces, link, piece::LENGTH);
+    let written = tables::get(pieces, link, piece::WRITTEN);
+    let offset = tables::get(pieces, link, piece::OFFSET);
+    let owner = tables::get(pieces, link, piece::OWNER);
+    let from = larger(first, was);
+    if LARGEST - was < length {
+        return;
+    }
+    let to = smaller(end, was + length);
+    if to < from {
+        return;
+    }
+    if LARGEST - offset < from - was {
+        return;
+    }
+    append_block(
+        blocks,
+        from,
+        to - from,
+        written,
+        tick,
+        offset + (from - was),
+        owner,
+    );
+}
+
+// Cuts [first, end) out of the piece of a link, which reaches over both ends: the left part stays in its row, the right one gets a new row.
+fn split(pieces: &mut [u64], link: u64, first: u64, end: u64)
+    ensures { λ _. ⌜ SplitPiece (now (pieces .entry)) (now (pieces .exit)) link first end ⌝ }
+{
+    let was = tables::get(pieces, link, piece::FIRST);
+    let length = tables::get(pieces, link, piece::LENGTH);
+    let written = tables::get(pieces, link, piece::WRITTEN);
+    let offset = tables::get(pieces, link, piece::OFFSET);
+    let owner = tables::get(pieces, link, piece::OWNER);
+    if end < was {
+        return;
+    }
+    let cut = end - was;
+    if length < cut {
+        return;
+    }
+    if LARGEST - offset < cut {
+        return;
+    }
+    piece_table::trim_back(pieces, link, first);
+    piece_table::insert_piece(pieces, end, length - cut, written, offset + cut, owner);
+}
+
+// Records what the lowest piece in [first, end) has there, and takes the piece out, or cuts it at the end and stops; stops if there is none. Tells
+// whether to go on.
+fn clear_one(pieces: &mut [u64], blocks: &mut [u64], tick: u64, first: u64, end: u64) -> bool
+    ensures { λ more. ⌜ ClearedOne (now (pieces .entry)) (now (pieces .exit)) (now (blocks .entry)) (now (blocks .exit)) tick first end more ⌝ }
+{
+    let link = piece_table::seek(pieces, first);
+    if link == 0 {
+        return false;
+    }
+    let was = tables::get(pieces, link, piece::FIRST);
+    if end <= was {
+        return false;
+    }
+    record_part(pieces, blocks, link, tick, first, end);
+    if piece_table::ends_after(pieces, link, end) {
+        piece_table::trim_front(pieces, link, end);
+        return false;
+    }
+    piece_table::remove_piece(pieces, link);
+    true
+}
+
+// Takes out and records all that the pieces have in [first, end), where none reaches over the first cell.
+fn clear(pieces: &mut [u64], blocks: &mut [u64], tick: u64, first: u64, end: u64)
+    ensures { λ _. ⌜ Cleared (now (pieces .entry)) (now (pieces .exit)) (now (blocks .entry)) (now (blocks .exit)) tick first end ⌝ }
+{
+    let mut left = tables::get(pieces, 0, piece::COUNT);
+    while left > 0 {
+        if !clear_one(pieces, blocks, tick, first, end) {
+            return;
+        }
+        left -= 1;
+    }
+}
+
+// Takes all that the pieces have in [first, end) out of them, and records it, ascending, as blocks destroyed at `tick`.
+pub fn remove_overlapping(pieces: &mut [u64], blocks: &mut [u64], tick: u64, first: u64, end: u64)
+    ensures { λ _. ⌜ RemovedOverlapping (now (pieces .entry)) (now (pieces .exit)) (now (blocks .entry)) (now (blocks .exit)) tick first end ⌝ }
+{
+    let link = piece_table::seek(pieces, first);
+    if link == 0 {
+        return;
+    }
+    let was = tables::get(pieces, link, piece::FIRST);
+    if first <= was {
+        clear(pieces, blocks, tick, first, end);
+        return;
+    }
+    record_part(pieces, blocks, link, tick, first, end);
+    if piece_table::ends_after(pieces, link, end) {
+        split(pieces, link, first, end);
+        return;
+    }
+    piece_table::trim_back(pieces, link, first);
+    clear(pieces, blocks, tick, first, end);
+}
+
+// What an update at `tick` does to the pieces and the blocks; its bytes stand in the store at `offset`.
+pub fn apply_update(
+    pieces: &mut [u64],
+    blocks: &mut [u64],
+    tick: u64,
+    first: u64,
+    length: u64,
+    offset: u64,
+    owner: u64,
+)
+    ensures { λ _. ⌜ AppliedUpdate (now (pieces .entry)) (now (pieces .exit)) (now (blocks .entry)) (now (blocks .exit))
+        (record { first = first; size = length; written = tick; offset = offset; owner = owner }) ⌝ }
+{
+    if LARGEST - first < length {
+        return;
+    }
+    remove_overlapping(pieces, blocks, tick, first, first + length);
+    piece_table::insert_piece(pieces, first, length, tick, offset, owner);
+}
+
+// Records the pieces of the tree at `link`, which is at most `fuel` deep, as blocks destroyed at `end`.
+fn extract(pieces: &[u64], blocks: &mut [u64], link: u64, end: u64, fuel: u64)
+    ensures { λ _. ⌜ Extracted (now (pieces .entry)) (now (blocks .entry)) (now (blocks .exit)) link end fuel ⌝ }
+{
+    if link == 0 {
+        return;
+    }
+    if fuel == 0 {
+        return;
+    }
+    let l = tables::get(pieces, link, piece::LEFT);
+    let r = tables::get(pieces, link, piece::RIGHT);
+    let first = tables::get(pieces, link, piece::FIRST);
+    let length = tables::get(pieces, link, piece::LENGTH);
+    let written = tables::get(pieces, link, piece::WRITTEN);
+    let offset = tables::get(pieces, link, piece::OFFSET);
+    let owner = tables::get(pieces, link, piece::OWNER);
+    extract(pieces, blocks, l, end, fuel - 1);
+    append_block(blocks, first, length, written, end, offset, owner);
+    extract(pieces, blocks, r, end, fuel - 1);
+}
+
+// Records all pieces, ascending, as blocks destroyed at `end`. The piece table stays as it is.
+pub fn extract_members(pieces: &[u64], blocks: &mut [u64], end: u64)
+    ensures { λ _. ⌜ ExtractedMembers (now (pieces .entry)) (now (blocks .entry)) (now (blocks .exit)) end ⌝ }
+{
+    let root = tables::get(pieces, 0, piece::ROOT);
+    extract(pieces, blocks, root, end, piece_table::DEEPEST);
+}

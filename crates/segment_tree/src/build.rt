@@ -1,0 +1,178 @@
+// Building the tree in the node table: each life goes down from its root, nodes are made, entries are counted.
+ghost use mathlib.Core.Path.{_≡_};
+ghost use mathlib.Core.List.{map};
+ghost use Rattle.lists.specs.Lists.{countFrom};
+ghost use Prim.Native.Nat.{ℕ, _+_, _*_};
+ghost use lib.ListN.{set};
+ghost use Rattle.history.specs.Lent.{rowWidth};
+ghost use Rattle.tables.specs.Columns.{nodeEntries};
+ghost use Rattle.segment_table.specs.Closed.{countAt};
+ghost use Rattle.segment_tree.specs.Count.{plusUpTo, spot, aLife, Reached, Added};
+ghost use Rattle.segment_tree.specs.Lives.{blockLife, pieceLife, AddedRows, CountedTree};
+
+// One entry more in the node of `link`.
+fn bump(nodes: &mut [u64], link: u64)
+    ensures { λ _. ⌜ now (nodes .exit) ≡ set (now (nodes .entry)) (rowWidth * link + nodeEntries) (plusUpTo (countAt (now (nodes .entry)) link) 1) ⌝ }
+{
+    let count = tables::get(nodes, link, tables::node::ENTRIES);
+    tables::put(nodes, link, tables::node::ENTRIES, crate::plus(count, 1));
+}
+
+// The node [min, max) in column `col` of the row of `parent`, made where there is none; 0 if the rows are spent.
+fn reach(nodes: &mut [u64], parent: u64, col: usize, min: u64, max: u64, kind: u64) -> u64
+    ensures { λ r. ⌜ Reached (now (nodes .entry)) (now (nodes .exit)) (spot kind parent col min max) r ⌝ }
+{
+    let there = tables::get(nodes, parent, col);
+    if there != 0 {
+        return there;
+    }
+    let used = tables::get(nodes, 0, tables::node::COUNT);
+    if crate::rows(nodes) <= used {
+        return 0;
+    }
+    let link = used + 1;
+    tables::put(nodes, 0, tables::node::COUNT, link);
+    tables::put(nodes, parent, col, link);
+    tables::put(nodes, link, tables::node::MIN, min);
+    tables::put(nodes, link, tables::node::MAX, max);
+    tables::put(nodes, link, tables::node::KIND, kind);
+    link
+}
+
+// Adds the life [created, destroyed) to the node [min, max) that hangs in column `col` of the row of `parent`: one entry more in each node
+// that it covers, and nodes where there are none. False if the rows are spent. At most 65 deep: each call halves the width.
+pub fn add_location(
+    nodes: &mut [u64],
+    parent: u64,
+    col: usize,
+    min: u64,
+    max: u64,
+    created: u64,
+    destroyed: u64,
+    kind: u64,
+) -> bool
+    ensures { λ r. ⌜ Added (now (nodes .entry)) (now (nodes .exit)) (spot kind parent col min max) (aLife created destroyed) r ⌝ }
+{
+    let link = reach(nodes, parent, col, min, max, kind);
+    if link == 0 {
+        return false;
+    }
+    if crate::covers_node(created, destroyed, min, max) {
+        bump(nodes, link);
+        return true;
+    }
+    if !crate::has_halves(min, max) {
+        return true;
+    }
+    let mid = min + (max - min) / 2;
+    if mid <= created {
+        if destroyed <= mid {
+            return true;
+        }
+        return add_location(
+            nodes,
+            link,
+            tables::node::RIGHT,
+            mid,
+            max,
+            created,
+            destroyed,
+            kind,
+        );
+    }
+    if !add_location(
+        nodes,
+        link,
+        tables::node::LEFT,
+        min,
+        mid,
+        created,
+        destroyed,
+        kind,
+    ) {
+        return false;
+    }
+    if destroyed <= mid {
+        return true;
+    }
+    add_location(
+        nodes,
+        link,
+        tables::node::RIGHT,
+        mid,
+        max,
+        created,
+        destroyed,
+        kind,
+    )
+}
+
+// Adds the lives of the blocks 1 to n. False if the rows are spent.
+fn add_blocks(nodes: &mut [u64], blocks: &[u64], n: u64, end: u64, kind: u64) -> bool
+    ensures { λ r. ⌜ AddedRows (now (nodes .entry)) (now (nodes .exit)) kind end (map (blockLife (now (blocks .entry))) (countFrom 1 n)) r ⌝ }
+{
+    let mut j = 0;
+    while j < n {
+        let link = j + 1;
+        let created = tables::block::get(blocks, link, tables::block::CREATED);
+        let destroyed = tables::block::get(blocks, link, tables::block::DESTROYED);
+        if !add_location(nodes, 0, kind as usize, 0, end, created, destroyed, kind) {
+            return false;
+        }
+        j += 1;
+    }
+    true
+}
+
+// Adds the lives of the pieces 1 to n, which last to the end. False if the rows are spent.
+fn add_pieces(nodes: &mut [u64], pieces: &[u64], n: u64, end: u64, kind: u64) -> bool
+    ensures { λ r. ⌜ AddedRows (now (nodes .entry)) (now (nodes .exit)) kind end (map (pieceLife (now (pieces .entry)) end) (countFrom 1 n)) r ⌝ }
+{
+    let mut j = 0;
+    while j < n {
+        let created = tables::get(pieces, j + 1, tables::piece::WRITTEN);
+        if !add_location(nodes, 0, kind as usize, 0, end, created, end, kind) {
+            return false;
+        }
+        j += 1;
+    }
+    true
+}
+
+// What is refused where room is too little: more nodes are needed than there are rows, or more entries.
+pub const NODES_SPENT: u64 = 12;
+
+pub const ENTRIES_SPENT: u64 = 13;
+
+pub const ENOUGH: u64 = 0;
+
+// Counts the tree of n blocks, and of m pieces that live up to the end, in a node table of zeros. Where the nodes or the entries do not fit, the
+// table is zeros again.
+pub fn count_tree(
+    nodes: &mut [u64],
+    entries: &[u64],
+    blocks: &[u64],
+    n: u64,
+    pieces: &[u64],
+    m: u64,
+    end: u64,
+    kind: u64,
+) -> u64
+    ensures { λ r. ⌜ CountedTree (now (nodes .entry)) (now (nodes .exit)) (now (entries .entry)) (now (blocks .entry)) (now (pieces .entry)) n m end kind r ⌝ }
+{
+    if !add_blocks(nodes, blocks, n, end, kind) {
+        tables::zero(nodes);
+        return NODES_SPENT;
+    }
+    if !add_pieces(nodes, pieces, m, end, kind) {
+        tables::zero(nodes);
+        return NODES_SPENT;
+    }
+    let used = tables::get(nodes, 0, tables::node::COUNT);
+    let total = crate::close::assign_runs(nodes, used);
+    if crate::entry_rows(entries) < total {
+        tables::zero(nodes);
+        return ENTRIES_SPENT;
+    }
+    ENOUGH
+}
