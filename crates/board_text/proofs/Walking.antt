@@ -14,7 +14,7 @@ use Rattle.lists.proofs.Numbers.{le-or-lt, bool-cases, suc-of}
 use Rattle.history.specs.Words.{Operation}
 use Rattle.history.specs.File.{Read, got, fault, onward, field, number}
 use Rattle.history.specs.Printed.{Records, bad, all, onto, nextRecord, readRecord, recordsFrom, inputOf}
-use Rattle.history.proofs.FileReads.{got-value, got-next, fault-got}
+use Rattle.history.proofs.FileYields.{got-value, got-next, fault-got}
 use Rattle.board_text.specs.Input.{itemFrom, itemAt, recordsAt, inputFrom, recordsOf, recordFront, firstRecord}
 use Rattle.board_text.specs.declared.input.Item.the-variants.{End, Bad, Record}
 use Rattle.board_text.proofs.Records.{numberAt, marked, cellsAt, operationAt, number-here, number-past, front-cut, wrong-mark, front-whole}
