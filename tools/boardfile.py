@@ -47,10 +47,10 @@ def number(word, bits, what):
     """A decimal number that fits so many bits."""
     if not (word.isascii() and word.isdigit()):
         raise Fault(f"{what} must be a number, not '{word}'")
-    value = int(word)
-    if value >= 1 << bits:
-        raise Fault(f"{what} {word} is too large: it must be below 2^{bits}")
-    return value
+    digits = word.lstrip("0") or "0"
+    if len(digits) > 20 or int(digits) >= 1 << bits:
+        raise Fault(f"{what} {digits[:30]} is too large: it must be below 2^{bits}")
+    return int(digits)
 
 
 def kind_of(word):
@@ -216,6 +216,7 @@ WRONG_TEXTS = [
     ("end 8\nkind 1\n\nat 1 platform 0 monday 24:00 bytes 07\n", "line 4: '24:00' is no clock time"),
     ("end 8\nkind 1\nat 1 platform 0 monday 1:2 bytes 07\n", "line 3: '1:2' is no clock time"),
     ("end 8\nkind 1\nat 18446744073709551616 cell 0 bytes 07\n", "line 3: the tick"),
+    ("end " + 9999 * "9" + "\nkind 1\n", "line 1: the end tick 9999"),
     ("end 8\nkind 1\nat 1 cell 0 bytes 07*65536\n", "line 3: a booking has at most"),
     ("end 8\nkind 1\nat 1 platform 0 monday+426090 00:00 bytes 07\n", "line 3: 'monday+426090 00:00' is too late"),
     ("end 8\nkind 1\nat 1 bytes 07\n", "line 3: write: at TICK"),
@@ -258,6 +259,7 @@ def test():
     listing = {"end": 8, "kind": 1, "bookings": [(1, 100, b"\7\7\7"), (3, 102, b"\t\t\t"), (5, 100, b"\7\7"), (6, 103, b"\4")]}
     assert read_text(LISTING) == listing
     assert write_input(listing)[:31] == bytes.fromhex("0800000000000000 01 b74f 0100000000000000 6400000000000000 0300 0707")
+    assert number(5000 * "0" + "7", 8, "a number") == 7
     assert read_text("end 1 \nkind OTHER\nat 0 platform 2 Tuesday+1 23:52 bytes\n")["bookings"] == [(0, (2 << 32) + 8 * DAY + 1432, b"")]
     dice = random.Random(1440)
     for board in [listing] + [random_board(dice) for _ in range(500)]:

@@ -7,14 +7,12 @@ use native.Mathlib.Omega.{arith}
 use lib.ListN.{length, take, drop}
 use Rattle.lists.proofs.Numbers.{le-or-lt}
 use Rattle.history.specs.Words.{Operation}
-use Rattle.history.specs.Printed.{Records, bad, all, onto, inputOf, parsed}
-use Rattle.history.specs.File.{Read, got, fault, number}
-use Rattle.board_text.specs.Input.{startFrom, startOf, itemAt, recordsAt, inputFrom, firstRecord}
-use Rattle.board_text.specs.declared.input.Start.the-variants.{Short, Open}
+use Rattle.history.specs.Printed.{Records, bad, all, onto, parsed}
+use Rattle.board_text.specs.Input.{itemAt, recordsAt, inputFrom, firstRecord}
 use Rattle.board_text.specs.Walk.{Walk, walk-end, walk-on, LawOfInput}
 use Rattle.board_text.specs.declared.input.Item.{Item}
 use Rattle.board_text.specs.declared.input.Item.the-variants.{End, Bad, Record}
-use Rattle.board_text.proofs.Walking.{records-end, records-bad, records-on, records-short, records-start}
+use Rattle.board_text.proofs.Walking.{records-end, records-bad, records-on, start-says, start-bad, records-short, records-start}
 
 -- ── records apart ──
 
@@ -39,23 +37,6 @@ onto-rest : (o p : Operation) (os : List Operation) (r : Records) → onto o r �
 unfolding onto
 onto-rest o p os (bad k) e = absurd (bad-all e)
 onto-rest o p os (all qs) e = let same : qs ≡ os = cc in ap all same
-
--- ── the opening ──
-
-short-open : {e k : ℕ} → Short ≡ Open e k → ⊥
-short-open h = let z : _≡_ {A = ℕ} 0 1 = cc in omega arith
-
-opens : (r s : Read ℕ) (rest : ℕ → Records) {e k : ℕ} → Open e k ≡ startFrom r s → (inputOf r s rest .end ≡ e) × (inputOf r s rest .kind ≡ k)
-unfolding inputOf
-opens (got a x) (got b y) rest h = ((cc), (cc))
-opens (got a x) (fault n) rest h = absurd (short-open (sym h))
-opens (fault n) s rest h = absurd (short-open (sym h))
-
-shorts : (r s : Read ℕ) (rest : ℕ → Records) → Short ≡ startFrom r s → inputOf r s rest .records ≡ bad 0
-unfolding inputOf
-shorts (got a x) (got b y) rest h = absurd (short-open h)
-shorts (got a x) (fault n) rest h = refl
-shorts (fault n) s rest h = refl
 
 -- ── met, and no others ──
 
@@ -83,12 +64,12 @@ module _ (input : List ℕ) where
   walk-all {at} k (walk-on h w) = records-on input k at h .records ∙ ap (onto _) (walk-all (suc k) w)
 
 pub law-of-input : LawOfInput
-unfolding parsed inputFrom startOf
+unfolding parsed inputFrom
 law-of-input =
     record {
       first-bytes = λ bytes. refl;
-      opened-with = λ input e k h. opens (number 8 input 0) (number 1 input 8) (recordsAt 1 input) h;
-      too-short = λ input h. shorts (number 8 input 0) (number 1 input 8) (recordsAt 1 input) h;
+      opened-with = λ input e k h. start-says input h;
+      too-short = start-bad;
       all-met = λ input os e.
           ⊎-elim
           (λ h. walk-met input os 1 firstRecord (sym (records-start input h) ∙ e))

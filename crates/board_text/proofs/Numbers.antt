@@ -12,9 +12,7 @@ use Rattle.board_text.specs.Input.{ByteAt, NumberAt}
 
 -- ── the returns of `byte_at` ──
 
-pub byte-here : {l : List ℕ} {at i byte : ℕ} → byte ≡ getD l (at + i) 0 → byte < 256 → ByteAt l at i byte
-byte-here e h = record { says = e; small = h }
-
+-- past the end
 pub byte-past : {l : List ℕ} {at i : ℕ} → length l ≤ at + i → ByteAt l at i 0
 byte-past {l} {at} {i} h = record { says = sym (List·getD-eq-default l 0 {n = at + i} h); small = omega arith }
 
@@ -35,6 +33,7 @@ pub record Reached (input : List ℕ) (at width value i : ℕ) : Type 0 where
   pub says : value ≡ numberOf (drop i (take width (drop at input)))
   pub below : value < 256 ^ (width - i)
 
+-- none is read
 pub reached-none : (input : List ℕ) (at width : ℕ) → Reached input at width 0 width
 unfolding numberOf
 reached-none input at w =
@@ -42,6 +41,7 @@ reached-none input at w =
     let zero! : w - w ≡ 0 = omega arith in
     record { inside = omega arith; says = rw none refl; below = rw zero! (omega arith) }
 
+-- the byte in front of them is read too
 pub reached-one : {input : List ℕ} {at width value i byte : ℕ} → Reached input at width value i → 0 < i
     → ByteAt input at (i - 1) byte → Reached input at width (value * 256 + byte) (i - 1)
 reached-one {input} {at} {width = w} {value = v} {i} {byte = b} h pos byte =
@@ -62,6 +62,7 @@ reached-room {width} {i} h pos few =
     let most : 256 ^ (width - i) ≤ 256 ^ 7 = pow-le-pow-right {n = 256} (omega arith) {i = width - i} {j = 7} (omega arith) in
     omega (arith, h .below)
 
+-- all are read
 pub reached-all : {input : List ℕ} {at width value i : ℕ} → Reached input at width value i → i ≤ 0 → NumberAt input at width value
 reached-all {input} {at} {width = w} {value = v} {i} h done =
     let z : i ≡ 0 = omega arith in

@@ -24,10 +24,12 @@ module _ (input : List ℕ) where
   abbrev pub numberAt : (at width : ℕ) → ℕ
   numberAt at width = numberOf (take width (drop at input))
 
+  -- a number that stands inside
   pub number-here : (width at : ℕ) → at + width ≤ length input → number width input at ≡ got (numberAt at width) (at + width)
   unfolding number _>>=_ onward give field
   number-here w at h = rw (le-leb (at + w) (length input) h) refl
 
+  -- one that runs past the end
   pub number-past : (width at : ℕ) → length input < at + width → number width input at ≡ fault 17
   unfolding number _>>=_ onward field
   number-past w at h = rw (lt-leb (at + w) (length input) h) refl
@@ -35,6 +37,7 @@ module _ (input : List ℕ) where
 -- ── the returns of `opening` ──
 
 module _ (input : List ℕ) where
+  -- too short to open with
   pub start-short : length input < firstRecord → Short ≡ startOf input
   unfolding startOf
   start-short h =
@@ -43,6 +46,7 @@ module _ (input : List ℕ) where
       (λ k. rw (number-past input 8 0 k) refl)
       (le-or-lt (0 + 8) (length input))
 
+  -- end tick and kind
   pub start-open : {end kind : ℕ} → firstRecord ≤ length input → NumberAt input 0 8 end → NumberAt input 8 1 kind → Open end kind ≡ startOf input
   unfolding startOf
   start-open h e k = rw (number-here input 8 0 (omega arith), number-here input 1 8 h, ← (e .says), ← (k .says)) refl
@@ -54,6 +58,7 @@ abbrev pub marked : ℕ
 marked = 0x4fb7
 
 module _ (input : List ℕ) (at : ℕ) where
+  -- nothing is left
   pub item-end : length input ≤ at → End ≡ itemAt input at
   unfolding itemAt
   item-end h = rw (le-leb (length input) at h) refl
@@ -63,6 +68,7 @@ module _ (input : List ℕ) (at : ℕ) where
   unfolding itemAt
   item-within h = rw (lt-leb (length input) at h) refl
 
+  -- a mark that stands inside: it is wrong, or right and a later field is cut
   module _ (whole : at + 2 ≤ length input) where
     pub wrong-mark : eqb (numberAt input at 2) marked ≡ false → itemFrom at (readRecord input at) ≡ Bad
     unfolding readRecord _>>=_ onward refuse_unless_
@@ -131,14 +137,17 @@ module _ (input : List ℕ) (at : ℕ) where
       )
       refl
 
+  -- the front is cut
   pub item-short : at < length input → length input - at < recordFront → Bad ≡ itemAt input at
   item-short h k = sym (front-cut (omega arith)) ∙ item-within h
 
+  -- the mark is wrong
   pub item-wrong : {mark : ℕ} → recordFront ≤ length input - at → NumberAt input at 2 mark → (mark ≡ marked → ⊥) → Bad ≡ itemAt input at
   item-wrong {mark} h m n =
       let e : eqb (numberAt input at 2) marked ≡ false = ne-eqb (numberAt input at 2) marked (λ p. n (m .says ∙ p)) in
       sym (wrong-mark (omega arith) e) ∙ item-within (omega arith)
 
+  -- the front is whole: the bytes are cut, or it is a record
   module _ {mark cells : ℕ} (front : recordFront ≤ length input - at) (is-mark : NumberAt input at 2 mark) (right : mark ≡ marked) (is-length : NumberAt input (at + recordFront - 2) 2 cells) where
     marks : readRecord input at ≡ onward (field cells input (at + recordFront)) (λ bytes next. got (operationAt bytes) next)
     marks =

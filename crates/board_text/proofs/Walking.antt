@@ -15,9 +15,10 @@ use Rattle.history.specs.Words.{Operation}
 use Rattle.history.specs.File.{Read, got, fault, onward, field, number}
 use Rattle.history.specs.Printed.{Records, bad, all, onto, nextRecord, readRecord, recordsFrom, inputOf}
 use Rattle.history.proofs.FileYields.{got-value, got-next, fault-got}
-use Rattle.board_text.specs.Input.{itemFrom, itemAt, recordsAt, inputFrom, recordsOf, recordFront, firstRecord}
+use Rattle.board_text.specs.Input.{startFrom, startOf, itemFrom, itemAt, recordsAt, inputFrom, recordsOf, recordFront, firstRecord}
+use Rattle.board_text.specs.declared.input.Start.the-variants.{Short, Open}
 use Rattle.board_text.specs.declared.input.Item.the-variants.{End, Bad, Record}
-use Rattle.board_text.proofs.Records.{numberAt, marked, cellsAt, operationAt, number-here, number-past, front-cut, wrong-mark, front-whole}
+use Rattle.board_text.proofs.Records.{numberAt, marked, cellsAt, operationAt, number-here, start-short, front-cut, wrong-mark, front-whole}
 
 -- ── a record that was read ──
 
@@ -34,6 +35,7 @@ pub record OneMore (input : List ℕ) (k at tick first start cells next : ℕ) :
   pub ends : next ≡ start + cells
   pub inside : next ≤ length input
 
+-- what is bad was not read
 bad-record : (at : ℕ) {r : Read Operation} {o : Operation} {n : ℕ} → itemFrom at r ≡ Bad → r ≡ got o n → ⊥
 bad-record at {r} {o} {n} e g =
     let f : Record (o .tick) (o .first) (at + recordFront) (length (o .bytes)) n ≡ Bad = rw g at e in
@@ -41,6 +43,7 @@ bad-record at {r} {o} {n} e g =
     omega arith
 
 module _ (input : List ℕ) (at : ℕ) where
+  -- the bytes behind a whole front
   field-got : (cells : ℕ) {o : Operation} {n : ℕ} → onward (field cells input (at + recordFront)) (λ bytes next. got (operationAt input at bytes) next) ≡ got o n
       → Stands input at o n
   unfolding onward field
@@ -56,6 +59,7 @@ module _ (input : List ℕ) (at : ℕ) where
           rw (← (got-value g), ← (got-next g)) (record { bytes = rw sized refl; next = rw sized refl; inside = room })
       go false h g = absurd (fault-got g)
 
+  -- so it is wherever a record was read
   pub record-stands : {o : Operation} {n : ℕ} → readRecord input at ≡ got o n → Stands input at o n
   record-stands e =
       ⊎-elim
@@ -173,31 +177,43 @@ module _ (input : List ℕ) (k at : ℕ) where
 
 -- ── the whole input ──
 
+short-open : {e k : ℕ} → Short ≡ Open e k → ⊥
+short-open h = let z : _≡_ {A = ℕ} 0 1 = cc in omega arith
+
+-- what the two fields in front say of all
 module _ (rest : ℕ → Records) where
   whole-input : (e x kind at : ℕ) → inputOf (got e x) (got kind at) rest .records ≡ rest at
   unfolding inputOf
   whole-input e x kind at = refl
 
-  no-kind : (e x i : ℕ) → inputOf (got e x) (fault i) rest .records ≡ bad 0
+  input-open : (r s : Read ℕ) {e k : ℕ} → Open e k ≡ startFrom r s → (inputOf r s rest .end ≡ e) × (inputOf r s rest .kind ≡ k)
   unfolding inputOf
-  no-kind e x i = refl
+  input-open (got a x) (got b y) h = ((cc), (cc))
+  input-open (got a x) (fault n) h = absurd (short-open (sym h))
+  input-open (fault n) s h = absurd (short-open (sym h))
 
-  no-end : (i : ℕ) (kind : Read ℕ) → inputOf (fault i) kind rest .records ≡ bad 0
+  input-short : (r s : Read ℕ) → Short ≡ startFrom r s → inputOf r s rest .records ≡ bad 0
   unfolding inputOf
-  no-end i kind = refl
+  input-short (got a x) (got b y) h = absurd (short-open h)
+  input-short (got a x) (fault n) h = refl
+  input-short (fault n) s h = refl
 
 module _ (input : List ℕ) where
-  fields : {end kind : Read ℕ} → number 8 input 0 ≡ end → number 1 input 8 ≡ kind → recordsOf input ≡ inputOf end kind (recordsAt 1 input) .records
-  unfolding inputFrom
-  fields e k = ap₂ (λ (a b : Read ℕ). inputOf a b (recordsAt 1 input) .records) e k
+  -- the answer of `opening` is the input's end tick and kind ..
+  pub start-says : {e k : ℕ} → Open e k ≡ startOf input → (inputFrom input .end ≡ e) × (inputFrom input .kind ≡ k)
+  unfolding startOf inputFrom
+  start-says h = input-open (recordsAt 1 input) (number 8 input 0) (number 1 input 8) h
+
+  -- .. or record 0 is bad
+  pub start-bad : Short ≡ startOf input → recordsOf input ≡ bad 0
+  unfolding startOf inputFrom
+  start-bad h = input-short (recordsAt 1 input) (number 8 input 0) (number 1 input 8) h
 
   pub records-short : length input < firstRecord → recordsOf input ≡ bad 0
-  records-short h =
-      ⊎-elim
-      (λ k. fields (number-here input 8 0 k) (number-past input 1 8 h) ∙ no-kind (recordsAt 1 input) (numberAt input 0 8) 8 17)
-      (λ k. fields (number-past input 8 0 k) refl ∙ no-end (recordsAt 1 input) 17 (number 1 input 8))
-      (le-or-lt (0 + 8) (length input))
+  records-short h = start-bad (start-short input h)
 
   pub records-start : firstRecord ≤ length input → recordsOf input ≡ recordsAt 1 input firstRecord
+  unfolding inputFrom
   records-start h =
-      fields (number-here input 8 0 (omega arith)) (number-here input 1 8 h) ∙ whole-input (recordsAt 1 input) (numberAt input 0 8) 8 (numberAt input 8 1) firstRecord
+      ap₂ (λ (r s : Read ℕ). inputOf r s (recordsAt 1 input) .records) (number-here input 8 0 (omega arith)) (number-here input 1 8 h)
+      ∙ whole-input (recordsAt 1 input) (numberAt input 0 8) 8 (numberAt input 8 1) firstRecord
