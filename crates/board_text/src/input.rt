@@ -62,16 +62,16 @@ fn byte_at(input: &[u8], at: usize, i: usize) -> u64
     0
 }
 
-// The number of `width` bytes from `at` on, little-endian; those past the end count as zeros.
+// The number of `width` bytes from `at` on, little-endian, so the last byte is read first; those past the end count as zeros.
 fn number_at(input: &[u8], at: usize, width: usize) -> u64
     requires { ⌜ width ≤ 8 ⌝ }
     ensures { λ r. ⌜ NumberAt (now (input .entry)) at width r ⌝ }
 {
     let mut value: u64 = 0;
-    let mut i = width;
-    while 0 < i {
-        i -= 1;
-        value = value * 256 + byte_at(input, at, i);
+    let mut i = 0;
+    while i < width {
+        i += 1;
+        value = value * 256 + byte_at(input, at, width - i);
     }
     value
 }

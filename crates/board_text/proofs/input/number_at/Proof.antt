@@ -1,4 +1,5 @@
--- `board_text::input::number_at` meets its contract. The loop's invariant: the bytes from `i` on are read. Assumes nothing.
+-- `board_text::input::number_at` meets its contract. The loop's invariant: the last `i` bytes are read. Assumes nothing.
+use Prim.Native.Nat.{_-_}
 use borrow.Author.Needs.{needs}
 use native.Mathlib.Omega.{arith}
 use Rattle.board_text.proofs.Numbers.{Reached, reached-none, reached-one, reached-room, reached-all}
@@ -9,7 +10,7 @@ abbrev Inv-loop : tie.InvT-loop
 Inv-loop input at width value₀ i₀ value i = Reached input at width value i
 
 abbrev μ-loop : tie.MeasureT-loop
-μ-loop input at width value₀ i₀ value i = i
+μ-loop input at width value₀ i₀ value i = width - i
 
 loop-holds : tie.Need-loop-holds Inv-loop μ-loop
 loop-holds c = reached-none _ _ _
@@ -29,4 +30,4 @@ returns c = reached-all (c .before .loop .inv) (search needs)
 pub number-at-spec : {M : Type 1} → statement M
 number-at-spec =
     tie.close
-    (tie.spec Inv-loop μ-loop loop-holds (λ c. search needs) mul-value (λ c κs. search needs) add-value (λ c. search needs) loop-again returns)
+    (tie.spec Inv-loop μ-loop loop-holds (λ c. search needs) mul-value (λ c. search needs) (λ c κs. search needs) add-value (λ c. search needs) loop-again returns)
