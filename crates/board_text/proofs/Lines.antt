@@ -82,7 +82,8 @@ pub line-put : {out o₁ o₂ after : List ℕ} {at p₁ p₂ q : ℕ} (first cr
 unfolding blockLineOf
 line-put first created destroyed bytes a b c = put-append a (put-append b c)
 
-pub refused-put : {out mid after : List ℕ} {at p q : ℕ} (what : List ℕ) (n : ℕ) → Put out at what mid p → Put mid p (refusedText ++ decimal n (newline ∷ [])) after q
+pub refused-put : {out mid after : List ℕ} {at p q : ℕ} (what : List ℕ) (n : ℕ) → Put out at what mid p
+    → Put mid p (refusedText ++ decimal n (newline ∷ [])) after q
     → Put out at (refusedLine what n) after q
 unfolding refusedLine
 refused-put what n a b = put-append a b

@@ -148,7 +148,8 @@ module _ (input : List ℕ) (at : ℕ) where
       sym (wrong-mark (omega arith) e) ∙ item-within (omega arith)
 
   -- the front is whole: the bytes are cut, or it is a record
-  module _ {mark cells : ℕ} (front : recordFront ≤ length input - at) (is-mark : NumberAt input at 2 mark) (right : mark ≡ marked) (is-length : NumberAt input (at + recordFront - 2) 2 cells) where
+  module _ {mark cells : ℕ} (front : recordFront ≤ length input - at) (is-mark : NumberAt input at 2 mark) (right : mark ≡ marked)
+      (is-length : NumberAt input (at + recordFront - 2) 2 cells) where
     marks : readRecord input at ≡ onward (field cells input (at + recordFront)) (λ bytes next. got (operationAt bytes) next)
     marks =
         let there : at + recordFront - 2 ≡ at + 2 + 8 + 8 = omega arith in
@@ -163,5 +164,6 @@ module _ (input : List ℕ) (at : ℕ) where
         → Record tick first (at + recordFront) cells (at + recordFront + cells) ≡ itemAt input at
     unfolding onward field
     item-record h t f =
-        let sized : length (take cells (drop (at + recordFront) input)) ≡ cells = length-take-le cells (drop (at + recordFront) input) (rw (length-drop (at + recordFront) input) h) in
+        let sized : length (take cells (drop (at + recordFront) input)) ≡ cells =
+        length-take-le cells (drop (at + recordFront) input) (rw (length-drop (at + recordFront) input) h) in
         sym (rw (marks, le-leb (at + recordFront + cells) (length input) (omega arith), sized, ← (t .says), ← (f .says)) refl) ∙ item-within (omega arith)

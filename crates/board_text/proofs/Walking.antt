@@ -44,13 +44,15 @@ bad-record at {r} {o} {n} e g =
 
 module _ (input : List ℕ) (at : ℕ) where
   -- the bytes behind a whole front
-  field-got : (cells : ℕ) {o : Operation} {n : ℕ} → onward (field cells input (at + recordFront)) (λ bytes next. got (operationAt input at bytes) next) ≡ got o n
+  field-got : (cells : ℕ) {o : Operation} {n : ℕ}
+      → onward (field cells input (at + recordFront)) (λ bytes next. got (operationAt input at bytes) next) ≡ got o n
       → Stands input at o n
   unfolding onward field
   field-got cells {o} {n} e = go (leb (at + recordFront + cells) (length input)) refl e
     where
       go : (t : Bool) → leb (at + recordFront + cells) (length input) ≡ t
-          → onward (cond t (got (take cells (drop (at + recordFront) input)) (at + recordFront + cells)) (fault 17)) (λ bytes next. got (operationAt input at bytes) next) ≡ got o n
+          → onward (cond t (got (take cells (drop (at + recordFront) input)) (at + recordFront + cells)) (fault 17))
+          (λ bytes next. got (operationAt input at bytes) next) ≡ got o n
           → Stands input at o n
       go true h g =
           let room : at + recordFront + cells ≤ length input = leb-true (at + recordFront + cells) (length input) h in
@@ -109,7 +111,8 @@ module _ (input : List ℕ) where
 -- ── what stands at a position ──
 
 -- the same answer is the same record
-same : {input : List ℕ} {k at t f s c n t′ f′ s′ c′ n′ : ℕ} → Record t f s c n ≡ Record t′ f′ s′ c′ n′ → OneMore input k at t′ f′ s′ c′ n′ → OneMore input k at t f s c n
+same : {input : List ℕ} {k at t f s c n t′ f′ s′ c′ n′ : ℕ} → Record t f s c n ≡ Record t′ f′ s′ c′ n′
+    → OneMore input k at t′ f′ s′ c′ n′ → OneMore input k at t f s c n
 same {input} {k} {at} {t} {f} {s} {c} {n} {t′} {f′} {s′} {c′} {n′} e m =
     let a : t ≡ t′ = cc in
     let b : f ≡ f′ = cc in
@@ -142,7 +145,8 @@ module _ (input : List ℕ) (k at : ℕ) where
   unfolding itemAt
   records-bad e = go (leb (length input) at) refl (readRecord input at) refl e
     where
-      go : (t : Bool) → leb (length input) at ≡ t → (r : Read Operation) → readRecord input at ≡ r → Bad ≡ cond t End (itemFrom at r) → recordsAt k input at ≡ bad k
+      go : (t : Bool) → leb (length input) at ≡ t → (r : Read Operation) → readRecord input at ≡ r → Bad ≡ cond t End (itemFrom at r)
+          → recordsAt k input at ≡ bad k
       go true h r q e = absurd (bad-end e)
       go false h (got o n) q e = absurd (bad-records e)
       go false h (fault i) q e =
@@ -150,7 +154,8 @@ module _ (input : List ℕ) (k at : ℕ) where
           ap (λ (f : ℕ). recordsFrom f k input at) (suc-of (length input) (omega arith)) ∙ records-fault input (length input - 1) k at within q
 
   -- the record that was read, and those behind it
-  one-more : {o : Operation} {n : ℕ} → at < length input → readRecord input at ≡ got o n → OneMore input k at (o .tick) (o .first) (at + recordFront) (length (o .bytes)) n
+  one-more : {o : Operation} {n : ℕ} → at < length input → readRecord input at ≡ got o n
+      → OneMore input k at (o .tick) (o .first) (at + recordFront) (length (o .bytes)) n
   one-more {o} {n} within q =
       let s : Stands input at o n = record-stands input at q in
       let there : recordsAt k input at ≡ onto o (recordsAt (suc k) input n) =
@@ -169,7 +174,8 @@ module _ (input : List ℕ) (k at : ℕ) where
   unfolding itemAt
   records-on {tick} {first} {start} {cells} {next} e = go (leb (length input) at) refl (readRecord input at) refl e
     where
-      go : (t : Bool) → leb (length input) at ≡ t → (r : Read Operation) → readRecord input at ≡ r → Record tick first start cells next ≡ cond t End (itemFrom at r)
+      go : (t : Bool) → leb (length input) at ≡ t → (r : Read Operation) → readRecord input at ≡ r
+          → Record tick first start cells next ≡ cond t End (itemFrom at r)
           → OneMore input k at tick first start cells next
       go true h r q e = absurd (end-record (sym e))
       go false h (fault i) q e = absurd (bad-records (sym e))

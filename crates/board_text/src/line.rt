@@ -6,7 +6,8 @@ ghost use mathlib.Core.Path.{_≡_};
 ghost use mathlib.Core.List.{[], _∷_, _++_};
 ghost use Prim.Native.Nat.{_<_};
 ghost use Rattle.history.specs.Reads.{clockLabel};
-ghost use Rattle.history.specs.Printed.{digit as Printed·digit, hexDigit, decimal as Printed·decimal, fourDigits, hexBytes, headerText, badRecordText, openText, opText, finishText, refusedText, refusedLine, newline, space};
+ghost use Rattle.history.specs.Printed.{digit as Printed·digit, hexDigit, decimal as Printed·decimal, fourDigits, hexBytes, newline, space};
+ghost use Rattle.history.specs.Printed.{headerText, badRecordText, openText, opText, finishText, refusedText, refusedLine};
 ghost use Rattle.board_text.specs.Line.{Put, blockFront, blockLineOf, LawOfLines};
 
 // No number of 64 bits has more digits.

@@ -30,4 +30,5 @@ returns c = reached-all (c .before .loop .inv) (search needs)
 pub number-at-spec : {M : Type 1} → statement M
 number-at-spec =
     tie.close
-    (tie.spec Inv-loop μ-loop loop-holds (λ c. search needs) mul-value (λ c. search needs) (λ c κs. search needs) add-value (λ c. search needs) loop-again returns)
+    (tie.spec Inv-loop μ-loop loop-holds (λ c. search needs) mul-value (λ c. search needs) (λ c κs. search needs) add-value (λ c. search needs)
+    loop-again returns)

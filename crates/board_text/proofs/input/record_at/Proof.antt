@@ -11,5 +11,5 @@ record-at-spec =
     (λ c. search (item-wrong, needs)) (λ c. search needs) (λ c. search needs) (λ c κs. search needs) (λ c. search needs)
     (λ c. search (item-cut, needs)) (λ c. search needs) (λ c κs. search needs) (λ c. search needs) (λ c. search needs) (λ c κs. search needs)
     (λ c. search needs) (λ c.
-    item-record _ _ (search needs) (c .before .before .before .before .before .number-at .ensures) (search needs) (c .before .before .before .number-at2 .ensures)
-    (search needs) (c .before .number-at3 .ensures) (c .number-at4 .ensures)))
+    item-record _ _ (search needs) (c .before .before .before .before .before .number-at .ensures) (search needs)
+    (c .before .before .before .number-at2 .ensures) (search needs) (c .before .number-at3 .ensures) (c .number-at4 .ensures)))

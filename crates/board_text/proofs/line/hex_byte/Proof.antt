@@ -5,4 +5,6 @@ use Rattle.board_text.proofs.line.hex_byte.Statement.{statement}
 use Rattle.board_text.proofs.line.hex_byte.Tie as tie
 
 pub hex-byte-spec : {M : Type 1} → statement M
-hex-byte-spec = tie.close (tie.spec (λ c κs. search needs) (λ c κs. search needs) (λ c κs. search needs) (λ c κs. search needs) (λ c. search needs) (λ c. search hex-byte))
+hex-byte-spec =
+    tie.close
+    (tie.spec (λ c κs. search needs) (λ c κs. search needs) (λ c κs. search needs) (λ c κs. search needs) (λ c. search needs) (λ c. search hex-byte))

@@ -5,4 +5,7 @@ use Rattle.board_text.proofs.line.label.Statement.{statement}
 use Rattle.board_text.proofs.line.label.Tie as tie
 
 pub label-spec : {M : Type 1} → statement M
-label-spec = tie.close (tie.spec (λ c κs. search needs) (λ c κs. search needs) (λ c κs. search needs) (λ c κs. search needs) (λ c κs. search needs) (λ c. search needs) (λ c κs. search needs) (λ c. search needs) (λ c. search label-put))
+label-spec =
+    tie.close
+    (tie.spec (λ c κs. search needs) (λ c κs. search needs) (λ c κs. search needs) (λ c κs. search needs) (λ c κs. search needs) (λ c. search needs)
+    (λ c κs. search needs) (λ c. search needs) (λ c. search label-put))

@@ -6,4 +6,7 @@ use Rattle.board_text.proofs.line.op_refused.Statement.{statement}
 use Rattle.board_text.proofs.line.op_refused.Tie as tie
 
 pub op-refused-spec : {M : Type 1} → statement M
-op-refused-spec = tie.close (tie.spec (λ c. search needs) (λ c κs. search needs) (λ c κs. search needs) (λ c κs. search needs) (λ c. search needs) (λ c. search (refused-put, put-append)))
+op-refused-spec =
+    tie.close
+    (tie.spec (λ c. search needs) (λ c κs. search needs) (λ c κs. search needs) (λ c κs. search needs) (λ c. search needs)
+    (λ c. search (refused-put, put-append)))
