@@ -1,3 +1,4 @@
 pub mod Opens
 pub mod Reading
 pub mod Answering
+pub mod Bytes

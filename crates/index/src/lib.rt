@@ -7,6 +7,7 @@ ghost use mathlib.Core.Path.{_≡_};
 ghost use Rattle.layout.specs.Tables.{tables};
 ghost use Rattle.layout.specs.Relations.{OpenedBy, FoundBy, BlockGivenBy};
 ghost use Rattle.index.specs.Answers.{openedOf, foundOf, givenOf};
+ghost use Rattle.index.specs.Reads.{BytesGivenBy};
 
 mod reads;
 
@@ -118,5 +119,30 @@ pub fn find(
         State::Bad => Found::Refused(2),
         State::Open => Found::Refused(4),
         State::Closed => reads::find_closed(blocks, nodes, entries, tick, start, end, answer),
+    }
+}
+
+// The bytes of the block of a number, as that part of the store; the empty part where `block` refuses.
+pub fn block_bytes<'a>(
+    pieces: &[u64],
+    blocks: &[u64],
+    store: &'a [u8],
+    nodes: &[u64],
+    entries: &[u64],
+    number: u64,
+) -> &'a [u8]
+    ensures { λ r. ⌜ BytesGivenBy (tables (now (pieces .entry)) (now (blocks .entry)) (now (store .entry)) (now (nodes .entry)) (now (entries .entry))) number (now r) ⌝ }
+{
+    let given = block(pieces, blocks, store, nodes, entries, number);
+    match given {
+        Given::Block {
+            kind: _,
+            first: _,
+            length,
+            created: _,
+            destroyed: _,
+            offset,
+        } => reads::part(store, offset, length),
+        Given::Refused(_) => reads::part(store, 0, 0),
     }
 }

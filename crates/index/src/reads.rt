@@ -1,6 +1,6 @@
 // The reads of a closed index, without the test of its tables: for callers that have tested them.
 ghost use mathlib.Core.Path.{_≡_};
-ghost use Rattle.index.specs.Reads.{BlockClosed, FindClosed};
+ghost use Rattle.index.specs.Reads.{BlockClosed, FindClosed, partOf};
 ghost use Rattle.index.specs.Answers.{foundOf, givenOf};
 use super::Found;
 use super::Given;
@@ -52,4 +52,19 @@ pub fn find_closed(
         },
         segment_find::Found::TooSmall => Found::Refused(16),
     }
+}
+
+// The part of the store of so many bytes from an offset on; the empty part where it has not so many.
+pub fn part<'a>(store: &'a [u8], offset: u64, length: u64) -> &'a [u8]
+    ensures { λ r. ⌜ now r ≡ partOf (now (store .entry)) offset length ⌝ }
+{
+    let from = offset as usize;
+    if store.len() < from {
+        return &store[0..0];
+    }
+    if store.len() - from < length as usize {
+        return &store[0..0];
+    }
+    let to = from + length as usize;
+    &store[from..to]
 }

@@ -16,12 +16,16 @@ pub record Settled (h j : ℕ) (T : Tree) : Type 0 where
   pub high : height T ≤ suc (max h j)
   pub exact : h ≤ j + 1 → j ≤ h + 1 → height T ≡ suc (max h j)
 
+-- ── one level of rotations ──
+
+-- the right subtree is two levels higher, and does not lean left
 left-single : (a : Tree) (x : ℕ) (b : Tree) (y : ℕ) (c : Tree) → Balanced a → Balanced (node b y c) → height (node b y c) ≡ height a + 2 → height b ≤ height c
     → Settled (height a) (height (node b y c)) (rotatedLeft (updated 0) a x (node b y c))
 unfolding height Balanced rotatedLeft updated
 left-single a x b y c ba bb h k =
     record { balanced = ((ba, bb .0, omega (arith, bb .2, bb .3), omega (arith, bb .2, bb .3)), bb .1, omega (arith, bb .2, bb .3), omega (arith, bb .2, bb .3)); low = omega (arith, bb .2, bb .3); high = omega (arith, bb .2, bb .3); exact = λ p q. absurd (omega arith) }
 
+-- and leans left
 left-double : (a : Tree) (x : ℕ) (b : Tree) (y : ℕ) (c : Tree) → Balanced a → Balanced (node b y c) → height (node b y c) ≡ height a + 2 → height c < height b
     → Settled (height a) (height (node b y c)) (rotatedLeft (updated 0) a x (rotatedRight (updated 0) b y c))
 unfolding height Balanced rotatedLeft rotatedRight updated
@@ -35,6 +39,7 @@ left-double a x (node d z e) y c ba bb h k =
       exact = λ p q. absurd (omega arith);
     }
 
+-- either way
 left-way : (a : Tree) (x : ℕ) (b : Tree) → Balanced a → Balanced b → height b ≡ height a + 2 → Settled (height a) (height b) (rotatedLeft (updated 0) a x (straightRight (updated 0) b))
 unfolding height
 left-way a x leaf ba bb h = absurd (omega arith)
@@ -44,12 +49,14 @@ left-way a x (node b y c) ba bb h = go (ltb (height c + 0) (height b)) refl
     go true e = rw (leans-left (updated 0) b y c e) (left-double a x b y c ba bb h (omega (arith, ltb-true (height c + 0) (height b) e)))
     go false e = rw (leans-not-left (updated 0) b y c e) (left-single a x b y c ba bb h (omega (arith, ltb-false (height c + 0) (height b) e)))
 
+-- the left subtree is two levels higher, and does not lean right
 right-single : (a : Tree) (y : ℕ) (b : Tree) (x : ℕ) (c : Tree) → Balanced (node a y b) → Balanced c → height (node a y b) ≡ height c + 2 → height b ≤ height a
     → Settled (height (node a y b)) (height c) (rotatedRight (updated 0) (node a y b) x c)
 unfolding height Balanced rotatedRight updated
 right-single a y b x c bl bc h k =
     record { balanced = (bl .0, (bl .1, bc, omega arith, omega arith), omega arith, omega arith); low = omega arith; high = omega arith; exact = λ p q. absurd (omega arith) }
 
+-- and leans right
 right-double : (a : Tree) (y : ℕ) (b : Tree) (x : ℕ) (c : Tree) → Balanced (node a y b) → Balanced c → height (node a y b) ≡ height c + 2 → height a < height b
     → Settled (height (node a y b)) (height c) (rotatedRight (updated 0) (rotatedLeft (updated 0) a y b) x c)
 unfolding height Balanced rotatedLeft rotatedRight updated
@@ -63,6 +70,7 @@ right-double a y (node d z e) x c bl bc h k =
       exact = λ p q. absurd (omega arith);
     }
 
+-- either way
 right-way : (a : Tree) (x : ℕ) (b : Tree) → Balanced a → Balanced b → height a ≡ height b + 2 → Settled (height a) (height b) (rotatedRight (updated 0) (straightLeft (updated 0) a) x b)
 unfolding height
 right-way leaf x c ba bb h = absurd (omega arith)
@@ -99,6 +107,7 @@ raised h j h′ H p q g low exact = go (decLe h′ (j + 1))
     go (yes k) = omega (arith, exact k (omega arith))
     go (no k) = omega arith
 
+-- insertion keeps the balance
 pub inserted-balanced : (key : ℕ → ℕ) (n : ℕ) (T : Tree) → Balanced T → Grown T (inserted key n T)
 unfolding height Balanced inserted
 inserted-balanced key n leaf b = record { balanced = (tt, tt, omega arith, omega arith); low = omega arith; high = omega arith }
@@ -140,6 +149,7 @@ lowered h j h′ H p q g k low exact = go (decLe j (h′ + 1))
     go (yes y) = omega (arith, exact (omega arith) y)
     go (no y) = omega arith
 
+-- the left subtree shrank, or the right one
 shrunk-left : (a a′ : Tree) (x : ℕ) (b : Tree) → Balanced (node a x b) → Shrunk a a′ → Shrunk (node a x b) (updated 1 a′ x b)
 unfolding height Balanced
 shrunk-left a a′ x b bT s =
@@ -161,6 +171,7 @@ shrunk-right a x b b′ bT s =
       low = omega (arith, lowered (height b) (height a) (height b′) (height (updated 1 a x b′)) (omega arith) (omega arith) (s .high) (s .low) (omega arith) e);
     }
 
+-- without its first link, and glued
 withoutLeast-balanced : (a : Tree) (x : ℕ) (b : Tree) → Balanced (node a x b) → Shrunk (node a x b) (withoutLeast (node a x b))
 unfolding height Balanced withoutLeast
 withoutLeast-balanced leaf x b bT = record { balanced = bT .1; high = omega arith; low = omega arith }
@@ -174,6 +185,7 @@ glued-balanced a x (node c y d) bT =
     = shrunk-right a (least (node c y d)) (node c y d) (withoutLeast (node c y d)) bT (withoutLeast-balanced c y d (bT .1)) in
     record { balanced = s .balanced; high = s .high; low = s .low }
 
+-- removal keeps the balance
 pub removed-balanced : (key : ℕ → ℕ) (n : ℕ) (T : Tree) → Balanced T → Shrunk T (removed key n T)
 unfolding removed Balanced
 removed-balanced key n leaf b = record { balanced = b; high = omega arith; low = omega arith }

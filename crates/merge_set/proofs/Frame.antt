@@ -19,6 +19,9 @@ use Rattle.merge_set.specs.Tree.{Tree, leaf, node, height, rows, Maker}
 pub column-eq : (k c x d : ℕ) → c < rowWidth → d < rowWidth → rowWidth * k + c ≡ rowWidth * x + d → (k ≡ x) × (c ≡ d)
 column-eq k c x d hc hd e = omega arith
 
+-- ── what changed ──
+
+-- nothing, or less than is said, or one change after the other
 pub only-refl : (t : List ℕ) (xs : List ℕ) → Only t t xs
 only-refl t xs = record { len = refl; same = λ k c h n. refl }
 
@@ -38,6 +41,7 @@ only-set t x d v lo hi =
           (λ e. let s : (k ≡ x) × (c ≡ d) = column-eq k c x d h (omega arith) e in n (here (s .0)) (omega arith) (omega arith));
     }
 
+-- rows stay rows
 pub valid-keep : {t t′ : List ℕ} {k : ℕ} {xs : List ℕ} → Only t t′ xs → Valid t k → Valid t′ k
 valid-keep o v = record { some = v .some; room = omega (arith, o .len) }
 
@@ -62,6 +66,9 @@ stays t t′ len r (node a x b) f s =
 pub keep : {t t′ : List ℕ} {xs : List ℕ} (r : ℕ) (T : Tree) → Only t t′ xs → ((k : ℕ) → Mem k xs → Mem k (rows T) → ⊥) → Shape t r T → Shape t′ r T
 keep {t} {t′} r T o apart s = stays t t′ (o .len) r T (λ k c m lo hi. o .same k c (omega arith) (λ n _ _. apart k n m)) s
 
+-- ── depths ──
+
+-- a tree is no higher than it has links
 pub height-rows : (T : Tree) → height T ≤ length (rows T)
 unfolding height rows
 height-rows leaf = omega arith
@@ -76,12 +83,16 @@ deep-at {t} {k} {d} e = rw e (record { says = go })
     go leaf s = rw (eq-eqb k 0 s)
     go (node a x b) s = rw (ne-eqb k 0 (λ z. omega (arith, s .is, s .valid .some)), s .is) (s .deep)
 
+-- `higher`, by the depths that were read
 pub higher-yes : {t : List ℕ} {l r d e : ℕ} (n : ℕ) → Deep t l d → Deep t r e → d + n < e → Higher t l r n true
 higher-yes n hl hr h = record { says = λ A B sa sb. sym (lt-ltb (height A + n) (height B) (omega (arith, hl .says A sa, hr .says B sb))) }
 
 pub higher-no : {t : List ℕ} {l r d e : ℕ} (n : ℕ) → Deep t l d → Deep t r e → e ≤ d + n → Higher t l r n false
 higher-no n hl hr h = record { says = λ A B sa sb. sym (le-ltb (height A + n) (height B) (omega (arith, hl .says A sa, hr .says B sb))) }
 
+-- ── `join` ──
+
+-- a store, read in its own column and in an earlier one
 column-put : (t : List ℕ) (x d v : ℕ) → d < rowWidth → Valid t x → column (set t (rowWidth * x + d) v) x d ≡ v
 column-put t x d v h w = getD-set-same t (rowWidth * x + d) v 0 (omega arith)
 

@@ -15,6 +15,7 @@ use Rattle.merge_set.proofs.Order.{inserted-put}
 use Rattle.merge_set.specs.Table.{Good, Valid, Shape, Result, Made, Inserted, firstAt}
 use Rattle.merge_set.specs.Tree.{Tree, leaf, node, height, rows, updated, inserted}
 
+-- an empty tree; no fuel, which cannot be; left, right
 pub inserts-first : {t t′ : List ℕ} {k x n : ℕ} → k ≡ 0 → Made t t′ 0 x 0 node x → Inserted t t′ k x n x
 unfolding Shape inserted rows
 inserts-first {t} {t′} {k} {x} {n} z p = record { done = go }

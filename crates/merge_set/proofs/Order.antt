@@ -15,6 +15,7 @@ use Rattle.merge_set.specs.Tree.{Tree, leaf, node, height, rows, Maker, 
 -- ── keys that ascend ──
 
 module _ (key : ℕ → ℕ) where
+  -- parts of a list that ascends
   pub ascending-left : (xs ys : List ℕ) → Ascending key (xs ++ ys) → Ascending key xs
   ascending-left xs ys a = pairs-left xs ys a
 
@@ -42,11 +43,13 @@ module _ (key : ℕ → ℕ) where
 pub record Orderly (u : Maker) : Type 0 where
   pub order : (a : Tree) (x : ℕ) (b : Tree) → rows (u a x b) ≡ rows a ++ x ∷ rows b
 
+-- either way of a choice
 cond-rows : (q : Bool) (S T : Tree) {zs : List ℕ} → rows S ≡ zs → rows T ≡ zs → rows (cond q S T) ≡ zs
 cond-rows true S T e f = e
 cond-rows false S T e f = f
 
 module _ (u : Maker) (o : Orderly u) where
+  -- rotations keep the list
   rotatedLeft-rows : (a : Tree) (x : ℕ) (b : Tree) → rows (rotatedLeft u a x b) ≡ rows a ++ x ∷ rows b
   unfolding rows rotatedLeft
   rotatedLeft-rows a x leaf = refl
@@ -63,6 +66,7 @@ module _ (u : Maker) (o : Orderly u) where
   pub rotatedRight-orderly : Orderly (rotatedRight u)
   rotatedRight-orderly = record { order = rotatedRight-rows }
 
+  -- and so does turning a subtree first
   straightRight-rows : (b : Tree) → rows (straightRight u b) ≡ rows b
   unfolding straightRight rows
   straightRight-rows leaf = refl
@@ -73,6 +77,7 @@ module _ (u : Maker) (o : Orderly u) where
   straightLeft-rows leaf = refl
   straightLeft-rows (node b y c) = cond-rows (ltb (height b + 0) (height c)) (rotatedLeft u b y c) (node b y c) (rotatedLeft-rows b y c) refl
 
+-- so update keeps it, however many rotations are left
 pub updated-orderly : (k : ℕ) → Orderly (updated k)
 unfolding updated rows
 updated-orderly zero = record { order = λ a x b. refl }
@@ -93,6 +98,7 @@ cond-put : {n : ℕ} {xs : List ℕ} (q : Bool) (S T : Tree) → Put n xs (rows 
 cond-put true S T p r = p
 cond-put false S T p r = r
 
+-- insertion puts the link somewhere
 pub inserted-put : (key : ℕ → ℕ) (n : ℕ) (T : Tree) → Put n (rows T) (rows (inserted key n T))
 unfolding inserted rows
 inserted-put key n leaf = record { front = []; back = []; without = refl; with-it = refl }
@@ -112,6 +118,7 @@ inOrder-left key n x (w ∷ xs) ys h = go (ltb (key n) (key w)) (inOrder-left ke
     go true e = refl
     go false e = rw e
 
+-- behind all whose keys are not greater
 inOrder-right : (key : ℕ → ℕ) (n x : ℕ) (xs ys : List ℕ) → ((k : ℕ) → Mem k xs → key k < key x) → key x ≤ key n
     → inOrder key n (xs ++ x ∷ ys) ≡ xs ++ x ∷ inOrder key n ys
 unfolding inOrder
@@ -141,18 +148,22 @@ unfolding rows least withoutLeast
 withoutLeast-rows leaf x b = refl
 withoutLeast-rows (node a y c) x b = rw (updated-orderly 1 .order (withoutLeast (node a y c)) x b) (ap (λ l. l ++ x ∷ rows b) (withoutLeast-rows a y c))
 
+-- two trees as one
 pub glued-rows : (a b : Tree) → rows (glued a b) ≡ rows a ++ rows b
 unfolding glued rows
 glued-rows a leaf = sym (append-nil (rows a))
 glued-rows a (node b x c) = rw (updated-orderly 1 .order a (least (node b x c)) (withoutLeast (node b x c))) (ap (λ l. rows a ++ l) (sym (withoutLeast-rows b x c)))
 
+-- either way of a choice
 cond-less : {zs : List ℕ} (q : Bool) (S T : Tree) → Less (rows S) zs → Less (rows T) zs → Less (rows (cond q S T)) zs
 cond-less true S T p r = p
 cond-less false S T p r = r
 
+-- without the link between them
 glued-put : (a : Tree) (y : ℕ) (b : Tree) → Put y (rows (glued a b)) (rows a ++ y ∷ rows b)
 glued-put a y b = record { front = rows a; back = rows b; without = glued-rows a b; with-it = refl }
 
+-- removal leaves out one link at most
 pub removed-less : (key : ℕ → ℕ) (x : ℕ) (T : Tree) → Less (rows (removed key x T)) (rows T)
 unfolding removed rows
 removed-less key x leaf = all refl
@@ -212,6 +223,7 @@ relinked-swapped key y x (node a z b) = go (eqb z y) refl (ltb (key y) (key z)) 
     go false e true f g = swapped-left (z ∷ rows b) f
     go false e false f g = swapped-right (rows a) (swapped-right (z ∷ []) g)
 
+-- in a tree in order it exchanges the one that was asked for
 pub relinked-finds : (key : ℕ → ℕ) (y x : ℕ) (T : Tree) → Ascending key (rows T) → Mem y (rows T) → Exchanged y x (rows T) (rows (relinked key y x T))
 unfolding relinked rows
 relinked-finds key y x (node a z b) asc m =

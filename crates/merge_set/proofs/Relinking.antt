@@ -19,6 +19,7 @@ use Rattle.merge_set.specs.Table.{Good, Valid, Shape, Result, Made, Copy
 use Rattle.merge_set.specs.Tree.{Tree, leaf, node, height, rows, relinked}
 
 module _ {t : List ℕ} {k y x n : ℕ} where
+  -- an empty tree; here; no fuel, which cannot be; left, right
   pub relinks-none : k ≡ 0 → Relinked t t k y x n k
   unfolding Shape relinked
   relinks-none z = record { done = go }
@@ -97,6 +98,9 @@ pub record Copying (t t′ : List ℕ) (y x i : ℕ) : Type 0 where
   pub upto : Valid t x → (c : ℕ) → c < i → column t′ x c ≡ column t y c
   pub rest : (k c : ℕ) → c < rowWidth → (k ≡ x → ⊥) → column t′ k c ≡ column t k c
 
+-- ── `copy_row` ──
+
+-- none copied, one more, all
 pub copying-none : (t : List ℕ) (y x : ℕ) → Copying t t y x 0
 copying-none t y x = record { small = omega arith; len = refl; upto = λ v c h. absurd (omega arith); rest = λ k c h n. refl }
 

@@ -19,6 +19,9 @@ pub unchanged : {t : List ℕ} {r : ℕ} {T : Tree} {xs : List ℕ} → Shape t 
 unchanged {t} {r} {T} {xs} s = record { shape = s; only = only-refl t xs }
 
 module _ {t : List ℕ} {k n l : ℕ} (el : l ≡ column t k pieceLeft) where
+  -- ── `least` ──
+
+  -- the root, or the first of the left subtree
   pub least-here : l ≡ 0 → Least t k n k
   unfolding Shape least
   least-here z = record { says = go }
@@ -45,6 +48,9 @@ least-none {t} {k} {n} z = record { says = go }
     go leaf s nz h = absurd (nz s)
     go (node a x b) s nz h = absurd (omega arith)
 
+-- ── `without_least` ──
+
+-- what cannot be where the tree has the height that is said
 pub without-least-none : {t : List ℕ} {k n : ℕ} → n ≡ 0 → WithoutLeast t t k n k
 unfolding Shape height
 without-least-none {t} {k} {n} z = record { done = go }
@@ -54,6 +60,7 @@ without-least-none {t} {k} {n} z = record { done = go }
     go (node a x b) s nz h g = absurd (omega arith)
 
 module _ {t : List ℕ} {k n l r : ℕ} (el : l ≡ column t k pieceLeft) (er : r ≡ column t k pieceRight) where
+  -- the root is the first, or it stands left
   pub without-least-here : l ≡ 0 → WithoutLeast t t k n r
   unfolding Shape withoutLeast
   without-least-here z = record { done = go }
@@ -95,6 +102,9 @@ valid-in t r (node a x b) {j} s m = go (mem-split (rows a) (x ∷ rows b) m) (va
     go (inl i) f g = f i
     go (inr i) f g = tail i g
 
+-- ── `glue` ──
+
+-- nothing to glue, or the first of the second between the two
 pub glues-none : {t : List ℕ} {a b n : ℕ} → b ≡ 0 → Glued t t a b n a
 unfolding Shape glued
 glues-none {t} {a} {b} {n} z = record { done = go }
@@ -119,6 +129,9 @@ glues {t} {t₁} {t₂} {a} {b} {n} {x} {r} {o} nz p p′ q = record { done = go
         (λ j i. mem-right (rows A) (rows B) i)
         (λ j i. rw e i)
 
+-- ── `remove` ──
+
+-- an empty tree; no fuel, which cannot be; left, right, here
 pub removes-none : {t : List ℕ} {k x n : ℕ} → k ≡ 0 → Removed t t k x n k
 unfolding Shape removed
 removes-none {t} {k} {x} {n} z = record { done = go }

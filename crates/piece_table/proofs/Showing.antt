@@ -31,7 +31,7 @@ part-part k d n o l h =
 -- ── one piece ──
 
 module _ (store : List ℕ) (p : PieceRow) (s : Stored store p) where
-  shown-size : length (take (p .size) (drop (p .offset) store)) ≡ p .size
+  pub shown-size : length (take (p .size) (drop (p .offset) store)) ≡ p .size
   shown-size = length-take-le (p .size) (drop (p .offset) store) (omega (arith, length-drop (p .offset) store, s .has))
 
   shown-clip : (from to : ℕ) → clipPiece from to (shown store p) ≡ Option·map (shown store) (clipRow from to p)

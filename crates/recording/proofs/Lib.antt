@@ -2,3 +2,4 @@ pub mod Blocks
 pub mod Clearing
 pub mod Updating
 pub mod Extracting
+pub mod Telling

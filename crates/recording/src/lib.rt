@@ -1,11 +1,12 @@
 // What one update of the board does to the pieces, and the blocks that it records. Ports the overlaps of merge_set.rs and `Indexer` of mod.rs.
 //
-//   specs/Blocks     blocks appended to the block table
-//   specs/Calls      what each function ensures
-//   proofs/Blocks    laws of appending
-//   proofs/Clearing  one step for each return of `remove_overlapping` and what it calls
-//   proofs/Updating  of `split`, `apply_update`
+//   specs/Blocks       blocks appended to the block table
+//   specs/Calls        what each function ensures
+//   proofs/Blocks      laws of appending
+//   proofs/Clearing    one step for each return: of `record_part`, `clear_one`, `clear`
+//   proofs/Updating    of `split`, `remove_overlapping`, `apply_update`
 //   proofs/Extracting  of `extract_members`
+//   proofs/Telling     what the tables then stand for is the ledger's update
 ghost use mathlib.Core.Path.{_≡_};
 ghost use Prim.Native.Nat.{_+_, min, max};
 ghost use Rattle.recording.specs.Calls.{WroteBlock, AppendedBlock, RecordedPart, Extracted, ExtractedMembers, ClearedOne, Cleared, SplitPiece, RemovedOverlapping, AppliedUpdate};
@@ -118,27 +119,27 @@ fn record_part(pieces: &[u64], blocks: &mut [u64], link: u64, tick: u64, first: 
     );
 }
 
-// Cuts [first, end) out of the piece of a link, which reaches over both ends: the left part stays in its row, the right one gets a new row.
-fn split(pieces: &mut [u64], link: u64, first: u64, end: u64)
-    ensures { λ _. ⌜ SplitPiece (now (pieces .entry)) (now (pieces .exit)) link first end ⌝ }
+// Cuts [from, to) out of the piece of a link, which reaches over both ends: the left part stays in its row, the right one gets a new row.
+fn split(pieces: &mut [u64], link: u64, from: u64, to: u64)
+    ensures { λ _. ⌜ SplitPiece (now (pieces .entry)) (now (pieces .exit)) link from to ⌝ }
 {
     let was = tables::get(pieces, link, piece::FIRST);
     let length = tables::get(pieces, link, piece::LENGTH);
     let written = tables::get(pieces, link, piece::WRITTEN);
     let offset = tables::get(pieces, link, piece::OFFSET);
     let owner = tables::get(pieces, link, piece::OWNER);
-    if end < was {
+    if to < was {
         return;
     }
-    let cut = end - was;
+    let cut = to - was;
     if length < cut {
         return;
     }
     if LARGEST - offset < cut {
         return;
     }
-    piece_table::trim_back(pieces, link, first);
-    piece_table::insert_piece(pieces, end, length - cut, written, offset + cut, owner);
+    piece_table::trim_back(pieces, link, from);
+    piece_table::insert_piece(pieces, to, length - cut, written, offset + cut, owner);
 }
 
 // Records what the lowest piece in [first, end) has there, and takes the piece out, or cuts it at the end and stops; stops if there is none. Tells

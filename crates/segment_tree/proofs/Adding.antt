@@ -1,55 +1,34 @@
 -- Steps of `build::add_location`: each return is the model's addLocation, or shows that the rows are spent. Assumes nothing.
-use mathlib.Core.Path.{_≡_, refl, ap, sym, _∙_}
-use mathlib.Core.Logic.{_⊎_, inl, inr}
-use mathlib.Core.Bool.{Bool, true, false, true≢false, false≢true, cond, not, _&&_}
-use mathlib.Core.List.{List, [], _∷_}
-use Prim.Native.Nat.{ℕ, zero, suc, _+_, _-_, _*_, _/_, _^_, _≤_, _<_, max}
+use mathlib.Core.Path.{_≡_, refl, sym, _∙_}
+use mathlib.Core.Logic.{inl, inr}
+use mathlib.Core.Bool.{Bool, true, false, true≢false, false≢true, cond, not}
+use mathlib.Core.List.{List, []}
+use Prim.Native.Nat.{ℕ, zero, suc, _+_, _-_, _*_, _/_, _^_, _≤_, _<_}
 use native.Mathlib.Omega.{arith}
-use lib.ListN.{length, getD, set, length-set}
-use lib.Dec.{leb, ltb}
+use lib.ListN.{length, set}
+use lib.Dec.{ltb}
 use Rattle.lists.proofs.Numbers.{le-or-lt}
 use borrow.Author.Tests.{lt-ltb, le-ltb, ltb-true, ltb-false, not-true, not-false}
 use Rattle.history.specs.Lent.{rowWidth}
 use Rattle.history.specs.Tree.{Tree, hole, node, mid, halves, covers, entriesOf, leftOf, rightOf, insert, addLocation, nodeCount}
 use Rattle.history.proofs.TreeAdding.{made, listed, half-left, half-right, add-here, add-below, add-narrow, Half, went, kept, add-by}
 use Rattle.history.proofs.TreeInserting.{insert-length}
+use Rattle.history.proofs.TreeCounts.{node-count-add}
 use Rattle.tables.specs.Columns.{nodeLeft, nodeRight, nodeEntries}
 use Rattle.segment_table.specs.Closed.{nodesUsed, countAt}
 use Rattle.segment_tree.specs.Count.{most, plusUpTo, rowsIn, fullest, CountAt, Life, Spot, spot, linkAt, Standing, Grown, Outcome, Added, Reached, was-there, new-row, no-row}
+use Rattle.segment_tree.proofs.Presence.{new-hole}
 use Rattle.segment_tree.proofs.Growing.{grown-none, standing-grown, grown-trans, made-link, grown-new, grown-entry, left-stands, right-stands, grown-left, grown-right}
 
 -- ── numbers of the model ──
 
--- a half of which a number does not fall
-half-least : {goes stays : Type 0} (f : Tree → ℕ) {T L : Tree} → Half goes stays (λ X Y. f X ≤ f Y) T L → f T ≤ f L
-half-least f (went g p) = p
-half-least f (kept g) = omega arith
+-- adding takes no node away ..
+nodes-kept : (key : ℕ → ℕ) (b c d n lo hi : ℕ) (T : Tree) → nodeCount T ≤ nodeCount (addLocation key n b c d lo hi T)
+nodes-kept key b c d n lo hi T = omega (arith, node-count-add key n b c d lo hi T)
 
--- adding takes no node away, and there is one then
-pub record Some (T T′ : Tree) : Type 0 where
-  pub kept-nodes : nodeCount T ≤ nodeCount T′
-  pub some-node : 0 < nodeCount T′
-
-nodes-parts : (T : Tree) → nodeCount T ≤ suc (nodeCount (leftOf T) + nodeCount (rightOf T))
-unfolding nodeCount
-nodes-parts hole = omega arith
-nodes-parts (node xs l r) = omega arith
-
-pub nodes-grow : (key : ℕ → ℕ) (b c d n lo hi : ℕ) (T : Tree) → lo ≤ hi → hi - lo ≤ 2 ^ n → Some T (addLocation key n b c d lo hi T)
-unfolding nodeCount
-nodes-grow key b c d =
-    add-by key b c d (λ lo hi T T′. Some T T′) (λ lo hi T w p q e. alike T) (λ lo hi T w n o. alike T)
-    (λ lo hi T L R w e left right. below T L R left right)
-  where
-    alike : (T : Tree) {xs : List ℕ} → Some T (node xs (leftOf T) (rightOf T))
-    alike T = record { kept-nodes = nodes-parts T; some-node = omega arith }
-
-    least : {goes stays : Type 0} {T L : Tree} → Half goes stays (λ X Y. Some X Y) T L → nodeCount T ≤ nodeCount L
-    least (went g p) = p .kept-nodes
-    least (kept g) = omega arith
-
-    below : {g₁ s₁ g₂ s₂ : Type 0} (T L R : Tree) → Half g₁ s₁ (λ X Y. Some X Y) (leftOf T) L → Half g₂ s₂ (λ X Y. Some X Y) (rightOf T) R → Some T (node (entriesOf T) L R)
-    below T L R left right = record { kept-nodes = omega (arith, nodes-parts T, least left, least right); some-node = omega arith }
+-- .. and there is one then
+nodes-some : (key : ℕ → ℕ) (b c d n lo hi : ℕ) → 0 < nodeCount (addLocation key n b c d lo hi hole)
+nodes-some key b c d n lo hi = omega (arith, node-count-add key n b c d lo hi hole, new-hole n c d lo hi)
 
 -- no part of a tree is fuller
 pub record FewerIn (T : Tree) : Type 0 where
@@ -77,16 +56,18 @@ fullest-grows key b c d =
 -- the model at a node with halves that the life does not cover
 pub record Deeper (key : ℕ → ℕ) (levels b c d lo hi : ℕ) (T : Tree) : Type 0 where
   pub less : ℕ
+  pub levels-are : levels ≡ suc less
   pub left-width : mid lo hi - lo ≤ 2 ^ less
   pub right-width : hi - mid lo hi ≤ 2 ^ less
   pub is : addLocation key levels b c d lo hi T
       ≡ node (entriesOf T) (cond (ltb c (mid lo hi)) (addLocation key less b c d lo (mid lo hi) (leftOf T)) (leftOf T))
       (cond (ltb (mid lo hi) d) (addLocation key less b c d (mid lo hi) hi (rightOf T)) (rightOf T))
 
-deeper-of : (key : ℕ → ℕ) (levels b c d lo hi : ℕ) (T : Tree) → covers c d lo hi ≡ false → lo + 1 < hi → hi - lo ≤ 2 ^ levels → Deeper key levels b c d lo hi T
+pub deeper-of : (key : ℕ → ℕ) (levels b c d lo hi : ℕ) (T : Tree) → covers c d lo hi ≡ false → lo + 1 < hi → hi - lo ≤ 2 ^ levels → Deeper key levels b c d lo hi T
 deeper-of key zero b c d lo hi T e w n = absurd (omega arith)
 deeper-of key (suc m) b c d lo hi T e w n = record {
   less = m;
+  levels-are = refl;
   left-width = half-left lo hi m n;
   right-width = half-right lo hi m n;
   is = add-below key b c d lo hi T m e ∙ rw (lt-ltb (lo + 1) hi w);
@@ -126,7 +107,7 @@ add-spent {t} {t₁} {s} {life} (no-row a b c e) z = record { done = λ key n x 
   where
     go : (key : ℕ → ℕ) (n x : ℕ) (T : Tree) → s .hi - s .lo ≤ 2 ^ n → Standing t s T
         → Outcome t t₁ s false T (addLocation key n x (life .created) (life .destroyed) (s .lo) (s .hi) T)
-    go key n x hole w stands = short (omega (arith, nodes-grow key x (life .created) (life .destroyed) n (s .lo) (s .hi) hole (omega (arith, stands .wide)) w .some-node))
+    go key n x hole w stands = short (omega (arith, nodes-some key x (life .created) (life .destroyed) n (s .lo) (s .hi)))
     go key n x (node xs l r) w stands = absurd (omega (arith, stands .here .0 .some))
 
 -- ── one step after another ──
@@ -267,7 +248,7 @@ module _ (t t₁ : List ℕ) (s : Spot) (life : Life) (link : ℕ) (p : Parted t
   nodes-left x =
       elim (le-or-lt d m) [
         | inl y ↦ rw (added-left x y) (omega arith)
-        | inr y ↦ rw (added-both x y) (omega (arith, nodes-grow key b c d (deep .less) m (s .hi) (rightOf T) (omega (arith, wider)) (deep .right-width) .kept-nodes))
+        | inr y ↦ rw (added-both x y) (omega (arith, nodes-kept key b c d (deep .less) m (s .hi) (rightOf T)))
       ]
 
   done-neither : m ≤ c → d ≤ m → Outcome t t₁ s true T (addLocation key n b c d (s .lo) (s .hi) T)

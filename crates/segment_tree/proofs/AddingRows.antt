@@ -1,17 +1,15 @@
 -- Steps of `build::add_blocks` and `build::add_pieces`: what the rest of the rows gives from here on, all give from the start. Assumes nothing.
-use mathlib.Core.Path.{_≡_, refl, ap, sym, _∙_}
+use mathlib.Core.Path.{_≡_}
 use mathlib.Core.Bool.{Bool, true, false, true≢false, false≢true, not}
 use mathlib.Core.List.{List, [], _∷_, map}
-use Prim.Native.Nat.{ℕ, zero, suc, _+_, _-_, _^_, _≤_, _<_}
+use Prim.Native.Nat.{ℕ, suc, _+_, _-_, _≤_, _<_}
 use native.Mathlib.Omega.{arith}
-use lib.ListN.{length}
 use borrow.Author.Tests.{not-true, not-false}
 use Rattle.lists.specs.Lists.{countFrom}
-use Rattle.history.specs.Tree.{Tree, hole, node, addLocation, nodeCount}
+use Rattle.history.specs.Tree.{Tree, nodeCount}
 use Rattle.history.proofs.TreeCounts.{node-count-add}
 use Rattle.tables.specs.Columns.{column, blockColumn, blockCreated, blockDestroyed, pieceWritten}
-use Rattle.segment_table.specs.Closed.{nodesUsed}
-use Rattle.segment_tree.specs.Count.{most, rowsIn, fullest, Life, aLife, Spot, Standing, Grown, Outcome, Added}
+use Rattle.segment_tree.specs.Count.{fullest, Life, aLife, Spot, Grown, Added}
 use Rattle.segment_tree.specs.Lives.{blockLife, pieceLife, addLife, addLives, rootSpot, AddedRows}
 use Rattle.segment_tree.proofs.Growing.{grown-none, standing-grown}
 use Rattle.segment_tree.proofs.Adding.{fullest-grows, outcome-after}

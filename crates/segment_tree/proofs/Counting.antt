@@ -1,25 +1,24 @@
 -- Steps of `build::count_tree`: from a table of zeros the rows' lives make the counts of the tree of all blocks. Assumes nothing.
 use mathlib.Core.Path.{_≡_, refl, ap, sym, _∙_}
-use mathlib.Core.Logic.{_⊎_, inl, inr}
-use mathlib.Core.Bool.{Bool, true, false, cond, not}
+use mathlib.Core.Logic.{inl, inr}
+use mathlib.Core.Bool.{Bool, true, false, not}
 use mathlib.Core.List.{List, [], _∷_, _++_, map}
-use Prim.Native.Nat.{ℕ, zero, suc, _+_, _-_, _*_, _/_, _^_, _≤_, _<_, min}
+use Prim.Native.Nat.{ℕ, suc, _+_, _-_, _*_, _^_, _≤_, _<_}
 use native.Mathlib.Omega.{arith}
 use lib.ListN.{length, getD, replicate, getD-replicate, length-replicate, List·getD-eq-default}
-use lib.Dec.{ltb}
 use borrow.Author.Tests.{lt-ltb, le-ltb, not-true, not-false}
-use Rattle.lists.specs.Lists.{count, countFrom}
+use Rattle.lists.specs.Lists.{countFrom}
 use Rattle.lists.proofs.Numbers.{lt-or-le}
 use Rattle.lists.proofs.Lists.{count-from-length}
 use Rattle.lists.proofs.Maps.{map-append, length-of-map}
-use Rattle.history.specs.Lent.{rowWidth, nodeHead, entryHead, entryWidth}
+use Rattle.history.specs.Lent.{rowWidth}
 use Rattle.history.specs.Words.{Block}
-use Rattle.history.specs.Tree.{Tree, hole, node, treeOf, nodeCount, entryCount}
+use Rattle.history.specs.Tree.{Tree, hole, treeOf, nodeCount, entryCount}
 use Rattle.tables.specs.Columns.{column, nodesCount}
 use Rattle.segment_table.specs.Closed.{nodesUsed, firstAt}
-use Rattle.segment_tree.specs.Count.{most, rowsIn, fullest, entriesTo, allEntries, CountAt, Clean, Life, linkAt, Standing, Grown}
+use Rattle.segment_tree.specs.Count.{most, rowsIn, fullest, entriesTo, allEntries, CountAt, Life, Standing, Grown}
 use Rattle.segment_tree.specs.Runs.{upTo, withRuns, AssignedRuns}
-use Rattle.segment_tree.specs.Lives.{lifeOf, blockLife, pieceLife, shape, addLife, addLives, rootSpot, AddedRows, entryRowsIn, Counted, roomFor, Countable, CountedAs, CountedTree}
+use Rattle.segment_tree.specs.Lives.{lifeOf, blockLife, pieceLife, shape, addLife, addLives, rootSpot, AddedRows, entryRowsIn, roomFor, rowsToCount, Countable, CountedAs, CountedTree}
 use Rattle.segment_tree.proofs.NodeRows.{count-like, entries-most}
 use Rattle.segment_tree.proofs.Growing.{standing-grown, grown-trans}
 use Rattle.segment_tree.proofs.Adding.{fullest-grows}
@@ -42,7 +41,7 @@ fullest-lives e [] T w = omega arith
 fullest-lives e (life ∷ lives) T w =
     omega (arith, fullest-lives e lives (addLife e life T) w, fullest-grows (λ _. 0) 0 (life .created) (life .destroyed) 63 0 e T (omega arith) (omega arith))
 
-module _ (t blocks pieces : List ℕ) (n m e kind : ℕ) (bs ps : List Block) (links : List ℕ) (g : Countable t blocks pieces n m e kind bs ps links) where
+module _ (t blocks pieces : List ℕ) (n m e kind : ℕ) (bs ps : List Block) (links : List ℕ) (g : Countable (rowsToCount blocks n pieces m e kind) t bs ps links) where
   zero-at : (i : ℕ) → getD t i 0 ≡ 0
   zero-at i = ap (λ (l : List ℕ). getD l i 0) (g .zeros) ∙ zeros-read (length t) i
 
@@ -109,7 +108,7 @@ module _ (t blocks pieces : List ℕ) (n m e kind : ℕ) (bs ps : List Block) (l
   -- ── the blocks ──
 
   module _ (t₁ : List ℕ) (q : Bool) (a : AddedRows t t₁ kind e (map (blockLife blocks) (countFrom 1 n)) q) (long : length t₁ ≡ length t) where
-    spent-blocks : (t₂ entries : List ℕ) → not q ≡ true → t₂ ≡ replicate (length t₁) 0 → CountedAs t t₂ entries kind e (treeOf e (bs ++ ps)) 12
+    spent-blocks : (t₂ entries : List ℕ) → not q ≡ true → t₂ ≡ replicate (length t₁) 0 → CountedAs t entries t₂ kind e (treeOf e (bs ++ ps)) 12
     unfolding recorded whole blockLives nodeCount fullest
     spent-blocks t₂ entries z wrote = record {
       answer = answer-nodes entries
@@ -126,7 +125,7 @@ module _ (t blocks pieces : List ℕ) (n m e kind : ℕ) (bs ps : List Block) (l
       -- ── the pieces ──
 
       module _ (t₂ : List ℕ) (p : Bool) (b : AddedRows t₁ t₂ kind e (map (pieceLife pieces e) (countFrom 1 m)) p) (long₂ : length t₂ ≡ length t₁) where
-        spent-pieces : (t₃ entries : List ℕ) → not p ≡ true → t₃ ≡ replicate (length t₂) 0 → CountedAs t t₃ entries kind e (treeOf e (bs ++ ps)) 12
+        spent-pieces : (t₃ entries : List ℕ) → not p ≡ true → t₃ ≡ replicate (length t₂) 0 → CountedAs t entries t₃ kind e (treeOf e (bs ++ ps)) 12
         unfolding whole pieceLives nodeCount
         spent-pieces t₃ entries z wrote =
             let s₁ : Standing t₁ (rootSpot kind e) recorded = standing-grown t (rootSpot kind e) hole zero-stands t₁ recorded grown-blocks in
@@ -166,7 +165,7 @@ module _ (t blocks pieces : List ℕ) (n m e kind : ℕ) (bs ps : List Block) (l
             total-is : total ≡ upTo (entryCount whole)
             total-is = runs .sum ∙ ap upTo (ap (entriesTo t₂) read ∙ entries-all)
 
-            spent-entries : (t₄ : List ℕ) (rows : ℕ) → rows ≡ entryRowsIn entries → rows < total → t₄ ≡ replicate (length t₃) 0 → CountedAs t t₄ entries kind e (treeOf e (bs ++ ps)) 13
+            spent-entries : (t₄ : List ℕ) (rows : ℕ) → rows ≡ entryRowsIn entries → rows < total → t₄ ≡ replicate (length t₃) 0 → CountedAs t entries t₄ kind e (treeOf e (bs ++ ps)) 13
             unfolding whole
             spent-entries t₄ rows have short wrote = record {
               answer = rw (le-ltb (rowsIn t) (nodeCount whole) room-all, lt-ltb (entryRowsIn entries) (entryCount whole) (omega (arith, total-is)));
@@ -212,7 +211,7 @@ module _ (t blocks pieces : List ℕ) (n m e kind : ℕ) (bs ps : List Block) (l
                   rw (runs .runs) (runs-first t₂ used k (omega (arith, same-used, read)) (omega (arith, same-used, grown-all .inside))) in
                   first ∙ omega (arith, same-entries k, entries-most t₂ k (nodesUsed t₂) (omega (arith, same-used)), entries-all, few-entries)
 
-              all-counted : CountedAs t t₃ entries kind e (treeOf e (bs ++ ps)) 0
+              all-counted : CountedAs t entries t₃ kind e (treeOf e (bs ++ ps)) 0
               unfolding whole
               all-counted = record {
                 answer = rw (le-ltb (rowsIn t) (nodeCount whole) room-all, le-ltb (entryRowsIn entries) (entryCount whole) (omega (arith, total-is)));
@@ -230,21 +229,21 @@ module _ (t blocks pieces : List ℕ) (n m e kind : ℕ) (bs ps : List Block) (l
 -- ── the returns ──
 
 module _ {t t₁ entries blocks pieces : List ℕ} {n m e kind : ℕ} {q : Bool} (a : AddedRows t t₁ kind e (map (blockLife blocks) (countFrom 1 n)) q) (long : length t₁ ≡ length t) where
-  pub count-spent-blocks : {t₂ : List ℕ} → not q ≡ true → t₂ ≡ replicate (length t₁) 0 → CountedTree t t₂ entries blocks pieces n m e kind 12
+  pub count-spent-blocks : {t₂ : List ℕ} → not q ≡ true → t₂ ≡ replicate (length t₁) 0 → CountedTree (rowsToCount blocks n pieces m e kind) t entries t₂ 12
   count-spent-blocks {t₂} z wrote = record { done = λ bs ps links g. spent-blocks t blocks pieces n m e kind bs ps links g t₁ q a long t₂ entries z wrote }
 
   module _ (y : not q ≡ false) {t₂ : List ℕ} {p : Bool} (b : AddedRows t₁ t₂ kind e (map (pieceLife pieces e) (countFrom 1 m)) p) (long₂ : length t₂ ≡ length t₁) where
-    pub count-spent-pieces : {t₃ : List ℕ} → not p ≡ true → t₃ ≡ replicate (length t₂) 0 → CountedTree t t₃ entries blocks pieces n m e kind 12
+    pub count-spent-pieces : {t₃ : List ℕ} → not p ≡ true → t₃ ≡ replicate (length t₂) 0 → CountedTree (rowsToCount blocks n pieces m e kind) t entries t₃ 12
     count-spent-pieces {t₃} z wrote = record { done = λ bs ps links g. spent-pieces t blocks pieces n m e kind bs ps links g t₁ q a long y t₂ p b long₂ t₃ entries z wrote }
 
     module _ (z : not p ≡ false) {used total rows : ℕ} {t₃ : List ℕ} (read : used ≡ nodesUsed t₂) (runs : AssignedRuns t₂ t₃ used total) (lent : entryRowsIn entries < most)
         (have : rows ≡ entryRowsIn entries) where
-      pub count-spent-entries : {t₄ : List ℕ} → rows < total → t₄ ≡ replicate (length t₃) 0 → CountedTree t t₄ entries blocks pieces n m e kind 13
+      pub count-spent-entries : {t₄ : List ℕ} → rows < total → t₄ ≡ replicate (length t₃) 0 → CountedTree (rowsToCount blocks n pieces m e kind) t entries t₄ 13
       count-spent-entries {t₄} short wrote = record {
         done = λ bs ps links g. spent-entries t blocks pieces n m e kind bs ps links g t₁ q a long y t₂ p b long₂ z used total t₃ entries read runs lent t₄ rows have short wrote;
       }
 
-      pub count-all : total ≤ rows → CountedTree t t₃ entries blocks pieces n m e kind 0
+      pub count-all : total ≤ rows → CountedTree (rowsToCount blocks n pieces m e kind) t entries t₃ 0
       count-all fits = record {
         done = λ bs ps links g. all-counted t blocks pieces n m e kind bs ps links g t₁ q a long y t₂ p b long₂ z used total t₃ entries read runs lent rows have fits;
       }

@@ -1,17 +1,17 @@
 -- What a new node, an entry more and a half that grows leave of the node table: a row's kind and interval say whose it is. Assumes nothing.
 use mathlib.Core.Path.{_≡_, refl, ap, sym, _∙_}
 use mathlib.Core.Logic.{_⊎_, inl, inr}
-use mathlib.Core.List.{List, [], _∷_}
-use Prim.Native.Nat.{ℕ, zero, suc, _+_, _-_, _*_, _/_, _^_, _≤_, _<_, min}
+use mathlib.Core.List.{List, []}
+use Prim.Native.Nat.{ℕ, suc, _+_, _-_, _*_, _≤_, _<_}
 use native.Mathlib.Omega.{arith}
-use lib.ListN.{length, getD, set, length-set}
+use lib.ListN.{length, set, length-set}
 use Rattle.lists.proofs.Numbers.{eq-or-ne, le-or-lt}
-use Rattle.history.specs.Lent.{rowWidth, nodeHead}
+use Rattle.history.specs.Lent.{rowWidth}
 use Rattle.history.specs.Tree.{Tree, hole, node, mid, nodeCount, entryCount}
-use Rattle.tables.specs.Columns.{column, nodeMin, nodeMax, nodeLeft, nodeRight, nodeFirst, nodeEntries, nodeKind, nodesCount}
+use Rattle.tables.specs.Columns.{column, nodeMin, nodeMax, nodeLeft, nodeRight, nodeEntries, nodeKind, nodesCount}
 use Rattle.segment_table.specs.Closed.{nodesUsed, leftAt, rightAt, countAt}
-use Rattle.segment_tree.specs.Count.{most, plusUpTo, rowsIn, minAt, maxAt, kindAt, entriesTo, allEntries, CountRow, CountAt, Clean, Spot, spot, linkAt, Outside, other-kind, starts-before, ends-after, Standing, Kept, Grown, withNode}
-use Rattle.segment_tree.proofs.NodeRows.{column-same, column-other, row-inside, row-stays, tree-stays, hole-stays, entries-same, entries-more, entries-one}
+use Rattle.segment_tree.specs.Count.{most, plusUpTo, rowsIn, minAt, maxAt, kindAt, entriesTo, CountRow, CountAt, Spot, spot, linkAt, Outside, other-kind, starts-before, ends-after, Standing, Kept, Grown, withNode}
+use Rattle.segment_tree.proofs.NodeRows.{column-same, column-other, row-inside, tree-stays, hole-stays, entries-same, entries-more, entries-one}
 
 -- ── rows outside ──
 
@@ -22,13 +22,13 @@ outside-same t t′ s k a b c (starts-before h) = starts-before (omega arith)
 outside-same t t′ s k a b c (ends-after h) = ends-after (omega arith)
 
 -- outside a part of it
-outside-part : (t : List ℕ) (s h : Spot) (k : ℕ) → s .kind ≡ h .kind → s .lo ≤ h .lo → h .hi ≤ s .hi → Outside t s k → Outside t h k
+pub outside-part : (t : List ℕ) (s h : Spot) (k : ℕ) → s .kind ≡ h .kind → s .lo ≤ h .lo → h .hi ≤ s .hi → Outside t s k → Outside t h k
 outside-part t s h k e a b (other-kind p) = other-kind (λ q. p (q ∙ sym e))
 outside-part t s h k e a b (starts-before p) = starts-before (omega arith)
 outside-part t s h k e a b (ends-after p) = ends-after (omega arith)
 
 -- a row of the tree is not
-not-outside : (t : List ℕ) (s : Spot) (k n : ℕ) → CountRow t (s .kind) k (s .lo) (s .hi) n → Outside t s k → ⊥
+pub not-outside : (t : List ℕ) (s : Spot) (k n : ℕ) → CountRow t (s .kind) k (s .lo) (s .hi) n → Outside t s k → ⊥
 not-outside t s k n r (other-kind p) = p (r .own-kind)
 not-outside t s k n r (starts-before p) = omega (arith, r .low)
 not-outside t s k n r (ends-after p) = omega (arith, r .high)
@@ -277,11 +277,22 @@ module _ (t : List ℕ) (s : Spot) (link : ℕ) (xs ys : List ℕ) (L R : Tree) 
 
 -- ── a half that grows ──
 
-module _ (t t′ : List ℕ) (s h : Spot) (link : ℕ) (xs : List ℕ) (L R : Tree) (stands : Standing t s (node xs L R)) (at : linkAt t s ≡ link)
-    (wide : s .lo + 1 < s .hi) (kind-is : s .kind ≡ h .kind) (parent-is : link ≡ h .parent) (low : s .lo ≤ h .lo) (high : h .hi ≤ s .hi)
-    (part : (s .lo < h .lo) ⊎ (h .hi < s .hi)) (side : (nodeLeft ≤ h .col) × (h .col ≤ nodeRight)) (kept : Kept t t′ h) (more : nodesUsed t ≤ nodesUsed t′) where
+-- h is a half of the node that hangs at s: a part of its interval, whose link stands in a column of its row
+pub record HalfOf (t : List ℕ) (s h : Spot) (link : ℕ) (xs : List ℕ) (L R : Tree) : Type 0 where
+  pub stands : Standing t s (node xs L R)
+  pub at : linkAt t s ≡ link
+  pub wide : s .lo + 1 < s .hi
+  pub same-kind : s .kind ≡ h .kind
+  pub hangs : link ≡ h .parent
+  pub low : s .lo ≤ h .lo
+  pub high : h .hi ≤ s .hi
+  pub less : (s .lo < h .lo) ⊎ (h .hi < s .hi)
+  pub left-column : nodeLeft ≤ h .col
+  pub right-column : h .col ≤ nodeRight
+
+module _ (t t′ : List ℕ) (s h : Spot) (link : ℕ) (xs : List ℕ) (L R : Tree) (p : HalfOf t s h link xs L R) (kept : Kept t t′ h) (more : nodesUsed t ≤ nodesUsed t′) where
   half-tree : CountAt t (s .kind) link (s .lo) (s .hi) (node xs L R)
-  half-tree = rw at at (stands .here)
+  half-tree = rw (p .at) at (p .stands .here)
 
   half-row : CountRow t (s .kind) link (s .lo) (s .hi) (length xs)
   unfolding CountAt half-tree
@@ -289,47 +300,57 @@ module _ (t t′ : List ℕ) (s h : Spot) (link : ℕ) (xs : List ℕ) (L R : Tr
 
   -- the node itself is outside its half
   node-outside : Outside t h link
-  node-outside = elim part [ inl p ↦ starts-before (omega (arith, half-row .low)) | inr p ↦ ends-after (omega (arith, half-row .high)) ]
+  node-outside = elim (p .less) [ inl q ↦ starts-before (omega (arith, half-row .low)) | inr q ↦ ends-after (omega (arith, half-row .high)) ]
 
   node-same : (j : ℕ) → j < rowWidth → (j ≡ h .col → ⊥) → column t′ link j ≡ column t link j
   node-same j z apart = kept .rows link j (half-row .some) (half-row .used) z node-outside (λ _ e. apart e)
 
-  -- so is its parent, and what is outside the node
+  -- what is outside the node is outside its half, and is not the node
+  out-of-half : (k : ℕ) → Outside t s k → Outside t h k
+  out-of-half k out = outside-part t s h k (p .same-kind) (p .low) (p .high) out
+
+  not-node : (k : ℕ) → Outside t s k → k ≡ h .parent → ⊥
+  not-node k out e = not-outside t s link (length xs) half-row (let q : k ≡ link = e ∙ sym (p .hangs) in rw (← q) out)
+
   half-kept : Kept t t′ s
   half-kept = record {
-    rows = λ k j a b c out apart. kept .rows k j a b c (outside-part t s h k kind-is low high out) (λ e _. not-outside t s link (length xs) half-row (let q : k ≡ link = e ∙ sym parent-is in rw (← q) out));
-    head = λ j a b c. kept .head j a b (λ e _. omega (arith, half-row .some));
+    rows = λ k j a b c out apart. kept .rows k j a b c (out-of-half k out) (λ e _. not-node k out e);
+    head = λ j a b c. kept .head j a b (λ e _. omega (arith, half-row .some, p .hangs));
   }
 
   link-same : linkAt t′ s ≡ link
   link-same =
       elim (eq-or-ne (s .parent) 0) [
         | inl e ↦
-            let c : s .col < nodesCount = stands .at-root e in
-            let same : column t′ 0 (s .col) ≡ column t 0 (s .col) = kept .head (s .col) (omega arith) (omega arith) (λ q _. omega (arith, half-row .some)) in
-            rw e (same ∙ (rw e at at))
-        | inr e ↦ (let p : 0 < s .parent = omega arith in
-            kept .rows (s .parent) (s .col) p (stands .parent-used) (omega (arith, stands .at-half p)) (outside-part t s h (s .parent) kind-is low high (stands .outer p))
-            (λ q _. not-outside t s link (length xs) half-row (let z : s .parent ≡ link = q ∙ sym parent-is in rw (← z) (stands .outer p))) ∙ at)
+            let c : s .col < nodesCount = p .stands .at-root e in
+            let same : column t′ 0 (s .col) ≡ column t 0 (s .col) = kept .head (s .col) (omega arith) (omega arith) (λ q _. omega (arith, half-row .some, p .hangs)) in
+            rw e (same ∙ (rw e at (p .at)))
+        | inr e ↦
+            let some : 0 < s .parent = omega arith in
+            let out : Outside t s (s .parent) = p .stands .outer some in
+            kept .rows (s .parent) (s .col) some (p .stands .parent-used) (omega (arith, p .stands .at-half some)) (out-of-half (s .parent) out) (λ q _. not-node (s .parent) out q) ∙ p .at
       ]
 
   row-after : CountRow t′ (s .kind) link (s .lo) (s .hi) (length xs)
-  row-after = record {
-    some = half-row .some;
-    used = omega (arith, half-row .used);
-    low = node-same nodeMin (omega arith) (omega arith) ∙ half-row .low;
-    high = node-same nodeMax (omega arith) (omega arith) ∙ half-row .high;
-    own-kind = node-same nodeKind (omega arith) (omega arith) ∙ half-row .own-kind;
-    wide = half-row .wide;
-    narrow = λ n. absurd (omega arith);
-    counted = node-same nodeEntries (omega arith) (omega arith) ∙ half-row .counted;
-  }
+  row-after =
+      let left : nodeLeft ≤ h .col = p .left-column in
+      let right : h .col ≤ nodeRight = p .right-column in
+      record {
+        some = half-row .some;
+        used = omega (arith, half-row .used);
+        low = node-same nodeMin (omega arith) (omega arith) ∙ half-row .low;
+        high = node-same nodeMax (omega arith) (omega arith) ∙ half-row .high;
+        own-kind = node-same nodeKind (omega arith) (omega arith) ∙ half-row .own-kind;
+        wide = half-row .wide;
+        narrow = λ n. absurd (omega (arith, p .wide));
+        counted = node-same nodeEntries (omega arith) (omega arith) ∙ half-row .counted;
+      }
 
   -- a tree in the other half stands still
-  other-half : (k lo hi : ℕ) (T : Tree) → ((i : ℕ) → lo ≤ minAt t i → minAt t i < maxAt t i → maxAt t i ≤ hi → Outside t h i) → ((i : ℕ) → lo ≤ minAt t i → maxAt t i ≤ hi → i ≡ link → ⊥)
-      → CountAt t (s .kind) k lo hi T → CountAt t′ (s .kind) k lo hi T
+  other-half : (k lo hi : ℕ) (T : Tree) → ((i : ℕ) → lo ≤ minAt t i → minAt t i < maxAt t i → maxAt t i ≤ hi → Outside t h i)
+      → ((i : ℕ) → lo ≤ minAt t i → maxAt t i ≤ hi → i ≡ link → ⊥) → CountAt t (s .kind) k lo hi T → CountAt t′ (s .kind) k lo hi T
   other-half k lo hi T out apart g =
-      tree-stays t t′ (s .kind) more (λ i. Outside t h i × (i ≡ link → ⊥)) (λ i j a b z o. kept .rows i j a b z (o .0) (λ e _. o .1 (e ∙ sym parent-is)))
+      tree-stays t t′ (s .kind) more (λ i. Outside t h i × (i ≡ link → ⊥)) (λ i j a b z o. kept .rows i j a b z (o .0) (λ e _. o .1 (e ∙ sym (p .hangs))))
       k lo hi T (λ i z a b c. (out i a b c, apart i a c)) g
 
 module _ (t t′ : List ℕ) (s : Spot) (link m : ℕ) (xs : List ℕ) (L R : Tree) (stands : Standing t s (node xs L R)) (at : linkAt t s ≡ link)
@@ -339,6 +360,34 @@ module _ (t t′ : List ℕ) (s : Spot) (link m : ℕ) (xs : List ℕ) (L R : Tr
 
   abbrev rightSpot : Spot
   rightSpot = spot (s .kind) link nodeRight m (s .hi)
+
+  left-half : HalfOf t s leftSpot link xs L R
+  left-half = record {
+    stands = stands;
+    at = at;
+    wide = wide;
+    same-kind = refl;
+    hangs = refl;
+    low = omega arith;
+    high = omega arith;
+    less = inr (omega arith);
+    left-column = omega arith;
+    right-column = omega arith;
+  }
+
+  right-half : HalfOf t s rightSpot link xs L R
+  right-half = record {
+    stands = stands;
+    at = at;
+    wide = wide;
+    same-kind = refl;
+    hangs = refl;
+    low = omega arith;
+    high = omega arith;
+    less = inl (omega arith);
+    left-column = omega arith;
+    right-column = omega arith;
+  }
 
   pub left-stands : Standing t leftSpot L
   unfolding CountAt
@@ -374,24 +423,23 @@ module _ (t t′ : List ℕ) (s : Spot) (link m : ℕ) (xs : List ℕ) (L R : Tr
   unfolding CountAt nodeCount entryCount
   grown-left L′ g =
       let tree : CountAt t (s .kind) link (s .lo) (s .hi) (node xs L R) = rw at at (stands .here) in
-      let side : (nodeLeft ≤ nodeLeft) × (nodeLeft ≤ nodeRight) = (omega arith, omega arith) in
-      let there : linkAt t′ s ≡ link = link-same t t′ s leftSpot link xs L R stands at wide refl refl (omega arith) (omega arith) (inr (omega arith)) side (g .kept) (g .more) in
-      let rights : rightAt t′ link ≡ rightAt t link = node-same t t′ s leftSpot link xs L R stands at wide refl refl (omega arith) (omega arith) (inr (omega arith)) side (g .kept) (g .more) nodeRight (omega arith) (omega arith) in
+      let there : linkAt t′ s ≡ link = link-same t t′ s leftSpot link xs L R left-half (g .kept) (g .more) in
+      let rights : rightAt t′ link ≡ rightAt t link = node-same t t′ s leftSpot link xs L R left-half (g .kept) (g .more) nodeRight (omega arith) (omega arith) in
       let right : CountAt t′ (s .kind) (rightAt t link) (mid (s .lo) (s .hi)) (s .hi) R =
-      other-half t t′ s leftSpot link xs L R stands at wide refl refl (omega arith) (omega arith) (inr (omega arith)) side (g .kept) (g .more) (rightAt t link) (mid (s .lo) (s .hi)) (s .hi) R
+      other-half t t′ s leftSpot link xs L R left-half (g .kept) (g .more) (rightAt t link) (mid (s .lo) (s .hi)) (s .hi) R
       (λ i a b c. ends-after (omega arith)) (λ i a b e. omega (arith, tree .0 .low, ap (minAt t) e)) (tree .2) in (
         there,
         record {
           long = g .long;
           here = rw there (
-            row-after t t′ s leftSpot link xs L R stands at wide refl refl (omega arith) (omega arith) (inr (omega arith)) side (g .kept) (g .more),
+            row-after t t′ s leftSpot link xs L R left-half (g .kept) (g .more),
             rw (← is) (g .here),
             rw rights right,
           );
           rows = omega (arith, g .rows);
           more = g .more;
           entries = omega (arith, g .entries);
-          kept = half-kept t t′ s leftSpot link xs L R stands at wide refl refl (omega arith) (omega arith) (inr (omega arith)) side (g .kept) (g .more);
+          kept = half-kept t t′ s leftSpot link xs L R left-half (g .kept) (g .more);
           clean = g .clean;
           inside = g .inside;
         },
@@ -401,24 +449,23 @@ module _ (t t′ : List ℕ) (s : Spot) (link m : ℕ) (xs : List ℕ) (L R : Tr
   unfolding CountAt nodeCount entryCount
   grown-right R′ g =
       let tree : CountAt t (s .kind) link (s .lo) (s .hi) (node xs L R) = rw at at (stands .here) in
-      let side : (nodeLeft ≤ nodeRight) × (nodeRight ≤ nodeRight) = (omega arith, omega arith) in
-      let there : linkAt t′ s ≡ link = link-same t t′ s rightSpot link xs L R stands at wide refl refl (omega arith) (omega arith) (inl (omega arith)) side (g .kept) (g .more) in
-      let lefts : leftAt t′ link ≡ leftAt t link = node-same t t′ s rightSpot link xs L R stands at wide refl refl (omega arith) (omega arith) (inl (omega arith)) side (g .kept) (g .more) nodeLeft (omega arith) (omega arith) in
+      let there : linkAt t′ s ≡ link = link-same t t′ s rightSpot link xs L R right-half (g .kept) (g .more) in
+      let lefts : leftAt t′ link ≡ leftAt t link = node-same t t′ s rightSpot link xs L R right-half (g .kept) (g .more) nodeLeft (omega arith) (omega arith) in
       let left : CountAt t′ (s .kind) (leftAt t link) (s .lo) (mid (s .lo) (s .hi)) L =
-      other-half t t′ s rightSpot link xs L R stands at wide refl refl (omega arith) (omega arith) (inl (omega arith)) side (g .kept) (g .more) (leftAt t link) (s .lo) (mid (s .lo) (s .hi)) L
+      other-half t t′ s rightSpot link xs L R right-half (g .kept) (g .more) (leftAt t link) (s .lo) (mid (s .lo) (s .hi)) L
       (λ i a b c. starts-before (omega arith)) (λ i a b e. omega (arith, tree .0 .high, ap (maxAt t) e)) (tree .1) in (
         there,
         record {
           long = g .long;
           here = rw there (
-            row-after t t′ s rightSpot link xs L R stands at wide refl refl (omega arith) (omega arith) (inl (omega arith)) side (g .kept) (g .more),
+            row-after t t′ s rightSpot link xs L R right-half (g .kept) (g .more),
             rw lefts left,
             rw (← is) (g .here),
           );
           rows = omega (arith, g .rows);
           more = g .more;
           entries = omega (arith, g .entries);
-          kept = half-kept t t′ s rightSpot link xs L R stands at wide refl refl (omega arith) (omega arith) (inl (omega arith)) side (g .kept) (g .more);
+          kept = half-kept t t′ s rightSpot link xs L R right-half (g .kept) (g .more);
           clean = g .clean;
           inside = g .inside;
         },

@@ -6,3 +6,9 @@ pub mod AddingRows
 pub mod Running
 pub mod Shapes
 pub mod Counting
+pub mod Presence
+pub mod Writing
+pub mod WritingDown
+pub mod WritingAll
+pub mod Closing
+pub mod InOrder

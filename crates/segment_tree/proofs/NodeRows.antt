@@ -1,16 +1,16 @@
 -- Rows of the node table: reads after a write, trees whose rows stay, and the sum of counts. Assumes nothing.
-use mathlib.Core.Path.{_≡_, refl, ap, sym, _∙_}
-use mathlib.Core.Logic.{_⊎_, inl, inr}
-use mathlib.Core.Bool.{Bool, true, false}
-use mathlib.Core.List.{List, [], _∷_}
-use Prim.Native.Nat.{ℕ, zero, suc, _+_, _-_, _*_, _/_, _≤_, _<_}
+use mathlib.Core.Path.{_≡_, refl, sym, _∙_}
+use mathlib.Core.Logic.{inl, inr}
+use mathlib.Core.Bool.{false}
+use mathlib.Core.List.{List}
+use Prim.Native.Nat.{ℕ, zero, suc, _+_, _-_, _*_, _≤_, _<_}
 use native.Mathlib.Omega.{arith}
-use lib.ListN.{length, getD, set}
+use lib.ListN.{length, set}
 use lib.Seq.{getD-set-same, getD-set-other}
 use lib.Dec.{ltb}
 use borrow.Author.Tests.{lt-ltb, le-ltb}
 use Rattle.lists.proofs.Numbers.{eq-or-ne, lt-or-le}
-use Rattle.history.specs.Lent.{rowWidth, nodeHead}
+use Rattle.history.specs.Lent.{rowWidth}
 use Rattle.history.specs.Tree.{Tree, hole, node, mid, halves}
 use Rattle.tables.specs.Columns.{column, nodeMin, nodeMax, nodeLeft, nodeRight, nodeFirst, nodeEntries, nodeKind, nodesCount}
 use Rattle.segment_table.specs.Closed.{nodesUsed, leftAt, rightAt, countAt}

@@ -3,7 +3,7 @@ use mathlib.Core.Path.{_≡_, refl, sym, _∙_}
 use mathlib.Core.List.{List}
 use Prim.Native.Nat.{ℕ, _+_, _*_, _≤_, _<_}
 use native.Mathlib.Omega.{arith}
-use lib.ListN.{length, set}
+use lib.ListN.{set}
 use Rattle.history.specs.Lent.{rowWidth}
 use Rattle.tables.specs.Columns.{nodeMin, nodeMax, nodeEntries, nodeKind, nodesCount}
 use Rattle.segment_table.specs.Closed.{nodesUsed, countAt}

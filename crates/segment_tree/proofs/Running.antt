@@ -1,16 +1,16 @@
 -- Laws of `withRuns` and of the sum of counts: what giving out the runs changes. Assumes nothing.
-use mathlib.Core.Path.{_≡_, refl, ap, sym, _∙_}
+use mathlib.Core.Path.{_≡_, refl, _∙_}
 use mathlib.Core.Logic.{_⊎_, inl, inr}
-use mathlib.Core.List.{List, [], _∷_}
-use Prim.Native.Nat.{ℕ, zero, suc, _+_, _-_, _*_, _/_, _≤_, _<_, min}
+use mathlib.Core.List.{List}
+use Prim.Native.Nat.{ℕ, zero, suc, _+_, _-_, _*_, _≤_, _<_}
 use native.Mathlib.Omega.{arith}
 use native.Mathlib.Numerals.{add-one}
 use lib.ListN.{length, set, length-set}
 use Rattle.lists.proofs.Numbers.{eq-or-ne}
 use Rattle.history.specs.Lent.{rowWidth}
-use Rattle.tables.specs.Columns.{column, nodeFirst, nodeEntries, nodesCount}
-use Rattle.segment_table.specs.Closed.{nodesUsed, firstAt, countAt}
-use Rattle.segment_tree.specs.Count.{most, plusUpTo, rowsIn, entriesTo}
+use Rattle.tables.specs.Columns.{column, nodeFirst, nodeEntries}
+use Rattle.segment_table.specs.Closed.{firstAt, countAt}
+use Rattle.segment_tree.specs.Count.{plusUpTo, rowsIn, entriesTo}
 use Rattle.segment_tree.specs.Runs.{upTo, withRuns, LikeButRuns, AssignedRuns}
 use Rattle.segment_tree.proofs.NodeRows.{column-same, column-other, row-inside, entries-same}
 

@@ -1,22 +1,22 @@
 -- The counts of a tree do not depend on which blocks are added, nor on their order: adding goes with `shape`. Assumes nothing.
 use mathlib.Core.Path.{_≡_, refl, ap, sym, _∙_}
-use mathlib.Core.Logic.{inl, inr, _≢_}
+use mathlib.Core.Logic.{_⊎_, inl, inr}
 use mathlib.Core.Bool.{Bool, true, false, cond, _&&_}
 use mathlib.Core.List.{List, [], _∷_, _++_, map}
-use Prim.Native.Nat.{ℕ, zero, suc, _+_, _≤_, _<_, max}
+use Prim.Native.Nat.{ℕ, zero, suc, _+_, _≤_, _<_}
 use native.Mathlib.Omega.{arith}
 use lib.ListN.{length, replicate, length-replicate}
 use lib.Dec.{ltb}
-use Rattle.lists.specs.Lists.{count, countFrom}
-use Rattle.lists.proofs.Numbers.{bool-cases}
-use Rattle.lists.proofs.Maps.{map-append}
+use Rattle.lists.specs.Lists.{Mem, Distinct, count, countFrom}
+use Rattle.lists.proofs.Numbers.{bool-cases, lt-or-le, eq-or-ne}
+use Rattle.lists.proofs.Counting.{mem-count, count-mem, distinct-count, count-from-out, count-from-count}
 use Rattle.history.specs.Words.{Block}
 use Rattle.history.specs.Tree.{Tree, hole, node, mid, halves, covers, entriesOf, leftOf, rightOf, insert, addLocation, addAll, keyIn, treeOf, nodeCount, entryCount}
 use Rattle.history.proofs.TreeInserting.{insert-nil, insert-on, insert-length}
 use Rattle.history.proofs.TreeAdding.{made, listed, add-here, add-last, add-below}
 use Rattle.history.proofs.TreeOrder.{addEach, each-order}
 use Rattle.segment_table.specs.Closed.{leftAt, rightAt}
-use Rattle.segment_tree.specs.Count.{CountRow, CountAt, Life}
+use Rattle.segment_tree.specs.Count.{CountAt, Life}
 use Rattle.segment_tree.specs.Lives.{lifeOf, shape, addLife, addLives}
 
 -- ── parts ──
@@ -124,6 +124,21 @@ module _ (life : ℕ → Life) (e : ℕ) where
       let left : shape (addEach rowBlock (λ k. k) e xs T) ≡ addLives e (map life xs) T = rw same at (shape-each xs T) in
       let right : shape (addEach rowBlock (λ k. k) e ys T) ≡ addLives e (map life ys) T = rw same at (shape-each ys T) in
       sym left ∙ ap shape sum ∙ right
+
+-- links that are the rows 1 to m, each once, are as often there as in row order
+pub rows-once : (m : ℕ) (links : List ℕ) → Distinct links → ((k : ℕ) → Mem k links → (0 < k) × (k ≤ m)) → ((k : ℕ) → 0 < k → k ≤ m → Mem k links)
+    → (k : ℕ) → count k links ≡ count k (countFrom 1 m)
+rows-once m links once within every k =
+    elim (eq-or-ne (count k links) 0) [
+      | inl z ↦ z ∙ sym (count-from-out k 1 m (elsewhere (lt-or-le 0 k) (lt-or-le m k) z))
+      | inr n ↦ (let mem : Mem k links = count-mem k links (omega arith) in let w = within k mem in
+          omega (arith, distinct-count k links once, count-from-count k 1 m (omega (arith, w .0)) (omega (arith, w .1))))
+    ]
+  where
+    elsewhere : (0 < k) ⊎ (k ≤ 0) → (m < k) ⊎ (k ≤ m) → count k links ≡ 0 → (k < 1) ⊎ (1 + m ≤ k)
+    elsewhere (inr a) b z = inl (omega arith)
+    elsewhere (inl a) (inl b) z = inr (omega arith)
+    elsewhere (inl a) (inr b) z = absurd (omega (arith, mem-count (every k a b)))
 
 -- ── what the counts say ──
 

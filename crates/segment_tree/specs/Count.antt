@@ -1,9 +1,9 @@
 -- The node table while the tree is built: nodes with the counts of their entries, and what adding a life leaves. Definitions alone.
 use mathlib.Core.Path.{_≡_}
 use mathlib.Core.Bool.{Bool, true, false}
-use mathlib.Core.List.{List, [], _∷_}
+use mathlib.Core.List.{List}
 use Prim.Native.Nat.{ℕ, zero, suc, _+_, _-_, _*_, _/_, _^_, _≤_, _<_, min, max}
-use lib.ListN.{length, getD, set}
+use lib.ListN.{length, set}
 use Rattle.history.specs.Lent.{rowWidth, nodeHead}
 use Rattle.history.specs.Tree.{Tree, hole, node, mid, addLocation, nodeCount, entryCount}
 use Rattle.tables.specs.Columns.{column, nodeMin, nodeMax, nodeLeft, nodeRight, nodeKind, nodesCount}

@@ -1,3 +1,5 @@
 pub mod Count
 pub mod Runs
 pub mod Lives
+pub mod Fill
+pub mod Listing

@@ -1,8 +1,8 @@
 -- The lives in the block and piece tables, the counts that they make, and what counting them leaves. Definitions alone.
 use mathlib.Core.Path.{_≡_}
-use mathlib.Core.Bool.{Bool, true, false, cond}
+use mathlib.Core.Bool.{Bool, cond}
 use mathlib.Core.List.{List, [], _∷_, _++_, map}
-use Prim.Native.Nat.{ℕ, zero, suc, _+_, _-_, _/_, _^_, _≤_, _<_}
+use Prim.Native.Nat.{ℕ, suc, _+_, _-_, _/_, _^_, _≤_, _<_}
 use lib.ListN.{length, replicate}
 use lib.Dec.{ltb}
 use Rattle.lists.specs.Lists.{count, countFrom}
@@ -67,23 +67,35 @@ pub record Counted (nodes : List ℕ) (kind e : ℕ) (T : Tree) : Type 0 where
 abbrev pub roomFor : (nodeRows entryRows : ℕ) (T : Tree) → ℕ
 roomFor nodeRows entryRows T = cond (ltb nodeRows (nodeCount T)) 12 (cond (ltb entryRows (entryCount T)) 13 0)
 
--- What finish counts: recorded blocks bs, and pieces that become the blocks ps. The rows of the pieces, in the order of ps, are `links`, which are all
+-- What finish counts: the rows 1 to n of the blocks, and the rows 1 to m of the pieces, which live up to the end.
+pub record RowsToCount : Type 0 where
+  pub blocks : List ℕ
+  pub n : ℕ
+  pub pieces : List ℕ
+  pub m : ℕ
+  pub end : ℕ
+  pub kind : ℕ
+
+abbrev pub rowsToCount : (blocks : List ℕ) (n : ℕ) (pieces : List ℕ) (m end kind : ℕ) → RowsToCount
+rowsToCount blocks n pieces m e kind = record { blocks = blocks; n = n; pieces = pieces; m = m; end = e; kind = kind }
+
+-- They are the recorded blocks bs, and the pieces that become the blocks ps. The rows of the pieces, in the order of ps, are `links`, which are all
 -- rows in some order. The node table is zeros, as it is in an open index.
-pub record Countable (nodes blocks pieces : List ℕ) (n m e kind : ℕ) (bs ps : List Block) (links : List ℕ) : Type 0 where
+pub record Countable (w : RowsToCount) (nodes : List ℕ) (bs ps : List Block) (links : List ℕ) : Type 0 where
   pub zeros : nodes ≡ replicate (length nodes) 0
-  pub some : 0 < e
-  pub small : e ≤ 2 ^ 63
-  pub a-kind : kind < nodesCount
-  pub few : n + m < most
-  pub blocks-are : map (blockLife blocks) (countFrom 1 n) ≡ map lifeOf bs
-  pub pieces-are : map (pieceLife pieces e) links ≡ map lifeOf ps
-  pub all-pieces : (k : ℕ) → count k links ≡ count k (countFrom 1 m)
+  pub some : 0 < w .end
+  pub small : w .end ≤ 2 ^ 63
+  pub a-kind : w .kind < nodesCount
+  pub few : w .n + w .m < most
+  pub blocks-are : map (blockLife (w .blocks)) (countFrom 1 (w .n)) ≡ map lifeOf bs
+  pub pieces-are : map (pieceLife (w .pieces) (w .end)) links ≡ map lifeOf ps
+  pub all-pieces : (k : ℕ) → count k links ≡ count k (countFrom 1 (w .m))
 
 -- the refusal is the tree's; the tree is counted, or the table is as it was
-pub record CountedAs (nodes nodes′ entries : List ℕ) (kind e : ℕ) (T : Tree) (r : ℕ) : Type 0 where
+pub record CountedAs (nodes entries nodes′ : List ℕ) (kind e : ℕ) (T : Tree) (r : ℕ) : Type 0 where
   pub answer : r ≡ roomFor (rowsIn nodes) (entryRowsIn entries) T
   pub counted : r ≡ 0 → Counted nodes′ kind e T
   pub refused : (r ≡ 0 → ⊥) → nodes′ ≡ nodes
 
-pub record CountedTree (nodes nodes′ entries blocks pieces : List ℕ) (n m e kind r : ℕ) : Type 0 where
-  pub done : (bs ps : List Block) (links : List ℕ) → Countable nodes blocks pieces n m e kind bs ps links → CountedAs nodes nodes′ entries kind e (treeOf e (bs ++ ps)) r
+pub record CountedTree (w : RowsToCount) (nodes entries nodes′ : List ℕ) (r : ℕ) : Type 0 where
+  pub done : (bs ps : List Block) (links : List ℕ) → Countable w nodes bs ps links → CountedAs nodes entries nodes′ (w .kind) (w .end) (treeOf (w .end) (bs ++ ps)) r

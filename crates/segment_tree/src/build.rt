@@ -1,21 +1,31 @@
 // Building the tree in the node table: each life goes down from its root, nodes are made, entries are counted.
+use tables::block;
+use tables::node;
+use tables::piece;
 ghost use mathlib.Core.Path.{_≡_};
 ghost use mathlib.Core.List.{map};
 ghost use Rattle.lists.specs.Lists.{countFrom};
-ghost use Prim.Native.Nat.{ℕ, _+_, _*_};
+ghost use Prim.Native.Nat.{_+_, _*_};
 ghost use lib.ListN.{set};
 ghost use Rattle.history.specs.Lent.{rowWidth};
 ghost use Rattle.tables.specs.Columns.{nodeEntries};
 ghost use Rattle.segment_table.specs.Closed.{countAt};
 ghost use Rattle.segment_tree.specs.Count.{plusUpTo, spot, aLife, Reached, Added};
-ghost use Rattle.segment_tree.specs.Lives.{blockLife, pieceLife, AddedRows, CountedTree};
+ghost use Rattle.segment_tree.specs.Lives.{blockLife, pieceLife, AddedRows, rowsToCount, CountedTree};
+
+// What is refused where room is too little: more nodes are needed than there are rows, or more entries.
+pub const NODES_SPENT: u64 = 12;
+
+pub const ENTRIES_SPENT: u64 = 13;
+
+pub const ENOUGH: u64 = 0;
 
 // One entry more in the node of `link`.
 fn bump(nodes: &mut [u64], link: u64)
     ensures { λ _. ⌜ now (nodes .exit) ≡ set (now (nodes .entry)) (rowWidth * link + nodeEntries) (plusUpTo (countAt (now (nodes .entry)) link) 1) ⌝ }
 {
-    let count = tables::get(nodes, link, tables::node::ENTRIES);
-    tables::put(nodes, link, tables::node::ENTRIES, crate::plus(count, 1));
+    let count = tables::get(nodes, link, node::ENTRIES);
+    tables::put(nodes, link, node::ENTRIES, crate::plus(count, 1));
 }
 
 // The node [min, max) in column `col` of the row of `parent`, made where there is none; 0 if the rows are spent.
@@ -26,21 +36,22 @@ fn reach(nodes: &mut [u64], parent: u64, col: usize, min: u64, max: u64, kind: u
     if there != 0 {
         return there;
     }
-    let used = tables::get(nodes, 0, tables::node::COUNT);
+    let used = tables::get(nodes, 0, node::COUNT);
     if crate::rows(nodes) <= used {
         return 0;
     }
     let link = used + 1;
-    tables::put(nodes, 0, tables::node::COUNT, link);
+    tables::put(nodes, 0, node::COUNT, link);
     tables::put(nodes, parent, col, link);
-    tables::put(nodes, link, tables::node::MIN, min);
-    tables::put(nodes, link, tables::node::MAX, max);
-    tables::put(nodes, link, tables::node::KIND, kind);
+    tables::put(nodes, link, node::MIN, min);
+    tables::put(nodes, link, node::MAX, max);
+    tables::put(nodes, link, node::KIND, kind);
     link
 }
 
 // Adds the life [created, destroyed) to the node [min, max) that hangs in column `col` of the row of `parent`: one entry more in each node
-// that it covers, and nodes where there are none. False if the rows are spent. At most 65 deep: each call halves the width.
+// that it covers, and nodes where there are none. False if the rows are spent. Each call halves the width: whatever the table holds, it goes at
+// most 64 deep for an end up to 2^63, and to at most four nodes of a level.
 pub fn add_location(
     nodes: &mut [u64],
     parent: u64,
@@ -69,42 +80,15 @@ pub fn add_location(
         if destroyed <= mid {
             return true;
         }
-        return add_location(
-            nodes,
-            link,
-            tables::node::RIGHT,
-            mid,
-            max,
-            created,
-            destroyed,
-            kind,
-        );
+        return add_location(nodes, link, node::RIGHT, mid, max, created, destroyed, kind);
     }
-    if !add_location(
-        nodes,
-        link,
-        tables::node::LEFT,
-        min,
-        mid,
-        created,
-        destroyed,
-        kind,
-    ) {
+    if !add_location(nodes, link, node::LEFT, min, mid, created, destroyed, kind) {
         return false;
     }
     if destroyed <= mid {
         return true;
     }
-    add_location(
-        nodes,
-        link,
-        tables::node::RIGHT,
-        mid,
-        max,
-        created,
-        destroyed,
-        kind,
-    )
+    add_location(nodes, link, node::RIGHT, mid, max, created, destroyed, kind)
 }
 
 // Adds the lives of the blocks 1 to n. False if the rows are spent.
@@ -114,8 +98,8 @@ fn add_blocks(nodes: &mut [u64], blocks: &[u64], n: u64, end: u64, kind: u64) ->
     let mut j = 0;
     while j < n {
         let link = j + 1;
-        let created = tables::block::get(blocks, link, tables::block::CREATED);
-        let destroyed = tables::block::get(blocks, link, tables::block::DESTROYED);
+        let created = block::get(blocks, link, block::CREATED);
+        let destroyed = block::get(blocks, link, block::DESTROYED);
         if !add_location(nodes, 0, kind as usize, 0, end, created, destroyed, kind) {
             return false;
         }
@@ -130,7 +114,7 @@ fn add_pieces(nodes: &mut [u64], pieces: &[u64], n: u64, end: u64, kind: u64) ->
 {
     let mut j = 0;
     while j < n {
-        let created = tables::get(pieces, j + 1, tables::piece::WRITTEN);
+        let created = tables::get(pieces, j + 1, piece::WRITTEN);
         if !add_location(nodes, 0, kind as usize, 0, end, created, end, kind) {
             return false;
         }
@@ -139,15 +123,8 @@ fn add_pieces(nodes: &mut [u64], pieces: &[u64], n: u64, end: u64, kind: u64) ->
     true
 }
 
-// What is refused where room is too little: more nodes are needed than there are rows, or more entries.
-pub const NODES_SPENT: u64 = 12;
-
-pub const ENTRIES_SPENT: u64 = 13;
-
-pub const ENOUGH: u64 = 0;
-
-// Counts the tree of n blocks, and of m pieces that live up to the end, in a node table of zeros. Where the nodes or the entries do not fit, the
-// table is zeros again.
+// Counts the tree of n blocks, and of m pieces that live up to the end, in a node table of zeros, in whatever order their rows are. Where the
+// nodes or the entries do not fit, the table is zeros again.
 pub fn count_tree(
     nodes: &mut [u64],
     entries: &[u64],
@@ -158,7 +135,7 @@ pub fn count_tree(
     end: u64,
     kind: u64,
 ) -> u64
-    ensures { λ r. ⌜ CountedTree (now (nodes .entry)) (now (nodes .exit)) (now (entries .entry)) (now (blocks .entry)) (now (pieces .entry)) n m end kind r ⌝ }
+    ensures { λ r. ⌜ CountedTree (rowsToCount (now (blocks .entry)) n (now (pieces .entry)) m end kind) (now (nodes .entry)) (now (entries .entry)) (now (nodes .exit)) r ⌝ }
 {
     if !add_blocks(nodes, blocks, n, end, kind) {
         tables::zero(nodes);
@@ -168,7 +145,7 @@ pub fn count_tree(
         tables::zero(nodes);
         return NODES_SPENT;
     }
-    let used = tables::get(nodes, 0, tables::node::COUNT);
+    let used = tables::get(nodes, 0, node::COUNT);
     let total = crate::close::assign_runs(nodes, used);
     if crate::entry_rows(entries) < total {
         tables::zero(nodes);

@@ -1,0 +1,47 @@
+-- `close::write_blocks` meets its contract: what is still to come gives the same in the end. Assumes nothing.
+use mathlib.Core.Path.{_≡_, refl, _∙_}
+use Prim.Native.Nat.{_≤_, _-_}
+use native.Mathlib.Omega.{arith}
+use lib.ListN.{length}
+use borrow.Author.Needs.{needs}
+use Rattle.tables.specs.Columns.{blockColumn, blockNext}
+use Rattle.segment_tree.proofs.WritingAll.{OnwardFrom, onward-start, onward-met, onward-more, onward-spent}
+use Rattle.segment_tree.proofs.close.write_blocks.Statement.{statement}
+use Rattle.segment_tree.proofs.close.write_blocks.Tie as tie
+
+abbrev Inv-loop : tie.InvT-loop
+Inv-loop nodes₀ entries₀ blocks n root end link₀ j₀ nodes entries link j =
+    (j ≤ n) × (length nodes ≡ length nodes₀) × (length entries ≡ length entries₀)
+    × OnwardFrom blocks nodes₀ entries₀ nodes entries root end (blockColumn blocks 0 blockNext) link n j
+
+abbrev μ-loop : tie.MeasureT-loop
+μ-loop nodes₀ entries₀ blocks n root end link₀ j₀ nodes entries link j = n - j
+
+pub write-blocks-spec : {M : Type 1} → statement M
+write-blocks-spec =
+    tie.close
+    (tie.spec
+    Inv-loop
+    μ-loop
+    (λ c κs. search needs)
+    (λ c. (omega arith, refl, refl, onward-start (c .get .ensures)))
+    (λ c. search needs)
+    (λ c. search needs)
+    (λ c. onward-met (c .before .before .loop .inv .3) (c .if1 .taken))
+    (λ c κs. search needs)
+    (λ c κs. search needs)
+    (λ c κs. search needs)
+    (λ c. search needs)
+    (λ c κs. search needs)
+    (λ c κs. search needs)
+    (λ c. search needs)
+    (λ c. search needs)
+    (λ c. (
+      omega arith,
+      c .before .before .before .before .before .write-location .kept .0 ∙ c .before .before .before .before .before .before .before .before .before .before .before .before .before .loop .inv .1,
+      c .before .before .before .before .before .write-location .kept .1 .0 ∙ c .before .before .before .before .before .before .before .before .before .before .before .before .before .loop .inv .2,
+      onward-more (c .before .before .before .before .before .before .before .before .before .before .before .before .before .loop .inv .3) (omega arith) (c .before .before .before .before .before .before .before .before .before .before .before .if1 .left) (c .before .before .before .before .before .before .before .before .before .before .get2 .ensures) (c .before .before .before .before .before .before .before .before .before .get3 .ensures) (c .before .before .before .before .before .before .before .before .get4 .ensures) (c .before .before .before .before .before .write-location .ensures) (c .get5 .ensures),
+    ))
+    (λ c. search needs)
+    (λ c. search needs)
+    (λ c. onward-spent (c .before .loop .inv .3) (omega arith)))
