@@ -85,52 +85,52 @@ unfolding partAt
 part-right link a x b h = rw (ne-eqb link x (λ e. omega arith), le-ltb link x (omega arith))
 
 -- the row of a link says the part of the tree that it is the root of
-pub record Told (t : List ℕ) (link : ℕ) (part : Tree) : Type 0 where
+pub record Says (t : List ℕ) (link : ℕ) (part : Tree) : Type 0 where
   pub valid : Valid t link
   pub left : column t link pieceLeft ≡ rootOf (leftOf part)
   pub right : column t link pieceRight ≡ rootOf (rightOf part)
   pub deep : column t link pieceDepth ≡ height part
 
-pub told-shape : (t : List ℕ) (T : Tree) → Ascending (λ k. k) (rows T) → ((link : ℕ) → Mem link (rows T) → Told t link (partAt link T)) → Shape t (rootOf T) T
+pub says-shape : (t : List ℕ) (T : Tree) → Ascending (λ k. k) (rows T) → ((link : ℕ) → Mem link (rows T) → Says t link (partAt link T)) → Shape t (rootOf T) T
 unfolding Shape rows rootOf leftOf rightOf
-told-shape t leaf o f = refl
-told-shape t (node a x b) o f =
-    let h : Told t x (node a x b) = rw (part-here a x b) at (f x (mem-right (rows a) (x ∷ rows b) (here refl))) in
+says-shape t leaf o f = refl
+says-shape t (node a x b) o f =
+    let h : Says t x (node a x b) = rw (part-here a x b) at (f x (mem-right (rows a) (x ∷ rows b) (here refl))) in
     let tail = ascending-right (λ k. k) (rows a) (x ∷ rows b) o in
     record {
       is = refl;
       valid = h .valid;
       left =
           left-shape h
-          (told-shape t a (ascending-left (λ k. k) (rows a) (x ∷ rows b) o)
+          (says-shape t a (ascending-left (λ k. k) (rows a) (x ∷ rows b) o)
           (λ link m.
           let less : link < x = ascending-across (λ k. k) (rows a) (x ∷ rows b) o link x m (here refl) in
           rw (part-left link a x b less) at (f link (mem-left (rows a) (x ∷ rows b) m))));
       right =
           right-shape h
-          (told-shape t b (ascending-tail (λ k. k) tail)
+          (says-shape t b (ascending-tail (λ k. k) tail)
           (λ link m.
           let more : x < link = ascending-head (λ k. k) tail link m in
           rw (part-right link a x b more) at (f link (mem-right (rows a) (x ∷ rows b) (there m)))));
       deep = h .deep;
     }
   where
-    left-shape : Told t x (node a x b) → Shape t (rootOf a) a → Shape t (column t x pieceLeft) a
+    left-shape : Says t x (node a x b) → Shape t (rootOf a) a → Shape t (column t x pieceLeft) a
     left-shape h s = rw (h .left) s
 
-    right-shape : Told t x (node a x b) → Shape t (rootOf b) b → Shape t (column t x pieceRight) b
+    right-shape : Says t x (node a x b) → Shape t (rootOf b) b → Shape t (column t x pieceRight) b
     right-shape h s = rw (h .right) s
 
 -- a table whose rows say the tree has the links 1 to n
-pub told-links : (t : List ℕ) (n : ℕ) → column t 0 piecesRoot ≡ rootOf (treeTo n) → column t 0 piecesCount ≡ n → rowWidth * n + rowWidth ≤ length t
-    → ((link : ℕ) → 0 < link → link ≤ n → Told t link (partAt link (treeTo n))) → Links t (countFrom 1 n)
-told-links t n root count room f =
+pub says-links : (t : List ℕ) (n : ℕ) → column t 0 piecesRoot ≡ rootOf (treeTo n) → column t 0 piecesCount ≡ n → rowWidth * n + rowWidth ≤ length t
+    → ((link : ℕ) → 0 < link → link ≤ n → Says t link (partAt link (treeTo n))) → Links t (countFrom 1 n)
+says-links t n root count room f =
     record {
       tree = treeTo n;
       is = tree-to-rows n;
       shape =
           rw root
-          (told-shape t (treeTo n) (rw (tree-to-rows n) (count-from-ascending 1 n))
+          (says-shape t (treeTo n) (rw (tree-to-rows n) (count-from-ascending 1 n))
           (λ link m. let r = inside link (rw (tree-to-rows n) at m) in f link (r .0) (r .1)));
       balanced = tree-to-balanced n;
       count = count-from-length 1 n ∙ sym count;
@@ -188,10 +188,10 @@ module _ (many : ℕ) (ps : List PieceRow) (room : rowWidth * length ps + rowWid
   unfolding pieceTable
   piece-column link c h k = table-by-at 0 many (pieceRow ps) link c k (omega arith)
 
-  piece-told : (link : ℕ) → 0 < link → link ≤ length ps → Told (pieceTable many ps) link (partAt link (treeTo (length ps)))
+  piece-says : (link : ℕ) → 0 < link → link ≤ length ps → Says (pieceTable many ps) link (partAt link (treeTo (length ps)))
   unfolding pieceRow
-  piece-told zero p h = absurd (omega arith)
-  piece-told (suc k) p h =
+  piece-says zero p h = absurd (omega arith)
+  piece-says (suc k) p h =
       record {
         valid = record { some = omega arith; room = omega (arith, piece-table-length many ps) };
         left = piece-column (suc k) pieceLeft h (omega arith);
@@ -202,8 +202,8 @@ module _ (many : ℕ) (ps : List PieceRow) (room : rowWidth * length ps + rowWid
   pub piece-links : Links (pieceTable many ps) (countFrom 1 (length ps))
   unfolding pieceRow
   piece-links =
-      told-links (pieceTable many ps) (length ps) (piece-column 0 piecesRoot (omega arith) (omega arith)) (piece-column 0 piecesCount (omega arith) (omega arith))
-      (omega (arith, piece-table-length many ps)) piece-told
+      says-links (pieceTable many ps) (length ps) (piece-column 0 piecesRoot (omega arith) (omega arith)) (piece-column 0 piecesCount (omega arith) (omega arith))
+      (omega (arith, piece-table-length many ps)) piece-says
 
   pub piece-at : (k : ℕ) → k < length ps → pieceAt (pieceTable many ps) (suc k) ≡ getD ps k noPiece
   unfolding pieceRow
