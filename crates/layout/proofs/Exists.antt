@@ -157,7 +157,8 @@ module _ (l : Ledger) (s : SoundBoard l) (f : Lendable l) where
       entry-words : All Word entries
       entry-words =
           entry-table-words (l .opening .lent .entries) (firstCellIn sortedBlocks) (entriesIn tree)
-          (omega (arith, entry-count-in tree, c .entries-fit, f .entries)) numbered-words (λ k. word-at (blocks-fit l s f sortedNext next-words) (rowWidth * suc k + (blockBase + blockFirst)))
+          (omega (arith, entry-count-in tree, c .entries-fit, f .entries)) numbered-words
+          (λ k. word-at (blocks-fit l s f sortedNext next-words) (rowWidth * suc k + (blockBase + blockFirst)))
 
 -- ── every sound ledger ──
 

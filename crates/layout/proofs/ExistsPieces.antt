@@ -2,7 +2,7 @@
 use mathlib.Core.Path.{_≡_, refl, ap, ap₂, sym, _∙_}
 use mathlib.Core.Bool.{Bool, true, false, cond}
 use mathlib.Core.List.{List, [], _∷_, _++_, map}
-use Prim.Native.Nat.{ℕ, zero, suc, _+_, _-_, _*_, _^_, _≤_, _<_}
+use Prim.Native.Nat.{ℕ, zero, suc, _+_, _*_, _^_, _≤_, _<_}
 use native.Mathlib.Omega.{arith}
 use lib.Dec.{ltb, eqb}
 use lib.ListN.{length, getD, length-append}
@@ -39,6 +39,7 @@ in-order-last n (suc many) =
     let z : n + suc many ≡ suc n + many = omega arith in
     rw (le-ltb (n + suc many) n (omega arith), z) (ap (λ (r : List ℕ). n ∷ r) (in-order-last (suc n) many))
 
+-- its links in order
 pub tree-to-rows : (n : ℕ) → rows (treeTo n) ≡ countFrom 1 n
 unfolding treeTo rows countFrom
 tree-to-rows zero = refl
@@ -48,6 +49,7 @@ tree-to-rows (suc n) =
     inserted-rows (λ k. k) (suc n) (treeTo n) (rw ih (count-from-ascending 1 n))
     ∙ rw (ih, z) (in-order-last 1 n)
 
+-- insertion keeps the balance
 pub tree-to-balanced : (n : ℕ) → Balanced (treeTo n)
 unfolding treeTo Balanced
 tree-to-balanced zero = tt
@@ -55,6 +57,7 @@ tree-to-balanced (suc n) = inserted-balanced (λ k. k) (suc n) (treeTo n) (tree-
 
 -- ── its rows ──
 
+-- the root of a tree, 0 if it has none, and its two subtrees
 unfoldable pub rootOf : Tree → ℕ
 rootOf leaf = 0
 rootOf (node a x b) = x
@@ -91,7 +94,9 @@ pub record Says (t : List ℕ) (link : ℕ) (part : Tree) : Type 0 where
   pub right : column t link pieceRight ≡ rootOf (rightOf part)
   pub deep : column t link pieceDepth ≡ height part
 
-pub says-shape : (t : List ℕ) (T : Tree) → Ascending (λ k. k) (rows T) → ((link : ℕ) → Mem link (rows T) → Says t link (partAt link T)) → Shape t (rootOf T) T
+-- rows that say a tree of ascending links, each its part, are in its shape
+pub says-shape : (t : List ℕ) (T : Tree) → Ascending (λ k. k) (rows T) → ((link : ℕ) → Mem link (rows T) → Says t link (partAt link T))
+    → Shape t (rootOf T) T
 unfolding Shape rows rootOf leftOf rightOf
 says-shape t leaf o f = refl
 says-shape t (node a x b) o f =
@@ -176,6 +181,7 @@ pieceRow ps (suc k) =
     let part = partAt (suc k) (treeTo (length ps)) in
     p .first ∷ p .size ∷ p .written ∷ p .offset ∷ rootOf (leftOf part) ∷ rootOf (rightOf part) ∷ height part ∷ p .owner ∷ []
 
+-- as long as it is lent
 unfoldable pub pieceTable : (many : ℕ) (ps : List PieceRow) → List ℕ
 pieceTable many ps = tableBy 0 many (pieceRow ps)
 
@@ -184,6 +190,7 @@ unfolding pieceTable
 piece-table-length many ps = table-by-length 0 many (pieceRow ps)
 
 module _ (many : ℕ) (ps : List PieceRow) (room : rowWidth * length ps + rowWidth ≤ many) where
+  -- a column in use reads as the row says
   piece-column : (link c : ℕ) → link ≤ length ps → c < rowWidth → column (pieceTable many ps) link (0 + c) ≡ getD (pieceRow ps link) c 0
   unfolding pieceTable
   piece-column link c h k = table-by-at 0 many (pieceRow ps) link c k (omega arith)
@@ -199,6 +206,7 @@ module _ (many : ℕ) (ps : List PieceRow) (room : rowWidth * length ps + rowWid
         deep = piece-column (suc k) pieceDepth h (omega arith);
       }
 
+  -- so the links 1 to n stand in it, and the row of each is its piece
   pub piece-links : Links (pieceTable many ps) (countFrom 1 (length ps))
   unfolding pieceRow
   piece-links =
@@ -215,6 +223,7 @@ module _ (many : ℕ) (ps : List PieceRow) (room : rowWidth * length ps + rowWid
     owner = piece-column (suc k) pieceOwner h (omega arith) i;
   }
 
+  -- all pieces are shown, and their bytes are inside the used part
   pub pieces-shown : (store : List ℕ) → map (λ link. shown store (pieceAt (pieceTable many ps) link)) (countFrom 1 (length ps)) ≡ map (shown store) ps
   pieces-shown store =
       map-from-at (shown store) (pieceAt (pieceTable many ps)) noPiece 1 ps (λ k p. let z : 1 + k ≡ suc k = omega arith in rw z (piece-at k p))
@@ -259,6 +268,7 @@ part-height link (node l x r) = choose (eqb link x) (ltb link x) (part-height li
     choose false true p q = omega arith
     choose false false p q = omega arith
 
+-- a tree is no higher than its links are many
 height-length : (T : Tree) → height T ≤ length (rows T)
 unfolding height rows
 height-length leaf = omega arith
@@ -285,6 +295,7 @@ right-all {P} (node l x r) a = tail (all-right (rows l) (x ∷ rows r) a)
     tail : All P (x ∷ rows r) → All P (rows r)
     tail (all-cons p ps) = ps
 
+-- the numbers of a piece are words
 pub record PieceWords (p : PieceRow) : Type 0 where
   pub first : p .first < 2 ^ 64
   pub size : p .size < 2 ^ 64
@@ -292,6 +303,7 @@ pub record PieceWords (p : PieceRow) : Type 0 where
   pub offset : p .offset < 2 ^ 64
   pub owner : p .owner < 2 ^ 64
 
+-- and so are all numbers of the table: links are up to n, depths too
 pub piece-table-words : (many : ℕ) (ps : List PieceRow) → length ps < 2 ^ 64 → All PieceWords ps → All Word (pieceTable many ps)
 unfolding pieceTable pieceRow
 piece-table-words many ps few a = table-by-words 0 many (pieceRow ps) words
