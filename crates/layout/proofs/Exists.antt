@@ -73,7 +73,7 @@ open-exists l s f unfinished =
     unordered =
         record {
           none = λ k h.
-          block-next (l .opening .lent .blocks) (headOf l) noNext (blockRowsOf l s .rows) (block-room l s (f .heads)) k (omega (arith, blocks-many l s));
+              block-next (l .opening .lent .blocks) (headOf l) noNext (blockRowsOf l s .rows) (block-room l s (f .heads)) k (omega (arith, blocks-many l s));
         }
 
     zeros : (n : ℕ) → replicate {A = ℕ} n 0 ≡ replicate (length (replicate {A = ℕ} n 0)) 0

@@ -39,9 +39,10 @@ follows-same f g last (x ∷ xs) same h = (same last (here refl) ∙ h .0, follo
 next-in-follows : (last : ℕ) (xs : List ℕ) → Distinct (last ∷ xs) → Follows (nextIn last xs) last xs
 unfolding Follows nextIn
 next-in-follows last [] d = refl
-next-in-follows last (x ∷ xs) d =
-    (rw (eq-eqb last last refl),
-    follows-same (nextIn x xs) (nextIn last (x ∷ xs)) x xs (λ k m. rw (ne-eqb k last (λ e. d .0 (moved k e m)))) (next-in-follows x xs (d .1)))
+next-in-follows last (x ∷ xs) d = (
+  rw (eq-eqb last last refl),
+  follows-same (nextIn x xs) (nextIn last (x ∷ xs)) x xs (λ k m. rw (ne-eqb k last (λ e. d .0 (moved k e m)))) (next-in-follows x xs (d .1)),
+)
   where
     moved : (k : ℕ) → k ≡ last → Mem k (x ∷ xs) → Mem last (x ∷ xs)
     moved k e m = rw e at m

@@ -87,10 +87,11 @@ node-rows-runs kind lo hi link first hole = tt
 node-rows-runs kind lo hi link first (node xs l r) =
     let a = nodeRows kind lo (mid lo hi) (suc link) (first + length xs) l in
     let b = nodeRows kind (mid lo hi) hi (suc link + nodeCount l) (first + length xs + entryCount l) r in
-    let p : behind (first + length xs) a ≡ first + length xs + entryCount l = node-rows-behind kind lo (mid lo hi) (suc link) (first + length xs) l in
-    (refl,
-    runs-append (first + length xs) a b (node-rows-runs kind lo (mid lo hi) (suc link) (first + length xs) l)
-    (rw p (node-rows-runs kind (mid lo hi) hi (suc link + nodeCount l) (first + length xs + entryCount l) r)))
+    let p : behind (first + length xs) a ≡ first + length xs + entryCount l = node-rows-behind kind lo (mid lo hi) (suc link) (first + length xs) l in (
+      refl,
+      runs-append (first + length xs) a b (node-rows-runs kind lo (mid lo hi) (suc link) (first + length xs) l)
+          (rw p (node-rows-runs kind (mid lo hi) hi (suc link + nodeCount l) (first + length xs + entryCount l) r)),
+    )
 
 runs-first : (first : ℕ) (rows : List (List ℕ)) → Runs first rows → 0 < length rows → getD (getD rows 0 []) nodeFirst 0 ≡ first
 unfolding Runs
@@ -133,8 +134,8 @@ module _ (nodes : List ℕ) (link : ℕ) where
   rows-right xs ys h =
       record {
         says = λ j c p q.
-        let z : link + length xs + j ≡ link + (length xs + j) = omega arith in
-        rw z (h .says (length xs + j) c (omega (arith, length-append xs ys)) q ∙ ap (λ (r : List ℕ). getD r c 0) (getD-append-add xs ys j []));
+            let z : link + length xs + j ≡ link + (length xs + j) = omega arith in
+            rw z (h .says (length xs + j) c (omega (arith, length-append xs ys)) q ∙ ap (λ (r : List ℕ). getD r c 0) (getD-append-add xs ys j []));
       }
 
 -- the same of entries, and they are a run
@@ -146,8 +147,8 @@ module _ (entries : List ℕ) (row : ℕ) where
   entries-right xs ys h =
       record {
         says = λ j p.
-        let z : row + length xs + j ≡ row + (length xs + j) = omega arith in
-        rw z (h .says (length xs + j) (omega (arith, length-append xs ys)) ∙ getD-append-add xs ys j 0);
+            let z : row + length xs + j ≡ row + (length xs + j) = omega arith in
+            rw z (h .says (length xs + j) (omega (arith, length-append xs ys)) ∙ getD-append-add xs ys j 0);
       }
 
   entries-run : (xs : List ℕ) → EntriesAt entries row xs → run entries row (length xs) ≡ xs
@@ -192,27 +193,29 @@ module _ (t : Tables) (kind many : ℕ)
       let later = entries-right (t .entries) first xs (entriesIn l ++ entriesIn r) es in
       let rs-right : RowsAt (t .nodes) (suc link + nodeCount l) b = rw long at (rows-right (t .nodes) (suc link) a b below) in
       let es-right : EntriesAt (t .entries) (first + length xs + entryCount l) (entriesIn r) =
-      rw many-left at (entries-right (t .entries) (first + length xs) (entriesIn l) (entriesIn r) later) in
-      (record {
-        some = some;
-        used = omega arith;
-        low = own nodeMin (omega arith);
-        high = own nodeMax (omega arith);
-        own-kind = own nodeKind (omega arith);
-        narrow = λ n.
-        let both = narrow-holes lo hi l r wide n in
-        (here-left ∙ link-hole (suc link) l (and-left (isHole l) (isHole r) both),
-        here-right ∙ link-hole (suc link + nodeCount l) r (and-right (isHole l) (isHole r) both));
-        inside = omega arith;
-        listed = rw (here-first, here-count) (entries-run (t .entries) first xs (entries-left (t .entries) first xs (entriesIn l ++ entriesIn r) es));
-        keyed = rw (here-first, here-count) (record { key = λ j p. keyed (first + j) (omega arith) });
-      },
-      rw here-left
-      (rows-tree l lo (mid lo hi) (suc link) (first + length xs) (omega arith) (omega arith) (omega arith)
-      (and-left (halved lo (mid lo hi) l) (halved (mid lo hi) hi r) deep) (rows-left (t .nodes) (suc link) a b below) (entries-left (t .entries) (first + length xs) (entriesIn l) (entriesIn r) later)),
-      rw here-right
-      (rows-tree r (mid lo hi) hi (suc link + nodeCount l) (first + length xs + entryCount l) (omega arith) (omega arith) (omega arith)
-      (and-right (halved lo (mid lo hi) l) (halved (mid lo hi) hi r) deep) rs-right es-right))
+      rw many-left at (entries-right (t .entries) (first + length xs) (entriesIn l) (entriesIn r) later) in (
+        record {
+          some = some;
+          used = omega arith;
+          low = own nodeMin (omega arith);
+          high = own nodeMax (omega arith);
+          own-kind = own nodeKind (omega arith);
+          narrow = λ n.
+              let both = narrow-holes lo hi l r wide n in (
+                here-left ∙ link-hole (suc link) l (and-left (isHole l) (isHole r) both),
+                here-right ∙ link-hole (suc link + nodeCount l) r (and-right (isHole l) (isHole r) both),
+              );
+          inside = omega arith;
+          listed = rw (here-first, here-count) (entries-run (t .entries) first xs (entries-left (t .entries) first xs (entriesIn l ++ entriesIn r) es));
+          keyed = rw (here-first, here-count) (record { key = λ j p. keyed (first + j) (omega arith) });
+        },
+        rw here-left
+            (rows-tree l lo (mid lo hi) (suc link) (first + length xs) (omega arith) (omega arith) (omega arith)
+            (and-left (halved lo (mid lo hi) l) (halved (mid lo hi) hi r) deep) (rows-left (t .nodes) (suc link) a b below) (entries-left (t .entries) (first + length xs) (entriesIn l) (entriesIn r) later)),
+        rw here-right
+            (rows-tree r (mid lo hi) hi (suc link + nodeCount l) (first + length xs + entryCount l) (omega arith) (omega arith) (omega arith)
+            (and-right (halved lo (mid lo hi) l) (halved (mid lo hi) hi r) deep) rs-right es-right),
+      )
 
 -- ── the node table ──
 
