@@ -1,3 +1,6 @@
 pub mod Opens
 pub mod Reading
 pub mod Answering
+pub mod Bytes
+pub mod Finishing
+pub mod Recording

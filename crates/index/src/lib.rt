@@ -4,13 +4,17 @@
 //   specs/Answers     document 01's number and values for every case of an answer
 //   layout's Relations are the contracts: demand 3 links the calls by them
 ghost use mathlib.Core.Path.{_≡_};
+ghost use lib.ListN.{length};
+ghost use Rattle.index_record.specs.Calls.{operation, recordedOf};
 ghost use Rattle.layout.specs.Tables.{tables};
-ghost use Rattle.layout.specs.Relations.{OpenedBy, FoundBy, BlockGivenBy};
-ghost use Rattle.index.specs.Answers.{openedOf, foundOf, givenOf};
+ghost use Rattle.layout.specs.Relations.{OpenedBy, RecordedBy, FinishedBy, FoundBy, BlockGivenBy};
+ghost use Rattle.index.specs.Answers.{openedOf, finishedOf, foundOf, givenOf};
 ghost use Rattle.index.specs.Reads.{BytesGivenBy};
+ghost use Rattle.index.specs.Work.{FinishesOpen};
 
 mod reads;
 
+use index_record::Recorded;
 use index_test::State;
 use tables::block;
 
@@ -20,6 +24,12 @@ pub struct Index {}
 // The answer of opening.
 pub enum Opened {
     Opened,
+    Refused(u64),
+}
+
+// The answer of finish.
+pub enum Finished {
+    Finished,
     Refused(u64),
 }
 
@@ -78,6 +88,77 @@ impl Index {
         block::put(blocks, 0, block::KIND, kind as u64);
         Opened::Opened
     }
+}
+
+// Records an operation: a read where every cell is known with its byte, else an update. The scratch's length bounds the space for pieces; nothing is
+// written to it.
+pub fn record_op(
+    pieces: &mut [u64],
+    blocks: &mut [u64],
+    store: &mut [u8],
+    nodes: &[u64],
+    entries: &[u64],
+    scratch: &[u64],
+    tick: u64,
+    first: u64,
+    bytes: &[u8],
+) -> Recorded
+    ensures { λ r. ⌜ RecordedBy (length (now (scratch .entry))) (operation tick first (now (bytes .entry)))
+        (tables (now (pieces .entry)) (now (blocks .entry)) (now (store .entry)) (now (nodes .entry)) (now (entries .entry)))
+        (tables (now (pieces .exit)) (now (blocks .exit)) (now (store .exit)) (now (nodes .entry)) (now (entries .entry))) (recordedOf r) ⌝ }
+{
+    let state = index_test::test(pieces, blocks, store, nodes, entries);
+    match state {
+        State::Bad => Recorded::Refused(2),
+        State::Closed => Recorded::Refused(3),
+        State::Open => {
+            index_record::record_open(
+                pieces,
+                blocks,
+                store,
+                scratch.len() as u64,
+                tick,
+                first,
+                bytes,
+            )
+        }
+    }
+}
+
+// Finishes an index: the pieces become blocks, and the blocks get their tree.
+pub fn finalize(
+    pieces: &mut [u64],
+    blocks: &mut [u64],
+    store: &[u8],
+    nodes: &mut [u64],
+    entries: &mut [u64],
+) -> Finished
+    ensures { λ r. ⌜ FinishedBy (tables (now (pieces .entry)) (now (blocks .entry)) (now (store .entry)) (now (nodes .entry)) (now (entries .entry)))
+        (tables (now (pieces .exit)) (now (blocks .exit)) (now (store .entry)) (now (nodes .exit)) (now (entries .exit))) (finishedOf r) ⌝ }
+{
+    let state = index_test::test(pieces, blocks, store, nodes, entries);
+    match state {
+        State::Bad => Finished::Refused(2),
+        State::Closed => Finished::Refused(3),
+        State::Open => finish_open(pieces, blocks, nodes, entries),
+    }
+}
+
+// Finishes an open index, without the test of its tables: for callers that have tested them.
+pub fn finish_open(
+    pieces: &mut [u64],
+    blocks: &mut [u64],
+    nodes: &mut [u64],
+    entries: &mut [u64],
+) -> Finished
+    ensures { λ r. ⌜ FinishesOpen (now (pieces .entry)) (now (blocks .entry)) (now (nodes .entry)) (now (entries .entry))
+        (now (pieces .exit)) (now (blocks .exit)) (now (nodes .exit)) (now (entries .exit)) (finishedOf r) ⌝ }
+{
+    let refusal = index_finish::finish_open(pieces, blocks, nodes, entries);
+    if refusal == 0 {
+        return Finished::Finished;
+    }
+    Finished::Refused(refusal)
 }
 
 // The block of a number.

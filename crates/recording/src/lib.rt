@@ -156,7 +156,8 @@ fn clear_one(pieces: &mut [u64], blocks: &mut [u64], tick: u64, first: u64, end:
         return false;
     }
     record_part(pieces, blocks, link, tick, first, end);
-    if piece_table::ends_after(pieces, link, end) {
+    let reaches_on = piece_table::ends_after(pieces, link, end);
+    if reaches_on {
         piece_table::trim_front(pieces, link, end);
         return false;
     }

@@ -1,0 +1,11 @@
+-- `board_text::input::opening` meets its contract. Assumes nothing.
+use borrow.Author.Needs.{needs}
+use Rattle.board_text.proofs.Records.{start-short, start-open}
+use Rattle.board_text.proofs.input.opening.Statement.{statement}
+use Rattle.board_text.proofs.input.opening.Tie as tie
+
+pub opening-spec : {M : Type 1} → statement M
+opening-spec =
+    tie.close
+    (tie.spec (λ c. start-short _ (search needs)) (λ c κs. search needs) (λ c κs. search needs)
+    (λ c. start-open _ (search needs) (c .before .number-at .ensures) (c .number-at2 .ensures)))

@@ -1,0 +1,4 @@
+-- The definitions that the contracts cite.
+pub mod Input
+pub mod Walk
+pub mod Line

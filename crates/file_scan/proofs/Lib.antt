@@ -1,0 +1,9 @@
+-- Laws that belong to no one function.
+pub mod Readers
+pub mod RowReads
+pub mod RowBytes
+pub mod BlockCounts
+pub mod Forest
+pub mod NodeCounts
+pub mod Scanning
+pub mod FileParts

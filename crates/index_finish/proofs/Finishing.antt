@@ -1,0 +1,184 @@
+-- Finish on tables that stand for an open ledger: one step for each return. Assumes nothing.
+use mathlib.Core.Path.{_≡_, refl, sym, ap₂, subst, _∙_}
+use mathlib.Core.Bool.{Bool, true, false, not}
+use mathlib.Core.List.{List, map}
+use Prim.Native.Nat.{ℕ, _<_, _^_}
+use native.Mathlib.Omega.{arith}
+use lib.ListN.{length, replicate}
+use borrow.Author.Tests.{not-true, not-false}
+use Rattle.lists.specs.Tests.{Decides}
+use Rattle.lists.proofs.Numbers.{refute, decides-iff}
+use Rattle.history.specs.Words.{blockOf}
+use Rattle.history.specs.Rules.{Apart}
+use Rattle.history.specs.Ledger.{Ledger}
+use Rattle.history.specs.Refusals.{Answer, accepted, refused, finishAnswer}
+use Rattle.tables.specs.Columns.{column, blockColumn, piecesCount, headCount, headEnd, headKind}
+use Rattle.ordering.specs.Order.{Ordered, Sorted, cleared}
+use Rattle.ordering.proofs.Keeping.{order-column}
+use Rattle.ordering.proofs.Clearing.{cleared-back}
+use Rattle.segment_tree.specs.Lives.{rowsToCount, CountedTree, CountedAs}
+use Rattle.layout.specs.Tables.{Tables, tables}
+use Rattle.layout.specs.Formed.{Blank}
+use Rattle.layout.specs.Relations.{FinishLeaves}
+use Rattle.index_finish.specs.Apart.{NoneShared, AllApart}
+use Rattle.index_finish.specs.Finish.{StandsOpen, allBlocks, wholeTree, numberOf, Finishable, Finishing, FinishedOpen, TestedBlank, Tallying, CountedAll, Accepted, Prepared, Finished, SettledTables}
+use Rattle.index_finish.proofs.Standing.{room, unordered, pieceRows, rep, piece-count}
+use Rattle.index_finish.proofs.Agreeing.{unshared-all, all-unshared, ordered-filled}
+use Rattle.index_finish.proofs.Counting.{countable, counted-all, counted-answer, counted-accepted, accepted-space}
+
+-- ── the returns of `blank` ──
+
+pub nodes-used : {nodes entries : List ℕ} {q : Bool} → Decides q (nodes ≡ replicate (length nodes) 0) → not q ≡ true → TestedBlank nodes entries false
+nodes-used {q = q} d f = record { decides = λ pieces blocks store. refute (λ x. d .not (not-true q f) (x .nodes)) }
+
+pub nodes-zero : {nodes entries : List ℕ} {q r : Bool} → Decides q (nodes ≡ replicate (length nodes) 0) → not q ≡ false
+    → Decides r (entries ≡ replicate (length entries) 0) → TestedBlank nodes entries r
+nodes-zero {q = q} {r = r} d f rest = record {
+  decides = λ pieces blocks store. decides-iff r (λ e. record { nodes = d .yes (not-false q f); entries = e }) (λ x. x .entries) rest;
+}
+
+pub ruleset blanking = (nodes-used, nodes-zero)
+
+-- ── the returns of `count_all` ──
+
+module _ {pieces b nodes entries : List ℕ} {n : ℕ} {q : Bool} (few-pieces : length pieces < 2 ^ 64) (count : n ≡ blockColumn b 0 headCount) (test : AllApart pieces b n q) where
+  module _ {was store : List ℕ} {l : Ledger} (s : StandsOpen (tables pieces was store nodes entries) l) (o : Ordered was b (length (l .now .blocks))) where
+    n-is : n ≡ length (l .now .blocks)
+    n-is = count ∙ order-column (o .only) 0 headCount (omega arith) (λ z. omega arith) ∙ s .encodes .count
+
+    rule-24 : Decides q (NoneShared b (length (l .now .blocks)) (pieceRows s))
+    rule-24 =
+        let d : AllApart pieces b (length (l .now .blocks)) q = rw (← n-is) test in
+        d .decides (pieceRows s) (rep s few-pieces) (o .order) (ordered-filled s (o .only))
+
+  pub count-shared : not q ≡ true → CountedAll pieces b nodes entries nodes 2
+  count-shared f = record {
+    done = λ was store l s blank o.
+        let never : Apart (allBlocks l) → ⊥ = λ x. rule-24 s o .not (not-true q f) (all-unshared s (o .only) x) in
+        record { formed = λ x. absurd (never x); unformed = λ _. refl; refused-same = λ _. refl; accepted-counted = λ z. absurd (omega arith) };
+  }
+
+  pub count-told : {nodes′ : List ℕ} {m e kind r : ℕ} → length b < 2 ^ 64 → not q ≡ false → m ≡ column pieces 0 piecesCount → e ≡ blockColumn b 0 headEnd
+      → kind ≡ blockColumn b 0 headKind → CountedTree (rowsToCount b n pieces m e kind) nodes entries nodes′ r → CountedAll pieces b nodes entries nodes′ r
+  count-told {nodes′} {m} {e} {kind} {r} few-blocks f em ee ek tree = record { done = go }
+    where
+      go : (was store : List ℕ) (l : Ledger) → StandsOpen (tables pieces was store nodes entries) l → Blank (tables pieces was store nodes entries)
+          → Ordered was b (length (l .now .blocks)) → Tallying l (tables pieces was store nodes entries) nodes′ r
+      go was store l s blank o =
+          let apart : Apart (allBlocks l) = unshared-all s (o .only) (rule-24 s o .yes (not-false q f)) in
+          let m-is : m ≡ length (l .now .pieces) = em ∙ piece-count s in
+          let e-is : e ≡ l .opening .end = ee ∙ order-column (o .only) 0 headEnd (omega arith) (λ z. omega arith) ∙ s .encodes .end in
+          let k-is : kind ≡ l .opening .kind = ek ∙ order-column (o .only) 0 headKind (omega arith) (λ z. omega arith) ∙ s .encodes .kind in
+          let c : CountedTree (rowsToCount b (length (l .now .blocks)) pieces (length (l .now .pieces)) (l .opening .end) (l .opening .kind)) nodes entries nodes′ r
+          = rw (← n-is s o, ← m-is, ← e-is, ← k-is) tree in
+          let counted : CountedAs nodes entries nodes′ (l .opening .kind) (l .opening .end) (wholeTree l) r
+          = rw (counted-all l) at (c .done (l .now .blocks) (map (blockOf (l .opening .end)) (l .now .pieces)) (s .encodes .links)
+          (countable s (o .only) blank few-pieces (omega (arith, o .only .len)))) in
+          record {
+            formed = λ _. counted-answer s (counted .answer);
+            unformed = λ never. absurd (never apart);
+            refused-same = counted .refused;
+            accepted-counted = λ z. record {
+              answer = counted-accepted s (counted .answer) z;
+              apart = apart;
+              counted = counted .counted z;
+              space = accepted-space s (counted .answer) z;
+            };
+          }
+
+pub ruleset counting = (count-shared, count-told, arith)
+
+-- ── the returns of `prepare` ──
+
+pub prepare-unformed : {pieces blocks nodes entries : List ℕ} {q : Bool} → TestedBlank nodes entries q → not q ≡ true → Prepared pieces blocks nodes entries blocks nodes 2
+prepare-unformed {pieces} {blocks} {q = q} d f = record {
+  done = λ store l s. record {
+    formed = λ x. absurd (d .decides pieces blocks store .not (not-true q f) (x .blank));
+    unformed = λ _. refl;
+    refused-same = λ _. (refl, refl);
+    accepted-counted = λ z. absurd (omega arith);
+  };
+}
+
+module _ {pieces blocks nodes entries b nodes′ : List ℕ} {n r : ℕ} {q : Bool} (zeros : TestedBlank nodes entries q) (f : not q ≡ false)
+    (count : n ≡ blockColumn blocks 0 headCount) (sort : Sorted blocks b n) (counted : CountedAll pieces b nodes entries nodes′ r) where
+  module _ {store : List ℕ} {l : Ledger} (s : StandsOpen (tables pieces blocks store nodes entries) l) where
+    same-count : n ≡ length (l .now .blocks)
+    same-count = count ∙ s .encodes .count
+
+    ordered : Ordered blocks b (length (l .now .blocks))
+    ordered = subst (λ (k : ℕ). Ordered blocks b k) same-count (sort .done (omega (arith, same-count, room s)))
+
+    -- the order taken away again
+    back : cleared b n ≡ blocks
+    back = subst (λ (k : ℕ). cleared b k ≡ blocks) (sym same-count) (cleared-back blocks b (length (l .now .blocks)) (unordered s) (ordered .only))
+
+    still-blank : Blank (tables pieces blocks store nodes entries)
+    still-blank = zeros .decides pieces blocks store .yes (not-false q f)
+
+    told : Tallying l (tables pieces blocks store nodes entries) nodes′ r
+    told = counted .done blocks store l s still-blank ordered
+
+    untold : (Finishable (tables pieces blocks store nodes entries) l → ⊥) → r ≡ 2
+    untold never = told .unformed (λ x. never (record { blank = still-blank; apart = x }))
+
+  pub prepare-refused : {b′ : List ℕ} → (r ≡ 0 → ⊥) → b′ ≡ cleared b n → Prepared pieces blocks nodes entries b′ nodes′ r
+  prepare-refused nz c = record {
+    done = λ store l s. record {
+      formed = λ x. told s .formed (x .apart);
+      unformed = untold s;
+      refused-same = λ _. (c ∙ back s, told s .refused-same nz);
+      accepted-counted = λ z. absurd (nz z);
+    };
+  }
+
+  pub prepare-done : r ≡ 0 → length nodes′ ≡ length nodes → Prepared pieces blocks nodes entries b nodes′ 0
+  prepare-done z long = record {
+    done = λ store l s. record {
+      formed = λ x. sym z ∙ told s .formed (x .apart);
+      unformed = λ never. sym z ∙ untold s never;
+      refused-same = λ nz. absurd (nz refl);
+      accepted-counted = λ _. record { stands = s; ordered = ordered s; tallied = told s .accepted-counted z; nodes-long = long };
+    };
+  }
+
+pub ruleset preparing = (prepare-unformed, prepare-refused)
+
+-- ── the returns of `finish_open` ──
+
+-- a refusal leaves everything as it was
+refused-leaves : (a : Answer Unit) (l : Ledger) {t t′ : Tables} → (numberOf a ≡ 0 → ⊥) → t′ ≡ t → FinishLeaves a l t t′
+refused-leaves (accepted x) l nz same = absurd (nz refl)
+refused-leaves (refused n) l nz same = same
+
+module _ {pieces blocks nodes entries b nodes₁ : List ℕ} {r : ℕ} (p : Prepared pieces blocks nodes entries b nodes₁ r) where
+  pub finish-refused : (r ≡ 0 → ⊥) → FinishedOpen pieces blocks nodes entries pieces b nodes₁ entries r
+  finish-refused nz = record { done = go }
+    where
+      go : (store : List ℕ) (l : Ledger) → StandsOpen (tables pieces blocks store nodes entries) l
+          → Finishing l (tables pieces blocks store nodes entries) (tables pieces b store nodes₁ entries) r
+      go store l s =
+          let same : tables pieces b store nodes₁ entries ≡ tables pieces blocks store nodes entries
+          = ap₂ (λ (x y : List ℕ). tables pieces x store y entries) (p .done store l s .refused-same nz .0) (p .done store l s .refused-same nz .1) in
+          record {
+            formed = λ f.
+                let e : r ≡ numberOf (finishAnswer l) = p .done store l s .formed f in
+                (e, refused-leaves (finishAnswer l) l (λ z. nz (e ∙ z)) same);
+            unformed = λ never. (p .done store l s .unformed never, same);
+          }
+
+  pub finish-done : {pieces′ b′ nodes′ entries′ : List ℕ} → r ≡ 0 → SettledTables pieces b nodes₁ entries pieces′ b′ nodes′ entries′
+      → FinishedOpen pieces blocks nodes entries pieces′ b′ nodes′ entries′ 0
+  finish-done {pieces′} {b′} {nodes′} {entries′} z settle = record { done = go }
+    where
+      go : (store : List ℕ) (l : Ledger) → StandsOpen (tables pieces blocks store nodes entries) l
+          → Finishing l (tables pieces blocks store nodes entries) (tables pieces′ b′ store nodes′ entries′) 0
+      go store l s =
+          let a : Accepted (tables pieces blocks store nodes entries) b nodes₁ l = p .done store l s .accepted-counted z in
+          let d : Finished l (tables pieces blocks store nodes entries) (tables pieces′ b′ store nodes′ entries′) = settle .done blocks nodes store l a in
+          record {
+            formed = λ f. rw (a .tallied .answer) (refl, (d .encodes, d .tables-are));
+            unformed = λ never. absurd (let two : r ≡ 2 = p .done store l s .unformed never in omega arith);
+          }
+
+pub ruleset finishing = (finish-refused, finish-done)

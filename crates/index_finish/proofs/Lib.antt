@@ -1,0 +1,9 @@
+pub mod Lists
+pub mod Zeros
+pub mod Clearing
+pub mod Standing
+pub mod Agreeing
+pub mod Counting
+pub mod Settling
+pub mod Finishing
+pub mod Public

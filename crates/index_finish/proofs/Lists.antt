@@ -1,0 +1,48 @@
+-- Laws of lists that finish needs and that know nothing of tables. Assumes nothing.
+use mathlib.Core.Path.{_≡_, refl, ap₂}
+use mathlib.Core.Logic.{inl, inr, ⊎-elim}
+use mathlib.Core.List.{List, [], _∷_, map}
+use Prim.Native.Nat.{ℕ, suc, _+_, _≤_, _<_}
+use native.Mathlib.Omega.{arith}
+use lib.ListN.{length, getD}
+use Rattle.lists.specs.Lists.{Pairs, pairs-nil, pairs-cons, Mem, Distinct, count, countFrom}
+use Rattle.lists.proofs.Lists.{all-of-map}
+use Rattle.lists.proofs.Numbers.{lt-or-le}
+use Rattle.lists.proofs.Counting.{mem-count, count-mem, distinct-count, count-from-out, count-from-count}
+use Rattle.ordering.proofs.Dense.{dense}
+
+-- ── pairs, mapped ──
+
+module _ {A B : Type 0} where
+  pub pairs-of-map : {R : B → B → Type 0} (f : A → B) {xs : List A} → Pairs (λ (x y : A). R (f x) (f y)) xs → Pairs R (map f xs)
+  pairs-of-map f pairs-nil = pairs-nil
+  pairs-of-map f (pairs-cons a p) = pairs-cons (all-of-map f a) (pairs-of-map f p)
+
+-- ── numbers in a row ──
+
+-- elements by numbers, from a number on
+pub map-count-from : {A B : Type 0} (g : ℕ → B) (f : A → B) (d : A) (n : ℕ) (xs : List A) → ((j : ℕ) → j < length xs → g (n + j) ≡ f (getD xs j d))
+    → map g (countFrom n (length xs)) ≡ map f xs
+unfolding countFrom
+map-count-from g f d n [] h = refl
+map-count-from {A} {B} g f d n (x ∷ xs) h =
+    let z : n + 0 ≡ n = omega arith in
+    let this : g n ≡ f x = rw z at (h 0 (omega arith)) in
+    ap₂ (λ (y : B) (r : List B). y ∷ r) this
+    (map-count-from g f d (suc n) xs (λ j l. let q : suc n + j ≡ n + suc j = omega arith in rw q (h (suc j) (omega arith))))
+
+-- n different numbers of 1 to n are there once each
+pub counts-once : (n : ℕ) (xs : List ℕ) → Distinct xs → ((k : ℕ) → Mem k xs → (0 < k) × (k ≤ n)) → length xs ≡ n → (k : ℕ) → count k xs ≡ count k (countFrom 1 n)
+counts-once n xs once within many k = ⊎-elim below (λ p. ⊎-elim (inside p) above (lt-or-le k (1 + n))) (lt-or-le k 1)
+  where
+    none : ((0 < k) × (k ≤ n) → ⊥) → count k xs ≤ 0
+    none out = ⊎-elim (λ h. absurd (out (within k (count-mem k xs h)))) (λ h. h) (lt-or-le 0 (count k xs))
+
+    below : k < 1 → count k xs ≡ count k (countFrom 1 n)
+    below h = omega (arith, none (λ w. omega (arith, w .0)), count-from-out k 1 n (inl h))
+
+    inside : 1 ≤ k → k < 1 + n → count k xs ≡ count k (countFrom 1 n)
+    inside p q = omega (arith, mem-count (dense n xs once within many k p (omega arith)), distinct-count k xs once, count-from-count k 1 n p q)
+
+    above : 1 + n ≤ k → count k xs ≡ count k (countFrom 1 n)
+    above h = omega (arith, none (λ w. omega (arith, w .1)), count-from-out k 1 n (inr h))

@@ -1,0 +1,315 @@
+-- What an accepted finish does: the pieces' blocks appended, all rows in order, the counted tree closed. Assumes nothing.
+use mathlib.Core.Path.{_≡_, refl, sym, ap, subst, _∙_}
+use mathlib.Core.Logic.{_⊎_, inl, inr, ⊎-elim}
+use mathlib.Core.List.{List, [], _++_, map}
+use Prim.Native.Nat.{ℕ, suc, _+_, _-_, _*_, _≤_, _<_, _^_}
+use native.Mathlib.Omega.{arith}
+use lib.ListN.{length, getD, set, take, replicate, length-set, length-replicate}
+use lib.Seq.{sets, getD-set-same, getD-set-other}
+use Rattle.lists.specs.Lists.{All, all-nil, all-cons, Pairs, pairs-nil, pairs-cons, Ascending, count, countFrom}
+use Rattle.lists.proofs.Lists.{all-map, all-both, all-at, all-of-map}
+use Rattle.lists.proofs.Maps.{length-of-map}
+use Rattle.lists.proofs.Numbers.{le-or-lt}
+use Rattle.lists.proofs.Stores.{getD-sets-out}
+use Rattle.history.specs.Lent.{rowWidth, blockHead, nodeHead, entryHead}
+use Rattle.history.specs.Words.{Block, size}
+use Rattle.history.specs.Tree.{treeOf, entryCount}
+use Rattle.history.specs.Rules.{Apart}
+use Rattle.history.specs.Ledger.{Ledger, finishBy}
+use Rattle.history.proofs.Steps.{settled-sound}
+use Rattle.tables.specs.Columns.{blockColumn, blockBase, blockFirst, blockLength, blockCreated, blockDestroyed, blockOffset, blockOwner, blockNext, headState, headEnd, headKind, headCount, headUsed, headLast}
+use Rattle.segment_table.specs.Closed as closed
+use Rattle.ordering.specs.Order as order
+use Rattle.ordering.specs.Order.{nextAt, rankOf, Room, Trail, InOrder, numbersOf, Ordered, SortedMore}
+use Rattle.ordering.specs.Blocks.{lengthAt, offsetAt, blockOfRow, blocksOf, SameRows, Stored}
+use Rattle.ordering.proofs.Rank.{rank-first}
+use Rattle.ordering.proofs.Keeping.{rows-set, rows-sets, rows-then, kept-column, order-column, order-kept, stored-order}
+use Rattle.ordering.proofs.Blocks.{blocks-length, blocks-append, blocks-order}
+use Rattle.ordering.proofs.Numbering.{order-counts, order-blocks}
+use Rattle.piece_table.specs.Piece.{PieceRow, pieceAt}
+use Rattle.piece_table.specs.Shown.{shown}
+use Rattle.recording.specs.Blocks as recorded
+use Rattle.recording.specs.Blocks.{blockRow, blockCount, appended}
+use Rattle.recording.specs.Calls.{ExtractedMembers}
+use Rattle.recording.proofs.Blocks.{block-rows-length, appended-length, appended-count, appended-other, appended-row}
+use Rattle.segment_tree.specs.Lives.{Counted, entryRowsIn}
+use Rattle.segment_tree.specs.Fill.{Met, met-end, met-next, lentTables, Closable, ClosedTree}
+use Rattle.layout.specs.Tables.{Tables, tables, lengthsOf, headAt}
+use Rattle.layout.specs.Encodes.{Encodes, closedState}
+use Rattle.layout.specs.Relations.{AppendedInOrder}
+use Rattle.layout.proofs.Lengths.{lent-same}
+use Rattle.layout.proofs.Opening.{getD-zeros, no-links}
+use Rattle.index_finish.specs.Finish.{StandsOpen, allBlocks, wholeTree, Accepted, Finished, SettledTables}
+use Rattle.index_finish.proofs.Lists.{map-count-from}
+use Rattle.index_finish.proofs.Standing.{heads, room, pieceRows, are-pieces, rep}
+use Rattle.index_finish.proofs.Agreeing.{settledRow, all-blocks}
+use Rattle.index_finish.proofs.Counting.{row-lives}
+
+-- ── the rows appended, and the state ──
+
+-- the place of the head's state
+abbrev statePlace : ℕ
+statePlace = rowWidth * 0 + (blockBase + headState)
+
+-- the table with the blocks of the pieces rs, destroyed at e, and the state set
+abbrev grown : (e : ℕ) (rs : List PieceRow) (b : List ℕ) → List ℕ
+grown e rs b = set (appended e rs b) statePlace closedState
+
+noPiece : PieceRow
+noPiece = record { first = 0; size = 0; written = 0; offset = 0; owner = 0 }
+
+module _ (e : ℕ) (rs : List PieceRow) (b : List ℕ) where
+  grown-length : length (grown e rs b) ≡ length b
+  grown-length = length-set (appended e rs b) statePlace closedState ∙ appended-length e rs b
+
+  -- all but the state and the count of the head is as it was, up to the last old row
+  grown-other : (link c : ℕ) → c < rowWidth → link ≤ blockCount b → (link ≡ 0 → c ≡ headCount → ⊥) → (link ≡ 0 → c ≡ headState → ⊥)
+      → blockColumn (grown e rs b) link c ≡ blockColumn b link c
+  grown-other link c h le n s =
+      getD-set-other (appended e rs b) statePlace (rowWidth * link + (blockBase + c)) closedState 0 (λ q. s (omega arith) (omega arith))
+      ∙ appended-other e rs b link c h le n
+
+  grown-state : blockHead ≤ length b → blockColumn (grown e rs b) 0 headState ≡ closedState
+  grown-state h = getD-set-same (appended e rs b) statePlace closedState 0 (omega (arith, appended-length e rs b))
+
+  grown-count : blockHead ≤ length b → blockCount (grown e rs b) ≡ blockCount b + length rs
+  grown-count h = getD-set-other (appended e rs b) statePlace (rowWidth * 0 + (blockBase + headCount)) closedState 0 (λ q. omega arith) ∙ appended-count e rs b h
+
+  grown-rows : SameRows b (grown e rs b) (blockCount b)
+  unfolding appended
+  grown-rows =
+      rows-then (rows-then (rows-sets b (blockCount b) (recorded.blockAt (blockCount b + 1)) (recorded.blockRows e rs) (omega arith))
+      (rows-set (sets b (recorded.blockAt (blockCount b + 1)) (recorded.blockRows e rs)) (blockCount b) (recorded.blockAt 0 + headCount) (blockCount b + length rs) (inl (omega arith))))
+      (rows-set (appended e rs b) (blockCount b) statePlace closedState (inl (omega arith)))
+
+  grown-rest : (i : ℕ) → blockBase + rowWidth * suc (blockCount b + length rs) ≤ i → getD (grown e rs b) i 0 ≡ getD b i 0
+  unfolding appended
+  grown-rest i h =
+      let many : length (recorded.blockRows e rs) ≡ rowWidth * length rs = block-rows-length e rs in
+      getD-set-other (appended e rs b) statePlace i closedState 0 (λ q. omega arith)
+      ∙ getD-set-other (sets b (recorded.blockAt (blockCount b + 1)) (recorded.blockRows e rs)) (recorded.blockAt 0 + headCount) i (blockCount b + length rs) 0 (λ q. omega arith)
+      ∙ getD-sets-out (recorded.blockRows e rs) b (recorded.blockAt (blockCount b + 1)) i (inr (omega arith))
+
+  module _ (fits : Room b (blockCount b + length rs)) where
+    grown-column : (i c : ℕ) → i < length rs → c < rowWidth → blockColumn (grown e rs b) (suc (blockCount b) + i) c ≡ getD (blockRow e (getD rs i noPiece)) c 0
+    grown-column i c h k =
+        let q : suc (blockCount b) + i ≡ blockCount b + 1 + i = omega arith in
+        getD-set-other (appended e rs b) statePlace (rowWidth * (suc (blockCount b) + i) + (blockBase + c)) closedState 0 (λ z. omega arith)
+        ∙ rw q (appended-row e rs noPiece b i c (omega arith) h k)
+
+    -- the new rows are the pieces' blocks
+    grown-new : (store : List ℕ) → map (blockOfRow store (grown e rs b)) (countFrom (suc (blockCount b)) (length rs)) ≡ map (settledRow store e) rs
+    unfolding blockOfRow
+    grown-new store =
+        map-count-from (blockOfRow store (grown e rs b)) (settledRow store e) noPiece (suc (blockCount b)) rs
+        (λ i h. rw (grown-column i blockFirst h (omega arith), grown-column i blockLength h (omega arith), grown-column i blockCreated h (omega arith), grown-column i blockDestroyed h (omega arith), grown-column i blockOffset h (omega arith), grown-column i blockOwner h (omega arith)))
+
+    grown-blocks : (store : List ℕ) → blocksOf store (grown e rs b) (blockCount b + length rs) ≡ blocksOf store b (blockCount b) ++ map (settledRow store e) rs
+    grown-blocks store = blocks-append store (length rs) grown-rows ∙ ap (λ (x : List Block). blocksOf store b (blockCount b) ++ x) (grown-new store)
+
+    grown-stored : (used : ℕ) → Stored used b (blockCount b) → All (λ (p : PieceRow). p .offset + p .size ≤ used) rs → Stored used (grown e rs b) (blockCount b + length rs)
+    grown-stored used old new = record { inside = λ link p q. ⊎-elim (λ h. before link p h) (λ h. behind link (link - suc (blockCount b)) (omega arith) (omega arith)) (le-or-lt link (blockCount b)) }
+      where
+        before : (link : ℕ) → 0 < link → link ≤ blockCount b → offsetAt (grown e rs b) link + lengthAt (grown e rs b) link ≤ used
+        before link p h = rw (kept-column grown-rows link blockOffset p h (omega arith), kept-column grown-rows link blockLength p h (omega arith)) (old .inside link p h)
+
+        behind : (link i : ℕ) → link ≡ suc (blockCount b) + i → i < length rs → offsetAt (grown e rs b) link + lengthAt (grown e rs b) link ≤ used
+        behind link i at h = rw (at, grown-column i blockOffset h (omega arith), grown-column i blockLength h (omega arith)) (all-at noPiece new i h)
+
+-- ── the order, as the closing of the tree asks for it ──
+
+trail-met : {b : List ℕ} {lo hi low k : ℕ} {xs : List ℕ} → Trail b lo hi low k xs → Met b k (numbersOf xs)
+trail-met (order.end z) = met-end z
+trail-met {b} {k = k} (order.link {x = x} {xs = xs} e a u c r) =
+    met-next {link = k} {k = x - 1} (omega arith) (subst (λ (y : ℕ). Met b (nextAt b y) (numbersOf xs)) (sym e) (trail-met r))
+
+ranks-ascend : {key : ℕ → ℕ} {n : ℕ} {xs : List ℕ} → n ≤ 2 ^ 64 → All (λ k. k < n) xs → Ascending (λ k. rankOf (key k) k) xs → Pairs (λ x y. key x ≤ key y) xs
+ranks-ascend few all-nil pairs-nil = pairs-nil
+ranks-ascend {key} few (all-cons {x} h hs) (pairs-cons a p) =
+    pairs-cons {x = x} (all-both (λ y l r. rank-first (key x) x (key y) y r (omega arith)) hs a) (ranks-ascend few hs p)
+
+module _ (store : List ℕ) {b : List ℕ} {n : ℕ} {bs : List Block} (o : InOrder b n) (is : bs ≡ blocksOf store b n) where
+  bs-length : length bs ≡ n
+  bs-length = ap length is ∙ blocks-length store b n
+
+  closable : {nodes entries : List ℕ} {e kind : ℕ} → n ≤ 2 ^ 64 → 0 < e → e ≤ 2 ^ 63 → Counted nodes kind e (treeOf e bs) → nodeHead ≤ length nodes → entryHead ≤ length entries
+      → entryCount (treeOf e bs) ≤ entryRowsIn entries → Apart bs → All (λ (x : Block). 0 < size (x .stretch)) bs → Closable (lentTables b nodes entries) n e kind bs (numbersOf (o .links))
+  closable few some small counted nodes-headed entries-headed space apart filled = record {
+    some = some;
+    small = small;
+    counted = counted;
+    nodes-headed = nodes-headed;
+    entries-headed = entries-headed;
+    space = space;
+    lives-are = rw (bs-length, is) (row-lives store b n);
+    apart = apart;
+    filled = filled;
+    met = trail-met (o .trail);
+    many = omega (arith, length-of-map (λ k. k - 1) (o .links), o .many);
+    once = λ k. rw bs-length (order-counts o k);
+    ascends = rw is (ranks-ascend few (order-blocks o store .below) (order-blocks o store .ascending));
+  }
+
+-- ── the finished tables ──
+
+module _ {pieces was store blank entries b nodes : List ℕ} {l : Ledger} (a : Accepted (tables pieces was store blank entries) b nodes l) where
+  abbrev t : Tables
+  t = tables pieces was store blank entries
+
+  abbrev s : StandsOpen t l
+  s = a .stands
+
+  abbrev e : ℕ
+  e = l .opening .end
+
+  abbrev rs : List PieceRow
+  rs = pieceRows s
+
+  abbrev n : ℕ
+  n = blockCount b
+
+  abbrev g : List ℕ
+  g = grown e rs b
+
+  -- the order changes no other column of the head
+  head-is : (c : ℕ) → c < rowWidth → (c ≡ blockNext → ⊥) → blockColumn b 0 c ≡ headAt t c
+  head-is c h f = order-column (a .ordered .only) 0 c h f
+
+  count-is : n ≡ length (l .now .blocks)
+  count-is = head-is headCount (omega arith) (λ z. omega arith) ∙ s .encodes .count
+
+  rows-many : length rs ≡ length (l .now .pieces)
+  rows-many = sym (length-of-map (shown store) rs) ∙ ap length (sym (are-pieces s))
+
+  b-long : length b ≡ length was
+  b-long = a .ordered .only .len
+
+  b-headed : blockHead ≤ length b
+  b-headed = omega (arith, b-long, heads s .blocks)
+
+  fits : Room b (n + length rs)
+  fits = omega (arith, b-long, room s, count-is, rows-many)
+
+  ordered : Ordered was b n
+  ordered = subst (λ (k : ℕ). Ordered was b k) (sym count-is) (a .ordered)
+
+  g-order : InOrder g n
+  g-order = order-kept (grown-rows e rs b) (grown-other e rs b 0 blockNext (omega arith) (omega arith) (λ z w. omega arith) (λ z w. omega arith)) (ordered .order)
+
+  g-room : Room g (n + length rs)
+  g-room = omega (arith, fits, grown-length e rs b)
+
+  countable : length was < 2 ^ 64 → recorded.Countable b (length rs)
+  countable few = record { head = b-headed; fits = omega (arith, few, b-long, fits) }
+
+  module _ {b′ : List ℕ} (o : Ordered g b′ (n + length rs)) where
+    blocks-are : allBlocks l ≡ blocksOf store b′ (n + length rs)
+    blocks-are =
+        all-blocks s (a .ordered .only)
+        ∙ ap (λ (k : ℕ). blocksOf store b k ++ map (settledRow store e) rs) (sym count-is)
+        ∙ sym (grown-blocks e rs b fits store)
+        ∙ sym (blocks-order store (n + length rs) (o .only))
+
+    all-many : length (allBlocks l) ≡ n + length rs
+    all-many = ap length blocks-are ∙ blocks-length store b′ (n + length rs)
+
+    b′-long : length b′ ≡ length was
+    b′-long = o .only .len ∙ grown-length e rs b ∙ b-long
+
+    -- the head but for state, count and first in order
+    head-kept : (c : ℕ) → c < rowWidth → (c ≡ blockNext → ⊥) → (c ≡ headCount → ⊥) → (c ≡ headState → ⊥) → blockColumn b′ 0 c ≡ headAt t c
+    head-kept c h f f₁ f₂ = order-column (o .only) 0 c h f ∙ grown-other e rs b 0 c h (omega arith) (λ z. f₁) (λ z. f₂) ∙ head-is c h f
+
+    head-count : blockColumn b′ 0 headCount ≡ n + length rs
+    head-count = order-column (o .only) 0 headCount (omega arith) (λ z. omega arith) ∙ grown-count e rs b b-headed
+
+    head-state : blockColumn b′ 0 headState ≡ closedState
+    head-state = order-column (o .only) 0 headState (omega arith) (λ z. omega arith) ∙ grown-state e rs b b-headed
+
+    head-used : blockColumn b′ 0 headUsed ≡ headAt t headUsed
+    head-used = head-kept headUsed (omega arith) (λ z. omega arith) (λ z. omega arith) (λ z. omega arith)
+
+    all-stored : Stored (headAt t headUsed) b′ (n + length rs)
+    all-stored =
+        stored-order (o .only) (grown-stored e rs b fits (headAt t headUsed)
+        (subst (λ (k : ℕ). Stored (headAt t headUsed) b k) (sym (head-is headCount (omega arith) (λ z. omega arith))) (stored-order (a .ordered .only) (s .encodes .blocks-stored)))
+        (all-of-map (pieceAt pieces) (s .encodes .pieces-stored)))
+
+    all-filled : All (λ (x : Block). 0 < size (x .stretch)) (allBlocks l)
+    all-filled = all-map (λ x h. h .stretch .some-cell) (settled-sound l (s .sound .board))
+
+    -- the old rows but for the order, and what lies past all rows
+    appended-in-order : AppendedInOrder was b′ (length (l .now .blocks)) (length (allBlocks l))
+    appended-in-order = record {
+      len = b′-long;
+      rows = λ k c p q h f.
+          order-column (o .only) k c h f
+          ∙ grown-other e rs b k c h (omega (arith, count-is)) (λ z. absurd (omega arith)) (λ z. absurd (omega arith))
+          ∙ order-column (a .ordered .only) k c h f;
+      rest = λ i h.
+          let z : length (allBlocks l) ≡ n + length rs = all-many in
+          o .only .same i (λ k p q. omega arith)
+          ∙ grown-rest e rs b i (omega arith)
+          ∙ a .ordered .only .same i (λ k p q. omega (arith, count-is));
+    }
+
+    tree-closable : length was < 2 ^ 64 → Closable (lentTables b′ nodes entries) (n + length rs) e (l .opening .kind) (allBlocks l) (numbersOf (o .order .links))
+    tree-closable few =
+        closable store (o .order) blocks-are (omega (arith, few, b-long, fits)) (omega (arith, s .sound .board .some-tick)) (s .sound .board .end-most) (a .tallied .counted)
+        (omega (arith, a .nodes-long, heads s .nodes)) (heads s .entries) (a .tallied .space) (a .tallied .apart) all-filled
+
+    module _ {nodes′ entries′ : List ℕ} (nodes-long : length nodes′ ≡ length nodes) (entries-long : length entries′ ≡ length entries)
+        (tree : closed.Closed (lentTables b′ nodes′ entries′) (l .opening .kind) e (wholeTree l)) where
+      abbrev t′ : Tables
+      t′ = tables (replicate (length pieces) 0) b′ store nodes′ entries′
+
+      same-lengths : lengthsOf t ≡ lengthsOf t′
+      same-lengths =
+          lent-same (lengthsOf t) (lengthsOf t′) (sym (length-replicate (length pieces) 0)) (sym b′-long) refl (sym (nodes-long ∙ a .nodes-long)) (sym entries-long)
+
+      finished-encodes : Encodes t′ (finishBy l)
+      unfolding finishBy
+      finished-encodes = record {
+        lengths = s .encodes .lengths ∙ same-lengths;
+        heads = rw (← same-lengths) (s .encodes .heads);
+        state = head-state;
+        end = head-kept headEnd (omega arith) (λ z. omega arith) (λ z. omega arith) (λ z. omega arith) ∙ s .encodes .end;
+        kind = head-kept headKind (omega arith) (λ z. omega arith) (λ z. omega arith) (λ z. omega arith) ∙ s .encodes .kind;
+        last = head-kept headLast (omega arith) (λ z. omega arith) (λ z. omega arith) (λ z. omega arith) ∙ s .encodes .last;
+        used = head-used ∙ s .encodes .used;
+        store = s .encodes .store ∙ ap (λ (k : ℕ). take k store) (sym head-used);
+        count = head-count ∙ sym all-many;
+        blocks = blocks-are ∙ ap (blocksOf store b′) (sym head-count);
+        blocks-stored = rw (head-used, head-count) all-stored;
+        links = [];
+        linked = no-links (replicate (length pieces) 0) (omega (arith, length-replicate {A = ℕ} (length pieces) 0, heads s .pieces)) (getD-zeros (length pieces));
+        pieces = refl;
+        pieces-stored = all-nil;
+        tree = (subst (λ (k : ℕ). InOrder b′ k) (sym all-many) (o .order), tree);
+      }
+
+      finished-tables : Finished l t t′
+      unfolding finishBy
+      finished-tables = record { encodes = finished-encodes; tables-are = record { pieces = refl; store = refl; blocks = appended-in-order } }
+
+-- ── the return of `settle` ──
+
+pub settle-done : {pieces b nodes entries b₁ b₂ b₃ nodes′ entries′ pieces′ : List ℕ} {end kind recorded all : ℕ} → length pieces < 2 ^ 64 → length b < 2 ^ 64
+    → length nodes′ ≡ length nodes → length entries′ ≡ length entries → end ≡ blockColumn b 0 headEnd → kind ≡ blockColumn b 0 headKind → recorded ≡ blockCount b
+    → ExtractedMembers pieces b b₁ end → b₂ ≡ set b₁ statePlace closedState → all ≡ blockCount b₂ → SortedMore b₂ b₃ recorded all
+    → ClosedTree (lentTables b₃ nodes entries) (lentTables b₃ nodes′ entries′) all end kind → pieces′ ≡ replicate (length pieces) 0 → SettledTables pieces b nodes entries pieces′ b₃ nodes′ entries′
+settle-done {pieces} {b} {nodes} {entries} {b₁} {b₂} {b₃} {nodes′} {entries′} {pieces′} {end} {kind} {recorded} {all} few-pieces few-blocks nodes-long entries-long ee ek er ex put count sort close zeros = record { done = go }
+  where
+    go : (was blank store : List ℕ) (l : Ledger) → Accepted (tables pieces was store blank entries) b nodes l
+        → Finished l (tables pieces was store blank entries) (tables pieces′ b₃ store nodes′ entries′)
+    go was blank store l a =
+        let few : length was < 2 ^ 64 = omega (arith, b-long a) in
+        let end-is : end ≡ l .opening .end = ee ∙ head-is a headEnd (omega arith) (λ z. omega arith) ∙ a .stands .encodes .end in
+        let kind-is : kind ≡ l .opening .kind = ek ∙ head-is a headKind (omega arith) (λ z. omega arith) ∙ a .stands .encodes .kind in
+        let b₁-is : b₁ ≡ appended end (rs a) b = ex .done (rs a) (rep (a .stands) few-pieces) (countable a few) in
+        let b₂-is : b₂ ≡ g a = put ∙ ap (λ (x : List ℕ). set x statePlace closedState) (b₁-is ∙ ap (λ (k : ℕ). appended k (rs a) b) end-is) in
+        let all-is : all ≡ n a + length (rs a) = count ∙ ap blockCount b₂-is ∙ grown-count (l .opening .end) (rs a) b (b-headed a) in
+        let sorted : SortedMore (g a) b₃ (n a) (n a + length (rs a)) = rw (← b₂-is, ← all-is, ← er) sort in
+        let o : Ordered (g a) b₃ (n a + length (rs a)) = sorted .done (g-order a) (omega arith) (g-room a) in
+        let made : ClosedTree (lentTables b₃ nodes entries) (lentTables b₃ nodes′ entries′) (n a + length (rs a)) (l .opening .end) (l .opening .kind) = rw (← all-is, ← end-is, ← kind-is) close in
+        rw zeros (finished-tables a o nodes-long entries-long (made .done (allBlocks l) (numbersOf (o .order .links)) (tree-closable a o few)))

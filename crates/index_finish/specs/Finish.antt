@@ -1,0 +1,121 @@
+-- What finish does to tables that stand for an open index. The store is neither read nor changed: what is said holds with every store with which the
+-- tables stand for a ledger. Definitions alone.
+use mathlib.Core.Path.{_≡_}
+use mathlib.Core.Bool.{Bool, false}
+use mathlib.Core.List.{List}
+use Prim.Native.Nat.{ℕ, zero, suc, _≤_, _<_, _^_}
+use lib.ListN.{length}
+use Rattle.lists.specs.Tests.{Decides}
+use Rattle.history.specs.Words.{Block}
+use Rattle.history.specs.Tree.{Tree, entryCount, treeOf}
+use Rattle.history.specs.Rules.{Apart}
+use Rattle.history.specs.Ledger.{Ledger, finished, settled, finishBy}
+use Rattle.history.specs.Refusals.{Answer, accepted, refused, finishAnswer}
+use Rattle.history.specs.Sound.{Sound}
+use Rattle.ordering.specs.Order.{Ordered}
+use Rattle.segment_tree.specs.Lives.{Counted, entryRowsIn}
+use Rattle.layout.specs.Tables.{Tables, tables}
+use Rattle.layout.specs.Encodes.{Encodes}
+use Rattle.layout.specs.Formed.{Blank}
+use Rattle.layout.specs.Relations.{FinishedTables, FinishLeaves}
+
+-- ── the ledger ──
+
+-- the tables stand for a sound ledger that is not finished
+pub record StandsOpen (t : Tables) (l : Ledger) : Type 0 where
+  pub encodes : Encodes t l
+  pub sound : Sound l
+  pub still-open : finished l ≡ false
+  -- as in every slice
+  pub few : length (t .store) < 2 ^ 64
+
+-- the blocks of the finished index: those recorded, and the pieces, destroyed at the end
+abbrev pub allBlocks : Ledger → List Block
+allBlocks l = settled (l .opening .end) (l .now)
+
+-- and their tree
+abbrev pub wholeTree : Ledger → Tree
+wholeTree l = treeOf (l .opening .end) (allBlocks l)
+
+-- an answer as a number: document 01's, or 0 where it is accepted
+abbrev pub numberOf : Answer Unit → ℕ
+numberOf (accepted a) = 0
+numberOf (refused n) = n
+
+-- and the answer of a number
+abbrev pub answerOf : (number : ℕ) → Answer Unit
+answerOf zero = accepted tt
+answerOf (suc n) = refused (suc n)
+
+-- ── finish ──
+
+-- What finish asks of an open index besides: it builds in zeros, and no two of all blocks share a cell at a tick.
+pub record Finishable (t : Tables) (l : Ledger) : Type 0 where
+  pub blank : Blank t
+  pub apart : Apart (allBlocks l)
+
+-- the answer is the ledger's, and what it leaves; or, of tables that are not well formed for finish, 2, and everything is as it was
+pub record Finishing (l : Ledger) (t t′ : Tables) (r : ℕ) : Type 0 where
+  pub formed : Finishable t l → (r ≡ numberOf (finishAnswer l)) × FinishLeaves (finishAnswer l) l t t′
+  pub unformed : (Finishable t l → ⊥) → (r ≡ 2) × (t′ ≡ t)
+
+-- `finish_open`
+pub record FinishedOpen (pieces blocks nodes entries pieces′ blocks′ nodes′ entries′ : List ℕ) (r : ℕ) : Type 0 where
+  pub done : (store : List ℕ) (l : Ledger) → StandsOpen (tables pieces blocks store nodes entries) l
+      → Finishing l (tables pieces blocks store nodes entries) (tables pieces′ blocks′ store nodes′ entries′) r
+
+-- ── what comes before an accepted finish ──
+
+-- `blank`
+pub record TestedBlank (nodes entries : List ℕ) (r : Bool) : Type 0 where
+  pub decides : (pieces blocks store : List ℕ) → Decides r (Blank (tables pieces blocks store nodes entries))
+
+-- Finish is accepted: the tree of all blocks is counted, and the entry table has room for it.
+pub record Tallied (t : Tables) (nodes : List ℕ) (l : Ledger) : Type 0 where
+  pub answer : finishAnswer l ≡ accepted tt
+  pub apart : Apart (allBlocks l)
+  pub counted : Counted nodes (l .opening .kind) (l .opening .end) (wholeTree l)
+  pub space : entryCount (wholeTree l) ≤ entryRowsIn (t .entries)
+
+-- the answer, and on a refusal the nodes as they were
+pub record Tallying (l : Ledger) (t : Tables) (nodes : List ℕ) (r : ℕ) : Type 0 where
+  pub formed : Apart (allBlocks l) → r ≡ numberOf (finishAnswer l)
+  pub unformed : (Apart (allBlocks l) → ⊥) → r ≡ 2
+  pub refused-same : (r ≡ 0 → ⊥) → nodes ≡ t .nodes
+  pub accepted-counted : r ≡ 0 → Tallied t nodes l
+
+-- `count_all`: `blocks` is the block table in order, `was` what it was before
+pub record CountedAll (pieces blocks nodes entries nodes′ : List ℕ) (r : ℕ) : Type 0 where
+  pub done : (was store : List ℕ) (l : Ledger) → StandsOpen (tables pieces was store nodes entries) l → Blank (tables pieces was store nodes entries)
+      → Ordered was blocks (length (l .now .blocks)) → Tallying l (tables pieces was store nodes entries) nodes′ r
+
+-- Nothing is changed yet but that the block rows stand in order and the tree is counted.
+pub record Accepted (t : Tables) (blocks nodes : List ℕ) (l : Ledger) : Type 0 where
+  pub stands : StandsOpen t l
+  pub ordered : Ordered (t .blocks) blocks (length (l .now .blocks))
+  pub tallied : Tallied t nodes l
+  pub nodes-long : length nodes ≡ length (t .nodes)
+
+-- the answer, and on a refusal everything as it was
+pub record Preparing (l : Ledger) (t : Tables) (blocks nodes : List ℕ) (r : ℕ) : Type 0 where
+  pub formed : Finishable t l → r ≡ numberOf (finishAnswer l)
+  pub unformed : (Finishable t l → ⊥) → r ≡ 2
+  pub refused-same : (r ≡ 0 → ⊥) → (blocks ≡ t .blocks) × (nodes ≡ t .nodes)
+  pub accepted-counted : r ≡ 0 → Accepted t blocks nodes l
+
+-- `prepare`
+pub record Prepared (pieces blocks nodes entries blocks′ nodes′ : List ℕ) (r : ℕ) : Type 0 where
+  pub done : (store : List ℕ) (l : Ledger) → StandsOpen (tables pieces blocks store nodes entries) l
+      → Preparing l (tables pieces blocks store nodes entries) blocks′ nodes′ r
+
+-- ── the work of an accepted finish ──
+
+-- the tables stand for the finished ledger
+pub record Finished (l : Ledger) (t t′ : Tables) : Type 0 where
+  pub encodes : Encodes t′ (finishBy l)
+  pub tables-are : FinishedTables l t t′
+
+-- `settle`
+pub record SettledTables (pieces blocks nodes entries pieces′ blocks′ nodes′ entries′ : List ℕ) : Type 0 where
+  pub done : (was blank store : List ℕ) (l : Ledger) → Accepted (tables pieces was store blank entries) blocks nodes l
+      → Finished l (tables pieces was store blank entries) (tables pieces′ blocks′ store nodes′ entries′)

@@ -1,0 +1,118 @@
+// The work of finish on tables that stand for an open index. Ports `Indexer::finalize` of mod.rs and the building of spacetime_index.rs.
+//
+//   rule              rule 24, each piece counted as live up to the end
+//   specs/Apart       which blocks and pieces share a cell at a tick, and what the tests decide
+//   specs/Finish      what finish answers and leaves
+//   proofs/Lists      laws of lists that know nothing of tables
+//   proofs/Zeros      a table of zeros
+//   proofs/Clearing   one step for each turn and each return of the tests
+//   proofs/Standing   what tables that stand for an open ledger have
+//   proofs/Agreeing   rule 24 over rows is history's over all blocks
+//   proofs/Counting   the tree that is counted is that of all blocks, and the answer is the ledger's
+//   proofs/Settling   an accepted finish leaves the tables of the finished ledger
+//   proofs/Finishing  one step for each return of the others
+//   proofs/Public     so finish does what layout's relation says
+ghost use mathlib.Core.Path.{_≡_};
+ghost use lib.ListN.{length, replicate};
+ghost use Rattle.lists.specs.Tests.{Decides};
+ghost use Rattle.index_finish.specs.Finish.{TestedBlank, CountedAll, Prepared, SettledTables, FinishedOpen};
+use tables::block;
+use tables::piece;
+
+mod rule;
+
+// What finish answers: 0 where it is accepted, else the refusal's number in document 01. Refusals 12 and 13 come from the count of the tree.
+pub const DONE: u64 = 0;
+
+pub const UNFORMED: u64 = 2;
+
+// Whether every number of the table is 0.
+fn all_zero(table: &[u64]) -> bool
+    ensures { λ r. ⌜ Decides r (now (table .entry) ≡ replicate (length (now (table .entry))) 0) ⌝ }
+{
+    let mut i = 0;
+    while i < table.len() {
+        if table[i] != 0 {
+            return false;
+        }
+        i += 1;
+    }
+    true
+}
+
+// Whether the tables that finish builds in are zeros.
+fn blank(nodes: &[u64], entries: &[u64]) -> bool
+    ensures { λ r. ⌜ TestedBlank (now (nodes .entry)) (now (entries .entry)) r ⌝ }
+{
+    if !all_zero(nodes) {
+        return false;
+    }
+    all_zero(entries)
+}
+
+// Tests rule 24 on blocks in order and on the pieces, and counts the tree of all of them; or tells the refusal, and leaves the nodes zeros.
+fn count_all(pieces: &[u64], blocks: &[u64], nodes: &mut [u64], entries: &[u64]) -> u64
+    ensures { λ r. ⌜ CountedAll (now (pieces .entry)) (now (blocks .entry)) (now (nodes .entry)) (now (entries .entry)) (now (nodes .exit)) r ⌝ }
+{
+    let n = block::get(blocks, 0, block::COUNT);
+    if !rule::all_apart(pieces, blocks, n) {
+        return UNFORMED;
+    }
+    let m = tables::get(pieces, 0, piece::COUNT);
+    let end = block::get(blocks, 0, block::END);
+    let kind = block::get(blocks, 0, block::KIND);
+    segment_tree::build::count_tree(nodes, entries, blocks, n, pieces, m, end, kind)
+}
+
+// Orders the blocks and counts the tree; or tells the refusal, and leaves everything as it was.
+fn prepare(pieces: &[u64], blocks: &mut [u64], nodes: &mut [u64], entries: &[u64]) -> u64
+    ensures { λ r. ⌜ Prepared (now (pieces .entry)) (now (blocks .entry)) (now (nodes .entry)) (now (entries .entry))
+        (now (blocks .exit)) (now (nodes .exit)) r ⌝ }
+{
+    if !blank(nodes, entries) {
+        return UNFORMED;
+    }
+    let n = block::get(blocks, 0, block::COUNT);
+    ordering::sort(blocks, n);
+    let told = count_all(pieces, blocks, nodes, entries);
+    if told != DONE {
+        ordering::clear_order(blocks, n);
+        return told;
+    }
+    DONE
+}
+
+// Turns the pieces into blocks, takes them into the order, and closes the tree that is counted already.
+fn settle(pieces: &mut [u64], blocks: &mut [u64], nodes: &mut [u64], entries: &mut [u64])
+    ensures { λ _. ⌜ SettledTables (now (pieces .entry)) (now (blocks .entry)) (now (nodes .entry)) (now (entries .entry))
+        (now (pieces .exit)) (now (blocks .exit)) (now (nodes .exit)) (now (entries .exit)) ⌝ }
+{
+    let end = block::get(blocks, 0, block::END);
+    let kind = block::get(blocks, 0, block::KIND);
+    let recorded = block::get(blocks, 0, block::COUNT);
+    recording::extract_members(pieces, blocks, end);
+    block::put(blocks, 0, block::STATE, block::CLOSED);
+    let all = block::get(blocks, 0, block::COUNT);
+    ordering::sort_more(blocks, recorded, all);
+    segment_tree::close::close_tree(nodes, entries, blocks, all, end, kind);
+    tables::zero(pieces);
+}
+
+// Finishes an index whose tables stand for an open ledger: DONE, or a refusal and everything as it was. To be called only after the test of the
+// tables: their counts are the numbers of steps.
+pub fn finish_open(
+    pieces: &mut [u64],
+    blocks: &mut [u64],
+    nodes: &mut [u64],
+    entries: &mut [u64],
+) -> u64
+    ensures { λ r. ⌜ FinishedOpen (now (pieces .entry)) (now (blocks .entry)) (now (nodes .entry)) (now (entries .entry))
+        (now (pieces .exit)) (now (blocks .exit)) (now (nodes .exit)) (now (entries .exit)) r ⌝ }
+{
+    let refusal = prepare(pieces, blocks, nodes, entries);
+    if refusal != DONE {
+        return refusal;
+    }
+    settle(pieces, blocks, nodes, entries);
+    DONE
+}

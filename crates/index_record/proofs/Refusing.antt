@@ -1,0 +1,88 @@
+-- The ledger's refusals of record from those of the numbers: the call's come first, and those of space are an update's alone. Assumes nothing.
+use mathlib.Core.Path.{_≡_, refl, _∙_}
+use mathlib.Core.Bool.{Bool, true, false, cond, _&&_, not}
+use mathlib.Core.List.{List, [], _∷_, _++_}
+use Prim.Native.Nat.{ℕ, _+_, _-_, _^_, _<_}
+use native.Mathlib.Omega.{arith}
+use lib.Dec.{ltb}
+use lib.ListN.{length}
+use borrow.Author.Tests.{ltb-false, eqb-false}
+use Rattle.history.specs.Words.{Operation}
+use Rattle.history.specs.Lent.{tooShort, pieceSpace, blockRows}
+use Rattle.history.specs.Ledger.{Ledger, finished, isRead, updateBy}
+use Rattle.history.specs.Refusals.{accepted, refused, Refusal, _if_, firstOf, recordRefusals, recordAnswer}
+use Rattle.history.proofs.Passing.{passed}
+use Rattle.index_record.specs.Refusing.{callRefusals, spaceRefusals, answerBy}
+
+-- ── one list behind another ──
+
+first-front : (rs ss : List Refusal) (n : ℕ) → answerBy rs ≡ refused n → answerBy (rs ++ ss) ≡ refused n
+unfolding firstOf
+first-front [] ss n e = let z : _≡_ {A = ℕ} 0 1 = cc in absurd (omega arith)
+first-front (r ∷ rs) ss n e = go (r .holds) e (first-front rs ss n)
+  where
+    go : (b : Bool) → cond b (refused (r .number)) (answerBy rs) ≡ refused n → (answerBy rs ≡ refused n → answerBy (rs ++ ss) ≡ refused n)
+        → cond b (refused (r .number)) (answerBy (rs ++ ss)) ≡ refused n
+    go true e k = e
+    go false e k = k e
+
+first-back : (rs ss : List Refusal) → answerBy rs ≡ accepted tt → answerBy (rs ++ ss) ≡ answerBy ss
+unfolding firstOf
+first-back [] ss e = refl
+first-back (r ∷ rs) ss e = go (r .holds) e (first-back rs ss)
+  where
+    go : (b : Bool) → cond b (refused (r .number)) (answerBy rs) ≡ accepted tt → (answerBy rs ≡ accepted tt → answerBy (rs ++ ss) ≡ answerBy ss)
+        → cond b (refused (r .number)) (answerBy (rs ++ ss)) ≡ answerBy ss
+    go true e k = let z : _≡_ {A = ℕ} 0 1 = cc in absurd (omega arith)
+    go false e k = k e
+
+-- ── the call ──
+
+-- what is known of a call that passes 5 to 8
+pub record Sized (first size : ℕ) : Type 0 where
+  pub some : 0 < size
+  pub near : first + size < 2 ^ 64
+
+pub call-sized : (end last tick first size : ℕ) → answerBy (callRefusals end last tick first size) ≡ accepted tt → Sized first size
+unfolding callRefusals
+call-sized end last tick first size e =
+    let p = passed _ tt e in
+    record { some = above (eqb-false _ _ (p .0)); near = omega (arith, ltb-false (2 ^ 64 - 1) (first + size) (p .1 .0)) }
+  where
+    above : (size ≡ 0 → ⊥) → 0 < size
+    above h = omega arith
+
+-- ── the ledger's answer ──
+
+module _ (l : Ledger) (scratch : ℕ) (o : Operation) (fits : tooShort (l .opening .lent) ≡ false) (still : finished l ≡ false) where
+  abbrev ofCall : List Refusal
+  ofCall = callRefusals (l .opening .end) (l .now .last) (o .tick) (o .first) (length (o .bytes))
+
+  -- those of space, if it is an update
+  abbrev ofUpdate : (update : Bool) → List Refusal
+  ofUpdate update =
+      let next = updateBy (l .opening .kind) (l .now) o in
+      9 if (update && ltb (pieceSpace (l .opening .lent) scratch) (length (next .pieces)))
+      ∷ 10 if (update && ltb (blockRows (l .opening .lent)) (length (next .blocks) + length (next .pieces)))
+      ∷ 11 if (update && ltb (l .opening .lent .store) (length (next .store)))
+      ∷ []
+
+  abbrev ofSpace : List Refusal
+  ofSpace =
+      let next = updateBy (l .opening .kind) (l .now) o in
+      spaceRefusals (pieceSpace (l .opening .lent) scratch) (blockRows (l .opening .lent)) (l .opening .lent .store) (length (next .pieces)) (length (next .blocks)) (length (next .store))
+
+  split : recordAnswer l scratch o ≡ answerBy (ofCall ++ ofUpdate (not (isRead (l .now) o)))
+  unfolding recordRefusals callRefusals firstOf
+  split = rw (fits, still)
+
+  pub answer-call : (n : ℕ) → answerBy ofCall ≡ refused n → recordAnswer l scratch o ≡ refused n
+  answer-call n e = split ∙ first-front ofCall (ofUpdate (not (isRead (l .now) o))) n e
+
+  pub answer-read : answerBy ofCall ≡ accepted tt → isRead (l .now) o ≡ true → recordAnswer l scratch o ≡ accepted tt
+  unfolding firstOf
+  answer-read e read = split ∙ first-back ofCall (ofUpdate (not (isRead (l .now) o))) e ∙ rw read
+
+  pub answer-update : answerBy ofCall ≡ accepted tt → isRead (l .now) o ≡ false → recordAnswer l scratch o ≡ answerBy ofSpace
+  unfolding spaceRefusals
+  answer-update e read = split ∙ first-back ofCall (ofUpdate (not (isRead (l .now) o))) e ∙ rw read
