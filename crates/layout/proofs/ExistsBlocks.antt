@@ -1,10 +1,10 @@
 -- A table for every list of blocks, with any head and any order column. Assumes nothing.
-use mathlib.Core.Path.{_≡_, refl, ap, ap₂, sym, _∙_}
+use mathlib.Core.Path.{_≡_, refl, ap₂}
 use mathlib.Core.List.{List, [], _∷_, _++_, map}
-use Prim.Native.Nat.{ℕ, zero, suc, _+_, _-_, _*_, _^_, _≤_, _<_}
+use Prim.Native.Nat.{ℕ, zero, suc, _+_, _*_, _^_, _≤_, _<_}
 use native.Mathlib.Omega.{arith}
 use lib.ListN.{length, getD}
-use Rattle.lists.specs.Lists.{All, all-nil, all-cons, countFrom}
+use Rattle.lists.specs.Lists.{All, all-nil, all-cons}
 use Rattle.lists.proofs.Lists.{all-at}
 use Rattle.lists.proofs.Counting.{map-from-at}
 use Rattle.history.specs.Lent.{rowWidth, blockHead}
@@ -70,12 +70,14 @@ pub record Head : Type 0 where
   pub used : ℕ
   pub last : ℕ
 
+-- the head, then a row for each block; the spare column is 0
 unfoldable pub blockRow : Head → (next : ℕ → ℕ) (fs : List Fields) (link : ℕ) → List ℕ
 blockRow h next fs zero = h .state ∷ h .end ∷ h .kind ∷ length fs ∷ h .used ∷ h .last ∷ next 0 ∷ []
 blockRow h next fs (suc k) =
     let f = getD fs k noFields in
     f .first ∷ f .length ∷ f .created ∷ f .destroyed ∷ f .offset ∷ f .kind ∷ next (suc k) ∷ []
 
+-- as long as it is lent
 unfoldable pub blockTable : (many : ℕ) → Head → (next : ℕ → ℕ) (fs : List Fields) → List ℕ
 blockTable many h next fs = tableBy blockBase many (blockRow h next fs)
 
@@ -84,6 +86,7 @@ unfolding blockTable
 block-table-length many h next fs = table-by-length blockBase many (blockRow h next fs)
 
 module _ (many : ℕ) (h : Head) (next : ℕ → ℕ) (fs : List Fields) (room : blockHead + rowWidth * length fs ≤ many) where
+  -- a column in use reads as the row says
   pub block-column : (link c : ℕ) → link ≤ length fs → c < rowWidth → blockColumn (blockTable many h next fs) link c ≡ getD (blockRow h next fs link) c 0
   unfolding blockTable
   block-column link c p q = table-by-at blockBase many (blockRow h next fs) link c q (omega arith)
@@ -106,6 +109,7 @@ module _ (many : ℕ) (h : Head) (next : ℕ → ℕ) (fs : List Fields) (room :
     offset = block-column (suc k) blockOffset p (omega arith) i;
   }
 
+  -- all blocks are shown, and their bytes are inside the used part
   pub blocks-shown : (store : List ℕ) → blocksOf store (blockTable many h next fs) (length fs) ≡ map (blockIn store) fs
   unfolding blocksOf blockOfRow
   blocks-shown store =
@@ -126,6 +130,7 @@ module _ (many : ℕ) (h : Head) (next : ℕ → ℕ) (fs : List Fields) (room :
 
 -- ── its numbers ──
 
+-- the numbers of a block and of the head are words
 pub record FieldsWords (f : Fields) : Type 0 where
   pub kind : f .kind < 2 ^ 64
   pub first : f .first < 2 ^ 64
@@ -141,8 +146,9 @@ pub record HeadWords (h : Head) : Type 0 where
   pub used : h .used < 2 ^ 64
   pub last : h .last < 2 ^ 64
 
-pub block-table-words : (many : ℕ) (h : Head) (next : ℕ → ℕ) (fs : List Fields) → HeadWords h → ((k : ℕ) → next k < 2 ^ 64) → length fs < 2 ^ 64 → All FieldsWords fs
-    → All Word (blockTable many h next fs)
+-- and so are all numbers of the table
+pub block-table-words : (many : ℕ) (h : Head) (next : ℕ → ℕ) (fs : List Fields) → HeadWords h → ((k : ℕ) → next k < 2 ^ 64)
+    → length fs < 2 ^ 64 → All FieldsWords fs → All Word (blockTable many h next fs)
 unfolding blockTable blockRow
 block-table-words many h next fs w n few a = table-by-words blockBase many (blockRow h next fs) words
   where

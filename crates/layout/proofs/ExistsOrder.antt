@@ -1,8 +1,8 @@
 -- An order column for every list of blocks: links sorted by first cell, then number, each leading to the next. Assumes nothing.
-use mathlib.Core.Path.{_≡_, refl, ap, sym, _∙_}
+use mathlib.Core.Path.{_≡_, refl, _∙_}
 use mathlib.Core.Bool.{Bool, true, false, cond}
 use mathlib.Core.List.{List, [], _∷_, map}
-use Prim.Native.Nat.{ℕ, zero, suc, _+_, _≤_, _<_, _^_}
+use Prim.Native.Nat.{ℕ, suc, _+_, _≤_, _<_, _^_}
 use native.Mathlib.Omega.{arith}
 use lib.Dec.{eqb}
 use lib.ListN.{length}
@@ -24,20 +24,25 @@ unfoldable pub Follows : (next : ℕ → ℕ) (last : ℕ) (xs : List ℕ) → T
 Follows next last [] = next last ≡ 0
 Follows next last (x ∷ xs) = (next last ≡ x) × Follows next x xs
 
+-- the link that follows k in such a chain
 unfoldable pub nextIn : (last : ℕ) (xs : List ℕ) (k : ℕ) → ℕ
 nextIn last [] k = 0
 nextIn last (x ∷ xs) k = cond (eqb k last) x (nextIn x xs k)
 
+-- only the next links of the chain count
 pub follows-same : (f g : ℕ → ℕ) (last : ℕ) (xs : List ℕ) → ((k : ℕ) → Mem k (last ∷ xs) → g k ≡ f k) → Follows f last xs → Follows g last xs
 unfolding Follows
 follows-same f g last [] same h = same last (here refl) ∙ h
 follows-same f g last (x ∷ xs) same h = (same last (here refl) ∙ h .0, follows-same f g x xs (λ k m. same k (there m)) (h .1))
 
+-- links without repetition follow one another so
 next-in-follows : (last : ℕ) (xs : List ℕ) → Distinct (last ∷ xs) → Follows (nextIn last xs) last xs
 unfolding Follows nextIn
 next-in-follows last [] d = refl
-next-in-follows last (x ∷ xs) d =
-    (rw (eq-eqb last last refl), follows-same (nextIn x xs) (nextIn last (x ∷ xs)) x xs (λ k m. rw (ne-eqb k last (λ e. d .0 (moved k e m)))) (next-in-follows x xs (d .1)))
+next-in-follows last (x ∷ xs) d = (
+  rw (eq-eqb last last refl),
+  follows-same (nextIn x xs) (nextIn last (x ∷ xs)) x xs (λ k m. rw (ne-eqb k last (λ e. d .0 (moved k e m)))) (next-in-follows x xs (d .1)),
+)
   where
     moved : (k : ℕ) → k ≡ last → Mem k (x ∷ xs) → Mem last (x ∷ xs)
     moved k e m = rw e at m
@@ -66,11 +71,13 @@ unfolding linksBy
 links-by-length key n =
     length-of-map suc (orderOf key [] (countFrom 0 n)) ∙ order-length key [] (countFrom 0 n) ∙ omega (arith, count-from-length 0 n)
 
+-- both links one more
 rank-up : (f g x y : ℕ) → rankOf f x < rankOf g y → rankOf f (suc x) < rankOf g (suc y)
 unfolding rankOf
 rank-up f g x y h = omega arith
 
 module _ (t : List ℕ) (n : ℕ) (small : n < 2 ^ 64) (key : ℕ → ℕ) (first : (k : ℕ) → k < n → firstCellAt t (suc k) ≡ key k) where
+  -- the links of ranked numbers ascend by rank
   ascends : {ks : List ℕ} → All (λ k. k < n) ks → Ascending (λ k. rankOf (key k) k) ks → Ascending (rank t) (map suc ks)
   ascends all-nil pairs-nil = pairs-nil
   ascends (all-cons {x = x} {xs = xs} p ps) (pairs-cons a as′) = pairs-cons (above xs p ps a) (ascends ps as′)
@@ -121,6 +128,7 @@ next-in-all {P} last (x ∷ xs) z (all-cons p ps) k = choose (eqb k last) (next-
     choose true q = p
     choose false q = q
 
+-- the next links are words
 pub sorted-words : (key : ℕ → ℕ) (n : ℕ) → n < 2 ^ 64 → (k : ℕ) → nextIn 0 (linksBy key n) k < 2 ^ 64
 unfolding linksBy
 sorted-words key n small k =

@@ -2,7 +2,7 @@
 use mathlib.Core.Path.{_≡_, refl, ap, ap₂, sym, _∙_}
 use mathlib.Core.Bool.{Bool, true, false, cond}
 use mathlib.Core.List.{List, [], _∷_, _++_, map}
-use Prim.Native.Nat.{ℕ, zero, suc, _+_, _-_, _*_, _^_, _≤_, _<_}
+use Prim.Native.Nat.{ℕ, zero, suc, _+_, _*_, _^_, _≤_, _<_}
 use native.Mathlib.Omega.{arith}
 use lib.Dec.{ltb, eqb}
 use lib.ListN.{length, getD, length-append}
@@ -39,6 +39,7 @@ in-order-last n (suc many) =
     let z : n + suc many ≡ suc n + many = omega arith in
     rw (le-ltb (n + suc many) n (omega arith), z) (ap (λ (r : List ℕ). n ∷ r) (in-order-last (suc n) many))
 
+-- its links in order
 pub tree-to-rows : (n : ℕ) → rows (treeTo n) ≡ countFrom 1 n
 unfolding treeTo rows countFrom
 tree-to-rows zero = refl
@@ -48,6 +49,7 @@ tree-to-rows (suc n) =
     inserted-rows (λ k. k) (suc n) (treeTo n) (rw ih (count-from-ascending 1 n))
     ∙ rw (ih, z) (in-order-last 1 n)
 
+-- insertion keeps the balance
 pub tree-to-balanced : (n : ℕ) → Balanced (treeTo n)
 unfolding treeTo Balanced
 tree-to-balanced zero = tt
@@ -55,6 +57,7 @@ tree-to-balanced (suc n) = inserted-balanced (λ k. k) (suc n) (treeTo n) (tree-
 
 -- ── its rows ──
 
+-- the root of a tree, 0 if it has none, and its two subtrees
 unfoldable pub rootOf : Tree → ℕ
 rootOf leaf = 0
 rootOf (node a x b) = x
@@ -85,52 +88,54 @@ unfolding partAt
 part-right link a x b h = rw (ne-eqb link x (λ e. omega arith), le-ltb link x (omega arith))
 
 -- the row of a link says the part of the tree that it is the root of
-pub record Told (t : List ℕ) (link : ℕ) (part : Tree) : Type 0 where
+pub record Says (t : List ℕ) (link : ℕ) (part : Tree) : Type 0 where
   pub valid : Valid t link
   pub left : column t link pieceLeft ≡ rootOf (leftOf part)
   pub right : column t link pieceRight ≡ rootOf (rightOf part)
   pub deep : column t link pieceDepth ≡ height part
 
-pub told-shape : (t : List ℕ) (T : Tree) → Ascending (λ k. k) (rows T) → ((link : ℕ) → Mem link (rows T) → Told t link (partAt link T)) → Shape t (rootOf T) T
+-- rows that say a tree of ascending links, each its part, are in its shape
+pub says-shape : (t : List ℕ) (T : Tree) → Ascending (λ k. k) (rows T) → ((link : ℕ) → Mem link (rows T) → Says t link (partAt link T))
+    → Shape t (rootOf T) T
 unfolding Shape rows rootOf leftOf rightOf
-told-shape t leaf o f = refl
-told-shape t (node a x b) o f =
-    let h : Told t x (node a x b) = rw (part-here a x b) at (f x (mem-right (rows a) (x ∷ rows b) (here refl))) in
+says-shape t leaf o f = refl
+says-shape t (node a x b) o f =
+    let h : Says t x (node a x b) = rw (part-here a x b) at (f x (mem-right (rows a) (x ∷ rows b) (here refl))) in
     let tail = ascending-right (λ k. k) (rows a) (x ∷ rows b) o in
     record {
       is = refl;
       valid = h .valid;
       left =
           left-shape h
-          (told-shape t a (ascending-left (λ k. k) (rows a) (x ∷ rows b) o)
+          (says-shape t a (ascending-left (λ k. k) (rows a) (x ∷ rows b) o)
           (λ link m.
           let less : link < x = ascending-across (λ k. k) (rows a) (x ∷ rows b) o link x m (here refl) in
           rw (part-left link a x b less) at (f link (mem-left (rows a) (x ∷ rows b) m))));
       right =
           right-shape h
-          (told-shape t b (ascending-tail (λ k. k) tail)
+          (says-shape t b (ascending-tail (λ k. k) tail)
           (λ link m.
           let more : x < link = ascending-head (λ k. k) tail link m in
           rw (part-right link a x b more) at (f link (mem-right (rows a) (x ∷ rows b) (there m)))));
       deep = h .deep;
     }
   where
-    left-shape : Told t x (node a x b) → Shape t (rootOf a) a → Shape t (column t x pieceLeft) a
+    left-shape : Says t x (node a x b) → Shape t (rootOf a) a → Shape t (column t x pieceLeft) a
     left-shape h s = rw (h .left) s
 
-    right-shape : Told t x (node a x b) → Shape t (rootOf b) b → Shape t (column t x pieceRight) b
+    right-shape : Says t x (node a x b) → Shape t (rootOf b) b → Shape t (column t x pieceRight) b
     right-shape h s = rw (h .right) s
 
 -- a table whose rows say the tree has the links 1 to n
-pub told-links : (t : List ℕ) (n : ℕ) → column t 0 piecesRoot ≡ rootOf (treeTo n) → column t 0 piecesCount ≡ n → rowWidth * n + rowWidth ≤ length t
-    → ((link : ℕ) → 0 < link → link ≤ n → Told t link (partAt link (treeTo n))) → Links t (countFrom 1 n)
-told-links t n root count room f =
+pub says-links : (t : List ℕ) (n : ℕ) → column t 0 piecesRoot ≡ rootOf (treeTo n) → column t 0 piecesCount ≡ n → rowWidth * n + rowWidth ≤ length t
+    → ((link : ℕ) → 0 < link → link ≤ n → Says t link (partAt link (treeTo n))) → Links t (countFrom 1 n)
+says-links t n root count room f =
     record {
       tree = treeTo n;
       is = tree-to-rows n;
       shape =
           rw root
-          (told-shape t (treeTo n) (rw (tree-to-rows n) (count-from-ascending 1 n))
+          (says-shape t (treeTo n) (rw (tree-to-rows n) (count-from-ascending 1 n))
           (λ link m. let r = inside link (rw (tree-to-rows n) at m) in f link (r .0) (r .1)));
       balanced = tree-to-balanced n;
       count = count-from-length 1 n ∙ sym count;
@@ -176,6 +181,7 @@ pieceRow ps (suc k) =
     let part = partAt (suc k) (treeTo (length ps)) in
     p .first ∷ p .size ∷ p .written ∷ p .offset ∷ rootOf (leftOf part) ∷ rootOf (rightOf part) ∷ height part ∷ p .owner ∷ []
 
+-- as long as it is lent
 unfoldable pub pieceTable : (many : ℕ) (ps : List PieceRow) → List ℕ
 pieceTable many ps = tableBy 0 many (pieceRow ps)
 
@@ -184,14 +190,15 @@ unfolding pieceTable
 piece-table-length many ps = table-by-length 0 many (pieceRow ps)
 
 module _ (many : ℕ) (ps : List PieceRow) (room : rowWidth * length ps + rowWidth ≤ many) where
+  -- a column in use reads as the row says
   piece-column : (link c : ℕ) → link ≤ length ps → c < rowWidth → column (pieceTable many ps) link (0 + c) ≡ getD (pieceRow ps link) c 0
   unfolding pieceTable
   piece-column link c h k = table-by-at 0 many (pieceRow ps) link c k (omega arith)
 
-  piece-told : (link : ℕ) → 0 < link → link ≤ length ps → Told (pieceTable many ps) link (partAt link (treeTo (length ps)))
+  piece-says : (link : ℕ) → 0 < link → link ≤ length ps → Says (pieceTable many ps) link (partAt link (treeTo (length ps)))
   unfolding pieceRow
-  piece-told zero p h = absurd (omega arith)
-  piece-told (suc k) p h =
+  piece-says zero p h = absurd (omega arith)
+  piece-says (suc k) p h =
       record {
         valid = record { some = omega arith; room = omega (arith, piece-table-length many ps) };
         left = piece-column (suc k) pieceLeft h (omega arith);
@@ -199,11 +206,12 @@ module _ (many : ℕ) (ps : List PieceRow) (room : rowWidth * length ps + rowWid
         deep = piece-column (suc k) pieceDepth h (omega arith);
       }
 
+  -- so the links 1 to n stand in it, and the row of each is its piece
   pub piece-links : Links (pieceTable many ps) (countFrom 1 (length ps))
   unfolding pieceRow
   piece-links =
-      told-links (pieceTable many ps) (length ps) (piece-column 0 piecesRoot (omega arith) (omega arith)) (piece-column 0 piecesCount (omega arith) (omega arith))
-      (omega (arith, piece-table-length many ps)) piece-told
+      says-links (pieceTable many ps) (length ps) (piece-column 0 piecesRoot (omega arith) (omega arith)) (piece-column 0 piecesCount (omega arith) (omega arith))
+      (omega (arith, piece-table-length many ps)) piece-says
 
   pub piece-at : (k : ℕ) → k < length ps → pieceAt (pieceTable many ps) (suc k) ≡ getD ps k noPiece
   unfolding pieceRow
@@ -215,6 +223,7 @@ module _ (many : ℕ) (ps : List PieceRow) (room : rowWidth * length ps + rowWid
     owner = piece-column (suc k) pieceOwner h (omega arith) i;
   }
 
+  -- all pieces are shown, and their bytes are inside the used part
   pub pieces-shown : (store : List ℕ) → map (λ link. shown store (pieceAt (pieceTable many ps) link)) (countFrom 1 (length ps)) ≡ map (shown store) ps
   pieces-shown store =
       map-from-at (shown store) (pieceAt (pieceTable many ps)) noPiece 1 ps (λ k p. let z : 1 + k ≡ suc k = omega arith in rw z (piece-at k p))
@@ -259,6 +268,7 @@ part-height link (node l x r) = choose (eqb link x) (ltb link x) (part-height li
     choose false true p q = omega arith
     choose false false p q = omega arith
 
+-- a tree is no higher than its links are many
 height-length : (T : Tree) → height T ≤ length (rows T)
 unfolding height rows
 height-length leaf = omega arith
@@ -285,6 +295,7 @@ right-all {P} (node l x r) a = tail (all-right (rows l) (x ∷ rows r) a)
     tail : All P (x ∷ rows r) → All P (rows r)
     tail (all-cons p ps) = ps
 
+-- the numbers of a piece are words
 pub record PieceWords (p : PieceRow) : Type 0 where
   pub first : p .first < 2 ^ 64
   pub size : p .size < 2 ^ 64
@@ -292,6 +303,7 @@ pub record PieceWords (p : PieceRow) : Type 0 where
   pub offset : p .offset < 2 ^ 64
   pub owner : p .owner < 2 ^ 64
 
+-- and so are all numbers of the table: links are up to n, depths too
 pub piece-table-words : (many : ℕ) (ps : List PieceRow) → length ps < 2 ^ 64 → All PieceWords ps → All Word (pieceTable many ps)
 unfolding pieceTable pieceRow
 piece-table-words many ps few a = table-by-words 0 many (pieceRow ps) words

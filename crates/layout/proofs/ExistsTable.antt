@@ -1,6 +1,6 @@
 -- Tables made by a rule: a list given number by number, and rows given by their links. Assumes nothing.
-use mathlib.Core.Path.{_≡_, refl, ap, sym, _∙_}
-use mathlib.Core.List.{List, [], _∷_, _++_, map}
+use mathlib.Core.Path.{_≡_, ap, sym, _∙_}
+use mathlib.Core.List.{List, _++_, map}
 use Prim.Native.Nat.{ℕ, zero, suc, _+_, _-_, _*_, _/_, _%_, _^_, _≤_, _<_}
 use native.Mathlib.Omega.{arith}
 use lib.ListN.{length, getD, take, drop, length-drop}
@@ -15,11 +15,13 @@ use Rattle.tables.specs.Columns.{column}
 
 -- ── numbers that follow one another ──
 
+-- what holds of each number in the range holds of all
 pub count-from-all : {P : ℕ → Type 0} (n many : ℕ) → ((k : ℕ) → n ≤ k → k < n + many → P k) → All P (countFrom n many)
 unfolding countFrom
 count-from-all n zero f = all-nil
 count-from-all n (suc many) f = all-cons (f n (omega arith) (omega arith)) (count-from-all (suc n) many (λ k h l. f k (omega arith) (omega arith)))
 
+-- they ascend
 pub count-from-ascending : (n many : ℕ) → Ascending (λ k. k) (countFrom n many)
 unfolding countFrom
 count-from-ascending n zero = pairs-nil
@@ -31,6 +33,7 @@ count-from-ascending n (suc many) = pairs-cons {x = n} (count-from-all (suc n) m
 unfoldable pub listBy : (many : ℕ) (f : ℕ → ℕ) → List ℕ
 listBy many f = map f (countFrom 0 many)
 
+-- its length, its numbers, and what holds of all of them
 pub list-by-length : (many : ℕ) (f : ℕ → ℕ) → length (listBy many f) ≡ many
 unfolding listBy
 list-by-length many f = length-of-map f (countFrom 0 many) ∙ count-from-length 0 many
@@ -51,6 +54,7 @@ list-by-all many f g = all-of-map f (count-from-all 0 many (λ i h l. g i (omega
 unfoldable pub tableBy : (base many : ℕ) (row : ℕ → List ℕ) → List ℕ
 tableBy base many row = listBy many (λ i. getD (row ((i - base) / rowWidth)) ((i - base) % rowWidth) 0)
 
+-- its length, and the columns of its rows
 pub table-by-length : (base many : ℕ) (row : ℕ → List ℕ) → length (tableBy base many row) ≡ many
 unfolding tableBy
 table-by-length base many row = list-by-length many (λ i. getD (row ((i - base) / rowWidth)) ((i - base) % rowWidth) 0)
@@ -84,9 +88,11 @@ all-get d p all-nil i = p
 all-get d p (all-cons q qs) zero = q
 all-get d p (all-cons q qs) (suc i) = all-get d p qs i
 
+-- in a list of words every place reads as a word, past its end too
 pub word-at : {xs : List ℕ} → All Word xs → (i : ℕ) → getD xs i 0 < 2 ^ 64
 word-at a i = all-get 0 (omega arith) a i
 
+-- rows of words make a table of words
 pub table-by-words : (base many : ℕ) (row : ℕ → List ℕ) → ((link : ℕ) → All Word (row link)) → All Word (tableBy base many row)
 unfolding tableBy
 table-by-words base many row f =

@@ -1,6 +1,5 @@
 -- Node and entry tables for every segment tree: nodes in the order root, left, right, and their runs of entries in that order. Assumes nothing.
 use mathlib.Core.Path.{_≡_, refl, ap, sym, _∙_}
-use mathlib.Core.Logic.{_⊎_, inl, inr, ⊎-elim}
 use mathlib.Core.Bool.{Bool, true, false, cond, _||_, _&&_}
 use mathlib.Core.List.{List, [], _∷_, _++_}
 use Prim.Native.Nat.{ℕ, zero, suc, _+_, _-_, _*_, _/_, _%_, _^_, _≤_, _<_}
@@ -8,16 +7,16 @@ use native.Mathlib.Omega.{arith}
 use lib.Dec.{ltb, eqb}
 use lib.ListN.{length, getD, length-append, List·getD-append}
 use lib.Seq.{getD-append-add, getD-at, ext-getD}
-use borrow.Author.Tests.{eq-eqb, ne-eqb, lt-ltb, le-ltb}
+use borrow.Author.Tests.{eq-eqb, ne-eqb, le-ltb}
 use Rattle.lists.specs.Lists.{All, all-nil, all-cons}
 use Rattle.lists.proofs.Lists.{all-append}
-use Rattle.lists.proofs.Numbers.{and-left, and-right, or-cases}
+use Rattle.lists.proofs.Numbers.{and-left, and-right}
 use Rattle.history.specs.Lent.{rowWidth, entryWidth, entryHead}
 use Rattle.history.specs.Tree.{Tree, hole, node, mid, halves, nodeCount, entryCount, entriesIn}
 use Rattle.history.specs.Rules.{isHole, halved}
 use Rattle.history.proofs.TreeCounts.{entry-count-in}
 use Rattle.tables.specs.Columns.{column, entryColumn, nodeMin, nodeMax, nodeLeft, nodeRight, nodeFirst, nodeEntries, nodeKind, nodesCount, entryBlock, entryKey, entriesCount}
-use Rattle.segment_table.specs.Closed.{Tables, nodesUsed, leftAt, rightAt, firstAt, countAt, entriesUsed, blockIn, firstCellIn, run, Keyed, NodeRow, TreeAt, Consecutive, Closed}
+use Rattle.segment_table.specs.Closed.{Tables, nodesUsed, leftAt, rightAt, firstAt, countAt, entriesUsed, blockIn, firstCellIn, run, TreeAt, Consecutive, Closed}
 use Rattle.segment_table.proofs.Closed.{run-length, run-at}
 use Rattle.layout.proofs.ExistsTable.{listBy, list-by-length, list-by-at, list-by-all, tableBy, table-by-length, table-by-at, Word, all-get, word-at, table-by-words}
 
@@ -36,6 +35,7 @@ nodeRows kind lo hi link first (node xs l r) =
     ∷ (nodeRows kind lo (mid lo hi) (suc link) (first + length xs) l
     ++ nodeRows kind (mid lo hi) hi (suc link + nodeCount l) (first + length xs + entryCount l) r)
 
+-- a row for each node
 pub node-rows-length : (kind lo hi link first : ℕ) (T : Tree) → length (nodeRows kind lo hi link first T) ≡ nodeCount T
 unfolding nodeRows nodeCount
 node-rows-length kind lo hi link first hole = refl
@@ -48,6 +48,7 @@ node-rows-length kind lo hi link first (node xs l r) =
 
 -- ── runs one behind the other ──
 
+-- the first row's run starts at `first`, each next where the one before ends
 unfoldable pub Runs : (first : ℕ) (rows : List (List ℕ)) → Type 0
 Runs first [] = Unit {0}
 Runs first (r ∷ rs) = (getD r nodeFirst 0 ≡ first) × Runs (first + getD r nodeEntries 0) rs
@@ -67,6 +68,7 @@ unfolding Runs behind
 runs-append first [] ys h k = k
 runs-append first (x ∷ xs) ys h k = (h .0, runs-append (first + getD x nodeEntries 0) xs ys (h .1) k)
 
+-- the runs of a tree take as many rows as it has entries
 node-rows-behind : (kind lo hi link first : ℕ) (T : Tree) → behind first (nodeRows kind lo hi link first T) ≡ first + entryCount T
 unfolding nodeRows behind entryCount
 node-rows-behind kind lo hi link first hole = omega arith
@@ -78,22 +80,25 @@ node-rows-behind kind lo hi link first (node xs l r) =
     let z : first + length xs + entryCount l + entryCount r ≡ first + (length xs + (entryCount l + entryCount r)) = omega arith in
     behind-append (first + length xs) a b ∙ ap (λ (f : ℕ). behind f b) p ∙ q ∙ z
 
+-- they are one behind the other
 node-rows-runs : (kind lo hi link first : ℕ) (T : Tree) → Runs first (nodeRows kind lo hi link first T)
 unfolding nodeRows Runs
 node-rows-runs kind lo hi link first hole = tt
 node-rows-runs kind lo hi link first (node xs l r) =
     let a = nodeRows kind lo (mid lo hi) (suc link) (first + length xs) l in
     let b = nodeRows kind (mid lo hi) hi (suc link + nodeCount l) (first + length xs + entryCount l) r in
-    let p : behind (first + length xs) a ≡ first + length xs + entryCount l = node-rows-behind kind lo (mid lo hi) (suc link) (first + length xs) l in
-    (refl,
-    runs-append (first + length xs) a b (node-rows-runs kind lo (mid lo hi) (suc link) (first + length xs) l)
-    (rw p (node-rows-runs kind (mid lo hi) hi (suc link + nodeCount l) (first + length xs + entryCount l) r)))
+    let p : behind (first + length xs) a ≡ first + length xs + entryCount l = node-rows-behind kind lo (mid lo hi) (suc link) (first + length xs) l in (
+      refl,
+      runs-append (first + length xs) a b (node-rows-runs kind lo (mid lo hi) (suc link) (first + length xs) l)
+          (rw p (node-rows-runs kind (mid lo hi) hi (suc link + nodeCount l) (first + length xs + entryCount l) r)),
+    )
 
 runs-first : (first : ℕ) (rows : List (List ℕ)) → Runs first rows → 0 < length rows → getD (getD rows 0 []) nodeFirst 0 ≡ first
 unfolding Runs
 runs-first first [] h k = absurd (omega arith)
 runs-first first (r ∷ rs) h k = h .0
 
+-- from row to row
 runs-next : (first : ℕ) (rows : List (List ℕ)) → Runs first rows → (k : ℕ) → suc k < length rows
     → getD (getD rows (suc k) []) nodeFirst 0 ≡ getD (getD rows k []) nodeFirst 0 + getD (getD rows k []) nodeEntries 0
 unfolding Runs
@@ -111,6 +116,7 @@ pub record RowsAt (nodes : List ℕ) (link : ℕ) (rows : List (List ℕ)) : Typ
 pub record EntriesAt (entries : List ℕ) (row : ℕ) (ks : List ℕ) : Type 0 where
   pub says : (j : ℕ) → j < length ks → blockIn entries (row + j) ≡ getD ks j 0
 
+-- the first row, the rows behind it, and the parts of rows one behind the other
 module _ (nodes : List ℕ) (link : ℕ) where
   rows-head : (r : List ℕ) (rs : List (List ℕ)) → RowsAt nodes link (r ∷ rs) → (c : ℕ) → c < rowWidth → column nodes link c ≡ getD r c 0
   rows-head r rs h c p = let z : link + 0 ≡ link = omega arith in rw z at (h .says 0 c (omega arith) p)
@@ -119,16 +125,20 @@ module _ (nodes : List ℕ) (link : ℕ) where
   rows-tail r rs h = record { says = λ j c p q. let z : suc link + j ≡ link + suc j = omega arith in rw z (h .says (suc j) c (omega arith) q) }
 
   rows-left : (xs ys : List (List ℕ)) → RowsAt nodes link (xs ++ ys) → RowsAt nodes link xs
-  rows-left xs ys h = record { says = λ j c p q. h .says j c (omega (arith, length-append xs ys)) q ∙ ap (λ (r : List ℕ). getD r c 0) (List·getD-append xs ys [] j p) }
+  rows-left xs ys h =
+      record {
+        says = λ j c p q. h .says j c (omega (arith, length-append xs ys)) q ∙ ap (λ (r : List ℕ). getD r c 0) (List·getD-append xs ys [] j p);
+      }
 
   rows-right : (xs ys : List (List ℕ)) → RowsAt nodes link (xs ++ ys) → RowsAt nodes (link + length xs) ys
   rows-right xs ys h =
       record {
         says = λ j c p q.
-        let z : link + length xs + j ≡ link + (length xs + j) = omega arith in
-        rw z (h .says (length xs + j) c (omega (arith, length-append xs ys)) q ∙ ap (λ (r : List ℕ). getD r c 0) (getD-append-add xs ys j []));
+            let z : link + length xs + j ≡ link + (length xs + j) = omega arith in
+            rw z (h .says (length xs + j) c (omega (arith, length-append xs ys)) q ∙ ap (λ (r : List ℕ). getD r c 0) (getD-append-add xs ys j []));
       }
 
+-- the same of entries, and they are a run
 module _ (entries : List ℕ) (row : ℕ) where
   entries-left : (xs ys : List ℕ) → EntriesAt entries row (xs ++ ys) → EntriesAt entries row xs
   entries-left xs ys h = record { says = λ j p. h .says j (omega (arith, length-append xs ys)) ∙ List·getD-append xs ys 0 j p }
@@ -137,8 +147,8 @@ module _ (entries : List ℕ) (row : ℕ) where
   entries-right xs ys h =
       record {
         says = λ j p.
-        let z : row + length xs + j ≡ row + (length xs + j) = omega arith in
-        rw z (h .says (length xs + j) (omega (arith, length-append xs ys)) ∙ getD-append-add xs ys j 0);
+            let z : row + length xs + j ≡ row + (length xs + j) = omega arith in
+            rw z (h .says (length xs + j) (omega (arith, length-append xs ys)) ∙ getD-append-add xs ys j 0);
       }
 
   entries-run : (xs : List ℕ) → EntriesAt entries row xs → run entries row (length xs) ≡ xs
@@ -148,6 +158,7 @@ module _ (entries : List ℕ) (row : ℕ) where
 
 -- ── the tree in the tables ──
 
+-- no node, no link
 link-hole : (link : ℕ) (T : Tree) → isHole T ≡ true → linkTo link T ≡ 0
 unfolding linkTo
 link-hole link hole h = refl
@@ -157,10 +168,12 @@ link-hole link (node xs l r) h = let z : _≡_ {A = ℕ} 0 1 = cc in absurd (ome
 narrow-holes : (lo hi : ℕ) (l r : Tree) → (halves lo hi || (isHole l && isHole r)) ≡ true → hi ≤ lo + 1 → (isHole l && isHole r) ≡ true
 narrow-holes lo hi l r h n = rw (le-ltb (lo + 1) hi n) at h
 
-module _ (t : Tables) (kind many : ℕ) (keyed : (row : ℕ) → row < many → entryColumn (t .entries) row entryKey ≡ firstCellIn (t .blocks) (blockIn (t .entries) row))
+module _ (t : Tables) (kind many : ℕ)
+    (keyed : (row : ℕ) → row < many → entryColumn (t .entries) row entryKey ≡ firstCellIn (t .blocks) (blockIn (t .entries) row))
     (room : entryHead + entryWidth * many ≤ length (t .entries)) where
-  pub rows-tree : (T : Tree) (lo hi link first : ℕ) → 0 < link → link + nodeCount T ≤ suc (nodesUsed (t .nodes)) → first + entryCount T ≤ many → halved lo hi T ≡ true
-      → RowsAt (t .nodes) link (nodeRows kind lo hi link first T) → EntriesAt (t .entries) first (entriesIn T) → TreeAt t kind (linkTo link T) lo hi T
+  -- a tree stands where its rows and entries are
+  pub rows-tree : (T : Tree) (lo hi link first : ℕ) → 0 < link → link + nodeCount T ≤ suc (nodesUsed (t .nodes)) → first + entryCount T ≤ many
+      → halved lo hi T ≡ true → RowsAt (t .nodes) link (nodeRows kind lo hi link first T) → EntriesAt (t .entries) first (entriesIn T) → TreeAt t kind (linkTo link T) lo hi T
   unfolding TreeAt nodeRows linkTo nodeCount entryCount entriesIn halved
   rows-tree hole lo hi link first some used fits h rs es = refl
   rows-tree (node xs l r) lo hi link first some used fits h rs es =
@@ -180,26 +193,29 @@ module _ (t : Tables) (kind many : ℕ) (keyed : (row : ℕ) → row < many → 
       let later = entries-right (t .entries) first xs (entriesIn l ++ entriesIn r) es in
       let rs-right : RowsAt (t .nodes) (suc link + nodeCount l) b = rw long at (rows-right (t .nodes) (suc link) a b below) in
       let es-right : EntriesAt (t .entries) (first + length xs + entryCount l) (entriesIn r) =
-      rw many-left at (entries-right (t .entries) (first + length xs) (entriesIn l) (entriesIn r) later) in
-      (record {
-        some = some;
-        used = omega arith;
-        low = own nodeMin (omega arith);
-        high = own nodeMax (omega arith);
-        own-kind = own nodeKind (omega arith);
-        narrow = λ n.
-        let both = narrow-holes lo hi l r wide n in
-        (here-left ∙ link-hole (suc link) l (and-left (isHole l) (isHole r) both), here-right ∙ link-hole (suc link + nodeCount l) r (and-right (isHole l) (isHole r) both));
-        inside = omega arith;
-        listed = rw (here-first, here-count) (entries-run (t .entries) first xs (entries-left (t .entries) first xs (entriesIn l ++ entriesIn r) es));
-        keyed = rw (here-first, here-count) (record { key = λ j p. keyed (first + j) (omega arith) });
-      },
-      rw here-left
-      (rows-tree l lo (mid lo hi) (suc link) (first + length xs) (omega arith) (omega arith) (omega arith) (and-left (halved lo (mid lo hi) l) (halved (mid lo hi) hi r) deep)
-      (rows-left (t .nodes) (suc link) a b below) (entries-left (t .entries) (first + length xs) (entriesIn l) (entriesIn r) later)),
-      rw here-right
-      (rows-tree r (mid lo hi) hi (suc link + nodeCount l) (first + length xs + entryCount l) (omega arith) (omega arith) (omega arith)
-      (and-right (halved lo (mid lo hi) l) (halved (mid lo hi) hi r) deep) rs-right es-right))
+      rw many-left at (entries-right (t .entries) (first + length xs) (entriesIn l) (entriesIn r) later) in (
+        record {
+          some = some;
+          used = omega arith;
+          low = own nodeMin (omega arith);
+          high = own nodeMax (omega arith);
+          own-kind = own nodeKind (omega arith);
+          narrow = λ n.
+              let both = narrow-holes lo hi l r wide n in (
+                here-left ∙ link-hole (suc link) l (and-left (isHole l) (isHole r) both),
+                here-right ∙ link-hole (suc link + nodeCount l) r (and-right (isHole l) (isHole r) both),
+              );
+          inside = omega arith;
+          listed = rw (here-first, here-count) (entries-run (t .entries) first xs (entries-left (t .entries) first xs (entriesIn l ++ entriesIn r) es));
+          keyed = rw (here-first, here-count) (record { key = λ j p. keyed (first + j) (omega arith) });
+        },
+        rw here-left
+            (rows-tree l lo (mid lo hi) (suc link) (first + length xs) (omega arith) (omega arith) (omega arith)
+            (and-left (halved lo (mid lo hi) l) (halved (mid lo hi) hi r) deep) (rows-left (t .nodes) (suc link) a b below) (entries-left (t .entries) (first + length xs) (entriesIn l) (entriesIn r) later)),
+        rw here-right
+            (rows-tree r (mid lo hi) hi (suc link + nodeCount l) (first + length xs + entryCount l) (omega arith) (omega arith) (omega arith)
+            (and-right (halved lo (mid lo hi) l) (halved (mid lo hi) hi r) deep) rs-right es-right),
+      )
 
 -- ── the node table ──
 
@@ -207,10 +223,12 @@ module _ (t : Tables) (kind many : ℕ) (keyed : (row : ℕ) → row < many → 
 unfoldable pub nodeHeadRow : (kind : ℕ) → Tree → List ℕ
 nodeHeadRow kind T = listBy nodesCount (λ k. cond (eqb k kind) (linkTo 1 T) 0) ++ (nodeCount T ∷ [])
 
+-- the head, then the rows of the tree
 unfoldable pub nodeRowAt : (kind end : ℕ) → Tree → (link : ℕ) → List ℕ
 nodeRowAt kind e T zero = nodeHeadRow kind T
 nodeRowAt kind e T (suc k) = getD (nodeRows kind 0 e 1 0 T) k []
 
+-- as long as it is lent
 unfoldable pub nodeTable : (many kind end : ℕ) → Tree → List ℕ
 nodeTable many kind e T = tableBy 0 many (nodeRowAt kind e T)
 
@@ -282,10 +300,12 @@ module _ (many kind end : ℕ) (T : Tree) (room : rowWidth * nodeCount T + rowWi
 unfoldable pub entryRow : (key : ℕ → ℕ) (ks : List ℕ) (row : ℕ) → List ℕ
 entryRow key ks row = getD ks row 0 ∷ key (getD ks row 0) ∷ []
 
+-- the head has the count
 unfoldable pub entryAt : (key : ℕ → ℕ) (ks : List ℕ) (i : ℕ) → ℕ
 entryAt key ks i =
     cond (ltb i entryHead) (cond (eqb i entriesCount) (length ks) 0) (getD (entryRow key ks ((i - entryHead) / entryWidth)) ((i - entryHead) % entryWidth) 0)
 
+-- as long as it is lent
 unfoldable pub entryTable : (many : ℕ) (key : ℕ → ℕ) (ks : List ℕ) → List ℕ
 entryTable many key ks = listBy many (entryAt key ks)
 
@@ -327,8 +347,8 @@ tree-closed blocks nodesLong entriesLong kind end T known h nodeRoom entryRoom =
     record {
       stands =
           rw root
-          (rows-tree t kind (entryCount T) (λ row p. entry-key entriesLong (firstCellIn blocks) (entriesIn T) room row (omega (arith, total))) (omega (arith, long)) T 0 end 1 0
-          (omega arith) (omega (arith, used)) (omega arith) h (node-rows-at nodesLong kind end T nodeRoom) (entries-at entriesLong (firstCellIn blocks) (entriesIn T) room));
+          (rows-tree t kind (entryCount T) (λ row p. entry-key entriesLong (firstCellIn blocks) (entriesIn T) room row (omega (arith, total)))
+          (omega (arith, long)) T 0 end 1 0 (omega arith) (omega (arith, used)) (omega arith) h (node-rows-at nodesLong kind end T nodeRoom) (entries-at entriesLong (firstCellIn blocks) (entriesIn T) room));
       other-kinds = λ k p ne. node-root nodesLong kind end T nodeRoom k p ∙ rw (ne-eqb k kind ne);
       all-rows = used;
       room = omega (arith, used, node-table-length nodesLong kind end T);
@@ -361,6 +381,7 @@ unfolding linkTo
 link-word link hole h = omega arith
 link-word link (node xs l r) h = h
 
+-- the numbers of the rows are words: links are up to the count of nodes, runs up to that of entries
 node-rows-words : (kind lo hi link first : ℕ) (T : Tree) → kind < 2 ^ 64 → lo < 2 ^ 64 → hi < 2 ^ 64 → link + nodeCount T < 2 ^ 64 → first + entryCount T < 2 ^ 64
     → All (All Word) (nodeRows kind lo hi link first T)
 unfolding nodeRows nodeCount entryCount
@@ -371,10 +392,13 @@ node-rows-words kind lo hi link first (node xs l r) k p q n e =
     let c : length xs < 2 ^ 64 = omega arith in
     all-cons
     (all-cons p
-    (all-cons q (all-cons (link-word (suc link) l (omega arith)) (all-cons (link-word (suc link + nodeCount l) r (omega arith)) (all-cons f (all-cons c (all-cons k all-nil)))))))
+    (all-cons q
+    (all-cons (link-word (suc link) l (omega arith))
+    (all-cons (link-word (suc link + nodeCount l) r (omega arith)) (all-cons f (all-cons c (all-cons k all-nil)))))))
     (all-append (node-rows-words kind lo (mid lo hi) (suc link) (first + length xs) l k p m (omega arith) (omega arith))
     (node-rows-words kind (mid lo hi) hi (suc link + nodeCount l) (first + length xs + entryCount l) r k m q (omega arith) (omega arith)))
 
+-- and so are all numbers of the two tables
 pub node-table-words : (many kind end : ℕ) (T : Tree) → kind < 2 ^ 64 → end < 2 ^ 64 → nodeCount T + 1 < 2 ^ 64 → entryCount T < 2 ^ 64
     → All Word (nodeTable many kind end T)
 unfolding nodeTable nodeRowAt nodeHeadRow

@@ -7,4 +7,5 @@ pub mod ExistsPieces
 pub mod ExistsBlocks
 pub mod ExistsOrder
 pub mod ExistsTree
+pub mod ExistsBoard
 pub mod Exists

@@ -2,17 +2,15 @@
 use mathlib.Core.Path.{_≡_, refl, ap, sym, _∙_}
 use mathlib.Core.Option.{Option, none, some}
 use mathlib.Core.List.{List, map}
-use Prim.Native.Nat.{ℕ, _<_}
+use Prim.Native.Nat.{ℕ}
 use native.Mathlib.Omega.{arith}
-use Rattle.history.specs.Words.{Piece}
 use Rattle.history.specs.Tree as segment
-use Rattle.history.specs.Ledger.{Opening, Moment, Ledger}
+use Rattle.history.specs.Ledger.{Ledger}
 use Rattle.tables.specs.Columns.{column, pieceLeft, pieceRight, piecesRoot}
 use Rattle.merge_set.specs.Tree.{Tree, leaf, node, height, rows}
 use Rattle.merge_set.specs.Table.{Shape}
 use Rattle.piece_table.specs.Piece.{pieceAt}
 use Rattle.piece_table.specs.Shown.{shown}
-use Rattle.segment_table.specs.Closed.{Closed}
 use Rattle.segment_table.proofs.Closed.{tree-one}
 use Rattle.layout.specs.Tables.{Tables, treeTables}
 use Rattle.layout.specs.Encodes.{Links, stateOf, TreeIn, Encodes}
@@ -31,6 +29,7 @@ shape-one t link (node a x b) (node a′ x′ b′) h k =
     let b-same : b ≡ b′ = shape-one t (column t x pieceRight) b b′ (h .right) (rw x-same (k .right)) in
     rw (x-same, a-same, b-same)
 
+-- so are the links, and the table has one list of them
 pub links-one : (pieces xs ys : List ℕ) → Links pieces xs → Links pieces ys → xs ≡ ys
 links-one pieces xs ys h k = sym (h .is) ∙ ap rows (shape-one pieces (column pieces 0 piecesRoot) (h .tree) (k .tree) (h .shape) (k .shape)) ∙ k .is
 
@@ -48,6 +47,7 @@ tree-same t l m (some a) (some b) k e s h h′ =
 
 -- ── the whole ──
 
+-- no two ledgers have the same tables
 pub unique : (t : Tables) (l m : Ledger) → Encodes t l → Encodes t m → l ≡ m
 unique t l m e f = λ i. record { opening = opening i; now = now i; tree = tree i }
   where
