@@ -84,21 +84,21 @@ pub ruleset calling = (call-empty, call-wraps, call-late, call-back, call-passes
 
 -- ── `space_refusal` ──
 
--- how the lists of refusals begin
+-- the first of 9 to 11, by the numbers
 module _ (space rows bytes pieces blocks used : ℕ) where
-  pub space-nine : space < pieces → First 9 (spaceRefusals space rows bytes pieces blocks used)
+  space-nine : space < pieces → First 9 (spaceRefusals space rows bytes pieces blocks used)
   unfolding spaceRefusals firstOf
   space-nine h = record { nothing = λ z. absurd (omega arith); number = λ z. rw (lt-ltb space pieces h) }
 
-  pub space-ten : pieces ≤ space → rows < blocks + pieces → First 10 (spaceRefusals space rows bytes pieces blocks used)
+  space-ten : pieces ≤ space → rows < blocks + pieces → First 10 (spaceRefusals space rows bytes pieces blocks used)
   unfolding spaceRefusals firstOf
   space-ten h k = record { nothing = λ z. absurd (omega arith); number = λ z. rw (le-ltb space pieces h, lt-ltb rows (blocks + pieces) k) }
 
-  pub space-eleven : pieces ≤ space → blocks + pieces ≤ rows → bytes < used → First 11 (spaceRefusals space rows bytes pieces blocks used)
+  space-eleven : pieces ≤ space → blocks + pieces ≤ rows → bytes < used → First 11 (spaceRefusals space rows bytes pieces blocks used)
   unfolding spaceRefusals firstOf
   space-eleven h k m = record { nothing = λ z. absurd (omega arith); number = λ z. rw (le-ltb space pieces h, le-ltb rows (blocks + pieces) k, lt-ltb bytes used m) }
 
-  pub space-free : pieces ≤ space → blocks + pieces ≤ rows → used ≤ bytes → First 0 (spaceRefusals space rows bytes pieces blocks used)
+  space-free : pieces ≤ space → blocks + pieces ≤ rows → used ≤ bytes → First 0 (spaceRefusals space rows bytes pieces blocks used)
   unfolding spaceRefusals firstOf
   space-free h k m = record { nothing = λ z. rw (le-ltb space pieces h, le-ltb rows (blocks + pieces) k, le-ltb bytes used m); number = λ z. absurd (z refl) }
 

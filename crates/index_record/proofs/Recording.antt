@@ -1,17 +1,23 @@
--- One step for each return of `record_open`. Assumes nothing.
-use mathlib.Core.Path.{_≡_, refl, sym, ap, subst}
+-- One step for each return of `record_open`, and what its contract says to the public call. Assumes nothing.
+use mathlib.Core.Path.{_≡_, refl, sym, ap, subst, _∙_}
 use mathlib.Core.Bool.{true, false}
 use mathlib.Core.List.{List}
+use mathlib.Core.Option.{Option, none, some}
 use Prim.Native.Nat.{ℕ}
+use native.Mathlib.Omega.{arith}
 use Rattle.history.specs.Words.{Operation}
-use Rattle.history.specs.Ledger.{Ledger, isRead, recordBy}
+use Rattle.history.specs.Ledger.{Ledger, isSome, isRead, recordBy}
+use Rattle.history.specs.Tree as segment
 use Rattle.history.specs.Refusals.{accepted, refused, recordAnswer}
+use Rattle.history.specs.Sound.{Sound}
+use Rattle.tables.specs.Columns.{blockColumn, headState}
 use Rattle.layout.specs.Tables.{Tables, tables}
-use Rattle.layout.specs.Encodes.{Encodes}
+use Rattle.layout.specs.Encodes.{Encodes, openState, stateOf}
 use Rattle.layout.specs.Relations.{readTables, UpdatedTables, RecordLeaves}
-use Rattle.index_record.specs.Calls.{operation, Verdicts, Judged, ReadApplied, UpdateApplied, RecordedOpen}
+use Rattle.index_record.specs.Calls.{operation, Verdicts, Judged, ReadApplied, UpdateApplied, recordedOf, RecordedOpen}
 use Rattle.index_record.specs.declared.Verdict.{Verdict}
 use Rattle.index_record.specs.declared.Verdict.the-variants.{Refused, Read, Update}
+use Rattle.index_record.specs.declared.Recorded.{Recorded}
 use Rattle.index_record.specs.declared.Recorded.the-variants.{Accepted, Refused as RecordRefused}
 use Rattle.index_record.proofs.Reading.{read-encodes}
 
@@ -56,3 +62,15 @@ module _ {p b s bytes : List ℕ} {scratch tick first : ℕ} {v : Verdict} (judg
   }
 
 pub ruleset opening = (open-refused, open-read, open-update)
+
+-- ── for the public call ──
+
+state-open : (tree : Option segment.Tree) → stateOf tree ≡ openState → isSome tree ≡ false
+state-open none e = refl
+state-open (some tree) e = absurd (omega arith)
+
+-- where the head says that the index is open, `record_open` does what layout's `RecordedBy` says of well-formed tables
+pub open-formed : {p b s p′ b′ s′ : List ℕ} {scratch : ℕ} {o : Operation} {r : Recorded} → RecordedOpen p b s p′ b′ s′ scratch o r → blockColumn b 0 headState ≡ openState
+    → (nodes entries : List ℕ) (l : Ledger) → Encodes (tables p b s nodes entries) l → Sound l
+    → (recordedOf r ≡ recordAnswer l scratch o) × RecordLeaves (recordAnswer l scratch o) l o (tables p b s nodes entries) (tables p′ b′ s′ nodes entries)
+open-formed done is nodes entries l e sound = done .formed nodes entries l e sound (state-open (l .tree) (sym (e .state) ∙ is))

@@ -54,6 +54,12 @@ call-sized end last tick first size e =
 
 -- ── the ledger's answer ──
 
+-- of a finished index
+pub answer-finished : (l : Ledger) (scratch : ℕ) (o : Operation) → tooShort (l .opening .lent) ≡ false → finished l ≡ true → recordAnswer l scratch o ≡ refused 3
+unfolding recordRefusals firstOf
+answer-finished l scratch o fits done = rw (fits, done)
+
+-- of an open one
 module _ (l : Ledger) (scratch : ℕ) (o : Operation) (fits : tooShort (l .opening .lent) ≡ false) (still : finished l ≡ false) where
   abbrev ofCall : List Refusal
   ofCall = callRefusals (l .opening .end) (l .now .last) (o .tick) (o .first) (length (o .bytes))

@@ -47,7 +47,7 @@ unfoldable pub leftBlocks : (tick used : ℕ) (ps : List PieceRow) (blocks : Lis
 leftBlocks tick used ps b = set (set (appended tick ps b) (headPlace headUsed) used) (headPlace headLast) tick
 
 module _ (tick used : ℕ) (ps : List PieceRow) (b : List ℕ) (there : blockHead ≤ length b) where
-  pub left-length : length (leftBlocks tick used ps b) ≡ length b
+  left-length : length (leftBlocks tick used ps b) ≡ length b
   unfolding leftBlocks
   left-length =
       length-set (set (appended tick ps b) (headPlace headUsed) used) (headPlace headLast) tick ∙ length-set (appended tick ps b) (headPlace headUsed) used ∙ appended-length tick ps b
@@ -85,7 +85,7 @@ module _ (tick used : ℕ) (ps : List PieceRow) (b : List ℕ) (there : blockHea
   left-old : SameRows b (leftBlocks tick used ps b) (blockCount b)
   left-old = record { same = λ i lo hi. left-same i (λ z. omega arith) (λ z. omega arith) ∙ appended-kept tick ps b .same i lo hi }
 
-  pub left-appended : Appended b (leftBlocks tick used ps b) (blockCount b) (blockCount b + length ps)
+  left-appended : Appended b (leftBlocks tick used ps b) (blockCount b) (blockCount b + length ps)
   left-appended = record {
     len = left-length;
     head = λ i h nc nu nl. left-same i nu nl ∙ appended-out tick ps b i nc (inl (omega arith));
@@ -106,10 +106,10 @@ module _ (tick used : ℕ) (ps : List PieceRow) (b : List ℕ) (there : blockHea
         ∙ ap (λ (k : ℕ). blockColumn (appended tick ps b) k c) (sym e)
         ∙ appended-row tick ps none-row b (link - suc (blockCount b)) c fits (omega arith) h
 
-    pub left-blocks : (store : List ℕ) → blocksOf store (leftBlocks tick used ps b) (blockCount b + length ps) ≡ blocksOf store b (blockCount b) ++ map (λ p. blockOf tick (shown store p)) ps
+    left-blocks : (store : List ℕ) → blocksOf store (leftBlocks tick used ps b) (blockCount b + length ps) ≡ blocksOf store b (blockCount b) ++ map (λ p. blockOf tick (shown store p)) ps
     left-blocks store = blocks-kept store (left-rows (blockCount b + length ps)) ∙ appended-blocks store tick ps b fits
 
-    pub left-stored : (old : ℕ) → old ≤ used → ordered.Stored old b (blockCount b) → All (Within old) ps → ordered.Stored used (leftBlocks tick used ps b) (blockCount b + length ps)
+    left-stored : (old : ℕ) → old ≤ used → ordered.Stored old b (blockCount b) → All (Within old) ps → ordered.Stored used (leftBlocks tick used ps b) (blockCount b + length ps)
     left-stored old le was parts = record { inside = λ link lo hi. go link lo hi (le-or-lt link (blockCount b)) }
       where
         go : (link : ℕ) → 0 < link → link ≤ blockCount b + length ps → (link ≤ blockCount b) ⊎ (blockCount b < link)
@@ -119,7 +119,7 @@ module _ (tick used : ℕ) (ps : List PieceRow) (b : List ℕ) (there : blockHea
         go link lo hi (inr k) =
             omega (arith, left-row link blockOffset k hi (omega arith), left-row link blockLength k hi (omega arith), all-at none-row parts (link - suc (blockCount b)) (omega arith))
 
-    pub left-unordered : Unordered b (blockCount b) → Unordered (leftBlocks tick used ps b) (blockCount b + length ps)
+    left-unordered : Unordered b (blockCount b) → Unordered (leftBlocks tick used ps b) (blockCount b + length ps)
     left-unordered u = record { none = λ k h. go k h (le-or-lt k (blockCount b)) }
       where
         go : (k : ℕ) → k ≤ blockCount b + length ps → (k ≤ blockCount b) ⊎ (blockCount b < k) → nextAt (leftBlocks tick used ps b) k ≡ 0
@@ -338,7 +338,6 @@ module _ {p b s bytes : List ℕ} {tick first used : ℕ} (eu : used ≡ blockCo
         let o : Operation = operation tick first bytes in
         let t : Tables = tables p b s nodes entries in
         let rec′ : AppliedUpdate p p₁ b b₁ (newRow (operation tick first bytes) (blockColumn b 0 headUsed) (blockColumn b 0 headKind)) = rw (eu, ek) at rec in
-        let gone : List PieceRow = rowsInside first (first + length bytes) (map (pieceAt p) (e .links)) in
         let is : b₃ ≡ leftBlocks tick (blockColumn b 0 headUsed + length bytes) (rowsInside first (first + length bytes) (map (pieceAt p) (e .links))) b
         = e₃ ∙ ap (λ (m : List ℕ). set m (headPlace headLast) tick) (e₂ ∙ ap₂ (λ (m : List ℕ) (n : ℕ). set m (headPlace headUsed) (n + length bytes)) (blocks-left t l o scratch e sound took update few fewer fits p₁ b₁ rec′) eu) in
         let store : s₁ ≡ sets s (blockColumn b 0 headUsed) bytes = es ∙ ap (λ (n : ℕ). sets s n bytes) eu in
