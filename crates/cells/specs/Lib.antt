@@ -1,0 +1,4 @@
+pub mod Runs
+pub mod Shows
+pub mod Answers
+pub mod Law

@@ -1,0 +1,62 @@
+// Read cells: for a tick and [start, end) the byte of each cell, and 1 where a live block holds it; 0 and 0 where none does. It goes from block to
+// block, each found by a search of the tree, and writes every cell of the range once.
+//
+//   specs/Answers   what the answer means, and the contract
+//   run             specs/Runs    proofs/Runs, Seeing   the next cells alike: a free stretch, then a block's bytes
+//   show            specs/Shows   proofs/Filling, Showing   the cells written, run by run
+//   closed          proofs/Reading   14, 15 and 16
+//   lib             proofs/Answering   2 and 4; the history is shown
+ghost use Rattle.layout.specs.Tables.{tables};
+ghost use Rattle.cells.specs.Answers.{readOf, CellsReadBy};
+ghost use Rattle.cells.specs.Law.{CellsShowHistory};
+
+mod closed;
+mod run;
+mod show;
+
+use index_test::State;
+
+// The answer of read cells: both slices are filled, or nothing has changed.
+pub enum Read {
+    Filled,
+    Refused(u64),
+}
+
+// The cells of [start, end) at a tick, into two lent slices.
+pub fn read_cells(
+    pieces: &[u64],
+    blocks: &[u64],
+    store: &[u8],
+    nodes: &[u64],
+    entries: &[u64],
+    tick: u64,
+    start: u64,
+    end: u64,
+    bytes: &mut [u8],
+    held: &mut [u8],
+) -> Read
+    ensures { λ r. ⌜ CellsReadBy (tables (now (pieces .entry)) (now (blocks .entry)) (now (store .entry)) (now (nodes .entry)) (now (entries .entry))) tick start end
+        (now (bytes .entry)) (now (bytes .exit)) (now (held .entry)) (now (held .exit)) (readOf r) ⌝ }
+{
+    let state = index_test::test(pieces, blocks, store, nodes, entries);
+    match state {
+        State::Bad => Read::Refused(2),
+        State::Open => Read::Refused(4),
+        State::Closed => closed::read_closed(
+            blocks,
+            store,
+            nodes,
+            entries,
+            tick,
+            start,
+            end,
+            bytes,
+            held,
+        ),
+    }
+}
+
+// Over an index that any list of calls has reached and finished, read cells shows what the history has.
+pub fn shows_history()
+    ensures { λ _. ⌜ CellsShowHistory ⌝ }
+{}
