@@ -1,5 +1,5 @@
 -- Rule 24 over block and piece rows is rule 24 of history over all blocks of the finished index. Assumes nothing.
-use mathlib.Core.Path.{_≡_, sym, ap, ap₂, subst, _∙_}
+use mathlib.Core.Path.{_≡_, sym, ap, subst, _∙_}
 use mathlib.Core.List.{List, _++_, map, map-map}
 use Prim.Native.Nat.{ℕ, zero, suc, _+_, _≤_, _<_, max}
 use native.Mathlib.Omega.{arith}
@@ -9,7 +9,7 @@ use Rattle.lists.proofs.Lists.{all-both, all-of-map, all-un-map, all-at, pairs-
 use Rattle.history.specs.Words.{Block, blockOf, size, Holds}
 use Rattle.history.specs.Rules.{Apart}
 use Rattle.history.specs.Tree.{noBlock}
-use Rattle.history.specs.Ledger.{Ledger, settled}
+use Rattle.history.specs.Ledger.{Ledger}
 use Rattle.tables.specs.Columns.{blockDestroyed}
 use Rattle.ordering.specs.Order.{firstCellAt, OnlyOrder}
 use Rattle.ordering.specs.Blocks.{lengthAt, offsetAt, createdAt, destroyedAt, blockOfRow, blocksOf, Filled, Stored}
@@ -19,6 +19,7 @@ use Rattle.ordering.proofs.Blocks.{all-count-from, blocks-at, blocks-length, bl
 use Rattle.ordering.proofs.Agreeing.{row-holds, holds-row, unshared-apart, apart-unshared}
 use Rattle.piece_table.specs.Piece.{PieceRow}
 use Rattle.piece_table.specs.Shown.{shown}
+use Rattle.recording.proofs.Telling.{settled-blocks}
 use Rattle.layout.specs.Tables.{Tables}
 use Rattle.layout.proofs.Pieces.{shown-size}
 use Rattle.index_finish.specs.Finish.{StandsOpen, allBlocks}
@@ -114,10 +115,9 @@ module _ {t : Tables} {l : Ledger} {b : List ℕ} (s : StandsOpen t l) (o : Only
   ordered-blocks = blocks-order (t .store) (length (l .now .blocks)) o ∙ sym (are-blocks s)
 
   pub all-blocks : allBlocks l ≡ blocksOf (t .store) b (length (l .now .blocks)) ++ map (settledRow (t .store) (l .opening .end)) (pieceRows s)
-  unfolding settled
   all-blocks =
-      ap₂ (λ (x y : List Block). x ++ y) (sym ordered-blocks)
-      (ap (map (blockOf (l .opening .end))) (are-pieces s) ∙ map-map (blockOf (l .opening .end)) (shown (t .store)) (pieceRows s))
+      settled-blocks (t .store) (pieceRows s) (l .now) (l .opening .end) (are-pieces s)
+      ∙ ap (λ (x : List Block). x ++ map (settledRow (t .store) (l .opening .end)) (pieceRows s)) (sym ordered-blocks)
 
   pub ordered-stored : Stored (length (t .store)) b (length (l .now .blocks))
   ordered-stored = stored-order o (stored s)

@@ -1,10 +1,10 @@
 -- Laws of lists that finish needs and that know nothing of tables. Assumes nothing.
-use mathlib.Core.Path.{_≡_, refl, ap₂}
+use mathlib.Core.Path.{_≡_}
 use mathlib.Core.Logic.{inl, inr, ⊎-elim}
-use mathlib.Core.List.{List, [], _∷_, map}
-use Prim.Native.Nat.{ℕ, suc, _+_, _≤_, _<_}
+use mathlib.Core.List.{List, map}
+use Prim.Native.Nat.{ℕ, _+_, _≤_, _<_}
 use native.Mathlib.Omega.{arith}
-use lib.ListN.{length, getD}
+use lib.ListN.{length}
 use Rattle.lists.specs.Lists.{Pairs, pairs-nil, pairs-cons, Mem, Distinct, count, countFrom}
 use Rattle.lists.proofs.Lists.{all-of-map}
 use Rattle.lists.proofs.Numbers.{lt-or-le}
@@ -19,17 +19,6 @@ module _ {A B : Type 0} where
   pairs-of-map f (pairs-cons a p) = pairs-cons (all-of-map f a) (pairs-of-map f p)
 
 -- ── numbers in a row ──
-
--- elements by numbers, from a number on
-pub map-count-from : {A B : Type 0} (g : ℕ → B) (f : A → B) (d : A) (n : ℕ) (xs : List A) → ((j : ℕ) → j < length xs → g (n + j) ≡ f (getD xs j d))
-    → map g (countFrom n (length xs)) ≡ map f xs
-unfolding countFrom
-map-count-from g f d n [] h = refl
-map-count-from {A} {B} g f d n (x ∷ xs) h =
-    let z : n + 0 ≡ n = omega arith in
-    let this : g n ≡ f x = rw z at (h 0 (omega arith)) in
-    ap₂ (λ (y : B) (r : List B). y ∷ r) this
-    (map-count-from g f d (suc n) xs (λ j l. let q : suc n + j ≡ n + suc j = omega arith in rw q (h (suc j) (omega arith))))
 
 -- n different numbers of 1 to n are there once each
 pub counts-once : (n : ℕ) (xs : List ℕ) → Distinct xs → ((k : ℕ) → Mem k xs → (0 < k) × (k ≤ n)) → length xs ≡ n → (k : ℕ) → count k xs ≡ count k (countFrom 1 n)

@@ -5,33 +5,33 @@ use mathlib.Core.List.{List, [], _++_, map}
 use Prim.Native.Nat.{ℕ, suc, _+_, _-_, _*_, _≤_, _<_, _^_}
 use native.Mathlib.Omega.{arith}
 use lib.ListN.{length, getD, set, take, replicate, length-set, length-replicate}
-use lib.Seq.{sets, getD-set-same, getD-set-other}
-use Rattle.lists.specs.Lists.{All, all-nil, all-cons, Pairs, pairs-nil, pairs-cons, Ascending, count, countFrom}
+use lib.Seq.{getD-set-same, getD-set-other}
+use Rattle.lists.specs.Lists.{All, all-nil, all-cons, Pairs, pairs-nil, pairs-cons, Ascending, count}
 use Rattle.lists.proofs.Lists.{all-map, all-both, all-at, all-of-map}
 use Rattle.lists.proofs.Maps.{length-of-map}
 use Rattle.lists.proofs.Numbers.{le-or-lt}
-use Rattle.lists.proofs.Stores.{getD-sets-out}
 use Rattle.history.specs.Lent.{rowWidth, blockHead, nodeHead, entryHead}
 use Rattle.history.specs.Words.{Block, size}
 use Rattle.history.specs.Tree.{treeOf, entryCount}
 use Rattle.history.specs.Rules.{Apart}
 use Rattle.history.specs.Ledger.{Ledger, finishBy}
 use Rattle.history.proofs.Steps.{settled-sound}
-use Rattle.tables.specs.Columns.{blockColumn, blockBase, blockFirst, blockLength, blockCreated, blockDestroyed, blockOffset, blockOwner, blockNext, headState, headEnd, headKind, headCount, headUsed, headLast}
+use Rattle.tables.specs.Columns.{blockColumn, blockBase, blockLength, blockOffset, blockNext, headState, headEnd, headKind, headCount, headUsed, headLast}
 use Rattle.segment_table.specs.Closed as closed
 use Rattle.ordering.specs.Order as order
 use Rattle.ordering.specs.Order.{nextAt, rankOf, Room, Trail, InOrder, numbersOf, Ordered, SortedMore}
-use Rattle.ordering.specs.Blocks.{lengthAt, offsetAt, blockOfRow, blocksOf, SameRows, Stored}
+use Rattle.ordering.specs.Blocks.{lengthAt, offsetAt, blocksOf, SameRows, Stored}
 use Rattle.ordering.proofs.Rank.{rank-first}
-use Rattle.ordering.proofs.Keeping.{rows-set, rows-sets, rows-then, kept-column, order-column, order-kept, stored-order}
-use Rattle.ordering.proofs.Blocks.{blocks-length, blocks-append, blocks-order}
+use Rattle.ordering.proofs.Keeping.{rows-set, rows-then, kept-column, order-column, order-kept, stored-order}
+use Rattle.ordering.proofs.Blocks.{blocks-length, blocks-kept, blocks-order}
 use Rattle.ordering.proofs.Numbering.{order-counts, order-blocks}
 use Rattle.piece_table.specs.Piece.{PieceRow, pieceAt}
 use Rattle.piece_table.specs.Shown.{shown}
 use Rattle.recording.specs.Blocks as recorded
 use Rattle.recording.specs.Blocks.{blockRow, blockCount, appended}
 use Rattle.recording.specs.Calls.{ExtractedMembers}
-use Rattle.recording.proofs.Blocks.{block-rows-length, appended-length, appended-count, appended-other, appended-row}
+use Rattle.recording.proofs.Telling.{appended-out, appended-kept, appended-blocks}
+use Rattle.recording.proofs.Blocks.{appended-length, appended-count, appended-other, appended-row}
 use Rattle.segment_tree.specs.Lives.{Counted, entryRowsIn}
 use Rattle.segment_tree.specs.Fill.{Met, met-end, met-next, lentTables, Closable, ClosedTree}
 use Rattle.layout.specs.Tables.{Tables, tables, lengthsOf, headAt}
@@ -40,7 +40,6 @@ use Rattle.layout.specs.Relations.{AppendedInOrder}
 use Rattle.layout.proofs.Lengths.{lent-same}
 use Rattle.layout.proofs.Opening.{getD-zeros, no-links}
 use Rattle.index_finish.specs.Finish.{StandsOpen, allBlocks, wholeTree, Accepted, Finished, SettledTables}
-use Rattle.index_finish.proofs.Lists.{map-count-from}
 use Rattle.index_finish.proofs.Standing.{heads, room, pieceRows, are-pieces, rep}
 use Rattle.index_finish.proofs.Agreeing.{settledRow, all-blocks}
 use Rattle.index_finish.proofs.Counting.{row-lives}
@@ -75,20 +74,12 @@ module _ (e : ℕ) (rs : List PieceRow) (b : List ℕ) where
   grown-count : blockHead ≤ length b → blockCount (grown e rs b) ≡ blockCount b + length rs
   grown-count h = getD-set-other (appended e rs b) statePlace (rowWidth * 0 + (blockBase + headCount)) closedState 0 (λ q. omega arith) ∙ appended-count e rs b h
 
+  -- the old rows, and what lies past the new ones
   grown-rows : SameRows b (grown e rs b) (blockCount b)
-  unfolding appended
-  grown-rows =
-      rows-then (rows-then (rows-sets b (blockCount b) (recorded.blockAt (blockCount b + 1)) (recorded.blockRows e rs) (omega arith))
-      (rows-set (sets b (recorded.blockAt (blockCount b + 1)) (recorded.blockRows e rs)) (blockCount b) (recorded.blockAt 0 + headCount) (blockCount b + length rs) (inl (omega arith))))
-      (rows-set (appended e rs b) (blockCount b) statePlace closedState (inl (omega arith)))
+  grown-rows = rows-then (appended-kept e rs b) (rows-set (appended e rs b) (blockCount b) statePlace closedState (inl (omega arith)))
 
   grown-rest : (i : ℕ) → blockBase + rowWidth * suc (blockCount b + length rs) ≤ i → getD (grown e rs b) i 0 ≡ getD b i 0
-  unfolding appended
-  grown-rest i h =
-      let many : length (recorded.blockRows e rs) ≡ rowWidth * length rs = block-rows-length e rs in
-      getD-set-other (appended e rs b) statePlace i closedState 0 (λ q. omega arith)
-      ∙ getD-set-other (sets b (recorded.blockAt (blockCount b + 1)) (recorded.blockRows e rs)) (recorded.blockAt 0 + headCount) i (blockCount b + length rs) 0 (λ q. omega arith)
-      ∙ getD-sets-out (recorded.blockRows e rs) b (recorded.blockAt (blockCount b + 1)) i (inr (omega arith))
+  grown-rest i h = getD-set-other (appended e rs b) statePlace i closedState 0 (λ q. omega arith) ∙ appended-out e rs b i (λ q. omega arith) (inr (omega arith))
 
   module _ (fits : Room b (blockCount b + length rs)) where
     grown-column : (i c : ℕ) → i < length rs → c < rowWidth → blockColumn (grown e rs b) (suc (blockCount b) + i) c ≡ getD (blockRow e (getD rs i noPiece)) c 0
@@ -97,18 +88,16 @@ module _ (e : ℕ) (rs : List PieceRow) (b : List ℕ) where
         getD-set-other (appended e rs b) statePlace (rowWidth * (suc (blockCount b) + i) + (blockBase + c)) closedState 0 (λ z. omega arith)
         ∙ rw q (appended-row e rs noPiece b i c (omega arith) h k)
 
-    -- the new rows are the pieces' blocks
-    grown-new : (store : List ℕ) → map (blockOfRow store (grown e rs b)) (countFrom (suc (blockCount b)) (length rs)) ≡ map (settledRow store e) rs
-    unfolding blockOfRow
-    grown-new store =
-        map-count-from (blockOfRow store (grown e rs b)) (settledRow store e) noPiece (suc (blockCount b)) rs
-        (λ i h. rw (grown-column i blockFirst h (omega arith), grown-column i blockLength h (omega arith), grown-column i blockCreated h (omega arith), grown-column i blockDestroyed h (omega arith), grown-column i blockOffset h (omega arith), grown-column i blockOwner h (omega arith)))
-
+    -- the rows are the old blocks, and the pieces' behind them
     grown-blocks : (store : List ℕ) → blocksOf store (grown e rs b) (blockCount b + length rs) ≡ blocksOf store b (blockCount b) ++ map (settledRow store e) rs
-    grown-blocks store = blocks-append store (length rs) grown-rows ∙ ap (λ (x : List Block). blocksOf store b (blockCount b) ++ x) (grown-new store)
+    grown-blocks store =
+        blocks-kept store (rows-set (appended e rs b) (blockCount b + length rs) statePlace closedState (inl (omega arith)))
+        ∙ appended-blocks store e rs b (omega arith)
 
     grown-stored : (used : ℕ) → Stored used b (blockCount b) → All (λ (p : PieceRow). p .offset + p .size ≤ used) rs → Stored used (grown e rs b) (blockCount b + length rs)
-    grown-stored used old new = record { inside = λ link p q. ⊎-elim (λ h. before link p h) (λ h. behind link (link - suc (blockCount b)) (omega arith) (omega arith)) (le-or-lt link (blockCount b)) }
+    grown-stored used old new = record {
+      inside = λ link p q. ⊎-elim (λ h. before link p h) (λ h. behind link (link - suc (blockCount b)) (omega arith) (omega arith)) (le-or-lt link (blockCount b));
+    }
       where
         before : (link : ℕ) → 0 < link → link ≤ blockCount b → offsetAt (grown e rs b) link + lengthAt (grown e rs b) link ≤ used
         before link p h = rw (kept-column grown-rows link blockOffset p h (omega arith), kept-column grown-rows link blockLength p h (omega arith)) (old .inside link p h)
@@ -298,7 +287,8 @@ pub settle-done : {pieces b nodes entries b₁ b₂ b₃ nodes′ entries′ pie
     → length nodes′ ≡ length nodes → length entries′ ≡ length entries → end ≡ blockColumn b 0 headEnd → kind ≡ blockColumn b 0 headKind → recorded ≡ blockCount b
     → ExtractedMembers pieces b b₁ end → b₂ ≡ set b₁ statePlace closedState → all ≡ blockCount b₂ → SortedMore b₂ b₃ recorded all
     → ClosedTree (lentTables b₃ nodes entries) (lentTables b₃ nodes′ entries′) all end kind → pieces′ ≡ replicate (length pieces) 0 → SettledTables pieces b nodes entries pieces′ b₃ nodes′ entries′
-settle-done {pieces} {b} {nodes} {entries} {b₁} {b₂} {b₃} {nodes′} {entries′} {pieces′} {end} {kind} {recorded} {all} few-pieces few-blocks nodes-long entries-long ee ek er ex put count sort close zeros = record { done = go }
+settle-done {pieces} {b} {nodes} {entries} {b₁} {b₂} {b₃} {nodes′} {entries′} {pieces′} {end} {kind} {recorded} {all} few-pieces few-blocks nodes-long entries-long
+    ee ek er ex put count sort close zeros = record { done = go }
   where
     go : (was blank store : List ℕ) (l : Ledger) → Accepted (tables pieces was store blank entries) b nodes l
         → Finished l (tables pieces was store blank entries) (tables pieces′ b₃ store nodes′ entries′)
