@@ -1,9 +1,9 @@
 -- Read cells shows the history: by the law of every list of calls the live blocks show what `valueAt` says. Assumes nothing.
-use mathlib.Core.Path.{_≡_, refl, ap, sym, _∙_, subst}
-use mathlib.Core.Bool.{true, false, false≢true}
+use mathlib.Core.Path.{_≡_, refl, ap, _∙_, subst}
+use mathlib.Core.Bool.{true, false≢true}
 use mathlib.Core.Option.{Option, none, some}
-use mathlib.Core.List.{List, [], _∷_, _++_, map, append-nil, Option·toList}
-use Prim.Native.Nat.{ℕ, _-_, _≤_, _<_, min}
+use mathlib.Core.List.{List, [], map, append-nil, Option·toList}
+use Prim.Native.Nat.{ℕ, _-_, _<_, min}
 use native.Mathlib.Omega.{arith}
 use lib.ListN.{length, getD}
 use lib.Seq.{sets}
@@ -12,17 +12,15 @@ use Rattle.lists.proofs.Lists.{all-any}
 use Rattle.lists.proofs.Maps.{map-all}
 use Rattle.history.specs.Words.{Operation, Block}
 use Rattle.history.specs.Tree.{Tree}
-use Rattle.history.specs.Ledger.{Opening, Ledger, opened, finished, isSome, settled}
+use Rattle.history.specs.Ledger.{Ledger, opened, finished, isSome, settled}
 use Rattle.history.specs.Reads.{seen, Cells, cellsBy}
-use Rattle.history.specs.Refusals.{Answer, accepted}
-use Rattle.history.specs.Calls.{Call, afterAll, history, valueAt}
+use Rattle.history.specs.Refusals.{Answer}
+use Rattle.history.specs.Calls.{afterAll, history, valueAt}
 use Rattle.history.specs.Law.{LedgerLaw}
 use Rattle.history.specs.Sound.{SoundTree}
 use Rattle.history.proofs.EveryList.{every-list}
-use Rattle.layout.specs.Tables.{Tables}
-use Rattle.layout.specs.Encodes.{Encodes}
-use Rattle.cells.specs.Answers.{givenBy, leftBy, CellsReadBy}
-use Rattle.cells.specs.Law.{byteOf, markOf, HistoryShown, CellsShowHistory}
+use Rattle.cells.specs.Answers.{givenBy, cellsLeft}
+use Rattle.cells.specs.Law.{byteOf, markOf, CellsShowHistory}
 use Rattle.cells.proofs.Reading.{cells-given}
 
 -- a finished index has no pieces, so that its blocks are all that is live
@@ -63,7 +61,7 @@ module _ (l : Ledger) (h : List Operation) (law : LedgerLaw l h) (done : finishe
       (all-any (countFrom start (stop - start)) (λ c. rw (shows-value c) (mark-of (valueAt h tick c))))
 
 pub cells-show-history : CellsShowHistory
-unfolding givenBy leftBy
+unfolding givenBy cellsLeft
 cells-show-history a taken ks done t enc tick start stop bytes bytes′ held held′ answer before room rb rh read =
     let l = afterAll (opened a) ks in
     let h = history [] (opened a) ks in
@@ -72,6 +70,6 @@ cells-show-history a taken ks done t enc tick start stop bytes bytes′ held hel
     let is = cells-given t l enc done tick start stop (length bytes) (length held) (omega (arith, enc .end)) room rb rh in
     record {
       answered = given .answered ∙ ap givenBy is;
-      in-bytes = given .in-bytes ∙ ap (λ (x : Answer Cells). leftBy (λ c. c .bytes) x bytes) is ∙ ap (sets bytes 0) (bytes-value l h law done tick start stop before);
-      in-held = given .in-held ∙ ap (λ (x : Answer Cells). leftBy (λ c. c .held) x held) is ∙ ap (sets held 0) (held-value l h law done tick start stop before);
+      in-bytes = given .in-bytes ∙ ap (λ (x : Answer Cells). cellsLeft (λ c. c .bytes) x bytes) is ∙ ap (sets bytes 0) (bytes-value l h law done tick start stop before);
+      in-held = given .in-held ∙ ap (λ (x : Answer Cells). cellsLeft (λ c. c .held) x held) is ∙ ap (sets held 0) (held-value l h law done tick start stop before);
     }

@@ -1,16 +1,14 @@
 -- The blocks that are live at a tick of a closed index, from its tables. Assumes nothing.
-use mathlib.Core.Path.{_≡_, refl, ap, sym, _∙_, subst}
-use mathlib.Core.Logic.{_⊎_, inl, inr}
+use mathlib.Core.Path.{_≡_, refl, ap, sym, _∙_}
 use mathlib.Core.Bool.{Bool, true, false, cond, false≢true}
 use mathlib.Core.Option.{Option, none, some}
 use mathlib.Core.List.{List}
-use Prim.Native.Nat.{ℕ, suc, _+_, _-_, _≤_, _<_}
+use Prim.Native.Nat.{ℕ, suc, _+_, _≤_, _<_}
 use native.Mathlib.Omega.{arith}
-use lib.ListN.{length, getD, take, drop}
+use lib.ListN.{length, getD, drop}
 use lib.Seq.{getD-take, getD-drop}
 use Rattle.lists.specs.Lists.{All, Mem, count}
 use Rattle.lists.proofs.Lists.{all-map}
-use Rattle.lists.proofs.Numbers.{bool-cases}
 use Rattle.lists.proofs.Counting.{mem-count, count-mem}
 use Rattle.history.specs.Words.{Block, ends, live, size}
 use Rattle.history.specs.Tree.{Tree, noBlock, blockAt, keyIn, entriesIn}
@@ -22,7 +20,7 @@ use Rattle.history.proofs.RulesLaws.{rule23-decides, numbered-decides}
 use Rattle.history.proofs.FindMet.{path-met}
 use Rattle.tables.specs.Columns.{blockColumn, headEnd, headKind, headCount}
 use Rattle.ordering.specs.Order.{firstCellAt}
-use Rattle.ordering.specs.Blocks.{blocksOf, blockOfRow, lengthAt, offsetAt, bytesAt}
+use Rattle.ordering.specs.Blocks.{blockOfRow, lengthAt, offsetAt}
 use Rattle.ordering.proofs.Blocks.{blocks-at, blocks-key, bytes-length}
 use Rattle.segment_table.specs.Closed.{Closed, firstCellIn}
 use Rattle.segment_find.specs.declared.neighbour.Side.{Side}
@@ -48,8 +46,10 @@ row-known : (t : Tables) (l : Ledger) → Encodes t l → (k : ℕ) → k < leng
 unfolding blockOfRow
 row-known t l e k h =
     let at : k < headAt t headCount = omega (arith, e .count) in
-    let is : blockAt (l .now .blocks) k ≡ blockOfRow (t .store) (t .blocks) (suc k) = ap (λ (bs : List Block). getD bs k noBlock) (e .blocks) ∙ blocks-at (t .store) (t .blocks) (headAt t headCount) k noBlock at in
-    let fits : offsetAt (t .blocks) (suc k) + lengthAt (t .blocks) (suc k) ≤ length (t .store) = omega (arith, e .blocks-stored .inside (suc k) (omega arith) (omega arith), used-fits t l e) in
+    let is : blockAt (l .now .blocks) k ≡ blockOfRow (t .store) (t .blocks) (suc k) =
+    ap (λ (bs : List Block). getD bs k noBlock) (e .blocks) ∙ blocks-at (t .store) (t .blocks) (headAt t headCount) k noBlock at in
+    let fits : offsetAt (t .blocks) (suc k) + lengthAt (t .blocks) (suc k) ≤ length (t .store) =
+    omega (arith, e .blocks-stored .inside (suc k) (omega arith) (omega arith), used-fits t l e) in
     record {
       known = at;
       first = sym (ap (λ (b : Block). b .stretch .first) is);
@@ -88,8 +88,10 @@ module _ (t : Tables) (l : Ledger) (e : Encodes t l) (s : Sound l) (tick : ℕ) 
   tree-living tree closed sound =
       let bs = l .now .blocks in
       let rule = rule23-decides (l .opening .end) bs tree .yes (sound .rule-23) in
-      let meets : (k : ℕ) → count k (path tick 0 (l .opening .end) tree) ≡ cond (live tick (blockAt (l .now .blocks) k)) 1 0 = λ k. path-met (l .opening .end) bs tree (sound .rule-21) (sound .rule-23) (all-map (λ b x. x .by-end) (s .board .blocks)) tick k before in
-      let keys : All (λ j. keyIn (l .now .blocks) j ≡ firstCellIn (t .blocks) j) (entriesIn tree) = all-map (λ j h. rw (e .blocks) (blocks-key (t .store) (t .blocks) (headAt t headCount) j (omega (arith, e .count)))) (numbered-decides (length bs) tree .yes (rule .numbers)) in
+      let meets : (k : ℕ) → count k (path tick 0 (l .opening .end) tree) ≡ cond (live tick (blockAt (l .now .blocks) k)) 1 0 =
+      λ k. path-met (l .opening .end) bs tree (sound .rule-21) (sound .rule-23) (all-map (λ b x. x .by-end) (s .board .blocks)) tick k before in
+      let keys : All (λ j. keyIn (l .now .blocks) j ≡ firstCellIn (t .blocks) j) (entriesIn tree) =
+      all-map (λ j h. rw (e .blocks) (blocks-key (t .store) (t .blocks) (headAt t headCount) j (omega (arith, e .count)))) (numbered-decides (length bs) tree .yes (rule .numbers)) in
       record {
         list = path tick 0 (l .opening .end) tree;
         met = λ k h. listed (path tick 0 (l .opening .end) tree) k (live tick (blockAt bs k)) (meets k) h;

@@ -1,6 +1,6 @@
 -- The returns of `read_closed`: over a closed index they are the ledger's answers. Assumes nothing.
-use mathlib.Core.Path.{_≡_, refl, ap, sym, _∙_, subst}
-use mathlib.Core.Bool.{Bool, true, false, cond, _||_}
+use mathlib.Core.Path.{_≡_, refl, _∙_}
+use mathlib.Core.Bool.{true, false, cond, _||_}
 use mathlib.Core.List.{List}
 use Prim.Native.Nat.{ℕ, _-_, _≤_, _<_}
 use native.Mathlib.Omega.{arith}
@@ -11,13 +11,11 @@ use Rattle.history.specs.Lent.{tooShort}
 use Rattle.history.specs.Ledger.{Ledger, finished}
 use Rattle.history.specs.Reads.{Cells, cellsBy}
 use Rattle.history.specs.Refusals.{Answer, accepted, refused, firstOf, windowRefusals, cellsAnswer}
-use Rattle.history.specs.Sound.{Sound}
 use Rattle.tables.specs.Columns.{blockColumn, headEnd}
 use Rattle.layout.specs.Tables.{Tables, tables, headAt}
 use Rattle.layout.specs.Encodes.{Encodes}
-use Rattle.cells.specs.Runs.{ClosedAt}
 use Rattle.cells.specs.Shows.{Shown}
-use Rattle.cells.specs.Answers.{givenBy, leftBy, Answers, ReadClosed}
+use Rattle.cells.specs.Answers.{givenBy, cellsLeft, Answers, ReadClosed}
 
 -- ── what a closed ledger answers ──
 
@@ -51,7 +49,7 @@ module _ (t : Tables) (l : Ledger) (e : Encodes t l) (done : finished l ≡ true
 -- ── answers ──
 
 pub refused-as : {expected : Answer Cells} {n : ℕ} {bytes held : List ℕ} → expected ≡ refused n → Answers expected bytes bytes held held (refused n)
-unfolding givenBy leftBy
+unfolding givenBy cellsLeft
 refused-as e = rw e (record { answered = refl; in-bytes = refl; in-held = refl })
 
 -- ── the returns ──
@@ -86,7 +84,7 @@ module _ {blocks store nodes entries : List ℕ} {tick start stop last : ℕ} {b
   pub read-filled : {bytes′ held′ : List ℕ} → tick < last → start ≤ stop → stop - start ≤ length bytes → stop - start ≤ length held
       → Shown blocks store nodes entries tick start stop stop bytes bytes′ held held′
       → ReadClosed blocks store nodes entries tick start stop bytes bytes′ held held′ (accepted tt)
-  unfolding givenBy leftBy
+  unfolding givenBy cellsLeft
   read-filled h b room room′ shown = record {
     read = λ pieces l enc s done.
         let to = shown .shown l (record { pieces = pieces; encodes = enc; sound = s; done = done; before-end = omega (arith, enc .end) }) room room′ .0 in

@@ -1,30 +1,28 @@
 -- The runs of a window: one step for each return of `part`, `first_run` and `next_run`. Assumes nothing.
-use mathlib.Core.Path.{_≡_, refl, ap, sym, _∙_, subst}
-use mathlib.Core.Logic.{_⊎_, inl, inr}
-use mathlib.Core.Bool.{Bool, true, false}
+use mathlib.Core.Path.{_≡_, refl, ap, _∙_, subst}
+use mathlib.Core.Logic.{inl, inr}
+use mathlib.Core.Bool.{true}
 use mathlib.Core.List.{List, [], _∷_}
 use Prim.Native.Nat.{ℕ, suc, _+_, _-_, _≤_, _<_, min, max}
 use native.Mathlib.Omega.{arith}
 use native.Mathlib.Numerals.{add-one}
-use lib.ListN.{length, getD}
-use Rattle.lists.specs.Lists.{All, Mem}
+use lib.ListN.{length}
 use Rattle.lists.proofs.Lists.{all-mem}
 use Rattle.lists.proofs.Numbers.{le-or-lt}
 use Rattle.history.specs.Words.{Block, ends, live}
 use Rattle.history.specs.Tree.{blockAt, keyIn}
 use Rattle.history.specs.Ledger.{Ledger}
-use Rattle.history.specs.Reads.{seen}
 use Rattle.tables.specs.Columns.{blockColumn, headEnd, headKind, headCount, blockFirst, blockLength, blockOffset}
 use Rattle.ordering.specs.Order.{firstCellAt}
 use Rattle.ordering.specs.Blocks.{lengthAt, offsetAt}
 use Rattle.segment_find.specs.declared.neighbour.Side.the-variants.{From, Before}
 use Rattle.segment_find.specs.declared.neighbour.Neighbour.{Neighbour}
 use Rattle.segment_find.specs.declared.neighbour.Neighbour.the-variants.{Block as Next, Nothing}
-use Rattle.segment_find.specs.Neighbours.{Neighbours, Nearest, NearestLive}
+use Rattle.segment_find.specs.Neighbours.{NearestLive}
 use Rattle.cells.specs.declared.run.Run.{Run}
 use Rattle.cells.specs.Runs.{ClosedAt, Laid, Passed, RunShown, PartOf, FirstRun, NextRun}
 use Rattle.cells.proofs.Seeing.{passed-behind, passed-last, passed-first, free-between, held-by, live-number, some-cell}
-use Rattle.cells.proofs.Living.{Living, Row, living}
+use Rattle.cells.proofs.Living.{Living, living}
 
 -- free cells up to a place, and none behind them
 abbrev freeTo : (until : ℕ) → Run

@@ -1,16 +1,16 @@
 -- What blocks show of a cell at a tick: nothing where no live one holds it, one byte where one does, as no two share a cell. Assumes nothing.
 use mathlib.Core.Path.{_≡_, refl, sym, _∙_}
 use mathlib.Core.Logic.{_⊎_, inl, inr}
-use mathlib.Core.Bool.{Bool, true, false, true≢false, cond}
-use mathlib.Core.Option.{Option, none, some}
+use mathlib.Core.Bool.{true, false, true≢false, cond}
+use mathlib.Core.Option.{none}
 use mathlib.Core.List.{List, [], _∷_, filterMap, Option·toList}
-use Prim.Native.Nat.{ℕ, zero, suc, _+_, _-_, _≤_, _<_}
+use Prim.Native.Nat.{ℕ, zero, suc, _-_, _≤_, _<_}
 use native.Mathlib.Omega.{arith}
 use lib.ListN.{length, getD}
 use Rattle.lists.specs.Lists.{All, all-nil, all-cons, pairs-nil, pairs-cons}
 use Rattle.lists.proofs.Lists.{all-map, all-at, all-of-at, pairs-at}
-use Rattle.lists.proofs.Numbers.{bool-cases, le-or-lt, lt-or-le, eq-or-ne}
-use Rattle.history.specs.Words.{Block, HasCell, Holds, byteAt, ends, live, size}
+use Rattle.lists.proofs.Numbers.{bool-cases, le-or-lt, lt-or-le}
+use Rattle.history.specs.Words.{Block, Holds, byteAt, ends, live, size}
 use Rattle.history.specs.Tree.{noBlock, blockAt, keyIn}
 use Rattle.history.specs.Reads.{shows, seen}
 use Rattle.history.specs.Rules.{Apart}

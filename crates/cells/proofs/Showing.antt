@@ -1,9 +1,8 @@
 -- Cells written run by run: what a run writes, and that what it shows are the cells of the ledger. Assumes nothing.
-use mathlib.Core.Path.{_≡_, refl, ap, sym, _∙_, subst}
-use mathlib.Core.List.{List, [], _∷_, _++_, map}
-use Prim.Native.Nat.{ℕ, zero, suc, _+_, _-_, _≤_, _<_, min}
+use mathlib.Core.Path.{_≡_, ap, sym, _∙_, subst}
+use mathlib.Core.List.{List, _++_, map}
+use Prim.Native.Nat.{ℕ, _+_, _-_, _≤_, _<_, min}
 use native.Mathlib.Omega.{arith}
-use native.Mathlib.Nat.{zero-add}
 use lib.ListN.{length, getD, take, drop, replicate, length-replicate, getD-replicate, length-take, length-drop}
 use lib.Seq.{sets, length-sets, ext-getD, getD-take, getD-drop}
 use Rattle.lists.specs.Lists.{countFrom}
@@ -11,11 +10,10 @@ use Rattle.lists.proofs.Lists.{count-from-length, count-from-at}
 use Rattle.lists.proofs.Maps.{map-append, length-of-map, getD-of-map}
 use Rattle.lists.proofs.Stores.{sets-append}
 use Rattle.ordering.proofs.Blocks.{count-from-append}
-use Rattle.history.specs.Words.{Block}
 use Rattle.history.specs.Ledger.{Ledger}
 use Rattle.history.specs.Reads.{seen, cellsBy}
 use Rattle.cells.specs.declared.run.Run.{Run}
-use Rattle.cells.specs.Runs.{ClosedAt, Laid, Passed, RunShown, FirstRun, NextRun}
+use Rattle.cells.specs.Runs.{Laid, RunShown, FirstRun, NextRun}
 use Rattle.cells.specs.Shows.{FilledWith, runBytes, runHeld, ShownRun, ShownTo, Shown}
 
 -- ── a run in the slices ──

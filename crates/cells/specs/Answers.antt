@@ -28,15 +28,15 @@ givenBy (accepted c) = accepted tt
 givenBy (refused n) = refused n
 
 -- a slice is filled from its front on, and the rest is as it was; on a refusal all of it
-unfoldable pub leftBy : (part : Cells → List ℕ) → Answer Cells → List ℕ → List ℕ
-leftBy part (accepted c) out = sets out 0 (part c)
-leftBy part (refused n) out = out
+unfoldable pub cellsLeft : (part : Cells → List ℕ) → Answer Cells → List ℕ → List ℕ
+cellsLeft part (accepted c) out = sets out 0 (part c)
+cellsLeft part (refused n) out = out
 
 -- the ledger's answer, and its cells in the slices
 pub record Answers (expected : Answer Cells) (bytes bytes′ held held′ : List ℕ) (answer : Answer Unit) : Type 0 where
   pub answered : answer ≡ givenBy expected
-  pub in-bytes : bytes′ ≡ leftBy (λ c. c .bytes) expected bytes
-  pub in-held : held′ ≡ leftBy (λ c. c .held) expected held
+  pub in-bytes : bytes′ ≡ cellsLeft (λ c. c .bytes) expected bytes
+  pub in-held : held′ ≡ cellsLeft (λ c. c .held) expected held
 
 -- ── read cells ──
 

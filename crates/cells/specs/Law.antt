@@ -7,7 +7,7 @@ use Prim.Native.Nat.{ℕ, _-_, _≤_, _<_}
 use lib.ListN.{length}
 use lib.Seq.{sets}
 use Rattle.lists.specs.Lists.{countFrom}
-use Rattle.history.specs.Ledger.{Opening, Ledger, opened, finished}
+use Rattle.history.specs.Ledger.{Opening, opened, finished}
 use Rattle.history.specs.Refusals.{Answer, accepted, openAnswer}
 use Rattle.history.specs.Calls.{Call, afterAll, history, valueAt}
 use Rattle.layout.specs.Tables.{Tables}

@@ -1,11 +1,11 @@
 // Read cells: for a tick and [start, end) the byte of each cell, and 1 where a live block holds it; 0 and 0 where none does. It goes from block to
 // block, each found by a search of the tree, and writes every cell of the range once.
 //
-//   specs/Answers   what the answer means, and the contract
-//   run             specs/Runs    proofs/Runs, Seeing   the next cells alike: a free stretch, then a block's bytes
-//   show            specs/Shows   proofs/Filling, Showing   the cells written, run by run
-//   closed          proofs/Reading   14, 15 and 16
-//   lib             proofs/Answering   2 and 4; the history is shown
+//   specs/Answers   what the answer means, and the contract; specs/Law: the history is shown (proofs/History)
+//   run             specs/Runs    proofs/Seeing, Living, Runs   the cells that come next: free ones, then a block's
+//   show            specs/Shows   proofs/Filling, Showing       cells written run by run
+//   closed          proofs/Reading                              14, 15 and 16
+//   lib             proofs/Answering                            2 and 4
 ghost use Rattle.layout.specs.Tables.{tables};
 ghost use Rattle.cells.specs.Answers.{readOf, CellsReadBy};
 ghost use Rattle.cells.specs.Law.{CellsShowHistory};

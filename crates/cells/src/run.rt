@@ -23,7 +23,7 @@ fn fewer(a: u64, b: u64) -> u64
     b
 }
 
-// No cell from `place` to `until` is held, and none is shown behind them.
+// Free cells up to `until`, and none of a block behind them.
 fn free(until: u64) -> Run
     ensures { λ r. ⌜ r ≡ record { until = until; past = until; from = 0 } ⌝ }
 {

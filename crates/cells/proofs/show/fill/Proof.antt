@@ -1,7 +1,6 @@
 -- `cells::show::fill` meets its contract: after i turns the value stands at i places. Assumes nothing.
-use Prim.Native.Nat.{_-_, _≤_, _+_}
+use Prim.Native.Nat.{_-_, _≤_}
 use borrow.Author.Needs.{needs}
-use lib.ListN.{length}
 use Rattle.cells.proofs.Filling.{Filling, fill-long, fill-past, filling-none, filling-more, filling-all}
 use Rattle.cells.proofs.show.fill.Statement.{statement}
 use Rattle.cells.proofs.show.fill.Tie as tie
