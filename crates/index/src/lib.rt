@@ -2,7 +2,9 @@
 // gives its answer or the first refusal of document 01 whose condition holds, after which nothing has changed.
 //
 //   specs/Answers     document 01's number and values for every case of an answer
-//   layout's Relations are the contracts: demand 3 links the calls by them
+//   specs/Reads, Work the inner calls, without the test of the tables
+//   reads             the reads of a closed index
+//   The contracts are the relations of `layout`, by which demand 3 links the calls.
 ghost use mathlib.Core.Path.{_≡_};
 ghost use lib.ListN.{length};
 ghost use Rattle.index_record.specs.Calls.{operation, recordedOf};

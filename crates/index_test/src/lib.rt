@@ -2,6 +2,8 @@
 //
 //   rows    the rows of the block table, one by one
 //   board   what any index has, open or closed
+//   specs/Board     what is decided
+//   proofs/Ledgers  tables that pass stand for a ledger, and those of a sound ledger pass
 ghost use mathlib.Core.Path.{_≡_};
 ghost use Rattle.layout.specs.Tables.{tables};
 ghost use Rattle.index_test.specs.Board.{Outcome, TestedClosed};
