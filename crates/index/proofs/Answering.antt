@@ -1,4 +1,4 @@
--- The returns of the public reads, by what the test of the tables found; and each answer's meaning is its own. Assumes nothing.
+-- The returns of the public reads, by what the test of the tables found. Assumes nothing.
 use mathlib.Core.Path.{_≡_, refl, ap, sym, _∙_, subst}
 use mathlib.Core.Bool.{Bool, true, false}
 use mathlib.Core.Option.{Option, none, some}
