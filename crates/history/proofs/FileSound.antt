@@ -14,7 +14,7 @@ use Rattle.history.specs.Words.{Block, size}
 use Rattle.history.specs.Tree.{Tree}
 use Rattle.history.specs.Find.{visited}
 use Rattle.history.specs.Reads.{findBy, cellsBy}
-use Rattle.history.specs.File.{writtenBlocks, renumbered, newNumber, fileBytes, got, treeFrom, load, Nodes, endOf, absent, present, Loaded, File, loadedFrom}
+use Rattle.history.specs.File.{writtenBlocks, renumbered, newNumber, fileBytes, got, treeFrom, load, Nodes, endOf, absent, present, Loaded, File, loadedFrom, loadedLedger, savedLedger}
 use Rattle.history.specs.Rules.{filled, isHole}
 use Rattle.history.specs.Lent.{Lent}
 use Rattle.history.specs.Ledger.{Ledger}
@@ -30,15 +30,6 @@ use Rattle.history.proofs.FileKept.{WholeBlock, Writable}
 use Rattle.history.proofs.FileAlike.{written-find, written-visited, written-seen}
 
 -- ── a loaded index is sound ──
-
--- the ledger of a loaded index: no pieces, the last accepted tick 0, the blocks' bytes one after the other
-abbrev pub ledgerOf : Lent → Loaded → Ledger
-ledgerOf n x =
-    record {
-      opening = record { end = x .end; kind = x .kind; lent = n };
-      now = record { pieces = []; blocks = x .blocks; last = 0; store = flatMap (λ b. b .stretch .bytes) (x .blocks) };
-      tree = some (x .tree);
-    }
 
 -- blocks whose bytes stand one after the other are inside the store
 stored-each : (front : List ℕ) (bs : List Block) → All (λ b. Stored (front ++ flatMap (λ b. b .stretch .bytes) bs) (b .stretch)) bs
@@ -70,7 +61,7 @@ not-empty [] h = absurd (omega arith)
 not-empty (x ∷ xs) h = refl
 
 -- Whatever the loader takes is well formed.
-accepted-sound : (n : Lent) (f : File) → FileFits f → Accepted n f → Sound (ledgerOf n (loadedFrom f))
+accepted-sound : (n : Lent) (f : File) → FileFits f → Accepted n f → Sound (loadedLedger n (loadedFrom f))
 accepted-sound n f fits rules =
     let room : Rule20 n f = rule20-decides n f .yes (rules .room) in
     let halves : Rule21 (f .nodes) = rule21-decides (f .nodes) .yes (rules .halves) in
@@ -113,7 +104,7 @@ accepted-sound n f fits rules =
         }
 
 -- so is whatever load gives
-pub loaded-sound : (n : Lent) (file : List ℕ) → Bytes file → (at : ℕ) (x : Loaded) (next : ℕ) → load n file at ≡ got x next → Sound (ledgerOf n x)
+pub loaded-sound : (n : Lent) (file : List ℕ) → Bytes file → (at : ℕ) (x : Loaded) (next : ℕ) → load n file at ≡ got x next → Sound (loadedLedger n x)
 loaded-sound n file small at x next e =
     let z : LoadedOf n file at x next = load-accepted n file at x next e in
     let y : Yielded file (λ g w. FileFits g × (w ≡ fileBytes g)) at (z .said) next =
@@ -150,15 +141,10 @@ sound-writable l tree board closed some-block small narrow =
 
 -- ── and answers alike ──
 
--- the ledger that loading what was written gives
-abbrev pub savedLedger : Lent → Ledger → Tree → Ledger
-savedLedger n l tree =
-    ledgerOf n (record { end = l .opening .end; kind = l .opening .kind; blocks = writtenBlocks (l .now .blocks) tree; tree = renumbered (l .now .blocks) tree })
-
 module _ (n : Lent) (l : Ledger) (tree : Tree) (closed : l .tree ≡ some tree) (w : Writable (l .opening .kind) (l .opening .end) (l .now .blocks) tree) where
   -- find lists the same blocks, under their new numbers, and visits as many nodes
   pub saved-find : (t start stop : ℕ)
-      → findBy (savedLedger n l tree) t start stop
+      → findBy (savedLedger n l) t start stop
       ≡ record { numbers = map (newNumber (l .now .blocks) tree) ((findBy l t start stop) .numbers); visited = (findBy l t start stop) .visited }
   unfolding findBy
   saved-find t s m =
@@ -166,7 +152,7 @@ module _ (n : Lent) (l : Ledger) (tree : Tree) (closed : l .tree ≡ some tree) 
       rw (closed, written-find (l .opening .end) (l .now .blocks) tree (rule .numbers) t s m, written-visited (l .opening .end) (l .now .blocks) tree t) refl
 
   -- read cells gives the same
-  pub saved-cells : (t start stop : ℕ) → cellsBy (savedLedger n l tree) t start stop ≡ cellsBy l t start stop
+  pub saved-cells : (t start stop : ℕ) → cellsBy (savedLedger n l) t start stop ≡ cellsBy l t start stop
   unfolding cellsBy
   saved-cells t s m =
-      simp (written-seen (l .opening .kind) (l .opening .end) (l .now .blocks) tree w t)
+      rw closed (simp (written-seen (l .opening .kind) (l .opening .end) (l .now .blocks) tree w t))

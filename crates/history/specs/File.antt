@@ -2,6 +2,7 @@
 -- 17 to 24. Definitions alone: their laws stand in proofs/.
 use mathlib.Core.Bool.{Bool, true, false, cond, _&&_}
 use mathlib.Core.List.{List, [], _∷_, map, flatMap, flatten}
+use mathlib.Core.Option.{some}
 use Prim.Native.Nat.{ℕ, zero, suc, _+_, _*_, _^_, _/_, _%_}
 use lib.ListN.{length, take, drop}
 use lib.Dec.{leb, ltb, eqb}
@@ -10,6 +11,9 @@ use Rattle.history.specs.Words.{Block, size, firstCell}
 use Rattle.history.specs.Lent.{Lent, blockRows, nodeRows, entryRows}
 use Rattle.history.specs.Tree.{Tree, hole, node, mid, blockAt, nodeCount, entryCount, entriesIn}
 use Rattle.history.specs.Rules.{every, halved, filled, lived, rule23, apart}
+use Rattle.history.specs.Ledger.{Ledger}
+use Rattle.history.specs.Reads.{treeIn}
+use Rattle.history.specs.Refusals.{Answer, firstOf, writeRefusals}
 
 infixl 20 _>>=_ _>>_
 infix 25 refuse_unless_
@@ -108,6 +112,14 @@ contents kind e bs tree = record { kind = kind; blocks = writtenBlocks bs tree; 
 unfoldable pub fileOf : (kind end : ℕ) → List Block → Tree → List ℕ
 fileOf kind e [] tree = []
 fileOf kind e (b ∷ bs) tree = fileBytes (contents kind e (b ∷ bs) tree)
+
+-- the file of a ledger
+abbrev pub fileBy : Ledger → List ℕ
+fileBy l = fileOf (l .opening .kind) (l .opening .end) (l .now .blocks) (treeIn l)
+
+-- what write answers: the file's bytes, which go into a slice of so many
+abbrev pub writeAnswer : Ledger → (out : ℕ) → Answer (List ℕ)
+writeAnswer l out = firstOf (writeRefusals l out (length (fileBy l))) (fileBy l)
 
 -- ── reading ──
 
@@ -251,6 +263,26 @@ pub record Loaded : Type 0 where
 -- what the file says, as an index
 abbrev pub loadedFrom : File → Loaded
 loadedFrom f = record { end = endOf (f .nodes); kind = f .kind; blocks = f .blocks; tree = treeFrom (f .nodes) }
+
+-- the ledger of a loaded index: no pieces, the last accepted tick 0, the blocks' bytes one after the other
+abbrev pub loadedLedger : Lent → Loaded → Ledger
+loadedLedger n x =
+    record {
+      opening = record { end = x .end; kind = x .kind; lent = n };
+      now = record { pieces = []; blocks = x .blocks; last = 0; store = flatMap (λ b. b .stretch .bytes) (x .blocks) };
+      tree = some (x .tree);
+    }
+
+-- the ledger that loading the file of a closed one gives: the blocks with an entry, under their new numbers
+abbrev pub savedLedger : Lent → Ledger → Ledger
+savedLedger n l =
+    loadedLedger n
+    (record {
+      end = l .opening .end;
+      kind = l .opening .kind;
+      blocks = writtenBlocks (l .now .blocks) (treeIn l);
+      tree = renumbered (l .now .blocks) (treeIn l);
+    })
 
 -- Loading starts at a position and gives the next one; it is refused in checking order.
 unfoldable pub load : Lent → Reader Loaded

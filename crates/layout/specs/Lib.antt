@@ -2,3 +2,4 @@ pub mod Tables
 pub mod Encodes
 pub mod Formed
 pub mod Relations
+pub mod Files

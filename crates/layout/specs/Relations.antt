@@ -24,7 +24,7 @@ use Rattle.layout.specs.Formed.{WellFormed, WellFormedForFinish}
 abbrev pub openingOf : (end kind : ℕ) → Tables → Opening
 openingOf e kind t = record { end = e; kind = kind; lent = lengthsOf t }
 
-abbrev zeros : List ℕ → List ℕ
+abbrev pub zeros : List ℕ → List ℕ
 zeros l = replicate (length l) 0
 
 -- pieces, nodes and entries zeros; blocks its head, then zeros; the store as it was
