@@ -9,7 +9,7 @@ use Rattle.lists.specs.Lists.{countFrom}
 use Rattle.lists.proofs.Lists.{count-from-length, count-from-at}
 use Rattle.lists.proofs.Maps.{map-append, length-of-map, getD-of-map}
 use Rattle.lists.proofs.Stores.{sets-append}
-use Rattle.ordering.proofs.Blocks.{count-from-append}
+use Rattle.lists.proofs.Counting.{count-from-append}
 use Rattle.history.specs.Ledger.{Ledger}
 use Rattle.history.specs.Reads.{seen, cellsBy}
 use Rattle.cells.specs.declared.run.Run.{Run}

@@ -1,13 +1,13 @@
 -- Demand 3, whole: one statement over every list of calls from a freshly opened index. The words of the demand stand over the clauses that say them.
 use mathlib.Core.Path.{_≡_}
-use mathlib.Core.Bool.{Bool, true, false}
+use mathlib.Core.Bool.{true}
 use mathlib.Core.List.{List, [], _∷_}
 use Prim.Native.Nat.{ℕ, _≤_, _<_}
 use lib.ListN.{length}
 use lib.Seq.{sets}
-use Rattle.history.specs.Words.{Operation, Block}
-use Rattle.history.specs.Ledger.{Opening, Ledger, opened, finished}
-use Rattle.history.specs.Reads.{Found, blockBy, findBy}
+use Rattle.history.specs.Words.{Operation}
+use Rattle.history.specs.Ledger.{Ledger, opened, finished}
+use Rattle.history.specs.Reads.{blockBy, findBy}
 use Rattle.history.specs.Refusals.{Answer, accepted, refused, maxEndTick}
 use Rattle.history.specs.Calls.{Call, recordCall, finishCall, answers, afterAll, history}
 use Rattle.history.specs.Law.{Faithful, FindLaw}

@@ -1,5 +1,5 @@
 -- Fields as their bytes: one step for each return of `byte_at`, `half_at` and `number_at`. Assumes nothing.
-use mathlib.Core.Path.{_≡_, refl, sym, _∙_}
+use mathlib.Core.Path.{_≡_, refl, sym}
 use mathlib.Core.List.{List, [], _∷_}
 use Prim.Native.Nat.{ℕ, _+_, _*_, _-_, _≤_, _<_}
 use native.Mathlib.Nat.{add-zero}
@@ -7,8 +7,7 @@ use native.Mathlib.Omega.{arith}
 use lib.ListN.{length, getD, take, drop, length-drop}
 use lib.Seq.{getD-drop, drop-drop}
 use borrow.Author.Tests.{le-leb, lt-leb}
-use Rattle.history.specs.File.{numberOf, Read, got, fault, number, field, onward, _>>=_, give}
-use Rattle.fields.specs.declared.Field.{Field}
+use Rattle.history.specs.File.{numberOf, got, fault, number, field, onward, _>>=_, give}
 use Rattle.fields.specs.declared.Field.the-variants.{Got, End}
 use Rattle.fields.specs.Fields.{readOf, Low, Half}
 

@@ -1,19 +1,16 @@
 -- The parts of a file that was read, each where it stands: what the loader knows after the first pass. Assumes nothing.
-use mathlib.Core.Path.{_≡_, refl, sym, _∙_, ap}
+use mathlib.Core.Path.{_≡_}
 use mathlib.Core.List.{List}
-use Prim.Native.Nat.{ℕ, _+_, _*_, _≤_}
+use Prim.Native.Nat.{ℕ, _+_, _≤_}
 use native.Mathlib.Omega.{arith}
 use lib.ListN.{length}
-use lib.Dec.{leb}
 use borrow.Author.Tests.{leb-true}
-use Rattle.history.specs.Words.{Block}
 use Rattle.history.specs.Tree.{nodeCount, entryCount}
-use Rattle.history.specs.File.{Nodes, File, Read, got, fault, onward, _>>=_, give, number, many, readBlock, readRoot, readFile, treeFrom}
+use Rattle.history.specs.File.{File, Read, got, fault, _>>=_, give, number, many, readBlock, readRoot, readFile, treeFrom}
 use Rattle.history.proofs.FileYields.{got-value, got-next}
 use Rattle.file_scan.specs.declared.Scanned.the-variants as scan
-use Rattle.file_scan.specs.Rows.{rowHead}
 use Rattle.file_scan.specs.Counts.{bytesIn, nodesAt, scanOf}
-use Rattle.file_scan.proofs.Readers.{onward-got, refuse-got, Passes, number-passes}
+use Rattle.file_scan.proofs.Readers.{onward-got, refuse-got, number-passes}
 use Rattle.file_scan.proofs.Scanning.{blocks-end}
 
 -- ── the parts ──

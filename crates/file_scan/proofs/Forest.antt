@@ -1,14 +1,14 @@
 -- Nodes without recursion: a tree is read as its root and then its two subtrees, whatever fuel is left, so that a forest is read root by root.
 -- Assumes nothing.
-use mathlib.Core.Path.{_≡_, refl, sym, _∙_, ap}
+use mathlib.Core.Path.{_≡_, refl, sym, _∙_}
 use mathlib.Core.Bool.{Bool, true, false, cond}
-use mathlib.Core.List.{List, [], _∷_}
-use Prim.Native.Nat.{ℕ, zero, suc, _+_, _*_, _≤_, _<_}
+use mathlib.Core.List.{List}
+use Prim.Native.Nat.{ℕ, zero, suc, _+_, _≤_}
 use native.Mathlib.Omega.{arith}
 use lib.ListN.{length}
 use lib.Dec.{eqb, leb}
-use Rattle.history.specs.File.{Nodes, absent, present, Read, got, fault, Reader, onward, _>>=_, give, refuse_unless_, number, many, readNodes, readRoot}
-use Rattle.history.proofs.FileYields.{got-value, got-next, fault-got}
+use Rattle.history.specs.File.{Nodes, absent, present, Read, got, fault, onward, _>>=_, give, refuse_unless_, number, many, readNodes, readRoot}
+use Rattle.history.proofs.FileYields.{got-next, fault-got}
 use Rattle.fields.proofs.Reading.{number-end}
 use Rattle.file_scan.specs.Rows.{Head, headAbsent, headPresent, readPresent, readHead}
 use Rattle.file_scan.proofs.Readers.{onward-through, onward-same, onward-gives, onward-got, Passes}

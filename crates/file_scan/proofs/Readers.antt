@@ -1,16 +1,15 @@
 -- Readers one after the other: where a reader that has succeeded goes on, and how a reader is cut in two. Assumes nothing.
 use mathlib.Core.Path.{_≡_, refl, sym, _∙_, ap}
-use mathlib.Core.Logic.{_⊎_, inl, inr, ⊎-elim}
-use mathlib.Core.Bool.{Bool, true, false, cond}
+use mathlib.Core.Logic.{_⊎_, ⊎-elim}
+use mathlib.Core.Bool.{Bool, true, false}
 use mathlib.Core.List.{List, [], _∷_}
 use Prim.Native.Nat.{ℕ, zero, suc, _+_, _*_, _≤_, _<_}
 use native.Mathlib.Omega.{arith}
 use lib.ListN.{length, take, drop, length-drop}
 use lib.Seq.{length-take-le}
-use lib.Dec.{leb}
 use borrow.Author.Tests.{le-leb, lt-leb}
 use Rattle.lists.proofs.Numbers.{le-or-lt}
-use Rattle.history.specs.File.{numberOf, Read, got, fault, Reader, onward, _>>=_, give, refuse_unless_, field, number, many}
+use Rattle.history.specs.File.{numberOf, Read, got, fault, onward, _>>=_, give, refuse_unless_, field, number, many}
 use Rattle.history.proofs.FileYields.{got-value, got-next, fault-got}
 use Rattle.fields.proofs.Reading.{number-got, number-end}
 use Rattle.file_scan.specs.Rows.{Numbers, readFour}

@@ -1,13 +1,12 @@
 -- The whole file: one step for each return of `scan`. Assumes nothing.
 use mathlib.Core.Path.{_≡_, refl, sym, _∙_, ap}
-use mathlib.Core.List.{List, [], _∷_, map}
+use mathlib.Core.List.{List}
 use Prim.Native.Nat.{ℕ, zero, suc, _+_, _*_, _≤_, _<_}
 use native.Mathlib.Omega.{arith}
 use lib.ListN.{length}
-use lib.Dec.{leb}
 use borrow.Author.Tests.{le-leb, lt-leb}
 use Rattle.lists.specs.Lists.{sumOf}
-use Rattle.history.specs.Words.{Block, size}
+use Rattle.history.specs.Words.{Block}
 use Rattle.history.specs.Tree.{nodeCount, entryCount}
 use Rattle.history.specs.File.{Nodes, Read, got, fault, onward, _>>=_, give, refuse_unless_, number, many, readBlock, readRoot, readFile, treeFrom}
 use Rattle.history.proofs.FileYields.{got-value, got-next}
@@ -21,7 +20,7 @@ use Rattle.file_scan.specs.declared.nodes.Nodes.the-variants as trees
 use Rattle.file_scan.specs.declared.Scanned.the-variants as scan
 use Rattle.file_scan.specs.Rows.{rowHead}
 use Rattle.file_scan.specs.Counts.{bytesIn, blocksFrom, nodesFrom, nodesAt, scanOf}
-use Rattle.file_scan.proofs.Readers.{onward-got, Passes, number-passes}
+use Rattle.file_scan.proofs.Readers.{onward-got, number-passes}
 use Rattle.file_scan.proofs.RowReads.{block-passes}
 
 -- ── what the counts say of the reading ──

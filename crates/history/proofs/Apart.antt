@@ -1,14 +1,12 @@
 -- Where no cell shows more than one byte, no two blocks share a cell at a tick. Assumes nothing.
-use mathlib.Core.Path.{_≡_, refl, sym, _∙_, ap}
-use mathlib.Core.Bool.{Bool, cond, true, false}
-use mathlib.Core.Option.{Option, none, some}
-use mathlib.Core.List.{List, [], _∷_, _++_, Option·toList}
-use Prim.Native.Nat.{ℕ, zero, suc, _+_, _≤_, _<_}
+use mathlib.Core.Path.{_≡_, _∙_, ap}
+use mathlib.Core.List.{List, [], _∷_, Option·toList}
+use Prim.Native.Nat.{ℕ, _+_, _≤_, _<_}
 use native.Mathlib.Omega.{arith}
 use lib.ListN.{length, length-append}
-use Rattle.history.specs.Words.{Holds, HasCell, live, Block, ends, byteAt}
+use Rattle.history.specs.Words.{Holds, Block}
 use Rattle.history.specs.Reads.{shows, seen}
-use Rattle.lists.specs.Lists.{All, all-nil, all-cons, Pairs, pairs-nil, pairs-cons}
+use Rattle.lists.specs.Lists.{All, all-nil, all-cons, pairs-nil, pairs-cons}
 use Rattle.history.specs.Rules.{Apart}
 use Rattle.history.proofs.Seen.{seen-cons, holds-shows}
 

@@ -3,14 +3,14 @@ use mathlib.Core.Path.{_≡_, refl, sym, _∙_, ap, ap₂, subst}
 use mathlib.Core.Logic.{_⊎_, inl, inr}
 use mathlib.Core.Bool.{Bool, cond, true, false, _&&_, _||_, false≢true}
 use mathlib.Core.Option.{Option, none, some, orElse, Option·none-ne-some}
-use mathlib.Core.List.{List, [], _∷_, _++_, map, filterMap, filterMap-map, append-nil, append-assoc, Option·toList}
+use mathlib.Core.List.{List, [], _∷_, _++_, map, filterMap, filterMap-map, append-nil, Option·toList}
 use Prim.Native.Nat.{ℕ, zero, suc, _+_, _-_, _≤_, _<_}
 use native.Mathlib.Omega.{arith}
 use native.Mathlib.Nat.{add-zero}
-use lib.Dec.{leb, ltb, eqb}
+use lib.Dec.{leb, eqb}
 use lib.ListN.{length, getD}
-use borrow.Author.Tests.{le-leb, lt-leb, lt-ltb, le-ltb, eqb-true}
-use Rattle.history.specs.Words.{within, Stretch, Operation, Piece, Block, ends, byteAt, blockOf, pieceOf, stretchOf, below, inside, above, heldAt}
+use borrow.Author.Tests.{le-leb, lt-leb, lt-ltb, eqb-true}
+use Rattle.history.specs.Words.{within, Operation, Piece, Block, ends, byteAt, blockOf, pieceOf, stretchOf, heldAt}
 use Rattle.history.specs.Ledger.{Opening, Moment, settled, updateBy, readBy, isRead, firstChange, changed, isNone}
 use Rattle.lists.specs.Lists.{has}
 use Rattle.history.specs.Reads.{shows, seen}

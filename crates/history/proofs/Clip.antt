@@ -1,16 +1,15 @@
 -- The one lemma on `clip`: for each cell, the part in [from, to) has what the stretch has, and nothing outside [from, to). Assumes nothing.
 use mathlib.Core.Path.{_≡_, refl, sym, _∙_, ap}
 use mathlib.Core.Logic.{_⊎_, inl, inr}
-use mathlib.Core.Bool.{Bool, cond, true, false, _&&_}
-use mathlib.Core.Option.{Option, none, some, bind, Option·map}
-use mathlib.Core.List.{List, [], _∷_, map, filterMap}
-use Prim.Native.Nat.{ℕ, zero, suc, _+_, _-_, _≤_, _<_, min, max}
+use mathlib.Core.Bool.{Bool, cond, true, false}
+use mathlib.Core.Option.{Option, none, some, bind}
+use Prim.Native.Nat.{ℕ, _-_, _≤_, _<_, min, max}
 use native.Mathlib.Omega.{arith}
-use lib.Dec.{leb, ltb}
+use lib.Dec.{ltb}
 use lib.ListN.{length, getD, take, drop, length-take, length-drop}
 use lib.Seq.{getD-take, getD-drop}
-use borrow.Author.Tests.{le-leb, lt-leb, lt-ltb, le-ltb, ltb-true}
-use Rattle.history.specs.Words.{within, Stretch, Piece, Block, ends, byteAt, clip, clipPiece, blockOf}
+use borrow.Author.Tests.{lt-ltb, ltb-true}
+use Rattle.history.specs.Words.{within, Stretch, ends, byteAt, clip}
 use Rattle.lists.proofs.Numbers.{lt-or-le}
 use Rattle.history.proofs.Within.{within-in, within-low, within-high}
 

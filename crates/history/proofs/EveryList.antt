@@ -2,28 +2,26 @@
 -- Assumes nothing.
 use mathlib.Core.Path.{_≡_, refl, sym, _∙_, ap, subst}
 use mathlib.Core.Bool.{Bool, true, false, cond, true≢false, false≢true}
-use mathlib.Core.Option.{Option, none, some, Option·none-ne-some}
-use mathlib.Core.List.{List, [], _∷_, _++_, map, append-nil, filterMap, Option·toList}
+use mathlib.Core.Option.{Option, none, some}
+use mathlib.Core.List.{List, [], _∷_, map, append-nil, filterMap, Option·toList}
 use Prim.Native.Nat.{ℕ, _+_, _≤_, _<_}
 use native.Mathlib.Omega.{arith}
 use lib.ListN.{length, length-append, length-map}
-use Rattle.lists.specs.Lists.{All, all-nil, all-cons, pairs-nil, Mem, here, there}
+use Rattle.lists.specs.Lists.{All, all-nil, pairs-nil, Mem, here}
 use Rattle.lists.proofs.Lists.{all-map, all-mem, mem-right}
-use Rattle.history.specs.Words.{Operation, Block, Holds, blockOf, size, stretchOf, byteAt}
-use Rattle.history.specs.Lent.{blockRows}
+use Rattle.history.specs.Words.{Operation, Block, Holds, blockOf, byteAt}
 use Rattle.history.specs.Tree.{Tree, treeOf}
 use Rattle.history.specs.Rules.{Apart, isHole}
 use Rattle.history.specs.Ledger.{Opening, Moment, Ledger, opened, finished, isSome, isRead, readBy, updateBy, recordBy, settled, finishBy}
 use Rattle.history.specs.Reads.{seen}
 use Rattle.history.specs.Refusals.{Answer, accepted, refused, openAnswer, recordAnswer, finishAnswer}
 use Rattle.history.specs.Calls.{Call, recordCall, finishCall, answerTo, acceptedBy, leaves, after, afterAll, noted, history, valueAt}
-use Rattle.history.specs.Sound.{SoundBlock, SoundBoard, SoundClosed, SoundTree, Sound, SoundForFinish, isEmpty}
+use Rattle.history.specs.Sound.{SoundBoard, SoundTree, Sound, SoundForFinish, isEmpty}
 use Rattle.history.specs.Law.{CoversBy, LastCall, LedgerLaw, Faithful, EveryList}
 use Rattle.history.proofs.Passing.{opens, Taken, taken, room, finishes}
 use Rattle.history.proofs.Cells.{Shown, shown-read, shown-updated}
 use Rattle.history.proofs.Steps.{opened-sound, read-sound, update-sound, new-blocks, settled-sound, shown-apart}
-use Rattle.history.proofs.Seen.{holds-shows}
-use Rattle.history.proofs.Reading.{seen-some, seen-none, seen-holds}
+use Rattle.history.proofs.Reading.{seen-some, seen-holds}
 use Rattle.history.proofs.Value.{value-law}
 use Rattle.history.proofs.TreePlaced.{treeOf-none, treeOf-some, treeOf-halved}
 use Rattle.history.proofs.TreeSorted.{treeOf-rule23}

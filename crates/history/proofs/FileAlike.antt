@@ -13,6 +13,8 @@ use borrow.Author.Tests.{ltb-false}
 use Rattle.lists.specs.Lists.{All, all-nil, has, countFrom}
 use Rattle.lists.proofs.Lists.{all-map, all-append}
 use Rattle.lists.proofs.Numbers.{lt-or-le}
+use Rattle.lists.proofs.Maps.{filterMap-map}
+use Rattle.lists.proofs.Counting.{count-from-below}
 use Rattle.history.specs.Words.{Block, live, firstCell}
 use Rattle.history.specs.Tree.{Tree, hole, node, mid, halves, blockAt, keyIn, entriesIn}
 use Rattle.history.specs.Find.{path, visited, find}
@@ -21,7 +23,6 @@ use Rattle.history.specs.File.{written, writtenBlocks, renumbered, newNu
 use Rattle.history.specs.Rules.{numbered}
 use Rattle.history.proofs.RulesLaws.{numbered-decides}
 use Rattle.history.proofs.Within.{within-low, within-high}
-use Rattle.history.proofs.FileLists.{filterMap-map, countFrom-below}
 use Rattle.history.proofs.FilePlaces.{thoseWith-filterMap}
 use Rattle.history.proofs.FileRenumbered.{entries-here, entries-left, entries-right, mapTree-path, mapTree-visited, window-map}
 use Rattle.history.proofs.FileContents.{map-blockAt}
@@ -73,6 +74,6 @@ module _ (kind e : ℕ) (bs : List Block) (tree : Tree) (w : Writable kind e bs 
   unfolding seen
   written-seen t c =
       filterMap-map (shows t c) (blockAt bs) (written bs tree)
-      ∙ thoseWith-filterMap (λ k. shows t c (blockAt bs k)) (entriesIn tree) (all-map (λ k p z. unwritten-shows t c k (omega arith) z) (countFrom-below 0 (length bs)))
+      ∙ thoseWith-filterMap (λ k. shows t c (blockAt bs k)) (entriesIn tree) (all-map (λ k p z. unwritten-shows t c k (omega arith) z) (count-from-below 0 (length bs)))
       ∙ sym (filterMap-map (shows t c) (blockAt bs) (countFrom 0 (length bs)))
       ∙ ap (filterMap (shows t c)) (map-blockAt bs)

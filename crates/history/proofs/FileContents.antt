@@ -11,6 +11,7 @@ use borrow.Author.Tests.{lt-ltb}
 use Rattle.lists.specs.Lists.{All, has, countFrom}
 use Rattle.lists.proofs.Lists.{all-map, count-from-length, all-at, all-of-map, count-from-at, all-any}
 use Rattle.lists.proofs.Maps.{length-of-map, getD-of-map}
+use Rattle.lists.proofs.Counting.{count-from-below}
 use Rattle.history.specs.Words.{Block}
 use Rattle.history.specs.Tree.{Tree, hole, node, mid, blockAt, entriesIn, entryCount, noBlock}
 use Rattle.history.specs.File.{written, contents, placeIn, mapTree, nodesOf, treeFrom, Nodes, endOf}
@@ -18,7 +19,6 @@ use Rattle.history.specs.Rules.{rule23}
 use Rattle.history.proofs.RulesLaws.{numbered-decides, rule23-decides}
 use Rattle.history.proofs.TreeEntries.{entry-life}
 use Rattle.history.proofs.FileRoundTrip.{BlockFits, NodesFit, FileFits, absent-fits, present-fits}
-use Rattle.history.proofs.FileLists.{countFrom-below}
 use Rattle.history.proofs.FilePlaces.{thoseWith-all, thoseWith-length, thoseWith-same, placeIn-below, placeIn-countFrom}
 use Rattle.history.proofs.FileRules.{Rule21, Rule22}
 use Rattle.history.proofs.FileRenumbered.{mapTree-same}
@@ -34,7 +34,7 @@ pub record Entered (bs : List Block) (tree : Tree) : Type 0 where
 pub rules-enter : (t : Nodes) (bs : List Block) → Rule21 t → Rule22 (endOf t) bs → rule23 (endOf t) bs (treeFrom t) ≡ true → Entered bs (treeFrom t)
 rules-enter t bs h r z =
     record {
-      entered = all-map in-tree (countFrom-below 0 (length bs));
+      entered = all-map in-tree (count-from-below 0 (length bs));
       numbers = numbered-decides (length bs) (treeFrom t) .yes (rule23-decides (endOf t) bs (treeFrom t) .yes z .numbers);
     }
   where
@@ -98,6 +98,6 @@ contents-fits kind e bs tree h =
     record {
       kindly = h .kindly;
       count = rw (length-of-map (blockAt bs) ks) (omega (arith, h .count));
-      blocks = all-of-map (blockAt bs) (thoseWith-all (entriesIn tree) (all-map (λ k p. all-at noBlock (h .blocks) k (omega arith)) (countFrom-below 0 (length bs))));
+      blocks = all-of-map (blockAt bs) (thoseWith-all (entriesIn tree) (all-map (λ k p. all-at noBlock (h .blocks) k (omega arith)) (count-from-below 0 (length bs))));
       nodes = nodes-fit (placeIn ks) (λ k. omega (arith, placeIn-below ks k, h .count)) 0 e (omega arith) (h .last) tree (h .entries);
     }

@@ -4,11 +4,10 @@ use mathlib.Core.Bool.{Bool, true, false, _&&_, true≢false}
 use Prim.Native.Nat.{ℕ, _<_, _≤_, _^_}
 use lib.Dec.{eqb}
 use borrow.Author.Tests.{eqb-true, eq-eqb}
-use Rattle.lists.proofs.Numbers.{and-right, and-left}
+use Rattle.lists.proofs.Numbers.{and-right, and-left, decided}
 use Rattle.history.specs.Tree.{Tree, hole, node, mid}
 use Rattle.history.specs.File.{nodesOf, treeFrom, rule21, Nodes, endOf, absent, present, placedIn}
 use Rattle.history.specs.Rules.{halved, isHole}
-use Rattle.history.proofs.RulesLaws.{decided}
 use Rattle.history.proofs.FileRules.{rule21-decides}
 
 -- the tree without its intervals is the tree

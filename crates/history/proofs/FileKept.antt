@@ -11,16 +11,15 @@ use lib.Dec.{ltb, eqb}
 use borrow.Author.Tests.{lt-ltb, eq-eqb, ne-eqb, ltb-true}
 use Rattle.lists.specs.Lists.{All, has, countFrom, Ascending}
 use Rattle.lists.proofs.Lists.{all-map, count-from-length, all-at, all-of-map, all-both, all-of-mem, all-mem, pairs-at}
-use Rattle.lists.proofs.Numbers.{eq-or-ne}
-use Rattle.lists.proofs.Maps.{length-of-map, getD-of-map}
-use Rattle.lists.proofs.Counting.{has-decides}
+use Rattle.lists.proofs.Numbers.{eq-or-ne, decided}
+use Rattle.lists.proofs.Maps.{length-of-map, getD-of-map, pairs-of-map}
+use Rattle.lists.proofs.Counting.{has-decides, count-from-below, has-count-from, count-from-pairs}
 use Rattle.history.specs.Words.{Block, firstCell, ends, life, size}
 use Rattle.history.specs.Tree.{Tree, blockAt, keyIn, entriesIn, entryCount, widths, noBlock}
 use Rattle.history.specs.File.{written, writtenBlocks, renumbered, newNumber, placeIn, nodesOf, rule21, rule22}
 use Rattle.history.specs.Rules.{halved, filled, rule23, apart, isHole, Apart}
-use Rattle.history.proofs.RulesLaws.{numbered-decides, rule23-decides, decided, Rule23, apart-decides, filled-decides}
+use Rattle.history.proofs.RulesLaws.{numbered-decides, rule23-decides, Rule23, apart-decides, filled-decides}
 use Rattle.history.proofs.TreeEntries.{entry-life}
-use Rattle.history.proofs.FileLists.{pairs-of-map, countFrom-below, has-countFrom, countFrom-pairs}
 use Rattle.history.proofs.FilePlaces.{thoseWith-all, thoseWith-has, has-thoseWith, thoseWith-pairs, thoseWith-length, placeIn-inside, placeIn-found, placeIn-at}
 use Rattle.history.proofs.FileRules.{rule22-decides, LivingBlock}
 use Rattle.history.proofs.FileIntervals.{nodesOf-rule21}
@@ -55,17 +54,17 @@ module _ (bs : List Block) (tree : Tree) where
   ks = written bs tree
 
   written-ascending : Ascending (λ k. k) ks
-  written-ascending = thoseWith-pairs (entriesIn tree) (countFrom-pairs 0 (length bs) (λ i j a b c. b))
+  written-ascending = thoseWith-pairs (entriesIn tree) (count-from-pairs 0 (length bs) (λ i j a b c. b))
 
   pub written-below : All (λ k. k < length bs) (written bs tree)
-  written-below = thoseWith-all (entriesIn tree) (all-map (λ k p. omega arith) (countFrom-below 0 (length bs)))
+  written-below = thoseWith-all (entriesIn tree) (all-map (λ k p. omega arith) (count-from-below 0 (length bs)))
 
   pub written-few : length (written bs tree) ≤ length bs
   written-few = rw (count-from-length 0 (length bs)) at (thoseWith-length (entriesIn tree) (countFrom 0 (length bs)))
 
   -- a block with an entry
   pub entry-written : (k : ℕ) → k < length bs → has k (entriesIn tree) ≡ true → has k (written bs tree) ≡ true
-  entry-written k less z = has-thoseWith (entriesIn tree) k (countFrom 0 (length bs)) (has-countFrom k 0 (length bs) (omega arith) (omega arith)) z
+  entry-written k less z = has-thoseWith (entriesIn tree) k (countFrom 0 (length bs)) (has-count-from k 0 (length bs) (omega arith) (omega arith)) z
 
   -- so every entry's block
   pub entries-written : All (λ k. k < length bs) (entriesIn tree) → All (λ k. has k (written bs tree) ≡ true) (entriesIn tree)
@@ -158,4 +157,4 @@ module _ (kind e : ℕ) (bs : List Block) (tree : Tree) (w : Writable kind e bs 
   pub written-apart : apart (writtenBlocks bs tree) ≡ true
   written-apart =
       decided (apart (writtenBlocks bs tree)) (apart-decides (writtenBlocks bs tree))
-      (pairs-of-map (blockAt bs) (thoseWith-pairs (entriesIn tree) (countFrom-pairs 0 (length bs) (λ i j a b c. pairs-at noBlock (w .rule-24) i j b (omega arith)))))
+      (pairs-of-map (blockAt bs) (thoseWith-pairs (entriesIn tree) (count-from-pairs 0 (length bs) (λ i j a b c. pairs-at noBlock (w .rule-24) i j b (omega arith)))))

@@ -11,9 +11,9 @@ use lib.Dec.{eqb}
 use borrow.Author.Tests.{eq-eqb, ne-eqb}
 use Rattle.lists.specs.Lists.{All, all-nil, has, countFrom, sumOf, Ascending, all-cons, Pairs, pairs-nil, pairs-cons}
 use Rattle.lists.proofs.Lists.{all-at}
-use Rattle.lists.proofs.Numbers.{eq-or-ne}
+use Rattle.lists.proofs.Numbers.{eq-or-ne, or-true}
+use Rattle.lists.proofs.Counting.{has-cons}
 use Rattle.history.specs.File.{placeIn, thoseWith}
-use Rattle.history.proofs.FileLists.{or-true, has-cons}
 
 -- ── numbers with an entry ──
 

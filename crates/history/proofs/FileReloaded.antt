@@ -8,14 +8,14 @@ use native.Mathlib.Omega.{arith}
 use lib.ListN.{length}
 use Rattle.lists.specs.Lists.{countFrom, sumOf}
 use Rattle.lists.proofs.Lists.{all-map}
-use Rattle.lists.proofs.Maps.{length-of-map}
+use Rattle.lists.proofs.Maps.{length-of-map, map-map}
+use Rattle.lists.proofs.Numbers.{decided}
 use Rattle.history.specs.Words.{Block, size}
 use Rattle.history.specs.Tree.{Tree, blockAt, entriesIn, nodeCount, entryCount}
 use Rattle.history.specs.File.{written, writtenBlocks, renumbered, newNumber, fileOf, contents, nodesOf, got, rule20, load, endOf, Loaded, loadedFrom}
 use Rattle.history.specs.Lent.{Lent, blockRows, nodeRows, entryRows}
-use Rattle.history.proofs.RulesLaws.{decided, filled-decides}
+use Rattle.history.proofs.RulesLaws.{filled-decides}
 use Rattle.history.proofs.FileRoundTrip.{BlockFits}
-use Rattle.history.proofs.FileLists.{map-map}
 use Rattle.history.proofs.FilePlaces.{thoseWith-sum}
 use Rattle.history.proofs.FileRules.{rule20-decides}
 use Rattle.history.proofs.FileIntervals.{treeFrom-nodesOf, endOf-nodesOf}

@@ -6,14 +6,16 @@ use Prim.Native.Nat.{ℕ, _<_}
 use lib.Dec.{ltb, eqb}
 use Rattle.lists.specs.Lists.{All, all-nil, all-cons}
 use Rattle.lists.proofs.Lists.{all-map, all-of-map, all-both, all-left, all-right}
-use Rattle.lists.proofs.Maps.{length-of-map, map-append}
+use Rattle.lists.proofs.Maps.{length-of-map, map-append, map-same, map-cond}
+use Rattle.lists.proofs.Numbers.{decided}
+use Rattle.lists.proofs.Counting.{count-map}
 use Rattle.history.specs.Words.{Block, within}
 use Rattle.history.specs.Tree.{Tree, hole, node, mid, halves, entriesIn, nodeCount, entryCount, widths, covers}
 use Rattle.history.specs.Find.{path, visited, window}
 use Rattle.history.specs.File.{mapTree}
 use Rattle.history.specs.Rules.{numbered, halved, placed, sorted, isHole}
-use Rattle.history.proofs.RulesLaws.{numbered-decides, decided}
-use Rattle.history.proofs.FileLists.{map-same, map-cond, every-map, ascends-map, count-map}
+use Rattle.history.proofs.RulesLaws.{numbered-decides}
+use Rattle.history.proofs.FileLists.{every-map, ascends-map}
 
 -- ── entries ──
 

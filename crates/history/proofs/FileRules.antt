@@ -6,13 +6,13 @@ use Prim.Native.Nat.{ℕ, _<_, _≤_, _^_, _-_}
 use lib.ListN.{length}
 use Rattle.lists.specs.Lists.{All, sumOf}
 use Rattle.lists.specs.Tests.{Decides}
-use Rattle.lists.proofs.Numbers.{decides-iff}
+use Rattle.lists.proofs.Numbers.{decides-iff, decides-and, decides-leb, decides-ltb}
 use Rattle.history.specs.Words.{Block, ends, size}
 use Rattle.history.specs.Tree.{nodeCount, entryCount}
 use Rattle.history.specs.File.{treeFrom, rule20, rule21, rule22, Nodes, endOf, File, placedIn}
 use Rattle.history.specs.Rules.{halved, filled, lived}
 use Rattle.history.specs.Lent.{Lent, blockRows, nodeRows, entryRows}
-use Rattle.history.proofs.RulesLaws.{filled-decides, lived-decides, decides-and, decides-leb, decides-ltb, every-decides}
+use Rattle.history.proofs.RulesLaws.{filled-decides, lived-decides, every-decides}
 
 -- ── 20 ──
 

@@ -10,16 +10,17 @@ use lib.ListN.{length, take, length-append}
 use lib.Seq.{take-append-seam, drop-append-seam}
 use Rattle.lists.specs.Lists.{All, all-nil, sumOf, all-cons, pairs-nil}
 use Rattle.lists.proofs.Lists.{all-map, all-both}
+use Rattle.lists.proofs.Numbers.{decided}
 use Rattle.history.specs.Words.{Block, size}
 use Rattle.history.specs.Tree.{Tree}
 use Rattle.history.specs.Find.{visited}
 use Rattle.history.specs.Reads.{findBy, cellsBy}
-use Rattle.history.specs.File.{writtenBlocks, renumbered, newNumber, fileBytes, got, treeFrom, load, Nodes, endOf, absent, present, Loaded, File, loadedFrom, loadedLedger, savedLedger}
+use Rattle.history.specs.File.{newNumber, fileBytes, got, treeFrom, load, Nodes, endOf, absent, present, Loaded, File, loadedFrom, loadedLedger, savedLedger}
 use Rattle.history.specs.Rules.{filled, isHole}
 use Rattle.history.specs.Lent.{Lent}
 use Rattle.history.specs.Ledger.{Ledger}
 use Rattle.history.specs.Sound.{Stored, SoundBlock, Sound, isEmpty, SoundBoard, SoundClosed}
-use Rattle.history.proofs.RulesLaws.{rule23-decides, decided, Rule23, apart-decides, filled-decides}
+use Rattle.history.proofs.RulesLaws.{rule23-decides, Rule23, apart-decides, filled-decides}
 use Rattle.history.proofs.FileNumbers.{Bytes}
 use Rattle.history.proofs.FileYields.{Yielded}
 use Rattle.history.proofs.FileRoundTrip.{gives-file, BlockFits, FileFits}

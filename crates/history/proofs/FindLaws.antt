@@ -10,7 +10,7 @@ use lib.ListN.{length}
 use lib.Dec.{eqb}
 use borrow.Author.Tests.{ne-eqb}
 use Rattle.lists.specs.Lists.{All, Mem, Distinct, has, count, countFrom, sumOf}
-use Rattle.lists.proofs.Numbers.{bool-cases, lt-or-le, eq-or-ne, and-left, cond-same}
+use Rattle.lists.proofs.Numbers.{bool-cases, lt-or-le, eq-or-ne, and-left, cond-same, decides-same}
 use Rattle.lists.proofs.Lists.{all-map, all-any, all-of-mem}
 use Rattle.lists.proofs.Maps.{map-all}
 use Rattle.lists.proofs.Counting.{mem-count, count-mem, has-decides, count-distinct, count-from-count, length-counts, map-from-at}
@@ -18,7 +18,6 @@ use Rattle.history.specs.Words.{within, Block, firstCell, live}
 use Rattle.history.specs.Tree.{Tree, noBlock, blockAt, keyIn}
 use Rattle.history.specs.Find.{path, window, find}
 use Rattle.history.specs.Rules.{halved, rule23}
-use Rattle.history.proofs.RulesLaws.{decides-same}
 use Rattle.history.proofs.TreePath.{live-none}
 use Rattle.history.proofs.FindMet.{path-met}
 

@@ -16,8 +16,8 @@ use Rattle.lists.specs.Lists.{All, Ascending, pairs-nil, pairs-cons, count}
 use Rattle.lists.proofs.Numbers.{le-or-lt, lt-or-le, eq-or-ne}
 use Rattle.lists.proofs.Lists.{count-append, all-at, all-map}
 use Rattle.lists.proofs.Counting.{count-none}
-use Rattle.history.specs.Words.{within, Block, live, life}
-use Rattle.history.specs.Tree.{Tree, hole, node, mid, covers, noBlock, blockAt, keyIn, widths}
+use Rattle.history.specs.Words.{within, Block, live}
+use Rattle.history.specs.Tree.{Tree, hole, node, mid, noBlock, blockAt, keyIn, widths}
 use Rattle.history.specs.Find.{path}
 use Rattle.history.specs.Rules.{halved, placed, sorted, rule23}
 use Rattle.history.proofs.Within.{within-in, within-low, within-high}

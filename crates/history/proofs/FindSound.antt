@@ -1,19 +1,15 @@
 -- Find over any sound closed index, finished or loaded: rules 21 to 23 are enough. Assumes nothing.
-use mathlib.Core.Path.{_≡_, refl, sym, _∙_}
-use mathlib.Core.Bool.{Bool, true, false, false≢true}
+use mathlib.Core.Path.{_≡_, sym, _∙_}
+use mathlib.Core.Bool.{true, false≢true}
 use mathlib.Core.Option.{Option, none, some}
-use mathlib.Core.List.{List}
-use Prim.Native.Nat.{ℕ, _≤_, _<_}
-use lib.ListN.{length}
 use Rattle.lists.proofs.Lists.{all-map}
 use Rattle.lists.proofs.Maps.{length-of-map}
-use Rattle.history.specs.Words.{Block}
 use Rattle.history.specs.Tree.{Tree, keyIn}
 use Rattle.history.specs.Find.{window}
-use Rattle.history.specs.Ledger.{Ledger, finished, isSome}
+use Rattle.history.specs.Ledger.{Ledger, isSome}
 use Rattle.history.specs.Reads.{treeOrHole, findBy}
-use Rattle.history.specs.Sound.{SoundClosed, SoundTree, Sound}
-use Rattle.history.specs.Law.{FindLaw, LawOfFind}
+use Rattle.history.specs.Sound.{SoundClosed, SoundTree}
+use Rattle.history.specs.Law.{LawOfFind}
 use Rattle.history.proofs.TreePath.{visited-bound}
 use Rattle.history.proofs.FindLaws.{find-count, find-numbers, find-length}
 use Rattle.history.proofs.FindOrder.{nodesTo, visited-nodes, foundAt, find-nodes, find-ascending}

@@ -1,15 +1,15 @@
 -- The pieces after an update: not empty, in order, none wrapping. Assumes nothing.
-use mathlib.Core.Path.{_≡_, refl, sym, _∙_, ap, subst}
+use mathlib.Core.Path.{_≡_, refl, subst}
 use mathlib.Core.Bool.{Bool, cond, true, false}
-use mathlib.Core.Option.{Option, none, some, Option·map, Option·some-injective, Option·none-ne-some}
-use mathlib.Core.List.{List, [], _∷_, _++_, filterMap}
-use Prim.Native.Nat.{ℕ, zero, suc, _+_, _-_, _^_, _≤_, _<_, min, max}
+use mathlib.Core.Option.{none, some, Option·map, Option·some-injective, Option·none-ne-some}
+use mathlib.Core.List.{List, _∷_, _++_}
+use Prim.Native.Nat.{ℕ, _+_, _-_, _≤_, _<_, min, max}
 use native.Mathlib.Omega.{arith}
-use lib.Dec.{leb, ltb}
-use lib.ListN.{length, take, drop}
+use lib.Dec.{ltb}
+use lib.ListN.{take, drop}
 use borrow.Author.Tests.{ltb-true}
 use Rattle.history.specs.Words.{Stretch, Operation, Piece, ends, size, clip, clipPiece, below, inside, above, pieceOf, stretchOf}
-use Rattle.lists.specs.Lists.{All, all-nil, all-cons, Pairs, pairs-nil, pairs-cons}
+use Rattle.lists.specs.Lists.{All, all-cons, pairs-cons}
 use Rattle.history.specs.Sound.{InOrder}
 use Rattle.lists.proofs.Lists.{all-append, all-map, all-any, pairs-append}
 use Rattle.lists.proofs.Maps.{all-filterMap, pairs-filterMap}

@@ -1,18 +1,18 @@
 -- An accepted call passed every refusal: what is known of it. Assumes nothing.
-use mathlib.Core.Path.{_≡_, refl, sym, _∙_}
+use mathlib.Core.Path.{_≡_, refl}
 use mathlib.Core.Bool.{Bool, true, false, cond, _&&_, _||_, not}
 use mathlib.Core.List.{List, [], _∷_}
 use Prim.Native.Nat.{ℕ, _+_, _-_, _/_, _^_, _≤_, _<_, min}
 use native.Mathlib.Omega.{arith}
-use lib.Dec.{leb, ltb, eqb}
+use lib.Dec.{ltb, eqb}
 use lib.ListN.{length}
 use borrow.Author.Tests.{ltb-false, leb-false, eqb-false}
 use Rattle.lists.proofs.Numbers.{or-left, or-right}
-use Rattle.history.specs.Words.{Operation, Stretch, size, ends, stretchOf}
+use Rattle.history.specs.Words.{Operation, size, ends, stretchOf}
 use Rattle.history.specs.Lent.{Lent, rowWidth, pieceRows, blockRows, nodeRows, entryRows, pieceSpace}
 use Rattle.history.specs.Tree.{treeOf, nodeCount, entryCount}
 use Rattle.history.specs.Ledger.{Opening, Moment, Ledger, finished, isRead, updateBy, settled}
-use Rattle.history.specs.Refusals.{Answer, accepted, refused, Refusal, firstOf, maxEndTick, openRefusals, openAnswer, recordRefusals, recordAnswer, finishRefusals, finishAnswer}
+use Rattle.history.specs.Refusals.{accepted, refused, Refusal, firstOf, maxEndTick, openRefusals, openAnswer, recordRefusals, recordAnswer, finishRefusals, finishAnswer}
 
 -- no condition of the list holds
 abbrev pub Passed : List Refusal → Type 0

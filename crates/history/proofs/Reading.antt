@@ -1,15 +1,11 @@
 -- What `seen` says in words: a byte is seen where a block is live and has it; nothing is seen where no block holds the cell. Assumes nothing.
-use mathlib.Core.Path.{_≡_, refl, sym, _∙_, ap, subst}
-use mathlib.Core.Logic.{_⊎_, inl, inr}
-use mathlib.Core.Bool.{Bool, cond, true, false, _&&_}
+use mathlib.Core.Path.{_≡_, refl, sym, _∙_, ap}
+use mathlib.Core.Bool.{Bool, cond, true, false}
 use mathlib.Core.Option.{Option, none, some, Option·none-ne-some}
 use mathlib.Core.List.{List, [], _∷_, _++_, Option·toList, filterMap, nil≢cons, head-eq-of-cons-eq}
-use Prim.Native.Nat.{ℕ, zero, suc, _+_, _-_, _≤_, _<_}
-use native.Mathlib.Omega.{arith}
-use lib.Dec.{leb, ltb}
+use Prim.Native.Nat.{ℕ, _+_, _-_, _≤_, _<_}
 use lib.ListN.{getD}
-use borrow.Author.Tests.{leb-true, ltb-true}
-use Rattle.history.specs.Words.{Holds, HasCell, live, within, Stretch, Block, ends, byteAt}
+use Rattle.history.specs.Words.{Holds, live, within, Block, ends, byteAt}
 use Rattle.history.specs.Reads.{shows, seen}
 use Rattle.lists.specs.Lists.{All, all-nil, all-cons, Mem, here, there}
 use Rattle.lists.proofs.Lists.{mem-right}

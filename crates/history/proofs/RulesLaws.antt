@@ -7,44 +7,14 @@ use Prim.Native.Nat.{ℕ, _+_, _-_, _^_, _≤_, _<_, min, max}
 use native.Mathlib.Omega.{arith}
 use lib.ListN.{length, getD}
 use lib.Dec.{leb, ltb, eqb}
-use borrow.Author.Tests.{leb-true, leb-false, ltb-true, ltb-false, eqb-true, eqb-false, not-true}
+use borrow.Author.Tests.{ltb-true, ltb-false, eqb-true, not-true}
 use Rattle.lists.specs.Tests.{Decides}
 use Rattle.lists.specs.Lists.{All, all-nil, all-cons, pairs-nil, pairs-cons, Ascending, count, countFrom}
-use Rattle.lists.proofs.Numbers.{bool-cases, and-left, and-right, and-both, or-cases, confirm, refute, decides-iff}
+use Rattle.lists.proofs.Numbers.{bool-cases, and-left, and-right, and-both, or-cases, confirm, decides-iff, decides-leb, decides-ltb, decides-eqb, decides-and, decides-not}
 use Rattle.lists.proofs.Lists.{all-append, all-left, all-right, all-at, all-of-at, count-from-length, count-from-at}
 use Rattle.history.specs.Words.{Stretch, size, ends, Block, life, Holds}
 use Rattle.history.specs.Tree.{Tree, hole, node, mid, halves, covers, blockAt, keyIn, widths, entriesIn}
 use Rattle.history.specs.Rules.{every, isHole, halved, filled, lived, numbered, placed, ascends, sorted, summed, rule23, shares, apart, Apart}
-
--- ── tests joined ──
-
-pub decides-leb : (a b : ℕ) → Decides (leb a b) (a ≤ b)
-decides-leb a b = record { yes = leb-true a b; not = λ e h. omega (arith, leb-false a b e) }
-
-pub decides-ltb : (a b : ℕ) → Decides (ltb a b) (a < b)
-decides-ltb a b = record { yes = ltb-true a b; not = λ e h. omega (arith, ltb-false a b e) }
-
-pub decides-eqb : (a b : ℕ) → Decides (eqb a b) (a ≡ b)
-decides-eqb a b = record { yes = eqb-true a b; not = eqb-false a b }
-
-pub decides-and : {P Q : Type 0} (a b : Bool) → Decides a P → Decides b Q → Decides (a && b) (P × Q)
-decides-and true b p q = record { yes = λ e. (p .yes refl, q .yes e); not = λ e z. q .not e (z .1) }
-decides-and false b p q = refute (λ z. p .not refl (z .0))
-
-pub decides-not : {P : Type 0} (a : Bool) → Decides a P → Decides (not a) (P → ⊥)
-decides-not true p = refute (λ f. f (p .yes refl))
-decides-not false p = confirm (p .not refl)
-
--- what is decided to hold has a true test
-pub decided : {P : Type 0} (a : Bool) → Decides a P → P → a ≡ true
-decided true d p = refl
-decided false d p = absurd (d .not refl p)
-
--- two tests of one statement are equal
-pub decides-same : {P : Type 0} (a b : Bool) → Decides a P → Decides b P → a ≡ b
-decides-same true b p q = sym (decided b q (p .yes refl))
-decides-same false true p q = absurd (p .not refl (q .yes refl))
-decides-same false false p q = refl
 
 -- ── every ──
 

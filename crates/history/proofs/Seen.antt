@@ -4,15 +4,15 @@ use mathlib.Core.Logic.{_⊎_, inl, inr}
 use mathlib.Core.Bool.{Bool, cond, true, false, _&&_}
 use mathlib.Core.Option.{Option, none, some, bind, Option·map}
 use mathlib.Core.List.{List, [], _∷_, _++_, map, filterMap, filterMap-map, filterMap-filterMap, filterMap-append, Option·toList}
-use Prim.Native.Nat.{ℕ, zero, suc, _+_, _-_, _≤_, _<_}
+use Prim.Native.Nat.{ℕ, _+_, _-_, _≤_, _<_}
 use lib.Dec.{leb, ltb}
 use lib.ListN.{getD}
-use borrow.Author.Tests.{le-leb, lt-leb, lt-ltb, le-ltb}
-use Rattle.history.specs.Words.{Holds, HasCell, live, within, Stretch, Piece, Block, ends, byteAt, clip, clipPiece, blockOf, below, inside, above}
+use borrow.Author.Tests.{lt-ltb, le-ltb}
+use Rattle.history.specs.Words.{Holds, within, Stretch, Piece, Block, ends, byteAt, clip, clipPiece, blockOf, below, inside, above}
 use Rattle.history.specs.Reads.{shows, seen}
 use Rattle.lists.proofs.Numbers.{lt-or-le, cond-same}
 use Rattle.lists.proofs.Maps.{filterMap-ext, filterMap-cond, filterMap-cons}
-use Rattle.history.proofs.Within.{within-in, within-low, within-high}
+use Rattle.history.proofs.Within.{within-in}
 use Rattle.history.proofs.Clip.{byteAt-in, byteAt-high, clip-byte}
 
 pub seen-append : (t c : ℕ) (xs ys : List Block) → seen t c (xs ++ ys) ≡ seen t c xs ++ seen t c ys

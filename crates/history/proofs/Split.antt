@@ -1,17 +1,15 @@
 -- For the code: an update touches only the pieces that overlap it. If the pieces are `ls ++ ms ++ rs`, `ls` all ending at or before the
-use mathlib.Core.Path.{_≡_, refl, sym, _∙_, ap, ap₂}
+use mathlib.Core.Path.{_≡_, _∙_, ap, ap₂}
 use mathlib.Core.Logic.{_⊎_, inl, inr}
-use mathlib.Core.Bool.{Bool, cond, true, false, _&&_}
-use mathlib.Core.Option.{Option, none, some, Option·map}
-use mathlib.Core.List.{List, [], _∷_, _++_, filterMap, filterMap-append, filterMap-some, append-nil, append-assoc}
-use Prim.Native.Nat.{ℕ, zero, suc, _+_, _-_, _≤_, _<_, min, max}
+use mathlib.Core.Option.{Option, none, some}
+use mathlib.Core.List.{List, [], _++_, filterMap, filterMap-append, filterMap-some, append-nil}
+use Prim.Native.Nat.{ℕ, _+_, _-_, _≤_, _<_, min, max}
 use native.Mathlib.Omega.{arith}
-use lib.Dec.{leb, ltb}
 use lib.ListN.{length, take, drop}
 use lib.Seq.{take-length}
 use borrow.Author.Tests.{lt-ltb, le-ltb}
-use Rattle.history.specs.Words.{Stretch, Operation, Piece, ends, size, byteAt, clip, clipPiece, below, inside, above, pieceOf, heldAt}
-use Rattle.lists.specs.Lists.{All, all-nil, all-cons}
+use Rattle.history.specs.Words.{Stretch, Piece, ends, size, byteAt, clip, clipPiece, below, inside, above, heldAt}
+use Rattle.lists.specs.Lists.{All}
 use Rattle.lists.proofs.Lists.{all-map, all-both}
 use Rattle.lists.proofs.Maps.{filterMap-all, filterMap-none}
 use Rattle.history.proofs.Clip.{byteAt-low, byteAt-high}

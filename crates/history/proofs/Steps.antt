@@ -1,22 +1,20 @@
 -- Soundness, kept by opening, a read and an update; rule 24 from the law of cells. Assumes nothing.
-use mathlib.Core.Path.{_≡_, refl, sym, _∙_, ap}
-use mathlib.Core.Bool.{Bool, true, false}
+use mathlib.Core.Path.{refl, _∙_}
 use mathlib.Core.Option.{Option, none, some}
-use mathlib.Core.List.{List, [], _∷_, _++_, map, filterMap, Option·toList}
-use Prim.Native.Nat.{ℕ, _+_, _-_, _^_, _≤_, _<_}
+use mathlib.Core.List.{List, Option·toList}
+use Prim.Native.Nat.{ℕ, _-_, _^_, _≤_, _<_}
 use native.Mathlib.Omega.{arith}
 use lib.ListN.{length}
-use Rattle.lists.specs.Lists.{All, all-nil, all-cons, Pairs, pairs-nil, pairs-cons}
+use Rattle.lists.specs.Lists.{All, all-nil, pairs-nil}
 use Rattle.lists.proofs.Lists.{all-append, all-map, all-of-map}
-use Rattle.history.specs.Words.{Stretch, Operation, Piece, Block, size, ends, pieceOf, blockOf, stretchOf, below, inside, above}
-use Rattle.history.specs.Ledger.{Opening, Moment, Ledger, opened, isRead, readBy, updateBy, settled}
-use Rattle.history.specs.Reads.{seen}
+use Rattle.history.specs.Words.{Stretch, Operation, Piece, Block, size, ends, pieceOf, blockOf, stretchOf}
+use Rattle.history.specs.Ledger.{Opening, Moment, Ledger, opened, readBy, updateBy, settled}
 use Rattle.history.specs.Calls.{valueAt}
 use Rattle.history.specs.Rules.{Apart}
-use Rattle.history.specs.Sound.{Stored, SoundStretch, SoundPiece, SoundBlock, SoundBoard, InOrder}
+use Rattle.history.specs.Sound.{SoundStretch, SoundPiece, SoundBlock, SoundBoard}
 use Rattle.history.proofs.Parts.{PartOf, all-inside, all-updated, in-order-updated}
 use Rattle.history.proofs.Storing.{stored-part, stored-append, stored-new}
-use Rattle.history.proofs.Cells.{Shown, shown-updated, shown-read}
+use Rattle.history.proofs.Cells.{Shown}
 use Rattle.history.proofs.Apart.{apart}
 use Rattle.history.proofs.Passing.{Opens, Room}
 

@@ -1,11 +1,11 @@
 -- Bytes in the store: a part of what is stored is stored, and what is stored stays so when the store grows. Assumes nothing.
-use mathlib.Core.Path.{_≡_, refl, sym, _∙_, ap}
+use mathlib.Core.Path.{_≡_, sym, _∙_, ap}
 use mathlib.Core.List.{List, [], _∷_, _++_}
-use Prim.Native.Nat.{ℕ, zero, suc, _+_, _-_, _≤_, _<_}
+use Prim.Native.Nat.{ℕ, zero, suc, _+_, _-_, _≤_}
 use native.Mathlib.Omega.{arith}
 use lib.ListN.{length, take, drop, length-append, length-drop}
-use lib.Seq.{take-take, drop-drop, take-nil, drop-nil, take-append-le, drop-append-le, drop-append-seam, take-length, drop-append-add, length-take-le}
-use Rattle.history.specs.Words.{Stretch, Operation, Piece, size, ends, stretchOf}
+use lib.Seq.{take-take, drop-drop, take-nil, take-append-le, drop-append-le, drop-append-seam, take-length}
+use Rattle.history.specs.Words.{Stretch, Operation, Piece, size, stretchOf}
 use Rattle.history.specs.Sound.{Stored}
 use Rattle.history.proofs.Parts.{PartOf}
 

@@ -9,13 +9,13 @@ use native.Mathlib.Omega.{arith}
 use lib.ListN.{length}
 use lib.Dec.{ltb}
 use Rattle.lists.specs.Lists.{All, all-nil, Mem, has, count}
-use Rattle.lists.proofs.Numbers.{and-left, le-or-lt, lt-or-le, decides-iff}
+use Rattle.lists.proofs.Numbers.{and-left, le-or-lt, lt-or-le, decides-iff, decides-ltb, decides-same}
 use Rattle.lists.proofs.Lists.{all-append, all-map, all-mem, count-append}
 use Rattle.lists.proofs.Counting.{count-mem, has-decides}
 use Rattle.history.specs.Words.{Block}
 use Rattle.history.specs.Tree.{Tree, hole, node, mid, blockAt, widths, entriesIn}
 use Rattle.history.specs.Rules.{halved, placed, rule23}
-use Rattle.history.proofs.RulesLaws.{every-all, halved-left, halved-right, halved-narrow, coversNode, placed-here, placed-left, placed-right, Rule23, rule23-decides, decides-ltb, decides-same}
+use Rattle.history.proofs.RulesLaws.{every-all, halved-left, halved-right, halved-narrow, coversNode, placed-here, placed-left, placed-right, Rule23, rule23-decides}
 use Rattle.history.proofs.TreeAdding.{covers-inside}
 
 -- an entry's block covers a node that has a tick

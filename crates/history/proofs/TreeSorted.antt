@@ -10,12 +10,12 @@ use lib.ListN.{length}
 use lib.Dec.{ltb}
 use borrow.Author.Tests.{ltb-true}
 use Rattle.lists.specs.Lists.{All, Ascending}
-use Rattle.lists.proofs.Numbers.{and-left}
+use Rattle.lists.proofs.Numbers.{and-left, decided}
 use Rattle.lists.proofs.Lists.{all-both, all-at, pairs-at}
 use Rattle.history.specs.Words.{size, Block}
 use Rattle.history.specs.Tree.{Tree, hole, node, mid, entriesOf, leftOf, rightOf, insert, addLocation, noBlock, blockAt, keyIn, treeOf}
-use Rattle.history.specs.Rules.{every, numbered, placed, ascends, sorted, rule23, Apart}
-use Rattle.history.proofs.RulesLaws.{every-all, numbered-here, numbered-left, numbered-right, coversNode, placed-here, placed-left, placed-right, ascends-decides, decided, sorted-node, sorted-here, sorted-left, sorted-right, rule23-decides}
+use Rattle.history.specs.Rules.{numbered, placed, ascends, sorted, rule23, Apart}
+use Rattle.history.proofs.RulesLaws.{every-all, numbered-here, numbered-left, numbered-right, coversNode, placed-here, placed-left, placed-right, ascends-decides, sorted-node, sorted-here, sorted-left, sorted-right, rule23-decides}
 use Rattle.history.proofs.TreeInserting.{insert-ascending}
 use Rattle.history.proofs.TreeAdding.{covers-inside, Half, went, kept, made, listed, add-by, tree-by, addBlock}
 use Rattle.history.proofs.TreePlaced.{numbered-made, numbered-more, numbered-add, treeOf-numbered, placed-made, placed-add, treeOf-placed}

@@ -2,16 +2,13 @@
 -- has it. Assumes nothing.
 use mathlib.Core.Path.{_≡_, refl, sym, _∙_, ap, subst}
 use mathlib.Core.Logic.{_⊎_, inl, inr}
-use mathlib.Core.Bool.{Bool, true, false, cond}
-use mathlib.Core.Option.{Option, none, some, orElse, Option·none-ne-some, Option·some-injective}
+use mathlib.Core.Option.{Option, none, some, Option·none-ne-some, Option·some-injective}
 use mathlib.Core.List.{List, [], _∷_, _++_}
 use Prim.Native.Nat.{ℕ, _≤_, _<_}
 use native.Mathlib.Omega.{arith}
-use lib.Dec.{leb}
-use borrow.Author.Tests.{le-leb, lt-leb}
 use Rattle.lists.specs.Lists.{All, all-nil, all-cons}
 use Rattle.lists.proofs.Numbers.{lt-or-le}
-use Rattle.history.specs.Words.{Operation, Stretch, HasCell, Covers, ends, stretchOf, byteAt}
+use Rattle.history.specs.Words.{Operation, Stretch, HasCell, ends, stretchOf, byteAt}
 use Rattle.history.specs.Calls.{valueAt}
 use Rattle.history.specs.Law.{CoversBy, LastCall, ValueAt}
 use Rattle.history.proofs.Clip.{byteAt-in, byteAt-low, byteAt-high}

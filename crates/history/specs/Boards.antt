@@ -1,15 +1,13 @@
 -- The boards to try of document 01: all that it marks with *, gathered in one list with their questions, and one more at the edge of each refusal.
 -- `marked_boards` makes it part of the build that every one comes out as it must.
 use mathlib.Core.Path.{_≡_}
-use mathlib.Core.Bool.{Bool, true, false}
-use mathlib.Core.Option.{Option, none, some}
 use mathlib.Core.List.{List, [], _∷_, _++_, map, flatten}
 use Prim.Native.Nat.{ℕ, _+_, _-_, _*_, _^_}
 use lib.ListN.{length, take, replicate, set}
-use Rattle.history.specs.Words.{Operation, Stretch, Piece, Block}
+use Rattle.history.specs.Words.{Piece, Block}
 use Rattle.history.specs.Lent.{Lent, rowWidth, entryWidth, pieceHead, blockHead, nodeHead, entryHead}
 use Rattle.history.specs.Tree.{Tree, hole, node}
-use Rattle.history.specs.Ledger.{Opening, Ledger, opened}
+use Rattle.history.specs.Ledger.{Opening, opened}
 use Rattle.history.specs.Reads.{Found, Cells, treeIn, clockLabel}
 use Rattle.history.specs.Refusals.{Answer, accepted, refused, openAnswer, findAnswer, cellsAnswer, blockAnswer}
 use Rattle.history.specs.Calls.{Call, recordCall, finishCall, answers, afterAll}

@@ -1,6 +1,6 @@
 -- A call that can change an opened index, a list of calls, and the history that they leave (01, "mod.rs", demand 3's ledger).
-use mathlib.Core.Bool.{Bool, true, false, cond}
-use mathlib.Core.Option.{Option, none, some, orElse}
+use mathlib.Core.Bool.{cond}
+use mathlib.Core.Option.{Option, none, orElse}
 use mathlib.Core.List.{List, [], _∷_}
 use Prim.Native.Nat.{ℕ}
 use lib.Dec.{leb}

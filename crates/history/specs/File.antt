@@ -1,6 +1,6 @@
 -- The file of a closed index (01, "spacetime_index.rs"): its bytes as a function, its reader field after field, and the loader with its refusals
 -- 17 to 24. Definitions alone: their laws stand in proofs/.
-use mathlib.Core.Bool.{Bool, true, false, cond, _&&_}
+use mathlib.Core.Bool.{Bool, true, cond, _&&_}
 use mathlib.Core.List.{List, [], _∷_, map, flatMap, flatten}
 use mathlib.Core.Option.{some}
 use Prim.Native.Nat.{ℕ, zero, suc, _+_, _*_, _^_, _/_, _%_}

@@ -1,8 +1,8 @@
 -- What is proved of the ledger, for every list of calls: the value of a cell in the mission's words, the law, and demand 3's clauses of a finished
 -- ledger. Statements alone: the proofs stand in proofs/.
 use mathlib.Core.Path.{_≡_}
-use mathlib.Core.Bool.{Bool, true, false, cond, _&&_}
-use mathlib.Core.Option.{Option, none, some}
+use mathlib.Core.Bool.{true, false, cond, _&&_}
+use mathlib.Core.Option.{none, some}
 use mathlib.Core.List.{List, [], _∷_, _++_, map, flatten, Option·toList}
 use Prim.Native.Nat.{ℕ, _≤_, _<_}
 use lib.ListN.{length}

@@ -5,9 +5,9 @@ use mathlib.Core.Option.{Option, none, some}
 use mathlib.Core.List.{List, [], _∷_, _++_, map}
 use Prim.Native.Nat.{ℕ, suc}
 use Rattle.lists.specs.Lists.{has}
-use Rattle.history.specs.Words.{Stretch, Operation, Piece, Block, ends, stretchOf, below, inside, above, pieceOf, blockOf, heldAt}
+use Rattle.history.specs.Words.{Operation, Piece, Block, ends, stretchOf, below, inside, above, pieceOf, blockOf, heldAt}
 use Rattle.history.specs.Lent.{Lent}
-use Rattle.history.specs.Tree.{Tree, hole, treeOf}
+use Rattle.history.specs.Tree.{Tree, treeOf}
 
 -- ── what is fed and kept ──
 

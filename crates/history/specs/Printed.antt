@@ -1,7 +1,6 @@
 -- The program `board` (01, "Added: cells and clock"): what its input says, and what it prints.
-use mathlib.Core.Bool.{Bool, true, false, cond}
-use mathlib.Core.Option.{Option, none, some}
-use mathlib.Core.List.{List, [], _∷_, _++_, map, flatMap}
+use mathlib.Core.Bool.{cond}
+use mathlib.Core.List.{List, [], _∷_, _++_, flatMap}
 use Prim.Native.Nat.{ℕ, zero, suc, _+_, _*_, _/_, _%_}
 use lib.Dec.{leb, ltb, eqb}
 use lib.ListN.{length, take}
@@ -10,7 +9,7 @@ use Rattle.history.specs.Lent.{Lent, rowWidth, entryWidth, pieceHead, bl
 use Rattle.history.specs.Ledger.{Opening, Ledger, opened}
 use Rattle.history.specs.Reads.{clockLabel}
 use Rattle.history.specs.Refusals.{Answer, accepted, refused, openAnswer}
-use Rattle.history.specs.Calls.{Call, recordCall, finishCall, answerTo, after}
+use Rattle.history.specs.Calls.{recordCall, finishCall, answerTo, after}
 use Rattle.history.specs.File.{Read, got, fault, Reader, _>>=_, _>>_, give, refuse_unless_, field, number}
 
 -- ── input ──

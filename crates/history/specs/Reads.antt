@@ -1,7 +1,7 @@
 -- What the reads of a closed index give: block by number, find, read cells (01, "segment_tree.rs" and "Added: cells and clock").
-use mathlib.Core.Bool.{Bool, cond}
+use mathlib.Core.Bool.{cond}
 use mathlib.Core.Option.{Option, none, some}
-use mathlib.Core.List.{List, [], _∷_, map, filterMap}
+use mathlib.Core.List.{List, map, filterMap}
 use Prim.Native.Nat.{ℕ, _-_, _+_, _*_, _/_, _%_, _^_, min}
 use lib.ListN.{length, getD}
 use Rattle.lists.specs.Lists.{countFrom}

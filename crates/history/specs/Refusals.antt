@@ -1,13 +1,12 @@
 -- The refusals of document 01 in their checking order: for each call a list of numbers with their conditions, of which the first that holds is given.
 -- 17 to 24, the loader's, stand with the file format in File.
-use mathlib.Core.Bool.{Bool, true, false, cond, _&&_, _||_, not}
-use mathlib.Core.Option.{Option, none, some}
+use mathlib.Core.Bool.{Bool, cond, _&&_, _||_, not}
 use mathlib.Core.List.{List, [], _∷_}
 use Prim.Native.Nat.{ℕ, _+_, _-_, _^_}
 use lib.Dec.{leb, ltb, eqb}
 use lib.ListN.{length}
 use Rattle.history.specs.Words.{Operation, Block}
-use Rattle.history.specs.Lent.{Lent, pieceRows, blockRows, nodeRows, entryRows, tooShort, pieceSpace}
+use Rattle.history.specs.Lent.{blockRows, nodeRows, entryRows, tooShort, pieceSpace}
 use Rattle.history.specs.Tree.{treeOf, nodeCount, entryCount}
 use Rattle.history.specs.Ledger.{Opening, Ledger, finished, isRead, updateBy, settled}
 use Rattle.history.specs.Reads.{Found, Cells, findBy, cellsBy, blockBy}

@@ -8,7 +8,7 @@ use Prim.Native.Nat.{ℕ, _+_, _-_, _^_, _≤_, _<_}
 use lib.ListN.{length, take, drop}
 use Rattle.lists.specs.Lists.{All, Pairs}
 use Rattle.history.specs.Words.{Stretch, Piece, Block, size, ends}
-use Rattle.history.specs.Lent.{Lent, pieceRows, blockRows, nodeRows, entryRows}
+use Rattle.history.specs.Lent.{pieceRows, blockRows, nodeRows, entryRows}
 use Rattle.history.specs.Tree.{Tree, nodeCount, entryCount}
 use Rattle.history.specs.Rules.{isHole, halved, rule23, Apart}
 use Rattle.history.specs.Ledger.{Moment, Ledger, settled}

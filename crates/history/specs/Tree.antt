@@ -1,5 +1,5 @@
 -- The segment tree as plain data, and what adding a block does to it (01, "segment_tree.rs"). The interval of a node is passed down from the root.
-use mathlib.Core.Bool.{Bool, true, false, cond, _&&_}
+use mathlib.Core.Bool.{Bool, cond, _&&_}
 use mathlib.Core.List.{List, [], _∷_, _++_}
 use Prim.Native.Nat.{ℕ, zero, suc, _+_, _*_, _-_, _/_}
 use lib.ListN.{length, getD}

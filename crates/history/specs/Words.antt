@@ -1,8 +1,8 @@
 -- The words of document 01: stretches of cells, operations, pieces and blocks, and the part of one that lies in a range.
 -- All ranges are half-open: [from, to) has `from` and not `to`. Definitions alone: their laws stand in proofs/.
-use mathlib.Core.Bool.{Bool, true, false, cond, _&&_}
+use mathlib.Core.Bool.{Bool, cond, _&&_}
 use mathlib.Core.Option.{Option, none, some, Option·map}
-use mathlib.Core.List.{List, [], _∷_, map, filterMap}
+use mathlib.Core.List.{List, filterMap}
 use Prim.Native.Nat.{ℕ, _+_, _-_, _≤_, _<_, min, max}
 use lib.Dec.{leb, ltb}
 use lib.ListN.{length, getD, take, drop}

@@ -1,26 +1,21 @@
 -- The returns of the public reads, by what the test of the tables found. Assumes nothing.
-use mathlib.Core.Path.{_≡_, refl, ap, sym, _∙_, subst}
-use mathlib.Core.Bool.{Bool, true, false}
+use mathlib.Core.Path.{_≡_, refl, sym, _∙_, subst}
+use mathlib.Core.Bool.{true, false}
 use mathlib.Core.Option.{Option, none, some}
 use mathlib.Core.List.{List}
-use Prim.Native.Nat.{ℕ, _+_, _≤_}
+use Prim.Native.Nat.{ℕ}
 use native.Mathlib.Omega.{arith}
-use lib.ListN.{length}
 use Rattle.history.specs.Lent.{tooShort}
 use Rattle.history.specs.Tree.{Tree}
 use Rattle.history.specs.Ledger.{Ledger, finished, isSome}
-use Rattle.history.specs.Reads.{Found}
-use Rattle.history.specs.Refusals.{Answer, accepted, refused, firstOf, windowRefusals, findAnswer, blockRefusals, blockAnswer}
-use Rattle.history.specs.Sound.{Sound}
-use Rattle.tables.specs.Columns.{headState}
-use Rattle.layout.specs.Tables.{Tables, tables, headAt}
+use Rattle.history.specs.Refusals.{Answer, refused, firstOf, windowRefusals, blockRefusals}
+use Rattle.layout.specs.Tables.{Tables, tables}
 use Rattle.layout.specs.Encodes.{Encodes, stateOf, openState, closedState}
-use Rattle.layout.specs.Formed.{WellFormed}
 use Rattle.layout.specs.Relations.{Counts, countsOf, answerLeft, FoundBy, Fields, blockOfFields, BlockGivenBy}
 use Rattle.index_test.specs.Board.{OpenFormed, ClosedFormed, Outcome}
 use Rattle.index_test.specs.declared.State.{State}
 use Rattle.index_test.specs.declared.State.the-variants.{Bad, Open, Closed}
-use Rattle.index_test.proofs.Tested.{Passes, passes-formed, open-passes, closed-passes}
+use Rattle.index_test.proofs.Tested.{passes-formed, open-passes, closed-passes}
 use Rattle.index.specs.Reads.{BlockClosed, FindClosed}
 
 -- ── what the state says of a ledger in the tables ──

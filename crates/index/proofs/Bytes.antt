@@ -1,18 +1,14 @@
 -- The returns of `part` and `block_bytes`. Assumes nothing.
-use mathlib.Core.Path.{_≡_, refl, ap, sym, _∙_, subst}
+use mathlib.Core.Path.{_≡_, refl, ap, _∙_, subst}
 use mathlib.Core.List.{List, []}
 use Prim.Native.Nat.{ℕ, _+_, _-_, _≤_, _<_}
 use native.Mathlib.Omega.{arith}
 use lib.ListN.{length, take, drop}
 use borrow.Author.Tests.{le-leb, lt-leb}
 use Rattle.history.specs.Words.{Block}
-use Rattle.history.specs.Ledger.{Ledger}
 use Rattle.history.specs.Refusals.{Answer, accepted, refused, blockAnswer}
-use Rattle.history.specs.Sound.{Sound}
-use Rattle.layout.specs.Tables.{Tables, tables}
-use Rattle.layout.specs.Encodes.{Encodes}
-use Rattle.layout.specs.Formed.{WellFormed}
-use Rattle.layout.specs.Relations.{Fields, blockIn, blockOfFields, BlockGivenBy}
+use Rattle.layout.specs.Tables.{tables}
+use Rattle.layout.specs.Relations.{Fields, blockOfFields, BlockGivenBy}
 use Rattle.index.specs.Answers.{givenOf}
 use Rattle.index.specs.Reads.{partOf, bytesOf, BytesGivenBy}
 use Rattle.index.specs.declared.Given.{Given}

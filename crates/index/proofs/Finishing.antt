@@ -1,29 +1,26 @@
 -- The returns of `finalize` and `finish_open`. Assumes nothing.
-use mathlib.Core.Path.{_≡_, refl, ap, sym, _∙_, subst}
-use mathlib.Core.Bool.{Bool, true, false, true≢false}
+use mathlib.Core.Path.{_≡_, refl, sym, _∙_, subst}
+use mathlib.Core.Bool.{true, false, true≢false}
 use mathlib.Core.Option.{Option, none, some}
-use mathlib.Core.List.{List, [], append-nil}
+use mathlib.Core.List.{List, append-nil}
 use Prim.Native.Nat.{ℕ, zero, suc, _<_, _^_}
 use native.Mathlib.Omega.{arith}
 use lib.ListN.{length}
-use Rattle.history.specs.Words.{Block}
 use Rattle.history.specs.Lent.{tooShort}
 use Rattle.history.specs.Rules.{Apart}
 use Rattle.history.specs.Tree.{Tree}
-use Rattle.history.specs.Ledger.{Ledger, Moment, finished, isSome, settled}
+use Rattle.history.specs.Ledger.{Ledger, finished, isSome, settled}
 use Rattle.history.specs.Refusals.{Answer, accepted, refused, firstOf, finishRefusals, finishAnswer}
-use Rattle.history.specs.Sound.{Sound, SoundTree, SoundForFinish}
-use Rattle.tables.specs.Columns.{headState}
-use Rattle.layout.specs.Tables.{Tables, tables, headAt}
-use Rattle.layout.specs.Encodes.{Encodes, openState}
-use Rattle.layout.specs.Formed.{WellFormed, WellFormedForFinish}
-use Rattle.layout.specs.Relations.{FinishLeaves, FinishedBy}
+use Rattle.history.specs.Sound.{SoundTree}
+use Rattle.layout.specs.Tables.{Tables, tables}
+use Rattle.layout.specs.Encodes.{Encodes}
+use Rattle.layout.specs.Relations.{FinishedBy}
 use Rattle.index_finish.specs.Finish.{answerOf, FinishedOpen}
 use Rattle.index_finish.proofs.Public.{finished-by}
 use Rattle.index_test.specs.Board.{OpenFormed, ClosedFormed, Outcome}
 use Rattle.index_test.specs.declared.State.{State}
 use Rattle.index_test.specs.declared.State.the-variants.{Bad, Open, Closed}
-use Rattle.index_test.proofs.Tested.{Passes, passes-formed, open-passes, closed-passes}
+use Rattle.index_test.proofs.Tested.{passes-formed, open-passes, closed-passes}
 use Rattle.index.specs.Work.{FinishesOpen}
 use Rattle.index.proofs.Answering.{is-closed}
 

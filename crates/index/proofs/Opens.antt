@@ -1,11 +1,11 @@
 -- The returns of `open`: each condition of refusal 1, and the opened tables. Assumes nothing.
-use mathlib.Core.Path.{_≡_, refl, ap, sym, _∙_}
-use mathlib.Core.List.{List, [], _∷_}
+use mathlib.Core.Path.{_≡_, refl, sym}
+use mathlib.Core.List.{List}
 use Prim.Native.Nat.{ℕ, _≤_, _<_}
 use native.Mathlib.Omega.{arith}
 use lib.ListN.{length, set, replicate}
 use borrow.Author.Tests.{eq-eqb, ne-eqb, lt-ltb, le-ltb}
-use Rattle.history.specs.Refusals.{Answer, accepted, refused, firstOf, maxEndTick, openRefusals, openAnswer}
+use Rattle.history.specs.Refusals.{accepted, refused, firstOf, maxEndTick, openRefusals}
 use Rattle.layout.specs.Tables.{Tables, tables}
 use Rattle.layout.specs.Encodes.{openState}
 use Rattle.layout.specs.Relations.{openingOf, openedTables, leftBy, OpenedBy}

@@ -1,14 +1,14 @@
 -- The returns of the inner reads: over a closed index they give the ledger's answers. Assumes nothing.
 use mathlib.Core.Path.{_≡_, refl, ap, sym, _∙_, subst}
 use mathlib.Core.Logic.{_⊎_, inl, inr}
-use mathlib.Core.Bool.{Bool, true, false, cond, false≢true}
+use mathlib.Core.Bool.{true, false, cond, false≢true}
 use mathlib.Core.Option.{Option, none, some}
-use mathlib.Core.List.{List, [], _∷_}
+use mathlib.Core.List.{List}
 use Prim.Native.Nat.{ℕ, suc, _+_, _≤_, _<_}
 use native.Mathlib.Omega.{arith}
 use native.Mathlib.Numerals.{add-one}
-use lib.Dec.{leb, ltb}
-use lib.ListN.{length, getD, take, drop}
+use lib.Dec.{ltb}
+use lib.ListN.{length, getD}
 use lib.Seq.{sets}
 use borrow.Author.Tests.{le-leb, lt-leb, lt-ltb, le-ltb}
 use Rattle.lists.specs.Lists.{All}
@@ -17,25 +17,24 @@ use Rattle.lists.proofs.Numbers.{le-or-lt}
 use Rattle.history.specs.Words.{Block}
 use Rattle.history.specs.Lent.{tooShort}
 use Rattle.history.specs.Tree.{Tree, noBlock, keyIn, entriesIn}
-use Rattle.history.specs.Rules.{sorted}
 use Rattle.history.specs.Find as model
 use Rattle.history.specs.Ledger.{Ledger, finished, isSome}
-use Rattle.history.specs.Reads.{Found, treeOrHole, treeIn, blockBy, findBy}
+use Rattle.history.specs.Reads.{Found, findBy}
 use Rattle.history.specs.Refusals.{Answer, accepted, refused, firstOf, windowRefusals, findAnswer, blockRefusals, blockAnswer}
 use Rattle.history.specs.Sound.{Sound, SoundTree, SoundClosed}
 use Rattle.history.proofs.RulesLaws.{rule23-decides, numbered-decides}
 use Rattle.tables.specs.Columns.{blockColumn, headEnd, headKind, headCount}
-use Rattle.ordering.specs.Blocks.{blocksOf, blockOfRow, lengthAt, createdAt, destroyedAt, offsetAt, ownerAt}
+use Rattle.ordering.specs.Blocks.{blockOfRow, lengthAt, createdAt, destroyedAt, offsetAt, ownerAt}
 use Rattle.ordering.specs.Order.{firstCellAt}
-use Rattle.ordering.proofs.Blocks.{blocks-length, blocks-at, blocks-key}
+use Rattle.ordering.proofs.Blocks.{blocks-at, blocks-key}
 use Rattle.segment_table.specs.Closed.{Closed, firstCellIn}
 use Rattle.segment_find.specs.Listing.{Fills, Finds}
 use Rattle.segment_find.proofs.Agreeing.{find-model}
 use Rattle.segment_find.specs.declared.Found as listing
 use Rattle.segment_find.specs.declared.Found.the-variants.{Listed, TooSmall}
-use Rattle.layout.specs.Tables.{Tables, tables, lengthsOf, headAt, treeTables}
+use Rattle.layout.specs.Tables.{Tables, tables, headAt, treeTables}
 use Rattle.layout.specs.Encodes.{Encodes, TreeIn}
-use Rattle.layout.specs.Relations.{Counts, countsOf, answerLeft, Fields, blockIn, blockOfFields}
+use Rattle.layout.specs.Relations.{Counts, countsOf, answerLeft, Fields, blockOfFields}
 use Rattle.layout.proofs.Pieces.{used-fits}
 use Rattle.index.specs.Reads.{BlockClosed, FindClosed}
 

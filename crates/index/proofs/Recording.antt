@@ -1,15 +1,15 @@
 -- The returns of `record_op`. Assumes nothing.
-use mathlib.Core.Path.{_≡_, refl, ap, sym, _∙_, subst}
-use mathlib.Core.Bool.{Bool, true, false}
+use mathlib.Core.Path.{_≡_, refl, sym, subst}
+use mathlib.Core.Bool.{true, false}
 use mathlib.Core.List.{List}
 use Prim.Native.Nat.{ℕ}
 use Rattle.history.specs.Words.{Operation}
 use Rattle.history.specs.Lent.{tooShort}
 use Rattle.history.specs.Ledger.{Ledger, finished}
-use Rattle.history.specs.Refusals.{Answer, accepted, refused, firstOf, recordRefusals, recordAnswer}
+use Rattle.history.specs.Refusals.{refused, firstOf, recordRefusals, recordAnswer}
 use Rattle.layout.specs.Tables.{Tables, tables}
 use Rattle.layout.specs.Encodes.{Encodes}
-use Rattle.layout.specs.Relations.{RecordLeaves, RecordedBy}
+use Rattle.layout.specs.Relations.{RecordedBy}
 use Rattle.index_record.specs.Calls.{recordedOf, RecordedOpen}
 use Rattle.index_record.specs.declared.Recorded.{Recorded}
 use Rattle.index_test.specs.Board.{OpenFormed, ClosedFormed, Outcome}

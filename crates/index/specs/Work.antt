@@ -5,7 +5,7 @@ use Prim.Native.Nat.{ℕ, _<_, _^_}
 use lib.ListN.{length}
 use Rattle.history.specs.Refusals.{Answer}
 use Rattle.tables.specs.Columns.{headState}
-use Rattle.layout.specs.Tables.{Tables, tables, headAt}
+use Rattle.layout.specs.Tables.{tables, headAt}
 use Rattle.layout.specs.Encodes.{openState}
 use Rattle.layout.specs.Formed.{WellFormed}
 use Rattle.layout.specs.Relations.{FinishedBy}

@@ -6,6 +6,7 @@ use native.Mathlib.Omega.{arith}
 use lib.ListN.{length}
 use Rattle.lists.specs.Lists.{All}
 use Rattle.lists.proofs.Lists.{all-both, all-of-map, all-un-map, all-at, pairs-append, pairs-left, pairs-across, pairs-map}
+use Rattle.lists.proofs.Counting.{all-count-from}
 use Rattle.history.specs.Words.{Block, blockOf, size, Holds}
 use Rattle.history.specs.Rules.{Apart}
 use Rattle.history.specs.Tree.{noBlock}
@@ -15,7 +16,7 @@ use Rattle.ordering.specs.Order.{firstCellAt, OnlyOrder}
 use Rattle.ordering.specs.Blocks.{lengthAt, offsetAt, createdAt, destroyedAt, blockOfRow, blocksOf, Filled, Stored}
 use Rattle.ordering.specs.Apart.{HoldsAt}
 use Rattle.ordering.proofs.Keeping.{order-column, filled-order, stored-order}
-use Rattle.ordering.proofs.Blocks.{all-count-from, blocks-at, blocks-length, blocks-order}
+use Rattle.ordering.proofs.Blocks.{blocks-at, blocks-length, blocks-order}
 use Rattle.ordering.proofs.Agreeing.{row-holds, holds-row, unshared-apart, apart-unshared}
 use Rattle.piece_table.specs.Piece.{PieceRow}
 use Rattle.piece_table.specs.Shown.{shown}

@@ -8,8 +8,7 @@ use lib.ListN.{length}
 use Rattle.lists.specs.Lists.{Pairs, pairs-nil, pairs-cons, Mem, Distinct, count, countFrom}
 use Rattle.lists.proofs.Lists.{all-of-map}
 use Rattle.lists.proofs.Numbers.{lt-or-le}
-use Rattle.lists.proofs.Counting.{mem-count, count-mem, distinct-count, count-from-out, count-from-count}
-use Rattle.ordering.proofs.Dense.{dense}
+use Rattle.lists.proofs.Counting.{mem-count, count-mem, distinct-count, count-from-out, count-from-count, dense}
 
 -- ── pairs, mapped ──
 

@@ -1,6 +1,6 @@
 -- What tables that stand for an open ledger have: room for their rows, rows that are the ledger's blocks, pieces in order. Assumes nothing.
 use mathlib.Core.Path.{_≡_, sym, ap, subst, _∙_}
-use mathlib.Core.Bool.{true, false, true≢false}
+use mathlib.Core.Bool.{false, true≢false}
 use mathlib.Core.Option.{Option, none, some}
 use mathlib.Core.List.{List, map}
 use Prim.Native.Nat.{ℕ, zero, suc, _+_, _-_, _/_, _≤_, _<_, _^_}

@@ -13,7 +13,7 @@ use Rattle.tables.specs.Columns.{column, piecesCount, headEnd, headKind, headCo
 use Rattle.piece_table.specs.Test as piece
 use Rattle.layout.specs.Tables.{Tables, lengthsOf, headAt}
 use Rattle.index_test.specs.Rows.{RowsSound}
-use Rattle.index_test.specs.Board.{Numbers, boundsOf, BoardFormed}
+use Rattle.index_test.specs.Board.{Numbers, BoardFormed}
 
 -- ── numbers ──
 

@@ -1,36 +1,31 @@
 -- Tables that pass as a board stand for a ledger, and the tables of a sound ledger pass. Assumes nothing.
 use mathlib.Core.Path.{_≡_, refl, ap, sym, _∙_, subst}
-use mathlib.Core.Bool.{Bool, true, false}
-use mathlib.Core.Option.{Option, none, some}
-use mathlib.Core.List.{List, [], _∷_, map}
-use Prim.Native.Nat.{ℕ, zero, suc, _+_, _-_, _*_, _/_, _^_, _≤_, _<_}
+use mathlib.Core.Option.{Option}
+use mathlib.Core.List.{List, map}
+use Prim.Native.Nat.{ℕ, zero, suc, _+_, _-_, _^_, _≤_, _<_}
 use native.Mathlib.Omega.{arith}
 use lib.ListN.{length, getD, take, drop, length-take, length-drop}
 use lib.Seq.{length-take-le}
-use Rattle.lists.specs.Lists.{All, countFrom}
+use Rattle.lists.specs.Lists.{All}
 use Rattle.lists.proofs.Lists.{all-at, all-of-at, all-map, all-of-map, all-un-map, all-both}
-use Rattle.lists.proofs.Maps.{length-of-map}
-use Rattle.history.specs.Words.{Block, Piece, size}
-use Rattle.history.specs.Lent.{tooShort, rowWidth, pieceHead, blockHead, pieceRows, blockRows}
+use Rattle.lists.proofs.Maps.{length-of-map, map-map}
+use Rattle.history.specs.Words.{Block, size}
 use Rattle.history.specs.Tree as segment
 use Rattle.history.specs.Tree.{noBlock}
-use Rattle.history.proofs.FileLists.{map-map}
 use Rattle.history.specs.Ledger.{Ledger}
-use Rattle.history.specs.Sound.{SoundBlock, SoundStretch, SoundBoard, InOrder}
+use Rattle.history.specs.Sound.{SoundBlock, SoundBoard, InOrder}
 use Rattle.tables.specs.Columns.{column, piecesCount, headState, headEnd, headKind, headCount, headUsed, headLast}
-use Rattle.piece_table.specs.Piece.{PieceRow, pieceAt, Filled}
+use Rattle.piece_table.specs.Piece.{pieceAt, Filled}
 use Rattle.piece_table.specs.Shown.{shown}
 use Rattle.piece_table.specs.Test as piece
 use Rattle.piece_table.proofs.Order.{follow-filled}
-use Rattle.ordering.specs.Order.{firstCellAt}
-use Rattle.ordering.specs.Blocks.{blocksOf, blockOfRow, lengthAt, offsetAt, createdAt, destroyedAt, ownerAt, Stored}
+use Rattle.ordering.specs.Blocks.{blocksOf, blockOfRow, lengthAt, offsetAt}
 use Rattle.ordering.proofs.Blocks.{blocks-length, blocks-at}
 use Rattle.layout.specs.Tables.{Tables, lengthsOf, headAt}
 use Rattle.layout.specs.Encodes.{Encodes, TreeIn, stateOf}
-use Rattle.layout.proofs.Lengths.{Heads, heads-fit}
 use Rattle.layout.proofs.Pieces.{used-fits, pieces-formed, rep-links, shown-sound, follow-order, part-front}
-use Rattle.index_test.specs.Rows.{Bounds, RowSound, RowsSound}
-use Rattle.index_test.specs.Board.{Numbers, boundsOf, BoardFormed}
+use Rattle.index_test.specs.Rows.{Bounds, RowSound}
+use Rattle.index_test.specs.Board.{boundsOf, BoardFormed}
 
 -- ── rows and blocks ──
 

@@ -1,22 +1,21 @@
 -- The returns of the test of all tables: open, closed or not well formed. Assumes nothing.
 use mathlib.Core.Path.{_≡_, refl, ap, sym, _∙_, subst}
-use mathlib.Core.Bool.{Bool, true, false, not, true≢false}
+use mathlib.Core.Bool.{Bool, true, false, not}
 use mathlib.Core.Option.{Option, none, some}
 use mathlib.Core.List.{List, [], _∷_, map}
-use Prim.Native.Nat.{ℕ, suc, _+_, _*_, _^_, _≤_, _<_}
+use Prim.Native.Nat.{ℕ, _^_, _<_}
 use native.Mathlib.Omega.{arith}
-use lib.ListN.{length, getD}
+use lib.ListN.{length}
 use borrow.Author.Tests.{not-true, not-false}
 use Rattle.lists.specs.Tests.{Decides}
-use Rattle.lists.specs.Lists.{All}
-use Rattle.lists.proofs.Numbers.{confirm, refute, decides-iff}
+use Rattle.lists.proofs.Numbers.{refute, decides-iff}
 use Rattle.history.specs.Words.{Block}
-use Rattle.history.specs.Lent.{Lent, rowWidth, nodeRows, entryRows}
-use Rattle.history.specs.Tree.{Tree, noBlock, blockAt, keyIn}
+use Rattle.history.specs.Lent.{Lent}
+use Rattle.history.specs.Tree.{Tree, noBlock}
 use Rattle.history.specs.Rules.{Apart}
 use Rattle.history.specs.Ledger.{Ledger}
 use Rattle.history.specs.Sound.{Sound, SoundTree, SoundClosed, SoundBoard}
-use Rattle.tables.specs.Columns.{column, piecesCount, headState, headEnd, headKind, headCount, headUsed}
+use Rattle.tables.specs.Columns.{column, piecesCount, headState, headEnd, headKind, headCount}
 use Rattle.piece_table.specs.Piece.{pieceAt}
 use Rattle.piece_table.specs.Shown.{shown}
 use Rattle.ordering.specs.Order.{InOrder, Unordered}
@@ -24,14 +23,12 @@ use Rattle.ordering.specs.Blocks.{blocksOf, blockOfRow, Filled, Stored}
 use Rattle.ordering.specs.Apart.{TestedApart}
 use Rattle.ordering.proofs.Agreeing.{tested-decides}
 use Rattle.ordering.proofs.Blocks.{blocks-length, blocks-at}
-use Rattle.segment_table.specs.Closed.{Closed, entriesUsed, nodesUsed}
 use Rattle.segment_test.specs.Test.{BlockRows, ClosedTree}
 use Rattle.layout.specs.Tables.{Tables, lengthsOf, headAt, treeTables}
 use Rattle.layout.specs.Encodes.{Encodes, TreeIn, stateOf, openState, closedState}
 use Rattle.layout.specs.Formed.{WellFormed}
 use Rattle.layout.proofs.Lengths.{heads-fit}
-use Rattle.index_test.specs.Rows.{RowsSound}
-use Rattle.index_test.specs.Board.{Numbers, boundsOf, BoardFormed, OpenFormed, ClosedPart, ClosedFormed, TestedClosed, Outcome}
+use Rattle.index_test.specs.Board.{BoardFormed, OpenFormed, ClosedPart, ClosedFormed, TestedClosed, Outcome}
 use Rattle.index_test.specs.declared.State.the-variants.{Bad, Open, Closed as IsClosed}
 use Rattle.index_test.proofs.Ledgers.{ledgerOf, boardLinks, board-encodes, board-sound, board-formed}
 

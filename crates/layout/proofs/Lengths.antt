@@ -1,14 +1,11 @@
 -- Lengths of tables: equal lengths are equal as what is lent; heads that fit. Assumes nothing.
-use mathlib.Core.Path.{_≡_, refl, ap, sym, _∙_}
-use mathlib.Core.Bool.{Bool, true, false, _||_}
-use mathlib.Core.List.{List}
-use Prim.Native.Nat.{ℕ, _≤_, _<_}
+use mathlib.Core.Path.{_≡_}
+use mathlib.Core.Bool.{false, _||_}
+use Prim.Native.Nat.{_≤_}
 use lib.Dec.{ltb}
-use lib.ListN.{length}
 use borrow.Author.Tests.{ltb-false, le-ltb}
 use Rattle.lists.proofs.Numbers.{or-left, or-right}
 use Rattle.history.specs.Lent.{Lent, tooShort, pieceHead, blockHead, nodeHead, entryHead}
-use Rattle.layout.specs.Tables.{Tables, lengthsOf}
 
 pub lent-same : (m n : Lent) → m .pieces ≡ n .pieces → m .blocks ≡ n .blocks → m .store ≡ n .store → m .nodes ≡ n .nodes → m .entries ≡ n .entries → m ≡ n
 lent-same m n p b s d e = λ i. record { pieces = p i; blocks = b i; store = s i; nodes = d i; entries = e i }

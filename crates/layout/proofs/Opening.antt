@@ -1,27 +1,25 @@
 -- A freshly opened index: its tables stand for the ledger that opening gives. Assumes nothing.
-use mathlib.Core.Path.{_≡_, refl, ap, sym, _∙_, subst}
+use mathlib.Core.Path.{_≡_, refl, ap, sym, _∙_}
 use mathlib.Core.Logic.{_⊎_, inl, inr}
-use mathlib.Core.Bool.{Bool, true, false, cond, _||_}
-use mathlib.Core.Option.{Option, none, some}
-use mathlib.Core.List.{List, [], _∷_, map}
-use Prim.Native.Nat.{ℕ, zero, suc, _+_, _*_, _≤_, _<_}
+use mathlib.Core.Bool.{false}
+use mathlib.Core.Option.{none}
+use mathlib.Core.List.{List, [], _∷_}
+use Prim.Native.Nat.{ℕ, _+_, _*_, _≤_, _<_}
 use native.Mathlib.Omega.{arith}
-use lib.Dec.{ltb, eqb}
-use lib.ListN.{length, getD, take, replicate, length-replicate, getD-replicate, List·getD-eq-default}
-use lib.Seq.{sets, length-sets}
+use lib.ListN.{length, getD, replicate, length-replicate, getD-replicate, List·getD-eq-default}
+use lib.Seq.{length-sets}
 use borrow.Author.Tests.{ne-eqb, le-ltb}
-use Rattle.lists.specs.Lists.{All, all-nil, Mem, countFrom}
+use Rattle.lists.specs.Lists.{all-nil, Mem, countFrom}
 use Rattle.lists.proofs.Numbers.{lt-or-le}
 use Rattle.lists.proofs.Stores.{getD-sets-in, getD-sets-out}
-use Rattle.history.specs.Lent.{Lent, tooShort, rowWidth, blockHead}
-use Rattle.history.specs.Ledger.{Opening, Ledger, opened}
-use Rattle.history.specs.Refusals.{Answer, accepted, refused, firstOf, maxEndTick, openRefusals, openAnswer}
-use Rattle.tables.specs.Columns.{column, blockColumn, blockBase, headState, headEnd, headKind, headCount, headUsed, headLast, blockNext, piecesRoot, piecesCount}
-use Rattle.merge_set.specs.Tree.{Tree, leaf, rows, Balanced}
+use Rattle.history.specs.Lent.{tooShort, rowWidth, blockHead}
+use Rattle.history.specs.Ledger.{Opening, opened}
+use Rattle.history.specs.Refusals.{accepted, firstOf, maxEndTick, openRefusals, openAnswer}
+use Rattle.tables.specs.Columns.{column, blockBase, headState, headEnd, headKind, headCount, headUsed, headLast, blockNext, piecesRoot, piecesCount}
+use Rattle.merge_set.specs.Tree.{leaf, rows, Balanced}
 use Rattle.merge_set.specs.Table.{Shape}
-use Rattle.ordering.specs.Order.{nextAt}
-use Rattle.ordering.specs.Blocks.{blocksOf, Stored}
-use Rattle.layout.specs.Tables.{Tables, tables, lengthsOf, headAt}
+use Rattle.ordering.specs.Blocks.{blocksOf}
+use Rattle.layout.specs.Tables.{Tables, lengthsOf, headAt}
 use Rattle.layout.specs.Encodes.{Links, openState, Encodes}
 use Rattle.layout.specs.Formed.{Blank}
 use Rattle.layout.specs.Relations.{openingOf, openedTables}

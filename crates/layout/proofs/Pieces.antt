@@ -5,13 +5,13 @@ use Prim.Native.Nat.{ℕ, _+_, _-_, _^_, _≤_, _<_}
 use native.Mathlib.Omega.{arith}
 use lib.ListN.{length, take, drop, length-drop, length-take}
 use lib.Seq.{length-take-le}
-use Rattle.lists.specs.Lists.{All, all-nil, all-cons, Pairs, pairs-nil, pairs-cons}
+use Rattle.lists.specs.Lists.{All, all-cons, pairs-nil, pairs-cons}
 use Rattle.lists.proofs.Lists.{all-map, all-both, all-of-map, all-un-map, all-any}
 use Rattle.history.specs.Words.{Piece, size, ends}
 use Rattle.history.specs.Ledger.{Ledger}
-use Rattle.history.specs.Sound.{Stored, SoundStretch, SoundPiece, InOrder, SoundBoard}
+use Rattle.history.specs.Sound.{SoundPiece, InOrder, SoundBoard}
 use Rattle.history.proofs.Storing.{part-part}
-use Rattle.tables.specs.Columns.{column, piecesCount, headKind, headUsed, headLast}
+use Rattle.tables.specs.Columns.{headKind, headUsed, headLast}
 use Rattle.piece_table.specs.Piece.{PieceRow, rowEnd, pieceAt, Filled, Follow}
 use Rattle.piece_table.specs.Shown.{shown}
 use Rattle.piece_table.specs.Rep.{Linked, Rep}

@@ -1,10 +1,10 @@
 -- Tables stand for a ledger: the layout of docs/LAYOUT.md and none of document 01's conditions, which are `Sound`. Definitions alone.
 use mathlib.Core.Path.{_≡_}
-use mathlib.Core.Bool.{Bool, true, false}
+use mathlib.Core.Bool.{false}
 use mathlib.Core.Option.{Option, none, some}
-use mathlib.Core.List.{List, [], _∷_, map}
-use Prim.Native.Nat.{ℕ, _+_, _*_, _≤_, _<_}
-use lib.ListN.{length, take, replicate}
+use mathlib.Core.List.{List, map}
+use Prim.Native.Nat.{ℕ, _+_, _*_, _≤_}
+use lib.ListN.{length, take}
 use Rattle.lists.specs.Lists.{All, Mem, Distinct}
 use Rattle.history.specs.Lent.{rowWidth, tooShort}
 use Rattle.history.specs.Tree as segment
@@ -12,7 +12,7 @@ use Rattle.history.specs.Ledger.{Ledger}
 use Rattle.tables.specs.Columns.{column, piecesRoot, piecesCount, headState, headEnd, headKind, headCount, headUsed, headLast}
 use Rattle.merge_set.specs.Tree.{Tree, rows, Balanced}
 use Rattle.merge_set.specs.Table.{Shape}
-use Rattle.piece_table.specs.Piece.{PieceRow, pieceAt}
+use Rattle.piece_table.specs.Piece.{pieceAt}
 use Rattle.piece_table.specs.Shown.{shown}
 use Rattle.ordering.specs.Order.{InOrder, Unordered}
 use Rattle.ordering.specs.Blocks.{blocksOf, Stored}

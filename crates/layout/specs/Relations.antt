@@ -1,20 +1,19 @@
 -- What each call does, as a relation between the tables at entry and at exit and its answer: the public contracts are these relations, and demand 3
 -- links calls by them. Definitions alone.
 use mathlib.Core.Path.{_≡_}
-use mathlib.Core.Bool.{Bool, true, false, cond}
-use mathlib.Core.Option.{Option, none, some}
+use mathlib.Core.Bool.{Bool, true, false}
 use mathlib.Core.List.{List, [], _∷_}
 use Prim.Native.Nat.{ℕ, suc, _+_, _*_, _≤_, _<_}
 use lib.ListN.{length, getD, set, take, drop, replicate}
 use lib.Seq.{sets}
-use Rattle.history.specs.Words.{Operation, Block, firstCell, size}
+use Rattle.history.specs.Words.{Operation, Block}
 use Rattle.history.specs.Lent.{rowWidth}
 use Rattle.history.specs.Ledger.{Opening, Ledger, isRead, recordBy, finishBy}
 use Rattle.history.specs.Reads.{Found}
 use Rattle.history.specs.Refusals.{Answer, accepted, refused, openAnswer, recordAnswer, finishAnswer, findAnswer, blockAnswer}
-use Rattle.history.specs.Sound.{Sound, SoundForFinish}
+use Rattle.history.specs.Sound.{Sound}
 use Rattle.tables.specs.Columns.{blockBase, headLast, headUsed, headCount, blockNext, blockColumn}
-use Rattle.layout.specs.Tables.{Tables, tables, lengthsOf, headAt}
+use Rattle.layout.specs.Tables.{Tables, tables, lengthsOf}
 use Rattle.layout.specs.Encodes.{Encodes, openState}
 use Rattle.layout.specs.Formed.{WellFormed, WellFormedForFinish}
 

@@ -1,16 +1,17 @@
 -- Laws of count: what stands in a list by how often it does, lists without repetition, and lengths as sums of counts. Assumes nothing.
 use mathlib.Core.Path.{_≡_, refl, sym, ap, ap₂, _∙_}
-use mathlib.Core.Logic.{_⊎_, inl, inr}
-use mathlib.Core.Bool.{true, false, cond, _||_}
-use mathlib.Core.List.{List, [], _∷_, map}
+use mathlib.Core.Logic.{_⊎_, inl, inr, ⊎-elim}
+use mathlib.Core.Bool.{Bool, true, false, cond, _||_}
+use mathlib.Core.List.{List, [], _∷_, _++_, map}
 use Prim.Native.Nat.{ℕ, zero, suc, _+_, _≤_, _<_}
 use native.Mathlib.Omega.{arith}
 use lib.ListN.{length, getD}
 use lib.Dec.{eqb}
 use borrow.Author.Tests.{eqb-true, eqb-false, eq-eqb, ne-eqb}
-use Rattle.lists.specs.Lists.{All, all-nil, all-cons, Mem, here, there, Distinct, has, count, countFrom, sumOf}
+use Rattle.lists.specs.Lists.{All, all-nil, all-cons, Mem, here, there, Distinct, Pairs, pairs-nil, pairs-cons, has, count, countFrom, sumOf}
 use Rattle.lists.specs.Tests.{Decides}
-use Rattle.lists.proofs.Numbers.{bool-cases, le-or-lt, lt-or-le, eq-or-ne, confirm, refute, decides-iff}
+use Rattle.lists.proofs.Numbers.{bool-cases, le-or-lt, lt-or-le, eq-or-ne, confirm, refute, decides-iff, decided}
+use Rattle.lists.proofs.Lists.{all-any, all-map, all-mem, all-of-mem, count-from-length}
 
 -- ── members ──
 
@@ -94,6 +95,41 @@ count-from-count k n (suc many) h z =
       | inr e ↦ count-other k n (countFrom (suc n) many) e ∙ count-from-count k (suc n) many (omega arith) (omega arith)
     ]
 
+-- what holds of each number in the range holds of all
+pub all-count-from : {P : ℕ → Type 0} (a m : ℕ) → ((k : ℕ) → a ≤ k → k < a + m → P k) → All P (countFrom a m)
+unfolding countFrom
+all-count-from a zero f = all-nil
+all-count-from a (suc m) f = all-cons (f a (omega arith) (omega arith)) (all-count-from (suc a) m (λ k l u. f k (omega arith) (omega arith)))
+
+-- they are in their range
+pub count-from-below : (n many : ℕ) → All (λ k. (n ≤ k) × (k < n + many)) (countFrom n many)
+count-from-below n many = all-count-from n many (λ k a b. (a, b))
+
+-- and all that are
+pub has-count-from : (k n many : ℕ) → n ≤ k → k < n + many → has k (countFrom n many) ≡ true
+has-count-from k n many a b =
+    decided (has k (countFrom n many)) (has-decides k (countFrom n many)) (count-mem k (countFrom n many) (omega (arith, count-from-count k n many a b)))
+
+-- and ascend
+pub count-from-pairs : {R : ℕ → ℕ → Type 0} (n many : ℕ) → ((i j : ℕ) → n ≤ i → i < j → j < n + many → R i j) → Pairs R (countFrom n many)
+unfolding countFrom
+count-from-pairs n zero f = pairs-nil
+count-from-pairs n (suc many) f =
+    pairs-cons (all-map (λ j p. f n j (omega arith) (omega arith) (omega arith)) (count-from-below (suc n) many))
+    (count-from-pairs (suc n) many (λ i j a b c. f i j (omega arith) b (omega arith)))
+
+-- one range after the other
+pub count-from-append : (a n m : ℕ) → countFrom a (n + m) ≡ countFrom a n ++ countFrom (a + n) m
+unfolding countFrom
+count-from-append a zero m =
+    let e : 0 + m ≡ m = omega arith in
+    let z : a + 0 ≡ a = omega arith in
+    rw (e, z)
+count-from-append a (suc n) m =
+    let e : suc n + m ≡ suc (n + m) = omega arith in
+    let z : a + suc n ≡ suc a + n = omega arith in
+    rw (e, z) (ap (λ (l : List ℕ). a ∷ l) (count-from-append (suc a) n m))
+
 -- ── sums ──
 
 pub sum-plus : {A : Type 0} (f g : A → ℕ) (xs : List A) → sumOf (map (λ x. f x + g x) xs) ≡ sumOf (map f xs) + sumOf (map g xs)
@@ -148,3 +184,37 @@ permutes-count n xs once within every k =
         | inr z ↦ absurd (omega (arith, within k (count-mem k xs z)))
       ]
     ]
+
+-- ── n different numbers from 1 to n ──
+
+-- numbers of at most 1 add up to at most their count, and only ones add up to it
+sum-at-most : {A : Type 0} (f : A → ℕ) {ks : List A} → All (λ k. f k ≤ 1) ks → sumOf (map f ks) ≤ length ks
+unfolding sumOf
+sum-at-most f all-nil = omega arith
+sum-at-most f (all-cons h hs) = omega (arith, sum-at-most f hs)
+
+sum-full : {A : Type 0} (f : A → ℕ) {ks : List A} → All (λ k. f k ≤ 1) ks → sumOf (map f ks) ≡ length ks → All (λ k. f k ≡ 1) ks
+unfolding sumOf
+sum-full f all-nil e = all-nil
+sum-full f (all-cons {x} h hs) e = all-cons {x = x} (omega (arith, sum-at-most f hs)) (sum-full f hs (omega (arith, sum-at-most f hs)))
+
+-- n different numbers from 1 to n are all of them: each is counted once at most, and the counts add up to n
+pub dense : (n : ℕ) (xs : List ℕ) → Distinct xs → ((k : ℕ) → Mem k xs → (0 < k) × (k ≤ n)) → length xs ≡ n → (k : ℕ) → 0 < k → k ≤ n → Mem k xs
+dense n xs once within many k lo hi =
+    let inside : All (λ x. count x (countFrom 1 n) ≡ 1) xs = all-of-mem xs (λ x m. let b : (0 < x) × (x ≤ n) = within x m in count-from-count x 1 n (omega arith) (omega arith)) in
+    let sum : sumOf (map (λ x. count x xs) (countFrom 1 n)) ≡ length (countFrom 1 n) = length-counts (countFrom 1 n) inside ∙ many ∙ sym (count-from-length 1 n) in
+    let ones : All (λ x. count x xs ≡ 1) (countFrom 1 n) = sum-full (λ x. count x xs) (all-any (countFrom 1 n) (λ x. distinct-count x xs once)) sum in
+    let there-is : Mem k (countFrom 1 n) = count-mem k (countFrom 1 n) (omega (arith, count-from-count k 1 n lo (omega arith))) in
+    let one : count k xs ≡ 1 = all-mem ones there-is in
+    count-mem k xs (omega arith)
+
+-- a number that one number alone is mapped to
+pub count-map : (f : ℕ → ℕ) (j i : ℕ) {xs : List ℕ} → All (λ x. eqb j (f x) ≡ eqb i x) xs → count j (map f xs) ≡ count i xs
+unfolding count
+count-map f j i all-nil = refl
+count-map f j i (all-cons e es) = ap₂ (λ (t : Bool) (n : ℕ). cond t 1 0 + n) e (count-map f j i es)
+
+-- the first number, or another one of the rest
+pub has-cons : (k x : ℕ) (xs : List ℕ) → has k (x ∷ xs) ≡ true → (k ≡ x) ⊎ ((k ≡ x → ⊥) × (has k xs ≡ true))
+unfolding has
+has-cons k x xs h = ⊎-elim (λ e. inl e) (λ e. inr (e, rw (ne-eqb k x e) at h)) (eq-or-ne k x)

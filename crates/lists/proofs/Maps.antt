@@ -7,6 +7,7 @@ use Prim.Native.Nat.{ℕ, zero, suc, _<_}
 use native.Mathlib.Omega.{arith}
 use lib.ListN.{length, getD}
 use Rattle.lists.specs.Lists.{All, all-nil, all-cons, Pairs, pairs-nil, pairs-cons}
+use Rattle.lists.proofs.Lists.{all-of-map}
 
 -- ── map ──
 
@@ -28,6 +29,33 @@ module _ {A B : Type 0} where
   pub map-all : (f g : A → B) {xs : List A} → All (λ (x : A). f x ≡ g x) xs → map f xs ≡ map g xs
   map-all f g all-nil = refl
   map-all f g (all-cons e es) = ap₂ (λ (y : B) (r : List B). y ∷ r) e (map-all f g es)
+
+module _ {A : Type 0} where
+  -- a function that changes nothing
+  pub map-same : (f : A → A) {xs : List A} → All (λ x. f x ≡ x) xs → map f xs ≡ xs
+  map-same f all-nil = refl
+  map-same f (all-cons p ps) = ap₂ (λ (y : A) (ys : List A). y ∷ ys) p (map-same f ps)
+
+module _ {A B C : Type 0} where
+  -- one after the other
+  pub map-map : (g : B → C) (f : A → B) (xs : List A) → map g (map f xs) ≡ map (λ (x : A). g (f x)) xs
+  map-map g f [] = refl
+  map-map g f (x ∷ xs) = ap (λ (r : List C). g (f x) ∷ r) (map-map g f xs)
+
+  pub filterMap-map : (g : B → Option C) (f : A → B) (xs : List A) → filterMap g (map f xs) ≡ filterMap (λ (x : A). g (f x)) xs
+  unfolding filterMap
+  filterMap-map g f [] = refl
+  filterMap-map g f (x ∷ xs) = ap (λ (r : List C). Option·elim (g (f x)) r (λ c. c ∷ r)) (filterMap-map g f xs)
+
+module _ {A B : Type 0} where
+  -- of a choice
+  pub map-cond : (f : A → B) (t : Bool) (xs ys : List A) → map f (cond t xs ys) ≡ cond t (map f xs) (map f ys)
+  map-cond f true xs ys = refl
+  map-cond f false xs ys = refl
+
+  pub pairs-of-map : {R : B → B → Type 0} (f : A → B) {xs : List A} → Pairs (λ (x y : A). R (f x) (f y)) xs → Pairs R (map f xs)
+  pairs-of-map f pairs-nil = pairs-nil
+  pairs-of-map f (pairs-cons a p) = pairs-cons (all-of-map f a) (pairs-of-map f p)
 
 -- ── filterMap ──
 

@@ -3,7 +3,6 @@ pub mod Order
 pub mod Ways
 pub mod Balance
 pub mod Heights
-pub mod Dense
 pub mod Frame
 pub mod Turns
 pub mod Inserting

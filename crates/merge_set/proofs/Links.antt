@@ -2,7 +2,7 @@
 use mathlib.Core.List.{List, [], _∷_, _++_, append-assoc}
 use mathlib.Core.Logic.{⊎-elim}
 use mathlib.Core.Path.{_≡_, refl, sym, ap}
-use Prim.Native.Nat.{ℕ}
+use Prim.Native.Nat.{ℕ, suc}
 use native.Mathlib.Omega.{arith}
 use lib.ListN.{length, length-append}
 use Rattle.lists.proofs.Lists.{mem-split, mem-right, distinct-apart, distinct-left, mem-left, distinct-right}
@@ -53,6 +53,15 @@ put-right {n} ws p =
       without = rw (p .without) (sym (append-assoc ws (p .front) (p .back)));
       with-it = rw (p .with-it) (sym (append-assoc ws (p .front) (n ∷ p .back)));
     }
+
+-- a link that is there stands somewhere
+pub found : {k : ℕ} (xs : List ℕ) → Mem k xs → (ys : List ℕ) × Put k ys xs
+found {k} (x ∷ xs) (here e) = (xs, record { front = []; back = xs; without = refl; with-it = ap (λ j. j ∷ xs) (sym e) })
+found {k} (x ∷ xs) (there m) = let p : (ys : List ℕ) × Put k ys xs = found xs m in (x ∷ p .0, put-right (x ∷ []) (p .1))
+
+-- with one link more
+pub put-length : {n : ℕ} {xs zs : List ℕ} → Put n xs zs → length zs ≡ suc (length xs)
+put-length {n} p = rw (p .without, p .with-it) (omega (arith, length-append (p .front) (n ∷ p .back), length-append (p .front) (p .back)))
 
 -- moving the link to the front changes neither members nor repetition
 mem-move : {k : ℕ} (n : ℕ) (ps qs : List ℕ) → Mem k (ps ++ n ∷ qs) → Mem k (n ∷ (ps ++ qs))

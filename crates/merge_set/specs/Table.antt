@@ -2,8 +2,8 @@
 -- stated over the tree that they are given; which pieces a table stands for is said one crate above. Definitions alone.
 use mathlib.Core.Path.{_≡_}
 use mathlib.Core.Bool.{Bool, cond}
-use mathlib.Core.List.{List, [], _∷_, _++_}
-use Prim.Native.Nat.{ℕ, suc, _+_, _*_, _≤_, _<_, _^_, max}
+use mathlib.Core.List.{List, _∷_, _++_}
+use Prim.Native.Nat.{ℕ, _+_, _*_, _≤_, _<_, _^_}
 use lib.ListN.{length}
 use lib.Dec.{ltb, eqb}
 use Rattle.lists.specs.Lists.{Mem, Distinct}

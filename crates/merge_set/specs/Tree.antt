@@ -1,5 +1,5 @@
 -- The model: trees of links, and what each operation makes of them. Definitions alone: their laws stand in proofs/.
-use mathlib.Core.Bool.{Bool, true, false, cond}
+use mathlib.Core.Bool.{cond}
 use mathlib.Core.List.{List, [], _∷_, _++_}
 use Prim.Native.Nat.{ℕ, zero, suc, _+_, _≤_, max}
 use lib.Dec.{ltb, eqb}

@@ -6,7 +6,6 @@
 //   proofs/Order      operations keep the order
 //   proofs/Balance    and the balance
 //   proofs/Heights    how few links a balanced tree of some height has, so how deep it can be
-//   proofs/Dense      n different links from 1 to n are all of them
 //   proofs/Frame, Turns, Inserting, Removing, Relinking    the table steps, one for each return
 ghost use mathlib.Core.Path.{_≡_};
 ghost use Prim.Native.Nat.{ℕ, suc, _<_, _^_, max};

@@ -5,8 +5,9 @@ use Prim.Native.Nat.{ℕ, zero, suc, _+_, _≤_, _<_}
 use native.Mathlib.Omega.{arith}
 use lib.ListN.{length, getD, take, drop, length-drop}
 use lib.Seq.{length-take-le, take-take}
-use Rattle.lists.specs.Lists.{All, all-nil, all-cons, countFrom}
+use Rattle.lists.specs.Lists.{countFrom}
 use Rattle.lists.proofs.Lists.{count-from-length, count-from-at}
+use Rattle.lists.proofs.Counting.{all-count-from, count-from-append}
 use Rattle.lists.proofs.Maps.{map-append, length-of-map, getD-of-map, map-all}
 use Rattle.history.specs.Words.{Block, firstCell}
 use Rattle.history.specs.Tree.{noBlock, keyIn}
@@ -14,24 +15,6 @@ use Rattle.tables.specs.Columns.{blockColumn, blockFirst, blockLength, blockCre
 use Rattle.ordering.specs.Order.{firstCellAt, OnlyOrder}
 use Rattle.ordering.specs.Blocks.{lengthAt, offsetAt, bytesAt, blockOfRow, blocksOf, SameRows, Stored}
 use Rattle.ordering.proofs.Keeping.{kept-column, order-column}
-
--- ── numbers from a number on ──
-
-pub all-count-from : {P : ℕ → Type 0} (a m : ℕ) → ((k : ℕ) → a ≤ k → k < a + m → P k) → All P (countFrom a m)
-unfolding countFrom
-all-count-from a zero f = all-nil
-all-count-from a (suc m) f = all-cons (f a (omega arith) (omega arith)) (all-count-from (suc a) m (λ k l u. f k (omega arith) (omega arith)))
-
-pub count-from-append : (a n m : ℕ) → countFrom a (n + m) ≡ countFrom a n ++ countFrom (a + n) m
-unfolding countFrom
-count-from-append a zero m =
-    let e : 0 + m ≡ m = omega arith in
-    let z : a + 0 ≡ a = omega arith in
-    rw (e, z)
-count-from-append a (suc n) m =
-    let e : suc n + m ≡ suc (n + m) = omega arith in
-    let z : a + suc n ≡ suc a + n = omega arith in
-    rw (e, z) (ap (λ (l : List ℕ). a ∷ l) (count-from-append (suc a) n m))
 
 -- ── how many, and which ──
 

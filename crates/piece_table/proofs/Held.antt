@@ -6,8 +6,7 @@ use native.Mathlib.Omega.{arith}
 use Rattle.lists.proofs.Maps.{map-append}
 use Rattle.lists.specs.Lists.{here}
 use Rattle.tables.specs.Columns.{column, pieceFirst}
-use Rattle.merge_set.proofs.Dense.{found}
-use Rattle.merge_set.proofs.Links.{Put, put-at, mem-unput}
+use Rattle.merge_set.proofs.Links.{Put, put-at, mem-unput, found}
 use Rattle.piece_table.proofs.Order.{follow-above}
 use Rattle.piece_table.proofs.Removing.{linked-dense}
 use Rattle.piece_table.specs.Calls.{RemovedPiece, TrimmedBack, TrimmedFront, endAt}

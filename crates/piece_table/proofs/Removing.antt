@@ -7,10 +7,10 @@ use lib.ListN.{length, set, length-set, length-append}
 use lib.Seq.{getD-set-same, getD-set-other}
 use Rattle.lists.proofs.Maps.{map-append}
 use Rattle.lists.specs.Lists.{Mem, here, there, Distinct, Ascending}
+use Rattle.lists.proofs.Counting.{dense}
 use Rattle.history.specs.Lent.{rowWidth}
 use Rattle.tables.specs.Columns.{column, pieceFirst, piecesCount, piecesRoot, pieceDepth, pieceLeft}
 use Rattle.merge_set.proofs.Balance.{Shrunk, removed-balanced, AsHigh, relinked-high}
-use Rattle.merge_set.proofs.Dense.{dense}
 use Rattle.merge_set.proofs.Frame.{stays}
 use Rattle.merge_set.proofs.Heights.{height-92}
 use Rattle.merge_set.proofs.Links.{Put, put-at, mem-put, mem-unput, distinct-put, Exchanged}

@@ -2,11 +2,11 @@
 -- Assumes nothing.
 use mathlib.Core.Path.{_≡_, refl, sym, ap, subst, _∙_}
 use mathlib.Core.List.{List, [], _∷_, _++_, map, append-nil}
-use Prim.Native.Nat.{ℕ, _+_, _≤_, _<_}
+use Prim.Native.Nat.{ℕ, _+_, _<_}
 use native.Mathlib.Omega.{arith}
 use lib.ListN.{length, length-map}
 use Rattle.lists.specs.Lists.{Mem, here, All, all-nil}
-use Rattle.lists.proofs.Lists.{all-left, all-right}
+use Rattle.lists.proofs.Lists.{all-left}
 use Rattle.lists.proofs.Maps.{map-append}
 use Rattle.tables.specs.Columns.{column, piecesCount}
 use Rattle.merge_set.proofs.Links.{put-at, mem-unput}

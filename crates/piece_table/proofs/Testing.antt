@@ -1,11 +1,11 @@
 -- The test of a piece table decides whether it is well formed: rows, then the walk, one step for each return, then the whole. Assumes nothing.
-use mathlib.Core.Path.{_≡_, refl, sym, ap, ap₂, subst, _∙_}
+use mathlib.Core.Path.{_≡_, refl, sym, ap, subst, _∙_}
 use mathlib.Core.Logic.{⊎-elim}
-use mathlib.Core.Bool.{Bool, true, false, not, true≢false}
+use mathlib.Core.Bool.{Bool, true, false, not}
 use mathlib.Core.List.{List, [], _∷_, _++_, map}
-use Prim.Native.Nat.{ℕ, suc, _+_, _-_, _*_, _/_, _≤_, _<_, _^_, max}
+use Prim.Native.Nat.{ℕ, suc, _+_, _-_, _*_, _/_, _≤_, _<_, _^_}
 use native.Mathlib.Omega.{arith}
-use lib.ListN.{length, length-append, length-map}
+use lib.ListN.{length, length-append}
 use lib.Dec.{eqb}
 use borrow.Author.Tests.{eqb-true, eqb-false, not-true, not-false}
 use Rattle.lists.specs.Lists.{Mem, here, there, All, all-nil, all-cons}
@@ -16,10 +16,10 @@ use Rattle.lists.proofs.Numbers.{refute}
 use Rattle.history.specs.Lent.{rowWidth}
 use Rattle.tables.specs.Columns.{column, pieceLength, pieceWritten, pieceOffset, pieceLeft, pieceRight, pieceDepth, pieceOwner, piecesRoot, piecesCount}
 use Rattle.merge_set.specs.Tree.{Tree, leaf, node, height, rows, Balanced}
-use Rattle.merge_set.specs.Table.{firstAt, deepAt, Row, Shape}
+use Rattle.merge_set.specs.Table.{firstAt, deepAt, Shape}
 use Rattle.merge_set.proofs.Frame.{deep-at}
-use Rattle.piece_table.specs.Piece.{PieceRow, rowEnd, pieceAt, Filled, Follow}
-use Rattle.piece_table.specs.Rep.{Linked, Rep}
+use Rattle.piece_table.specs.Piece.{PieceRow, rowEnd, pieceAt, Follow}
+use Rattle.piece_table.specs.Rep.{Linked}
 use Rattle.piece_table.specs.Test.{Allowed, WellFormed, RowStands, RowFits, lastEnd, Stands, Found, Outcome, Walked}
 use Rattle.piece_table.specs.declared.Limits.{Limits}
 use Rattle.piece_table.specs.declared.Walk.{Walk}

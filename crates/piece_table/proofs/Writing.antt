@@ -12,9 +12,8 @@ use Rattle.lists.specs.Lists.{Mem, here, there, Distinct, Ascending}
 use Rattle.history.specs.Lent.{rowWidth}
 use Rattle.tables.specs.Columns.{column, pieceOffset, pieceLength, pieceFirst, piecesCount, piecesRoot, pieceDepth, pieceLeft}
 use Rattle.merge_set.proofs.Balance.{Grown, inserted-balanced}
-use Rattle.merge_set.proofs.Dense.{put-length}
 use Rattle.merge_set.proofs.Frame.{column-eq, stays}
-use Rattle.merge_set.proofs.Links.{Put, put-at, mem-put, mem-unput, distinct-put}
+use Rattle.merge_set.proofs.Links.{Put, put-at, mem-put, mem-unput, distinct-put, put-length}
 use Rattle.merge_set.proofs.Order.{inserted-put, inserted-rows}
 use Rattle.merge_set.specs.Table.{Good, Valid, Shape, Result, Inserted}
 use Rattle.merge_set.specs.Tree.{Tree, rows, inserted, inOrder}

@@ -7,7 +7,7 @@ use lib.ListN.{length}
 use lib.Dec.{ltb}
 use Rattle.lists.specs.Lists.{All}
 use Rattle.history.specs.Lent.{rowWidth}
-use Rattle.tables.specs.Columns.{column, pieceFirst, pieceLength, pieceLeft, pieceDepth, piecesRoot, piecesCount}
+use Rattle.tables.specs.Columns.{column, pieceLength, pieceLeft, pieceDepth, piecesRoot, piecesCount}
 use Rattle.merge_set.specs.Tree.{Tree, leaf, node, height}
 use Rattle.merge_set.specs.Table.{firstAt, Valid, Shape}
 use Rattle.piece_table.specs.Piece.{PieceRow, rowEnd, pieceAt, part, Follow, placed}

@@ -1,26 +1,24 @@
 -- `record_part`, `clear_one` and `clear`: one step for each return. Assumes nothing.
 use mathlib.Core.Path.{_≡_, refl, sym, ap, ap₂, subst, _∙_}
-use mathlib.Core.Logic.{_⊎_, inl, inr}
+use mathlib.Core.Logic.{inl, inr}
 use mathlib.Core.Bool.{Bool, true, false, true≢false, false≢true}
 use mathlib.Core.List.{List, [], _∷_, _++_, map, append-assoc}
-use Prim.Native.Nat.{ℕ, suc, _+_, _-_, _≤_, _<_, min, max}
+use Prim.Native.Nat.{ℕ, _+_, _-_, _≤_, _<_, min, max}
 use native.Mathlib.Omega.{arith}
 use lib.ListN.{length, length-append}
-use lib.Dec.{ltb}
 use borrow.Author.Tests.{ltb-true, ltb-false, not-true, not-false}
 use Rattle.lists.specs.Lists.{All, all-nil, all-cons}
 use Rattle.lists.proofs.Lists.{all-append, all-left, all-right}
 use Rattle.lists.proofs.Maps.{map-append}
 use Rattle.tables.specs.Columns.{column, pieceLength, pieceWritten, pieceOffset, pieceOwner, piecesCount}
 use Rattle.merge_set.specs.Table.{firstAt}
-use Rattle.piece_table.specs.Piece.{PieceRow, rowEnd, pieceAt, part, rowsBelow, rowsInside, rowsAbove, Filled}
-use Rattle.piece_table.specs.Rep.{Rep, Becomes}
+use Rattle.piece_table.specs.Piece.{PieceRow, rowEnd, pieceAt, part, rowsBelow, rowsInside, rowsAbove}
 use Rattle.piece_table.specs.Calls.{endAt, EndsAfter, Sought, RemovedPiece, TrimmedFront}
 use Rattle.piece_table.proofs.Order.{follow-filled, follow-right}
 use Rattle.piece_table.proofs.Parts.{Left, Right, apart, covered-below, covered-above, front-cut, inside-left, inside-right, inside-skip, inside-here}
 use Rattle.piece_table.proofs.Seeing.{rep-follow, rep-count, Seen, seen-none, seen-some, becomes-same, becomes-eq, becomes-then, left-alone}
-use Rattle.piece_table.proofs.Writing.{piece, piece-eq}
-use Rattle.recording.specs.Blocks.{appended, Countable}
+use Rattle.piece_table.proofs.Writing.{piece-eq}
+use Rattle.recording.specs.Blocks.{appended}
 use Rattle.recording.specs.Calls.{AppendedBlock, innerPart, RecordedPart, Uncrossed, Clearing, Clear, Given, ClearedOne, Cleared}
 use Rattle.recording.proofs.Blocks.{appended-none, appended-append, countable-less, countable-more}
 

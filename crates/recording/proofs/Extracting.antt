@@ -1,7 +1,7 @@
 -- `extract` and `extract_members`: one step for each return. Assumes nothing.
-use mathlib.Core.Path.{_≡_, refl, sym, ap, ap₂, _∙_}
-use mathlib.Core.List.{List, [], _∷_, _++_, map, append-assoc}
-use Prim.Native.Nat.{ℕ, suc, _+_, _-_, _≤_, _<_}
+use mathlib.Core.Path.{_≡_, sym, ap, _∙_}
+use mathlib.Core.List.{List, [], _∷_, _++_, map}
+use Prim.Native.Nat.{ℕ, suc, _+_, _-_, _≤_}
 use native.Mathlib.Omega.{arith}
 use lib.ListN.{length, length-append, length-map}
 use Rattle.lists.proofs.Maps.{map-append}
@@ -9,7 +9,7 @@ use Rattle.tables.specs.Columns.{column, pieceFirst, pieceLength, pieceWritten,
 use Rattle.merge_set.specs.Tree.{Tree, leaf, node, height, rows}
 use Rattle.merge_set.specs.Table.{Shape}
 use Rattle.piece_table.specs.Piece.{PieceRow, pieceAt}
-use Rattle.piece_table.specs.Rep.{Linked, Rep}
+use Rattle.piece_table.specs.Rep.{Rep}
 use Rattle.piece_table.proofs.Removing.{linked-depth}
 use Rattle.piece_table.proofs.Writing.{piece, piece-eq}
 use Rattle.recording.specs.Blocks.{appended, Countable}

@@ -2,7 +2,7 @@
 use mathlib.Core.Path.{_≡_, refl, sym, ap, ap₂, _∙_}
 use mathlib.Core.Logic.{_⊎_, inl, inr}
 use mathlib.Core.List.{List, [], _∷_, _++_, map, map-map}
-use Prim.Native.Nat.{ℕ, zero, suc, _+_, _-_, _*_, _≤_, _<_}
+use Prim.Native.Nat.{ℕ, suc, _+_, _-_, _≤_, _<_}
 use native.Mathlib.Omega.{arith}
 use lib.ListN.{length, getD, take, drop}
 use lib.Seq.{sets, getD-set-other}
@@ -10,7 +10,7 @@ use Rattle.lists.specs.Lists.{All, countFrom}
 use Rattle.lists.proofs.Lists.{all-map}
 use Rattle.lists.proofs.Maps.{map-append, map-all}
 use Rattle.lists.proofs.Stores.{getD-sets-out}
-use Rattle.history.specs.Lent.{rowWidth, blockHead}
+use Rattle.history.specs.Lent.{rowWidth}
 use Rattle.history.specs.Words.{Piece, Block, Operation, stretchOf, pieceOf, blockOf}
 use Rattle.history.specs.Ledger.{Moment, updateBy, settled}
 use Rattle.tables.specs.Columns.{blockColumn, blockFirst, blockLength, blockCreated, blockDestroyed, blockOffset, blockOwner, headCount}

@@ -1,9 +1,9 @@
 -- `split`, `remove_overlapping` and `apply_update`: one step for each return. Assumes nothing.
-use mathlib.Core.Path.{_≡_, refl, sym, ap, ap₂, subst, _∙_}
+use mathlib.Core.Path.{_≡_, sym, ap, ap₂, subst, _∙_}
 use mathlib.Core.Logic.{inl, inr}
 use mathlib.Core.Bool.{Bool, true, false}
 use mathlib.Core.List.{List, [], _∷_, _++_, map, append-assoc}
-use Prim.Native.Nat.{ℕ, suc, _+_, _-_, _*_, _≤_, _<_, min, max}
+use Prim.Native.Nat.{ℕ, suc, _+_, _-_, _*_, _≤_, _<_}
 use native.Mathlib.Omega.{arith}
 use lib.ListN.{length, length-append, length-map}
 use borrow.Author.Tests.{ltb-true, ltb-false}
@@ -17,7 +17,7 @@ use Rattle.piece_table.specs.Piece.{PieceRow, rowEnd, pieceAt, part, rowsBelow,
 use Rattle.piece_table.specs.Rep.{Linked, Rep, Becomes}
 use Rattle.piece_table.specs.Calls.{endAt, EndsAfter, Sought, TrimmedBack, InsertedPiece}
 use Rattle.piece_table.proofs.Order.{follow-filled, follow-right, follow-from, follow-between, placed-between}
-use Rattle.piece_table.proofs.Parts.{Left, Right, below-within, above-within, back-below, back-above, middle-cut, inside-left, inside-right, inside-skip, inside-here}
+use Rattle.piece_table.proofs.Parts.{Left, Right, below-within, above-within, back-below, back-above, middle-cut, inside-left, inside-right, inside-skip}
 use Rattle.piece_table.proofs.Seeing.{rep-follow, Seen, seen-none, seen-some, becomes-same, becomes-eq, becomes-then, left-alone}
 use Rattle.recording.specs.Blocks.{appended, Countable}
 use Rattle.recording.specs.Calls.{innerPart, RecordedPart, Uncrossed, Clear, Given, Cleared, SplitPiece, RemovedOverlapping, Updated, AppliedUpdate}

@@ -7,11 +7,12 @@ use Prim.Native.Nat.{ℕ, _<_}
 use native.Mathlib.Omega.{arith}
 use Rattle.lists.specs.Lists.{All, all-nil, all-cons, Mem}
 use Rattle.lists.proofs.Lists.{all-left, all-right, all-map, all-both, all-mem, all-at, pairs-at, pairs-of-at}
+use Rattle.lists.proofs.Numbers.{decided}
 use Rattle.history.specs.Words as words
 use Rattle.history.specs.Tree.{Tree, hole, node, keyIn, entriesIn}
 use Rattle.history.specs.Find.{path, visited, window, find}
 use Rattle.history.specs.Rules.{ascends, sorted}
-use Rattle.history.proofs.RulesLaws.{decided, ascends-decides, sorted-node, sorted-here, sorted-left, sorted-right}
+use Rattle.history.proofs.RulesLaws.{ascends-decides, sorted-node, sorted-here, sorted-left, sorted-right}
 use Rattle.history.proofs.FileAlike.{path-all}
 use Rattle.segment_table.specs.Closed.{Tables, Closed, firstCellIn}
 use Rattle.segment_find.specs.declared.Found.{Found}

@@ -9,7 +9,7 @@ use lib.Dec.{leb}
 use borrow.Author.Tests.{lt-ltb, le-ltb, leb-true, leb-false}
 use Rattle.lists.specs.Tests.{Decides}
 use Rattle.lists.proofs.Numbers.{le-or-lt, lt-or-le, confirm}
-use Rattle.history.specs.Tree.{Tree, hole, node, mid, halves}
+use Rattle.history.specs.Tree.{Tree, hole, node, mid}
 use Rattle.history.specs.Find.{path, visited}
 use Rattle.history.specs.Rules.{sorted}
 use Rattle.history.proofs.RulesLaws.{sorted-left, sorted-right}

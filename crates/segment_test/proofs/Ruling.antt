@@ -9,12 +9,12 @@ use lib.ListN.{length, getD}
 use lib.Dec.{ltb}
 use borrow.Author.Tests.{ltb-true, lt-ltb, not-true}
 use Rattle.lists.specs.Lists.{All}
-use Rattle.lists.proofs.Numbers.{lt-or-le, and-left, and-right, and-both}
+use Rattle.lists.proofs.Numbers.{lt-or-le, and-left, and-right, and-both, decided}
 use Rattle.lists.proofs.Lists.{all-at, all-of-at, pairs-at, pairs-of-at}
 use Rattle.history.specs.Words.{Block}
 use Rattle.history.specs.Tree.{Tree, hole, node, mid, covers, blockAt, keyIn}
 use Rattle.history.specs.Rules.{every, numbered, placed, ascends, sorted}
-use Rattle.history.proofs.RulesLaws.{every-all, all-every, decided, ascends-decides, coversNode, numbered-node, numbered-here, numbered-left, numbered-right, placed-node, placed-here, placed-left, placed-right, sorted-node, sorted-here, sorted-left, sorted-right}
+use Rattle.history.proofs.RulesLaws.{every-all, all-every, ascends-decides, coversNode, numbered-node, numbered-here, numbered-left, numbered-right, placed-node, placed-here, placed-left, placed-right, sorted-node, sorted-here, sorted-left, sorted-right}
 use Rattle.tables.specs.Columns.{entryColumn, entryKey}
 use Rattle.segment_table.specs.Closed.{Tables, leftAt, rightAt, firstAt, countAt, blockIn, run, Keyed, NodeRow, TreeAt}
 use Rattle.segment_table.proofs.Closed.{run-length, run-at}

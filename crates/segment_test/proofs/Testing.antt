@@ -7,12 +7,12 @@ use native.Mathlib.Omega.{arith}
 use lib.ListN.{length}
 use borrow.Author.Tests.{not-true, not-false}
 use Rattle.lists.specs.Tests.{Decides}
-use Rattle.lists.proofs.Numbers.{refute, decides-iff}
+use Rattle.lists.proofs.Numbers.{refute, decides-iff, decided}
 use Rattle.history.specs.Words.{Block, life}
 use Rattle.history.specs.Tree.{Tree, hole, node, mid, blockAt, widths}
 use Rattle.history.specs.Rules.{isHole, halved, rule23}
 use Rattle.history.specs.Sound.{isEmpty}
-use Rattle.history.proofs.RulesLaws.{decided, halved-node, Rule23, rule23-decides}
+use Rattle.history.proofs.RulesLaws.{halved-node, Rule23, rule23-decides}
 use Rattle.tables.specs.Columns.{column}
 use Rattle.segment_table.specs.Closed.{Tables, nodesUsed, leftAt, rightAt, firstAt, countAt, TreeAt, Consecutive}
 use Rattle.segment_test.specs.Total.{sumTo, entriesOfRow, widthsOfRow, lifeIn, Same}

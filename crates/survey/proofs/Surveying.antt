@@ -1,20 +1,20 @@
 -- `matching`, `held_part`, `held_bytes`, `rests_of`, `made` and `survey`: one step for each return. Assumes nothing.
-use mathlib.Core.Path.{_≡_, refl, sym, ap, ap₂, subst, _∙_}
+use mathlib.Core.Path.{_≡_, refl, sym, ap, ap₂, _∙_}
 use mathlib.Core.Logic.{_⊎_, inl, inr, ⊎-elim}
 use mathlib.Core.Option.{some}
 use mathlib.Core.List.{List, [], _∷_, _++_, map}
-use Prim.Native.Nat.{ℕ, suc, _+_, _-_, _*_, _≤_, _<_, _^_, min, max}
+use Prim.Native.Nat.{ℕ, _+_, _-_, _*_, _≤_, _<_, _^_, min}
 use native.Mathlib.Omega.{arith}
 use lib.ListN.{length, getD, drop}
-use Rattle.lists.specs.Lists.{All, all-nil, all-cons}
+use Rattle.lists.specs.Lists.{All, all-cons}
 use Rattle.lists.proofs.Lists.{all-left, all-right, all-map, all-append, all-any}
 use Rattle.lists.proofs.Maps.{map-append}
 use Rattle.lists.proofs.Numbers.{lt-or-le}
 use Rattle.history.specs.Words.{Piece, heldAt}
 use Rattle.history.specs.Ledger.{firstChange}
-use Rattle.tables.specs.Columns.{column, pieceFirst, pieceLength, pieceOffset, piecesCount}
+use Rattle.tables.specs.Columns.{column, pieceLength, pieceOffset, piecesCount}
 use Rattle.merge_set.specs.Table.{firstAt}
-use Rattle.piece_table.specs.Piece.{PieceRow, rowEnd, pieceAt, rowsBelow, rowsInside, rowsAbove, Filled, Follow}
+use Rattle.piece_table.specs.Piece.{PieceRow, rowEnd, pieceAt, rowsBelow, rowsAbove, Filled, Follow}
 use Rattle.piece_table.specs.Rep.{Linked, Rep}
 use Rattle.piece_table.specs.Calls.{endAt, Sought}
 use Rattle.piece_table.specs.Shown.{shown, Stored}

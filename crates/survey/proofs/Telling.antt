@@ -1,15 +1,15 @@
 -- What the survey tells is what the ledger says: whether the operation is a read, and how many pieces and blocks its update leaves. Assumes nothing.
-use mathlib.Core.Path.{_≡_, refl, sym, ap, ap₂, _∙_}
+use mathlib.Core.Path.{_≡_, refl, ap, _∙_}
 use mathlib.Core.Bool.{Bool, true, false, not, cond}
-use mathlib.Core.Option.{Option, none, some}
-use mathlib.Core.List.{List, _∷_, _++_, map}
-use Prim.Native.Nat.{ℕ, suc, _+_}
+use mathlib.Core.Option.{none, some}
+use mathlib.Core.List.{List, _∷_, map}
+use Prim.Native.Nat.{ℕ, _+_}
 use native.Mathlib.Omega.{arith}
 use lib.ListN.{length, length-append, length-map}
 use lib.Dec.{ltb}
 use Rattle.lists.specs.Lists.{All}
-use Rattle.history.specs.Words.{Piece, Block, Operation, stretchOf, pieceOf, blockOf, below, inside, above, ends}
-use Rattle.history.specs.Ledger.{Moment, changed, firstChange, isNone, isRead, updateBy}
+use Rattle.history.specs.Words.{Piece, Operation, stretchOf, pieceOf, blockOf, below, inside, above, ends}
+use Rattle.history.specs.Ledger.{Moment, changed, isNone, isRead, updateBy}
 use Rattle.piece_table.specs.Piece.{PieceRow, rowsBelow, rowsInside, rowsAbove}
 use Rattle.piece_table.specs.Shown.{shown, Stored}
 use Rattle.piece_table.proofs.Showing.{shown-below, shown-inside, shown-above}

@@ -1,11 +1,11 @@
 -- Pieces, blocks and rests as sums over the pieces. A turn of the survey takes the lowest piece that ends past the place: the sum over the others is
 -- the sum over those that end past its end. Assumes nothing.
-use mathlib.Core.Path.{_≡_, refl, sym, ap, ap₂, _∙_}
+use mathlib.Core.Path.{_≡_, refl, ap, _∙_}
 use mathlib.Core.Logic.{_⊎_, inl, inr}
 use mathlib.Core.Bool.{Bool, true, false, cond, _&&_}
 use mathlib.Core.Option.{Option, none, some}
 use mathlib.Core.List.{List, [], _∷_, _++_, filterMap, Option·toList}
-use Prim.Native.Nat.{ℕ, suc, _+_, _*_, _≤_, _<_, min, max}
+use Prim.Native.Nat.{ℕ, _+_, _*_, _≤_, _<_, min, max}
 use native.Mathlib.Omega.{arith}
 use lib.ListN.{length, length-append}
 use lib.Dec.{ltb}

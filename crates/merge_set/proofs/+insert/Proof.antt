@@ -1,7 +1,6 @@
 -- `merge_set::insert` meets its contract: each return is one step of `inserting`; the fuel falls. Assumes nothing.
 use borrow.Author.Needs.{needs}
-use native.Mathlib.Omega.{arith}
-use Prim.Native.Nat.{ℕ, _+_, _*_, _<_}
+use Prim.Native.Nat.{ℕ, _+_, _<_}
 use Rattle.merge_set.proofs.Inserting.{inserting}
 use borrow.Fn.Kinds.{In}
 use borrow.Fn.PlainCycle.{Measures, is, falls, and}

@@ -1,6 +1,5 @@
 -- The cycle of `merge_set::update`, `rotate_left` and `rotate_right` meets its contracts: each return is one step of `turning`. The measure: a rotation stands half a turn above the update that it calls. Assumes nothing.
 use borrow.Author.Needs.{needs}
-use native.Mathlib.Omega.{arith}
 use Prim.Native.Nat.{ℕ, _+_, _*_, _<_}
 use Rattle.merge_set.proofs.Turns.{turning}
 use borrow.Fn.Kinds.{In}

@@ -1,9 +1,9 @@
 -- `tables::copy_in` meets its contract. The loop's invariant: the first `i` bytes are written, and the rest is as it was. Assumes nothing.
-use mathlib.Core.Path.{_≡_, refl, _∙_, sym}
-use Prim.Native.Nat.{_≤_, _-_, _+_}
+use mathlib.Core.Path.{_≡_, _∙_, sym}
+use Prim.Native.Nat.{_≤_, _-_}
 use native.Mathlib.Omega.{arith}
 use borrow.Author.Needs.{needs}
-use lib.ListN.{length, take, length-set}
+use lib.ListN.{length, take}
 use lib.Seq.{sets}
 use Rattle.tables.proofs.Past.{sets-past, sets-cut, sets-more, sets-all}
 use Rattle.tables.proofs.copy_in.Statement.{statement}

@@ -1,5 +1,4 @@
 -- `index::reads::block_closed` meets its contract: each return is a step of `giving`. Assumes nothing.
-use native.Mathlib.Omega.{arith}
 use borrow.Author.Needs.{needs}
 use Rattle.index.proofs.Reading.{giving}
 use Rattle.index.proofs.reads.block_closed.Statement.{statement}

@@ -1,6 +1,5 @@
 -- `board::test_heads` meets its contract: each return names a table that does not hold its head, or all do. Assumes nothing.
 use native.Mathlib.Omega.{arith}
-use borrow.Author.Needs.{needs}
 use Rattle.lists.proofs.Numbers.{confirm, refute}
 use Rattle.layout.proofs.Lengths.{heads-fit, fit-heads}
 use Rattle.index_test.proofs.board.test_heads.Statement.{statement}

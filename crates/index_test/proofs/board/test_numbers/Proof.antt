@@ -1,7 +1,7 @@
 -- `board::test_numbers` meets its contract: each return names a number that is wrong, or none is. Assumes nothing.
 use native.Mathlib.Omega.{arith}
 use borrow.Author.Needs.{needs}
-use Rattle.lists.proofs.Numbers.{confirm, refute}
+use Rattle.lists.proofs.Numbers.{refute}
 use Rattle.index_test.proofs.BoardTested.{numbering}
 use Rattle.index_test.proofs.board.test_numbers.Statement.{statement}
 use Rattle.index_test.proofs.board.test_numbers.Tie as tie

@@ -1,6 +1,6 @@
 -- `index_try::garbage::fill` ends: the table keeps its length. Assumes nothing.
 use mathlib.Core.Path.{_≡_}
-use Prim.Native.Nat.{_-_, _≤_}
+use Prim.Native.Nat.{_-_}
 use lib.ListN.{length}
 use borrow.Author.Needs.{needs}
 use Rattle.index_try.proofs.garbage.fill.Statement.{statement}

@@ -1,5 +1,4 @@
 -- `tables::block::put` meets its contract: past the table's end nothing changes. Assumes nothing.
-use Prim.Native.Nat.{_+_, _*_}
 use native.Mathlib.Omega.{arith}
 use borrow.Author.Needs.{needs}
 use Rattle.tables.proofs.Past.{write-past}
