@@ -151,6 +151,19 @@ middle lo hi = lo + (hi - lo) / 2
 pub wide-of : (h : Bool) (lo hi : ℕ) → h ≡ halves lo hi → not h ≡ false → lo + 1 < hi
 wide-of h lo hi asked split = ltb-true (lo + 1) hi (sym asked ∙ not-false h split)
 
+-- the middle of a node that has halves lies inside it, so both are narrower
+module _ (h : Bool) (lo hi : ℕ) (asked : h ≡ halves lo hi) (split : not h ≡ false) where
+  pub middle-fits : lo ≤ hi
+  middle-fits = omega (arith, wide-of h lo hi asked split)
+
+  pub left-narrower : {t : ℕ} → t ≡ hi - lo → middle lo hi - lo < t
+  left-narrower e = omega (arith, wide-of h lo hi asked split)
+
+  pub right-narrower : {t : ℕ} → t ≡ hi - lo → hi - middle lo hi < t
+  right-narrower e = omega (arith, wide-of h lo hi asked split)
+
+pub ruleset halving = (middle-fits, left-narrower, right-narrower)
+
 -- the node is reached, has halves, and is not covered
 pub record Parted (t t₁ : List ℕ) (s : Spot) (life : Life) (link : ℕ) : Type 0 where
   pub reached : Reached t t₁ s link

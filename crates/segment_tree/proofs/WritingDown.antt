@@ -202,3 +202,5 @@ module _ {t es : List ℕ} {link lo hi b cell : ℕ} {life : Life} (p : Split li
       rw z
       (filled-trans blocks s t es t₁ es₁ t₂ es₂ kind link lo hi _ _ _ first
       (right-filled link lo hi life b cell p blocks s kind n xs l r w is none t₁ es₁ t₂ es₂ _ u f₁ (first .here) read₂ (omega (arith, split-mid link lo hi life p)) a₂ (rooms .2))))
+
+pub ruleset writing-down = (write-none, write-covered, write-narrow, split, write-neither, write-right, write-left, write-both)

@@ -22,4 +22,4 @@ entry-widths-spec =
     (λ c. search needs) (λ c. search needs)
     (λ c. let turn = c .before .before .before .before in
     (omega arith, widths-more (turn .before .before .loop .inv .1) (c .before .before .node3 .ensures) (turn .node .ensures) (c .before .before .before .node2 .ensures) (c .before .lasts .ensures) (c .plus-times .ensures)))
-    (λ c. widths-all (c .before .before .get .ensures) (omega arith) (omega arith) (c .before .loop .inv .1)))
+    (λ c. search (widths-all, needs)))

@@ -4,8 +4,8 @@ use native.Mathlib.Omega.{arith}
 use borrow.Author.Needs.{needs}
 use borrow.Fn.Kinds.{In}
 use borrow.Fn.PlainCycle.{Measures, is, falls, and}
-use Rattle.segment_tree.proofs.Adding.{wide-of}
-use Rattle.segment_tree.proofs.WritingDown.{write-none, write-covered, write-narrow, split, write-neither, write-right, write-left, write-both}
+use Rattle.segment_tree.proofs.Adding.{wide-of, halving}
+use Rattle.segment_tree.proofs.WritingDown.{split, write-both, writing-down}
 use Rattle.tables.proofs.get.Reads as get-reads
 use Rattle.segment_tree.proofs.close.write_location.Reads as write-location
 use Rattle.segment_tree.proofs.close.write_location.Kinds as write-location-kinds
@@ -44,27 +44,27 @@ pub +write-location-spec : {M : Type 1} → statement M
     )
     (write-location-at t)
     write-location.Post
-    (λ c. write-none (c .if1 .taken))
+    (λ c. search writing-down)
     (λ c κs. search needs)
     (λ c κs. search needs)
     (λ c. search needs)
     (λ c. search needs)
-    (λ c. write-covered (c .before .before .before .before .before .before .before .before .before .if1 .left) (c .before .before .before .before .before .before .before .before .covers-node .ensures) (c .before .before .before .before .before .before .before .if2 .taken) (c .before .before .before .before .write-entry .ensures))
+    (λ c. search writing-down)
     (λ c κs. search needs)
-    (λ c. write-narrow (c .before .before .before .before .if1 .left) (c .before .before .before .covers-node .ensures) (c .before .before .if2 .left) (c .before .has-halves .ensures) (c .if3 .taken))
-    (λ c. omega (arith, wide-of _ (c .before .before .before .before .before .before .before .args .min) (c .before .before .before .before .before .before .before .args .max) (c .before .has-halves .ensures) (c .if3 .left)))
-    (λ c. omega (arith, wide-of _ (c .before .before .before .before .before .before .before .args .min) (c .before .before .before .before .before .before .before .args .max) (c .before .has-halves .ensures) (c .if3 .left)))
-    (λ c. write-neither (split (c .before .before .before .before .before .covers-node .ensures) (c .before .before .before .before .if2 .left) (c .before .before .before .has-halves .ensures) (c .before .before .if3 .left)) (c .before .if4 .taken) (c .if5 .taken))
+    (λ c. search writing-down)
+    (λ c. search (halving, needs))
+    (λ c. search (halving, needs))
+    (λ c. search writing-down)
     (λ c κs. search needs)
     (λ c κs. (omega (arith, c .before .before .before .before .before .before .before .before .before .before .before .before .before .pre, wide-of _ (c .before .before .before .before .before .before .before .before .before .before .before .before .before .args .min) (c .before .before .before .before .before .before .before .before .before .before .before .before .before .args .max) (c .before .before .before .before .before .before .before .has-halves .ensures) (c .before .before .before .before .before .before .if3 .left)), search needs))
     (λ c. search needs)
     (λ c. search needs)
-    (λ c. write-right (split (c .before .before .before .before .before .before .before .before .before .before .before .before .before .before .covers-node .ensures) (c .before .before .before .before .before .before .before .before .before .before .before .before .before .if2 .left) (c .before .before .before .before .before .before .before .before .before .before .before .before .has-halves .ensures) (c .before .before .before .before .before .before .before .before .before .before .before .if3 .left)) (c .before .before .before .before .before .before .before .before .before .before .if4 .taken) (c .before .before .before .before .before .before .before .before .before .if5 .left) (c .before .before .before .before .before .before .before .get .ensures) (c .before .before .before .before .write-location .ensures))
+    (λ c. search writing-down)
     (λ c κs. search needs)
     (λ c κs. (omega (arith, c .before .before .before .before .before .before .before .before .before .before .before .before .pre, wide-of _ (c .before .before .before .before .before .before .before .before .before .before .before .before .args .min) (c .before .before .before .before .before .before .before .before .before .before .before .before .args .max) (c .before .before .before .before .before .before .has-halves .ensures) (c .before .before .before .before .before .if3 .left)), search needs))
     (λ c. search needs)
     (λ c. search needs)
-    (λ c. write-left (split (c .before .before .before .before .before .before .before .before .before .before .before .before .before .before .covers-node .ensures) (c .before .before .before .before .before .before .before .before .before .before .before .before .before .if2 .left) (c .before .before .before .before .before .before .before .before .before .before .before .before .has-halves .ensures) (c .before .before .before .before .before .before .before .before .before .before .before .if3 .left)) (c .before .before .before .before .before .before .before .before .before .before .if4 .left) (c .if6 .taken) (c .before .before .before .before .before .before .before .before .get2 .ensures) (c .before .before .before .before .before .write-location2 .ensures))
+    (λ c. search writing-down)
     (λ c κs. search needs)
     (λ c κs. (omega (arith, c .before .before .before .before .before .before .before .before .before .before .before .before .before .before .before .before .before .before .before .before .before .before .pre, wide-of _ (c .before .before .before .before .before .before .before .before .before .before .before .before .before .before .before .before .before .before .before .before .before .before .args .min) (c .before .before .before .before .before .before .before .before .before .before .before .before .before .before .before .before .before .before .before .before .before .before .args .max) (c .before .before .before .before .before .before .before .before .before .before .before .before .before .before .before .before .has-halves .ensures) (c .before .before .before .before .before .before .before .before .before .before .before .before .before .before .before .if3 .left)), search needs))
     (λ c. search needs)

@@ -15,4 +15,4 @@ close-tree-spec =
     (λ c κs. search needs)
     (λ c. search needs)
     (λ c. search needs)
-    (λ c. closed-tree (search needs) (c .before .before .before .before .before .before .before .before .before .before .before .before .before .before .before .before .before .get .ensures) (c .before .before .before .before .before .before .before .before .before .before .before .before .before .before .write-blocks .ensures) (c .before .before .before .before .before .before .before .before .get2 .ensures) (c .before .before .before .before .before .before .assign-runs .ensures) (c .before .before .put .ensures)))
+    (λ c. search (closed-tree, needs)))

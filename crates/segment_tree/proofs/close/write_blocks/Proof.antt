@@ -27,7 +27,7 @@ write-blocks-spec =
     (λ c. (omega arith, refl, refl, onward-start (c .get .ensures)))
     (λ c. search needs)
     (λ c. search needs)
-    (λ c. onward-met (c .before .before .loop .inv .3) (c .if1 .taken))
+    (λ c. search (onward-met, needs))
     (λ c κs. search needs)
     (λ c κs. search needs)
     (λ c κs. search needs)

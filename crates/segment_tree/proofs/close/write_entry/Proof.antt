@@ -15,4 +15,4 @@ write-entry-spec =
     (λ c κs. search needs)
     (λ c. search needs)
     (λ c. search needs)
-    (λ c. wrote-entry (c .before .before .before .before .before .before .before .before .before .before .before .before .before .get .ensures) (c .before .before .before .before .before .before .before .before .before .before .before .put .ensures) (c .before .before .before .before .before .before .before .put2 .ensures) (c .before .before .before .plus .ensures) (c .before .before .put3 .ensures)))
+    (λ c. search (wrote-entry, needs)))
