@@ -1,22 +1,18 @@
 -- An index that a list of calls has reached: the store has a byte for each cell of its pieces and blocks, and if it is finished with blocks, one has a
 -- life. So what is written of it fits into tables as long as its own. Assumes nothing.
 use mathlib.Core.Path.{_≡_, refl, sym, ap, _∙_, subst}
-use mathlib.Core.Logic.{_⊎_, inl, inr, ⊎-elim}
+use mathlib.Core.Logic.{⊎-elim}
 use mathlib.Core.Bool.{Bool, true, false, cond, true≢false, false≢true}
-use mathlib.Core.Option.{Option, none, some, Option·map}
-use mathlib.Core.List.{List, [], _∷_, _++_, map, filterMap, Option·toList}
-use Prim.Native.Nat.{ℕ, _+_, _-_, _/_, _≤_, _<_, min, max}
+use mathlib.Core.List.{List, [], _∷_, _++_, map}
+use Prim.Native.Nat.{ℕ, _+_, _-_, _/_, _≤_, _<_}
 use native.Mathlib.Omega.{arith}
-use lib.Dec.{ltb}
-use lib.ListN.{length, getD, length-append, length-map}
+use lib.ListN.{length, length-append, length-map}
 use lib.Seq.{getD-append-seam}
-use borrow.Author.Tests.{ltb-true, ltb-false}
 use Rattle.lists.specs.Lists.{All, here, sumOf}
-use Rattle.lists.proofs.Lists.{all-mem, sum-append, mem-at}
-use Rattle.lists.proofs.Maps.{map-append, filterMap-cons}
+use Rattle.lists.proofs.Lists.{all-mem}
 use Rattle.lists.proofs.Numbers.{le-or-lt}
-use Rattle.history.specs.Words.{Stretch, Operation, Piece, Block, size, ends, stretchOf, clip, clipPiece, below, inside, above, pieceOf, blockOf, life}
-use Rattle.history.specs.Lent.{Lent, blockRows}
+use Rattle.history.specs.Words.{Operation, Piece, ends, stretchOf, below, inside, above, pieceOf, blockOf}
+use Rattle.history.specs.Lent.{Lent, rowWidth, entryWidth, blockHead, nodeHead, entryHead, blockRows}
 use Rattle.history.specs.Tree.{noBlock}
 use Rattle.history.specs.Ledger.{Opening, Ledger, opened, finished, isRead, readBy, updateBy, recordBy, settled, finishBy}
 use Rattle.history.specs.Reads.{treeIn}
@@ -24,107 +20,19 @@ use Rattle.history.specs.Refusals.{Answer, accepted, refused, openAnswer, recor
 use Rattle.history.specs.Calls.{Call, recordCall, finishCall, answerTo, acceptedBy, leaves, after, afterAll, noted, history}
 use Rattle.history.specs.Law.{LedgerLaw}
 use Rattle.history.specs.Sound.{SoundBoard, SoundPiece}
-use Rattle.history.proofs.Clip.{part, part-ends}
 use Rattle.history.proofs.Passing.{taken, finishes}
 use Rattle.history.proofs.EveryList.{law-after, the-law}
-use Rattle.history.proofs.FileLists.{map-map}
 use Rattle.history.proofs.FileReloaded.{room-written}
 use Rattle.layout.specs.Tables.{Tables, lengthsOf}
 use Rattle.layout.specs.Encodes.{Encodes}
+use Rattle.layout.specs.Relations.{openingOf}
 use Rattle.layout.proofs.Lengths.{heads-fit}
+use Rattle.layout.proofs.Opening.{open-accepted}
+use Rattle.demand.proofs.Runs.{finished-encodes}
 use Rattle.spacetime_file.specs.Law.{Slices, ClosedIn, Lives, Reloads, RoomFor, AsLong, SavedAndLoaded}
 use Rattle.spacetime_file.proofs.Closed.{tree-sound}
+use Rattle.spacetime_file.proofs.Cutting.{cellsIn, blockCells, cells-append, block-cells-append, destroyed-cells, parts-cells}
 use Rattle.spacetime_file.proofs.Saving.{reloads}
-
--- ── cells, counted ──
-
-abbrev cellsIn : List Piece → ℕ
-cellsIn ps = sumOf (map (λ p. size (p .stretch)) ps)
-
-abbrev blockCells : List Block → ℕ
-blockCells bs = sumOf (map (λ b. size (b .stretch)) bs)
-
-abbrev cellsOf : Option Piece → ℕ
-cellsOf none = 0
-cellsOf (some p) = size (p .stretch)
-
-cells-append : (ps qs : List Piece) → cellsIn (ps ++ qs) ≡ cellsIn ps + cellsIn qs
-cells-append ps qs = ap sumOf (map-append (λ p. size (p .stretch)) ps qs) ∙ sum-append (map (λ p. size (p .stretch)) ps) (map (λ p. size (p .stretch)) qs)
-
-block-cells-append : (bs cs : List Block) → blockCells (bs ++ cs) ≡ blockCells bs + blockCells cs
-block-cells-append bs cs = ap sumOf (map-append (λ b. size (b .stretch)) bs cs) ∙ sum-append (map (λ b. size (b .stretch)) bs) (map (λ b. size (b .stretch)) cs)
-
--- pieces have as many as blocks
-destroyed-cells : (tick : ℕ) (ps : List Piece) → blockCells (map (blockOf tick) ps) ≡ cellsIn ps
-destroyed-cells tick ps = ap sumOf (map-map (λ (b : Block). size (b .stretch)) (blockOf tick) ps)
-
-option-cells : (x : Option Piece) → cellsIn (Option·toList x) ≡ cellsOf x
-unfolding Option·toList sumOf
-option-cells none = refl
-option-cells (some p) = omega arith
-
-filter-cells : (f : Piece → Option Piece) (p : Piece) (ps : List Piece) → cellsIn (filterMap f (p ∷ ps)) ≡ cellsOf (f p) + cellsIn (filterMap f ps)
-filter-cells f p ps =
-    ap cellsIn (filterMap-cons f p ps) ∙ cells-append (Option·toList (f p)) (filterMap f ps) ∙ ap (λ (n : ℕ). n + cellsIn (filterMap f ps)) (option-cells (f p))
-
--- ── a piece cut in three ──
-
--- the cells of a piece in a range
-clip-cells : (from to : ℕ) (p : Piece) → cellsOf (clipPiece from to p) ≡ min to (ends (p .stretch)) - max from (p .stretch .first)
-unfolding clipPiece clip part
-clip-cells from to p = go (ltb (max from (p .stretch .first)) (min to (ends (p .stretch)))) refl
-  where
-    go : (x : Bool) → ltb (max from (p .stretch .first)) (min to (ends (p .stretch))) ≡ x
-        → cellsOf (Option·map {B = Piece} (λ (s : Stretch). record { kind = p .kind; stretch = s; written = p .written }) (cond x (some (part from to (p .stretch))) none))
-        ≡ min to (ends (p .stretch)) - max from (p .stretch .first)
-    go true e =
-        let less = ltb-true _ _ e in
-        omega (arith, part-ends from to (p .stretch) less)
-    go false e =
-        let more : min to (ends (p .stretch)) ≤ max from (p .stretch .first) = ltb-false _ _ e in
-        omega arith
-
--- two ranges that meet at b, of which the second goes up to m at most
-meet-cells : (a b m first end : ℕ) → a ≤ b → first ≤ end → m ≤ end → min b end ≤ m → (min b end - max a first) + (m - max b first) ≡ m - max a first
-meet-cells a b m first end h g k j = omega arith
-
--- below f, from f to e, and from e on
-cut-cells : (f e first end : ℕ) → f ≤ e → first ≤ end → (min f end - max 0 first) + ((min e end - max f first) + (min end end - max e first)) ≡ end - first
-cut-cells f e first end h g = sums _ _ _ _ _ (meet-cells 0 f (min e end) first end z g (least e end) up) (meet-cells 0 e (min end end) first end z g (least end end) top) ∙ low
-  where
-    sums : (x y z v r : ℕ) → x + y ≡ v → v + z ≡ r → x + (y + z) ≡ r
-    sums x y z v r p q = omega arith
-
-    z : {n : ℕ} → 0 ≤ n
-    z = omega arith
-
-    least : (m n : ℕ) → min m n ≤ n
-    least m n = omega arith
-
-    up : min f end ≤ min e end
-    up = omega arith
-
-    top : min e end ≤ min end end
-    top = omega arith
-
-    low : min end end - max 0 first ≡ end - first
-    low = omega arith
-
--- what is left of a range of cells, of those inside it and of those right of it is all
-parts-cells : (f e : ℕ) → f ≤ e → (ps : List Piece) → cellsIn (below f ps) + (cellsIn (inside f e ps) + cellsIn (above e ps)) ≡ cellsIn ps
-unfolding below inside above sumOf filterMap
-parts-cells f e h [] = refl
-parts-cells f e h (p ∷ ps) =
-    let b = filter-cells (clipPiece 0 f) p ps ∙ ap (λ (n : ℕ). n + cellsIn (below f ps)) (clip-cells 0 f p) in
-    let i = filter-cells (clipPiece f e) p ps ∙ ap (λ (n : ℕ). n + cellsIn (inside f e ps)) (clip-cells f e p) in
-    let a = filter-cells (λ q. clipPiece e (ends (q .stretch)) q) p ps ∙ ap (λ (n : ℕ). n + cellsIn (above e ps)) (clip-cells e (ends (p .stretch)) p) in
-    rw (b, i, a) (sums _ _ _ _ _ _ (size (p .stretch)) (cellsIn ps) (cut-cells f e (p .stretch .first) (ends (p .stretch)) h (omega arith) ∙ own) (parts-cells f e h ps))
-  where
-    own : ends (p .stretch) - p .stretch .first ≡ size (p .stretch)
-    own = omega arith
-
-    sums : (x y z u v w m n : ℕ) → x + (y + z) ≡ m → u + (v + w) ≡ n → (x + u) + ((y + v) + (z + w)) ≡ m + n
-    sums x y z u v w m n p q = omega arith
 
 -- ── kept from call to call ──
 
@@ -224,10 +132,10 @@ reached-kept a e ks = all-kept ks (opened a) [] (the-law a e []) (opened-kept a)
 -- ── room in tables as long ──
 
 -- a longer table has as many rows
-more-rows : (many lent long longer : ℕ) → lent ≡ long → long ≤ longer → many ≤ (lent - 8) / 8 → many ≤ (longer - 8) / 8
-more-rows many lent long longer e h g = omega arith
+more-rows : (head many lent long longer : ℕ) → lent ≡ long → long ≤ longer → many ≤ (lent - head) / rowWidth → many ≤ (longer - head) / rowWidth
+more-rows head many lent long longer e h g = omega arith
 
-more-entries : (many lent long longer : ℕ) → lent ≡ long → long ≤ longer → many ≤ (lent - 8) / 2 → many ≤ (longer - 8) / 2
+more-entries : (many lent long longer : ℕ) → lent ≡ long → long ≤ longer → many ≤ (lent - entryHead) / entryWidth → many ≤ (longer - entryHead) / entryWidth
 more-entries many lent long longer e h g = omega arith
 
 long-room : {t u : Tables} {l : Ledger} → ClosedIn t l → Kept l → AsLong t u → RoomFor l u
@@ -241,22 +149,27 @@ long-room {t} {u} {l} c kept long =
     record {
       room =
           room-written (lengthsOf u) (l .opening .kind) (l .opening .end) (l .now .blocks) (treeIn l)
-          (more-rows _ _ _ _ (ap (λ (n : Lent). n .blocks) lengths) (long .blocks) few)
-          (more-rows _ _ _ _ (ap (λ (n : Lent). n .nodes) lengths) (long .nodes) (closed .nodes-fit))
+          (more-rows blockHead _ _ _ _ (ap (λ (n : Lent). n .blocks) lengths) (long .blocks) few)
+          (more-rows nodeHead _ _ _ _ (ap (λ (n : Lent). n .nodes) lengths) (long .nodes) (closed .nodes-fit))
           (more-entries _ _ _ _ (ap (λ (n : Lent). n .entries) lengths) (long .entries) (closed .entries-fit))
           (omega (arith, kept .stored, board .store-fits, store, long .store));
       head = omega (arith, heads .pieces, long .pieces);
     }
 
+module _ (a : Opening) (e : openAnswer a ≡ accepted tt) (ks : List Call) (done : finished (afterAll (opened a) ks) ≡ true)
+    (some-block : 0 < length (afterAll (opened a) ks .now .blocks)) (t : Tables) (slices : Slices t) (stands : Encodes t (afterAll (opened a) ks)) where
+  reached-again : Reloads t (afterAll (opened a) ks) (AsLong t)
+  reached-again out out′ wrote w fits file at small same u u′ loaded long d =
+      let kept = reached-kept a e ks in
+      let c : ClosedIn t (afterAll (opened a) ks) = record { encodes = stands; sound = the-law a e ks .sound .sound; closed = done } in
+      let one = kept .living done some-block in
+      reloads slices c (one .0) (one .1) out out′ wrote w fits file at small same u u′ loaded (long-room c kept long) d
+
 pub saved-and-loaded : SavedAndLoaded
-saved-and-loaded = record { any = λ t l slices c k lives. reloads slices c k lives; reached = reached-again }
-  where
-    reached-again : (a : Opening) → openAnswer a ≡ accepted tt → (ks : List Call) → finished (afterAll (opened a) ks) ≡ true
-        → 0 < length (afterAll (opened a) ks .now .blocks) → (t : Tables) → Slices t → Encodes t (afterAll (opened a) ks)
-        → Reloads t (afterAll (opened a) ks) (AsLong t)
-    reached-again a e ks done some-block t slices enc =
-        let kept = reached-kept a e ks in
-        let c : ClosedIn t (afterAll (opened a) ks) = record { encodes = enc; sound = the-law a e ks .sound .sound; closed = done } in
-        let one = kept .living done some-block in
-        λ out out′ wrote w fits file at small same u u′ loaded long d.
-        reloads slices c (one .0) (one .1) out out′ wrote w fits file at small same u u′ loaded (long-room c kept long) d
+saved-and-loaded = record {
+  any = λ t l slices c k lives. reloads slices c k lives;
+  reached = λ a e ks done some-block t slices stands. reached-again a e ks done some-block t slices stands;
+  called = λ end kind some-tick end-most known-kind t t₀ t′ opening d ks given r done some-block slices.
+      reached-again (openingOf end kind t) (open-accepted (openingOf end kind t) some-tick end-most known-kind) ks done some-block t′ slices
+      (finished-encodes end kind some-tick end-most known-kind t t₀ opening d r done);
+}

@@ -12,15 +12,16 @@ use Rattle.history.specs.Tree.{nodeCount}
 use Rattle.history.specs.Rules.{rule23, apart}
 use Rattle.history.specs.Ledger.{Opening, Ledger, opened, finished}
 use Rattle.history.specs.Reads.{treeIn, blockBy}
-use Rattle.history.specs.Refusals.{Answer, accepted, refused, openAnswer}
+use Rattle.history.specs.Refusals.{Answer, accepted, refused, openAnswer, maxEndTick}
 use Rattle.history.specs.Calls.{Call, afterAll}
 use Rattle.history.specs.Sound.{Sound}
 use Rattle.history.specs.File.{File, bytesOf, nodeBytes, nodesOf, newNumber, contents, fileBy, got, readFile, treeFrom, endOf, rule20, rule21, rule22, loadedFrom, loadedLedger}
 use Rattle.layout.specs.Tables.{Tables, lengthsOf}
 use Rattle.layout.specs.Encodes.{Encodes}
 use Rattle.layout.specs.Formed.{WellFormed}
-use Rattle.layout.specs.Relations.{Counts, FoundBy, Fields, blockOfFields, BlockGivenBy}
+use Rattle.layout.specs.Relations.{openingOf, OpenedBy, Counts, FoundBy, Fields, blockOfFields, BlockGivenBy}
 use Rattle.layout.specs.Files.{WrittenBy, LoadedBy, headed, zeroedTables}
+use Rattle.demand.specs.Theorem.{Run}
 use Rattle.cells.specs.Answers.{CellsReadBy}
 
 -- ── slices ──
@@ -92,10 +93,14 @@ pub record AsLong (t u : Tables) : Type 0 where
 pub record SavedAndLoaded : Type 0 where
   -- any closed index of which a block has a life, into tables with room for it;
   pub any : (t : Tables) (l : Ledger) → Slices t → ClosedIn t l → (k : ℕ) → Lives l k → Reloads t l (RoomFor l)
-  -- for every opening that is taken and every list of calls that leaves a finished index with blocks, into any tables as long as its own
+  -- for every opening that is taken and every list of calls that leaves a finished index with blocks, into any tables as long as those in which it stands;
   pub reached : (a : Opening) → openAnswer a ≡ accepted tt → (ks : List Call) → finished (afterAll (opened a) ks) ≡ true
       → 0 < length (afterAll (opened a) ks .now .blocks) → (t : Tables) → Slices t → Encodes t (afterAll (opened a) ks)
       → Reloads t (afterAll (opened a) ks) (AsLong t)
+  -- so for every index that was opened in tables of any contents and finished by any list of calls, each done by its contract.
+  pub called : (end kind : ℕ) → 1 ≤ end → end ≤ maxEndTick → kind ≤ 4 → (t t₀ t′ : Tables) (opening : Answer Unit) → OpenedBy end kind t t₀ opening
+      → (ks : List Call) (given : List (Answer Unit)) → Run t₀ ks given t′ → finished (afterAll (opened (openingOf end kind t)) ks) ≡ true
+      → 0 < length (afterAll (opened (openingOf end kind t)) ks .now .blocks) → Slices t′ → Reloads t′ (afterAll (opened (openingOf end kind t)) ks) (AsLong t′)
 
 -- ── loaded and written ──
 
