@@ -3,24 +3,23 @@ use mathlib.Core.Path.{_≡_, refl, sym, ap, _∙_, subst}
 use mathlib.Core.Logic.{⊎-elim}
 use mathlib.Core.Bool.{Bool, true, false, cond}
 use mathlib.Core.List.{List, [], _∷_, map}
-use Prim.Native.Nat.{ℕ, _≤_, _<_, _-_}
+use Prim.Native.Nat.{ℕ, _≤_, _<_}
 use native.Mathlib.Omega.{arith}
-use lib.Dec.{ltb, leb}
+use lib.Dec.{ltb}
 use lib.ListN.{length, getD, take}
 use lib.Seq.{sets}
 use borrow.Author.Tests.{lt-leb, le-leb, ltb-true, ltb-false}
-use Rattle.lists.specs.Lists.{All, Ascending, has, countFrom}
+use Rattle.lists.specs.Lists.{Ascending, has, countFrom}
 use Rattle.lists.proofs.Lists.{all-at, pairs-at}
 use Rattle.lists.proofs.Numbers.{le-or-lt, lt-or-le}
 use Rattle.lists.proofs.Maps.{length-of-map}
 use Rattle.history.specs.Words.{Block, life}
-use Rattle.history.specs.Lent.{Lent, tooShort}
-use Rattle.history.specs.Tree.{Tree, blockAt, entriesIn}
-use Rattle.history.specs.Ledger.{Ledger, finished}
-use Rattle.history.specs.Reads.{treeIn, blockBy, Found, findBy, Cells, cellsBy}
+use Rattle.history.specs.Tree.{blockAt, entriesIn}
+use Rattle.history.specs.Ledger.{Ledger}
+use Rattle.history.specs.Reads.{treeIn, blockBy, Found, findBy, Cells}
 use Rattle.history.specs.Refusals.{Answer, accepted, refused, Refusal, firstOf, windowRefusals, findAnswer, cellsAnswer, blockRefusals, blockAnswer}
 use Rattle.history.specs.Sound.{Sound}
-use Rattle.history.specs.File.{written, writtenBlocks, newNumber, placeIn, savedLedger}
+use Rattle.history.specs.File.{written, savedLedger}
 use Rattle.history.proofs.Passing.{Passed}
 use Rattle.history.proofs.FileLists.{countFrom-pairs}
 use Rattle.history.proofs.FilePlaces.{thoseWith-has, thoseWith-pairs, placeIn-inside, placeIn-found, placeIn-at}
@@ -28,7 +27,8 @@ use Rattle.history.proofs.FileKept.{Writable, written-below, written-block, liv
 use Rattle.history.proofs.FileSound.{saved-find, saved-cells}
 use Rattle.layout.specs.Tables.{Tables, lengthsOf}
 use Rattle.layout.specs.Encodes.{Encodes}
-use Rattle.layout.specs.Relations.{Counts, countsOf, answerLeft, FoundBy, Fields, blockIn, blockOfFields, BlockGivenBy}
+use Rattle.layout.proofs.Unique.{unique}
+use Rattle.layout.specs.Relations.{Counts, countsOf, answerLeft, FoundBy, Fields, blockOfFields, BlockGivenBy}
 use Rattle.cells.specs.Answers.{Answers, givenBy, cellsLeft, CellsReadBy}
 use Rattle.spacetime_file.specs.Law.{ClosedIn, Lives, numberIn, AnswersAlike}
 use Rattle.spacetime_file.proofs.Closed.{tree-is, heads-there, take-sets}
@@ -140,6 +140,16 @@ module _ {t u : Tables} {l : Ledger} (c : ClosedIn t l) (w : Writable (l .openin
         two .in-bytes ∙ ap (λ (x : Answer Cells). cellsLeft (λ c. c .bytes) x bytes) same ∙ sym (one .in-bytes),
         two .in-held ∙ ap (λ (x : Answer Cells). cellsLeft (λ c. c .held) x held) same ∙ sym (one .in-held),
       )
+
+  -- what a read of the loaded index does, a read of the index that was written does
+  pub cells-back : (tick start stop : ℕ) {bytes bytes′ held held′ : List ℕ} {a : Answer Unit} → CellsReadBy u tick start stop bytes bytes′ held held′ a
+      → CellsReadBy t tick start stop bytes bytes′ held held′ a
+  cells-back tick start stop {bytes} {bytes′} {held} {held′} {a} g = record {
+    formed = λ m enc sound.
+        subst (λ (x : Ledger). Answers (cellsAnswer x tick start stop (length bytes) (length held)) bytes bytes′ held held′ a) (unique t l m (c .encodes) enc)
+        (subst (λ (x : Answer Cells). Answers x bytes bytes′ held held′ a) (same-cells tick start stop (length bytes) (length held)) (g .formed saved e s));
+    unformed = λ n. absurd (n (record { ledger = l; encodes = c .encodes; sound = c .sound }));
+  }
 
   -- ── blocks ──
 

@@ -1,8 +1,8 @@
 -- A closed index: its tree, what it writes, and that it can be written. Assumes nothing.
-use mathlib.Core.Path.{_≡_, refl, sym, ap, _∙_}
+use mathlib.Core.Path.{_≡_, refl, ap, _∙_}
 use mathlib.Core.Bool.{true, false, false≢true}
 use mathlib.Core.Option.{Option, none, some}
-use mathlib.Core.List.{List, [], _∷_, _++_, flatten}
+use mathlib.Core.List.{List, [], _∷_, flatten}
 use Prim.Native.Nat.{ℕ, _+_, _≤_, _<_}
 use native.Mathlib.Omega.{arith}
 use lib.ListN.{length, take, drop}
@@ -11,15 +11,14 @@ use borrow.Author.Tests.{le-ltb, lt-ltb}
 use Rattle.history.specs.Words.{Block}
 use Rattle.history.specs.Lent.{tooShort}
 use Rattle.history.specs.Tree.{Tree}
-use Rattle.history.specs.Ledger.{Ledger, finished, isSome}
+use Rattle.history.specs.Ledger.{Ledger, isSome}
 use Rattle.history.specs.Reads.{treeOrHole, treeIn}
 use Rattle.history.specs.Refusals.{Answer, accepted, refused, firstOf, writeRefusals}
-use Rattle.history.specs.Sound.{Sound, SoundTree, SoundClosed}
+use Rattle.history.specs.Sound.{SoundTree, SoundClosed}
 use Rattle.history.specs.File.{fileBytes, fileOf, contents, bytesOf, fileBy, writeAnswer}
 use Rattle.history.proofs.FileKept.{Writable}
 use Rattle.history.proofs.FileSound.{sound-writable}
 use Rattle.layout.specs.Tables.{Tables}
-use Rattle.layout.specs.Encodes.{Encodes}
 use Rattle.layout.specs.Files.{bytesWritten, outLeft, WrittenBy}
 use Rattle.spacetime_file.specs.Law.{Slices, ClosedIn}
 

@@ -1,37 +1,35 @@
 -- Files that cannot be loaded again: of an empty index, and of one whose blocks all have no life. Assumes nothing.
 use mathlib.Core.Path.{_≡_, refl, sym, ap, _∙_, subst}
 use mathlib.Core.Logic.{⊎-elim}
-use mathlib.Core.Bool.{Bool, true, false, cond, true≢false}
-use mathlib.Core.List.{List, [], _∷_, _++_, flatten, flatMap, append-nil, map}
-use Prim.Native.Nat.{ℕ, _+_, _-_, _≤_, _<_}
+use mathlib.Core.Bool.{true, false, true≢false}
+use mathlib.Core.List.{List, [], _∷_, _++_, flatten, flatMap, append-nil}
+use Prim.Native.Nat.{ℕ, _+_, _≤_, _<_}
 use native.Mathlib.Omega.{arith}
-use lib.Dec.{ltb}
 use lib.ListN.{length, take, drop}
-use lib.Seq.{sets}
-use borrow.Author.Tests.{le-ltb, ltb-false}
-use Rattle.lists.specs.Lists.{All, all-nil, all-cons, Mem, here, has, countFrom, sumOf}
-use Rattle.lists.proofs.Lists.{all-map, all-mem, all-of-mem}
+use borrow.Author.Tests.{le-ltb}
+use Rattle.lists.specs.Lists.{All, all-nil, here, has, countFrom, sumOf}
+use Rattle.lists.proofs.Lists.{all-mem}
 use Rattle.lists.proofs.Numbers.{lt-or-le}
 use Rattle.lists.proofs.Counting.{has-decides}
-use Rattle.history.specs.Words.{Block, life, size}
+use Rattle.history.specs.Words.{Block, life}
 use Rattle.history.specs.Lent.{Lent, nodeRows}
-use Rattle.history.specs.Tree.{Tree, nodeCount, entryCount, entriesIn}
+use Rattle.history.specs.Tree.{Tree, nodeCount, entriesIn}
 use Rattle.history.specs.Ledger.{Ledger}
 use Rattle.history.specs.Reads.{treeIn, blockBy}
 use Rattle.history.specs.Refusals.{Answer, accepted, refused}
-use Rattle.history.specs.File.{Read, got, fault, _>>=_, onward, readFile, File, Loaded, load, bytesOf, nodeBytes, nodesOf, fileBytes, fileOf, fileBy, contents, thoseWith, written, mapTree, placeIn, treeFrom, rule20, rule22}
+use Rattle.history.specs.File.{Read, got, fault, _>>=_, onward, readFile, File, Loaded, load, bytesOf, nodeBytes, nodesOf, fileBytes, fileOf, fileBy, contents, thoseWith, written, mapTree, placeIn, rule20, rule22}
 use Rattle.history.specs.Rules.{every}
 use Rattle.history.proofs.RulesLaws.{numbered-decides, rule23-decides, decided}
 use Rattle.history.proofs.TreeCounts.{entry-count-in}
 use Rattle.history.proofs.FileReads.{number-cut}
 use Rattle.history.proofs.FileRenumbered.{mapTree-same}
-use Rattle.history.proofs.FileRules.{Rule20, rule20-decides}
-use Rattle.history.proofs.FileIntervals.{treeFrom-nodesOf, endOf-nodesOf}
+use Rattle.history.proofs.FileRules.{rule20-decides}
+use Rattle.history.proofs.FileIntervals.{treeFrom-nodesOf}
 use Rattle.history.proofs.FileKept.{Writable, entered-lives, written-rule21}
 use Rattle.history.proofs.FileLoad.{load-fault, load-blocks, read-written}
 use Rattle.history.proofs.FileReloaded.{index-fits}
 use Rattle.layout.specs.Tables.{Tables, lengthsOf}
-use Rattle.layout.specs.Files.{WrittenBy, LoadLeaves, LoadedBy, positionOf, afterFault, zeroedTables}
+use Rattle.layout.specs.Files.{WrittenBy, LoadLeaves, LoadedBy, positionOf, afterFault}
 use Rattle.spacetime_file.specs.Law.{Slices, ClosedIn, Lives, EmptyFiles}
 use Rattle.spacetime_file.proofs.Closed.{tree-sound, writable, file-written, file-bytes, file-some}
 use Rattle.spacetime_file.proofs.Saving.{stands-at}

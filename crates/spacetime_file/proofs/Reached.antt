@@ -19,7 +19,8 @@ use Rattle.history.specs.Reads.{treeIn}
 use Rattle.history.specs.Refusals.{Answer, accepted, refused, openAnswer, recordAnswer, finishAnswer}
 use Rattle.history.specs.Calls.{Call, recordCall, finishCall, answerTo, acceptedBy, leaves, after, afterAll, noted, history}
 use Rattle.history.specs.Law.{LedgerLaw}
-use Rattle.history.specs.Sound.{SoundBoard, SoundPiece}
+use Rattle.history.specs.Sound.{SoundBoard, SoundPiece, Sound}
+use Rattle.history.specs.File.{savedLedger}
 use Rattle.history.proofs.Passing.{taken, finishes}
 use Rattle.history.proofs.EveryList.{law-after, the-law}
 use Rattle.history.proofs.FileReloaded.{room-written}
@@ -29,10 +30,12 @@ use Rattle.layout.specs.Relations.{openingOf}
 use Rattle.layout.proofs.Lengths.{heads-fit}
 use Rattle.layout.proofs.Opening.{open-accepted}
 use Rattle.demand.proofs.Runs.{finished-encodes}
-use Rattle.spacetime_file.specs.Law.{Slices, ClosedIn, Lives, Reloads, RoomFor, AsLong, SavedAndLoaded}
-use Rattle.spacetime_file.proofs.Closed.{tree-sound}
+use Rattle.cells.proofs.History.{cells-show-history}
+use Rattle.spacetime_file.specs.Law.{Slices, ClosedIn, Lives, Reloads, RoomFor, AsLong, LoadedAgain, SavedAndLoaded}
+use Rattle.spacetime_file.proofs.Closed.{tree-sound, writable}
+use Rattle.spacetime_file.proofs.Alike.{alike, cells-back}
 use Rattle.spacetime_file.proofs.Cutting.{cellsIn, blockCells, cells-append, block-cells-append, destroyed-cells, parts-cells}
-use Rattle.spacetime_file.proofs.Saving.{reloads}
+use Rattle.spacetime_file.proofs.Saving.{reloads, reloads-alike}
 
 -- ── kept from call to call ──
 
@@ -158,16 +161,30 @@ long-room {t} {u} {l} c kept long =
 
 module _ (a : Opening) (e : openAnswer a ≡ accepted tt) (ks : List Call) (done : finished (afterAll (opened a) ks) ≡ true)
     (some-block : 0 < length (afterAll (opened a) ks .now .blocks)) (t : Tables) (slices : Slices t) (stands : Encodes t (afterAll (opened a) ks)) where
-  reached-again : Reloads t (afterAll (opened a) ks) (AsLong t)
+  abbrev reached : Ledger
+  reached = afterAll (opened a) ks
+
+  closed : ClosedIn t reached
+  closed = record { encodes = stands; sound = the-law a e ks .sound .sound; closed = done }
+
+  loaded-again : (u : Tables) → Encodes u (savedLedger (lengthsOf u) reached) → Sound (savedLedger (lengthsOf u) reached) → LoadedAgain a ks t u
+  loaded-again u enc sound =
+      let w = writable closed slices some-block in
+      record {
+        alike = alike closed w enc sound;
+        shows = λ tick start stop bytes bytes′ held held′ answer before ordered room room′ d.
+            cells-show-history a e ks done t stands tick start stop bytes bytes′ held held′ answer before ordered room room′ (cells-back closed w enc sound tick start stop d);
+      }
+
+  reached-again : Reloads t reached (AsLong t) (LoadedAgain a ks t)
   reached-again out out′ wrote w fits file at small same u u′ loaded long d =
       let kept = reached-kept a e ks in
-      let c : ClosedIn t (afterAll (opened a) ks) = record { encodes = stands; sound = the-law a e ks .sound .sound; closed = done } in
       let one = kept .living done some-block in
-      reloads slices c (one .0) (one .1) out out′ wrote w fits file at small same u u′ loaded (long-room c kept long) d
+      reloads slices closed (one .0) (one .1) loaded-again out out′ wrote w fits file at small same u u′ loaded (long-room closed kept long) d
 
 pub saved-and-loaded : SavedAndLoaded
 saved-and-loaded = record {
-  any = λ t l slices c k lives. reloads slices c k lives;
+  any = λ t l slices c k lives. reloads-alike slices c k lives;
   reached = λ a e ks done some-block t slices stands. reached-again a e ks done some-block t slices stands;
   called = λ end kind some-tick end-most known-kind t t₀ t′ opening d ks given r done some-block slices.
       reached-again (openingOf end kind t) (open-accepted (openingOf end kind t) some-tick end-most known-kind) ks done some-block t′ slices

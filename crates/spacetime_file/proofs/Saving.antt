@@ -1,5 +1,5 @@
 -- What write writes of a closed index is loaded again, and the tables answer alike. Assumes nothing.
-use mathlib.Core.Path.{_≡_, refl, sym, ap, _∙_, subst}
+use mathlib.Core.Path.{_≡_, sym, ap, _∙_, subst}
 use mathlib.Core.Bool.{true}
 use mathlib.Core.List.{List, _++_}
 use Prim.Native.Nat.{ℕ, _+_, _≤_, _<_, max}
@@ -9,9 +9,8 @@ use lib.Seq.{length-take-le}
 use Rattle.history.specs.Lent.{Lent, pieceHead}
 use Rattle.history.specs.Ledger.{Ledger}
 use Rattle.history.specs.Reads.{treeIn}
-use Rattle.history.specs.Refusals.{Answer, accepted}
 use Rattle.history.specs.Sound.{Sound}
-use Rattle.history.specs.File.{Read, got, fault, Loaded, load, loadedLedger, savedLedger, written, writtenBlocks, renumbered, fileBy}
+use Rattle.history.specs.File.{Read, got, Loaded, load, loadedLedger, savedLedger, written, writtenBlocks, renumbered, fileBy}
 use Rattle.history.proofs.FilePlaces.{placeIn-inside}
 use Rattle.history.proofs.FileReads.{Stands}
 use Rattle.history.proofs.FileKept.{living-written}
@@ -20,8 +19,8 @@ use Rattle.history.proofs.FileSound.{loaded-sound}
 use Rattle.layout.specs.Tables.{Tables, tables, lengthsOf}
 use Rattle.layout.specs.Encodes.{Encodes}
 use Rattle.layout.specs.Relations.{zeros}
-use Rattle.layout.specs.Files.{LoadedTables, LoadLeaves, LoadedBy, positionOf, headed}
-use Rattle.spacetime_file.specs.Law.{IsFile, Slices, ClosedIn, Lives, RoomFor, Reloads}
+use Rattle.layout.specs.Files.{LoadedTables, LoadLeaves, positionOf, headed}
+use Rattle.spacetime_file.specs.Law.{Slices, ClosedIn, Lives, RoomFor, Reloads, AnswersAlike}
 use Rattle.spacetime_file.proofs.Closed.{writable, file-written, take-sets, file-bytes}
 use Rattle.spacetime_file.proofs.Alike.{alike}
 
@@ -84,14 +83,18 @@ module _ {t : Tables} {l : Ledger} (slices : Slices t) (c : ClosedIn t l) (k : �
       subst (λ (p : ℕ). load (lengthsOf u) file p ≡ got again (p + length (fileBy l))) (s .place)
       (subst (λ (f : List ℕ). load (lengthsOf u) f (length (s .before)) ≡ got again (length (s .before) + length (fileBy l))) (sym (s .whole)) there)
 
-  pub reloads : Reloads t l (RoomFor l)
+  -- so whatever follows of tables that stand for it is true of those that were loaded
+  pub reloads : {Good : Tables → Type 0} → ((u : Tables) → Encodes u (savedLedger (lengthsOf u) l) → Sound (savedLedger (lengthsOf u) l) → Good u)
+      → Reloads t l (RoomFor l) Good
   unfolding positionOf
-  reloads out out′ wrote wrote-by fits file at small same u u′ loaded room d =
+  reloads {Good} good out out′ wrote wrote-by fits file at small same u u′ loaded room d =
       let w = file-written c wrote-by fits in
       let bytes : take (length (fileBy l)) (drop at file) ≡ fileBy l = same ∙ ap (take (length (fileBy l))) (w .1) ∙ take-sets (fileBy l) out fits in
       let is = file-loaded u room file at bytes in
       let left : LoadedTables again u u′ = subst (λ (x : Read Loaded). LoadLeaves x u u′) is (d .left) in
-      let stands : Encodes u′ (savedLedger (lengthsOf u′) l) = loaded-encodes again (room .head) left in
       let sound : Sound (savedLedger (lengthsOf u′) l) =
       subst (λ (n : Lent). Sound (loadedLedger n again)) (sym (left .lengths)) (loaded-sound (lengthsOf u) file small at again (at + length (fileBy l)) is) in
-      (w .0, d .answered ∙ ap positionOf is, alike c (writable c slices some-block) stands sound)
+      (w .0, d .answered ∙ ap positionOf is, good u′ (loaded-encodes again (room .head) left) sound)
+
+  pub reloads-alike : Reloads t l (RoomFor l) (AnswersAlike l t)
+  reloads-alike = reloads (λ u stands sound. alike c (writable c slices some-block) stands sound)

@@ -2,26 +2,25 @@
 use mathlib.Core.Path.{_≡_, refl, sym, ap, _∙_, subst}
 use mathlib.Core.Bool.{Bool, true, false, cond}
 use mathlib.Core.List.{List}
-use Prim.Native.Nat.{ℕ, _+_, _-_, _≤_, _<_}
+use Prim.Native.Nat.{ℕ, _-_, _≤_}
 use native.Mathlib.Omega.{arith}
 use lib.Dec.{ltb}
 use lib.ListN.{length, take, drop, length-take, length-drop, length-replicate}
 use lib.Seq.{sets}
 use Rattle.history.specs.Lent.{Lent, pieceHead}
 use Rattle.history.specs.Ledger.{Ledger}
-use Rattle.history.specs.Refusals.{Answer, accepted, refused}
+use Rattle.history.specs.Refusals.{Answer, accepted}
 use Rattle.history.specs.Sound.{Sound}
-use Rattle.history.specs.File.{File, Read, got, fault, Loaded, load, loadedFrom, loadedLedger, fileBytes, fileBy, readFile}
+use Rattle.history.specs.File.{File, Read, got, fault, Loaded, load, loadedFrom, loadedLedger, fileBytes, fileBy}
 use Rattle.history.proofs.FileYields.{Yielded, spans-fits}
 use Rattle.history.proofs.FileRoundTrip.{FileFits, gives-file}
 use Rattle.history.proofs.FileLoad.{Accepted, LoadedOf, load-taken, load-accepted, loaded-written, read-inside}
 use Rattle.history.proofs.FileSound.{loaded-sound}
 use Rattle.layout.specs.Tables.{Tables, lengthsOf}
 use Rattle.layout.specs.Encodes.{Encodes}
-use Rattle.layout.specs.Formed.{WellFormed}
-use Rattle.layout.specs.Files.{LoadedTables, LoadLeaves, LoadedBy, WrittenBy, positionOf, afterFault, headed, zeroedTables}
+use Rattle.layout.specs.Files.{LoadedTables, LoadLeaves, LoadedBy, positionOf, afterFault, zeroedTables}
 use Rattle.layout.proofs.Lengths.{heads-fit}
-use Rattle.spacetime_file.specs.Law.{IsFile, Slices, ClosedIn, WritesBack, LoadedAndWritten, RulesHold, LoaderTakes, TakenAndNotRefused}
+use Rattle.spacetime_file.specs.Law.{IsFile, ClosedIn, LoadedAndWritten, RulesHold, TakenAndNotRefused}
 use Rattle.spacetime_file.proofs.Closed.{file-written, file-refused}
 use Rattle.spacetime_file.proofs.Alike.{accepted-refused, accepted-same}
 use Rattle.spacetime_file.proofs.Saving.{loaded-encodes}

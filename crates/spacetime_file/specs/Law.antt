@@ -1,12 +1,12 @@
 -- What is proved of write and load. Statements alone: the proofs stand in proofs/.
 use mathlib.Core.Path.{_≡_}
-use mathlib.Core.Bool.{Bool, true, false}
+use mathlib.Core.Bool.{true}
 use mathlib.Core.List.{List, [], _++_, map}
 use Prim.Native.Nat.{ℕ, _+_, _-_, _^_, _≤_, _<_}
 use lib.ListN.{length, take, drop}
 use lib.Seq.{sets}
 use Rattle.lists.specs.Lists.{All}
-use Rattle.history.specs.Words.{Block, life}
+use Rattle.history.specs.Words.{life}
 use Rattle.history.specs.Lent.{Lent, pieceHead, nodeRows}
 use Rattle.history.specs.Tree.{nodeCount}
 use Rattle.history.specs.Rules.{rule23, apart}
@@ -23,6 +23,7 @@ use Rattle.layout.specs.Relations.{openingOf, OpenedBy, Counts, FoundBy, Fields
 use Rattle.layout.specs.Files.{WrittenBy, LoadedBy, headed, zeroedTables}
 use Rattle.demand.specs.Theorem.{Run}
 use Rattle.cells.specs.Answers.{CellsReadBy}
+use Rattle.cells.specs.Law.{HistoryShown}
 
 -- ── slices ──
 
@@ -69,13 +70,13 @@ pub record AnswersAlike (l : Ledger) (t u : Tables) : Type 0 where
       → CellsReadBy t tick start stop bytes bytes₁ held held₁ a → CellsReadBy u tick start stop bytes bytes₂ held held₂ b
       → (b ≡ a) × (bytes₂ ≡ bytes₁) × (held₂ ≡ held₁)
 
--- What write writes into a slice that holds it can be loaded, wherever it stands in a file, into any tables that have room, and these answer alike.
-abbrev pub Reloads : (t : Tables) (l : Ledger) (Room : Tables → Type 0) → Type 0
-Reloads t l Room =
+-- What write writes into a slice that holds it can be loaded, wherever it stands in a file, into any tables that have room; then these are good.
+abbrev pub Reloads : (t : Tables) (l : Ledger) (Room Good : Tables → Type 0) → Type 0
+Reloads t l Room Good =
     (out out′ : List ℕ) (wrote : Answer ℕ) → WrittenBy t out out′ wrote → length (fileBy l) ≤ length out
     → (file : List ℕ) (at : ℕ) → IsFile file → take (length (fileBy l)) (drop at file) ≡ take (length (fileBy l)) out′
     → (u u′ : Tables) (loaded : Answer ℕ) → Room u → LoadedBy file at u u′ loaded
-    → (wrote ≡ accepted (length (fileBy l))) × (loaded ≡ accepted (at + length (fileBy l))) × AnswersAlike l t u′
+    → (wrote ≡ accepted (length (fileBy l))) × (loaded ≡ accepted (at + length (fileBy l))) × Good u′
 
 -- Room: rule 20 holds of what the file says, and the piece table holds its head.
 pub record RoomFor (l : Ledger) (u : Tables) : Type 0 where
@@ -90,17 +91,30 @@ pub record AsLong (t u : Tables) : Type 0 where
   pub nodes : length (t .nodes) ≤ length (u .nodes)
   pub entries : length (t .entries) ≤ length (u .entries)
 
+-- a read of a tick below the end and of a range that the slices hold shows what the accepted calls leave at the tick
+abbrev pub ShowsHistory : (a : Opening) (ks : List Call) → Tables → Type 0
+ShowsHistory a ks u =
+    (tick start stop : ℕ) (bytes bytes′ held held′ : List ℕ) (answer : Answer Unit) → tick < afterAll (opened a) ks .opening .end → start ≤ stop
+    → stop - start ≤ length bytes → stop - start ≤ length held → CellsReadBy u tick start stop bytes bytes′ held held′ answer
+    → HistoryShown a ks tick start stop bytes bytes′ held held′ answer
+
+-- an index that calls have reached, loaded again: it answers alike, and read cells shows the history
+pub record LoadedAgain (a : Opening) (ks : List Call) (t u : Tables) : Type 0 where
+  pub alike : AnswersAlike (afterAll (opened a) ks) t u
+  pub shows : ShowsHistory a ks u
+
 pub record SavedAndLoaded : Type 0 where
-  -- any closed index of which a block has a life, into tables with room for it;
-  pub any : (t : Tables) (l : Ledger) → Slices t → ClosedIn t l → (k : ℕ) → Lives l k → Reloads t l (RoomFor l)
+  -- Any closed index of which a block has a life, into tables with room for it;
+  pub any : (t : Tables) (l : Ledger) → Slices t → ClosedIn t l → (k : ℕ) → Lives l k → Reloads t l (RoomFor l) (AnswersAlike l t)
   -- for every opening that is taken and every list of calls that leaves a finished index with blocks, into any tables as long as those in which it stands;
   pub reached : (a : Opening) → openAnswer a ≡ accepted tt → (ks : List Call) → finished (afterAll (opened a) ks) ≡ true
       → 0 < length (afterAll (opened a) ks .now .blocks) → (t : Tables) → Slices t → Encodes t (afterAll (opened a) ks)
-      → Reloads t (afterAll (opened a) ks) (AsLong t)
+      → Reloads t (afterAll (opened a) ks) (AsLong t) (LoadedAgain a ks t)
   -- so for every index that was opened in tables of any contents and finished by any list of calls, each done by its contract.
   pub called : (end kind : ℕ) → 1 ≤ end → end ≤ maxEndTick → kind ≤ 4 → (t t₀ t′ : Tables) (opening : Answer Unit) → OpenedBy end kind t t₀ opening
       → (ks : List Call) (given : List (Answer Unit)) → Run t₀ ks given t′ → finished (afterAll (opened (openingOf end kind t)) ks) ≡ true
-      → 0 < length (afterAll (opened (openingOf end kind t)) ks .now .blocks) → Slices t′ → Reloads t′ (afterAll (opened (openingOf end kind t)) ks) (AsLong t′)
+      → 0 < length (afterAll (opened (openingOf end kind t)) ks .now .blocks) → Slices t′
+      → Reloads t′ (afterAll (opened (openingOf end kind t)) ks) (AsLong t′) (LoadedAgain (openingOf end kind t) ks t′)
 
 -- ── loaded and written ──
 
