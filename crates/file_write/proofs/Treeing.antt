@@ -16,7 +16,7 @@ use Rattle.segment_table.specs.Closed.{Tables, NodeRow, TreeAt, run, blockIn, l
 use Rattle.segment_table.proofs.Closed.{run-length, run-append, run-mem}
 use Rattle.file_write.specs.Putting.{Put, rowBytes}
 use Rattle.file_write.specs.Numbering.{Numbering, NewNumber}
-use Rattle.file_write.specs.Parts.{entryBytes, PutEntries, PutNode, PutNothing, PutTree}
+use Rattle.file_write.specs.Parts.{entryBytes, PutEntries, PutNode, PutTree}
 use Rattle.file_write.proofs.Stores.{part-sets}
 use Rattle.file_write.proofs.Putting.{put-none, put-append, put-same, put-length, put-onward}
 use Rattle.file_write.proofs.Laying.{flatMap-append, flatMap-one}
@@ -95,9 +95,6 @@ node-put nodes entries link min max listed out o o′ at next next′ first coun
           put-append row′ (rest′ .put ks (numbering-kept row n) room all);
     }
 
-pub no-halves : (out o o′ : List ℕ) (at next next′ : ℕ) → Put out at (bytesOf 1 0) o next → Put o next (bytesOf 1 0) o′ next′ → PutNothing out at o′ next′
-no-halves out o o′ at next next′ a b = record { put = put-append a b }
-
 -- ── a tree ──
 
 -- a node: its row, its entries, its halves
@@ -148,7 +145,7 @@ module _ (nodes entries : List ℕ) (link min max listed : ℕ) (out o : List �
       go blocks kind (node xs l r) ks n t all =
           put-same (sym (node-parts (placeIn ks) min max xs l r)) (put-append (own-put ks blocks kind xs l r n (t .0) all) (halves ks blocks kind xs l r n t all))
 
-  pub tree-narrow : (o′ : List ℕ) (next′ : ℕ) → max - min ≤ 1 → PutNothing o next o′ next′ → PutTree nodes entries link min max listed out at o′ next′
+  pub tree-narrow : (o′ : List ℕ) (next′ : ℕ) → max - min ≤ 1 → Put o next (bytesOf 1 0 ++ bytesOf 1 0) o′ next′ → PutTree nodes entries link min max listed out at o′ next′
   unfolding TreeAt nodeBytes nodesOf mapTree
   tree-narrow o′ next′ thin none = of-node o′ next′ λ ks blocks kind xs l r n t all. go ks blocks kind l r (t .0 .narrow (omega arith)) (t .1) (t .2)
     where
@@ -156,7 +153,7 @@ module _ (nodes entries : List ℕ) (link min max listed : ℕ) (out o : List �
           → TreeAt (record { blocks = blocks; nodes = nodes; entries = entries }) kind (leftAt nodes link) min (mid min max) l
           → TreeAt (record { blocks = blocks; nodes = nodes; entries = entries }) kind (rightAt nodes link) (mid min max) max r
           → Put o next (nodeBytes (nodesOf min (mid min max) (mapTree (placeIn ks) l)) ++ nodeBytes (nodesOf (mid min max) max (mapTree (placeIn ks) r))) o′ next′
-      go ks blocks kind hole hole z a b = none .put
+      go ks blocks kind hole hole z a b = none
       go ks blocks kind (node xs l r) s z a b = absurd (omega (arith, a .0 .some))
       go ks blocks kind hole (node xs l r) z a b = absurd (omega (arith, b .0 .some))
 

@@ -39,10 +39,6 @@ pub record PutNode (nodes entries : List ℕ) (link min max listed : ℕ) (out :
       → All (λ k. has k ks ≡ true) (run entries (firstAt nodes link) (countAt nodes link))
       → Put out at (rowBytes 1 min max (mid min max) (countAt nodes link) ++ entryBytes ks (run entries (firstAt nodes link) (countAt nodes link))) out′ next
 
--- two absent halves
-pub record PutNothing (out : List ℕ) (at : ℕ) (out′ : List ℕ) (next : ℕ) : Type 0 where
-  pub put : Put out at (bytesOf 1 0 ++ bytesOf 1 0) out′ next
-
 -- the tree that stands at a link: root first, left before right
 pub record PutTree (nodes entries : List ℕ) (link min max listed : ℕ) (out : List ℕ) (at : ℕ) (out′ : List ℕ) (next : ℕ) : Type 0 where
   pub put : (ks blocks : List ℕ) (kind : ℕ) (tree : Tree) → Numbering out at listed ks

@@ -15,11 +15,11 @@ use Rattle.file_write.specs.declared.plan.Plan.the-variants as plan
 
 -- a kind or presence byte and four numbers
 abbrev pub rowHead : ℕ
-rowHead = 33
+rowHead = 1 + 4 * 8
 
 -- the blocks begin behind the kind byte and the block count
 abbrev pub blocksAt : ℕ
-blocksAt = 9
+blocksAt = 1 + 8
 
 -- the bytes of those of the first n blocks that have a life
 unfoldable pub blocksSize : (blocks : List ℕ) (n : ℕ) → ℕ
@@ -28,7 +28,7 @@ blocksSize blocks (suc n) = blocksSize blocks n + cond (lives blocks n) (rowHead
 
 -- Every node has its row and its entries. A binary tree has one absent child more than nodes, of a byte each.
 unfoldable pub nodesSize : (nodes entries : List ℕ) → ℕ
-nodesSize nodes entries = 34 * nodesUsed nodes + (8 * entriesUsed entries + 1)
+nodesSize nodes entries = (rowHead + 1) * nodesUsed nodes + (8 * entriesUsed entries + 1)
 
 abbrev pub blockCount : (blocks : List ℕ) → ℕ
 blockCount blocks = blockColumn blocks 0 headCount

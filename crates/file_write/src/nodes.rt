@@ -1,6 +1,9 @@
 // The nodes of the file: root first, left before right. The tree is walked by halves: whatever the tables hold, at most 65 calls deep.
+ghost use mathlib.Core.List.{_++_};
 ghost use Prim.Native.Nat.{_≤_};
-ghost use Rattle.file_write.specs.Parts.{PutEntries, PutNode, PutTree, PutNothing};
+ghost use Rattle.history.specs.File.{bytesOf};
+ghost use Rattle.file_write.specs.Putting.{Put};
+ghost use Rattle.file_write.specs.Parts.{PutEntries, PutNode, PutTree};
 use super::numbers;
 use super::put;
 use tables::entry;
@@ -63,7 +66,7 @@ fn put_node(
 
 // Two absent halves.
 fn put_no_halves(out: &mut [u8], at: usize) -> usize
-    ensures { λ r. ⌜ PutNothing (now (out .entry)) at (now (out .exit)) r ⌝ }
+    ensures { λ r. ⌜ Put (now (out .entry)) at (bytesOf 1 0 ++ bytesOf 1 0) (now (out .exit)) r ⌝ }
 {
     let next = put::byte(out, at, ABSENT);
     put::byte(out, next, ABSENT)
