@@ -5,3 +5,6 @@ pub mod Cutting
 pub mod Reached
 pub mod Taking
 pub mod Emptying
+pub mod Answering
+pub mod Cited
+pub mod Injective
