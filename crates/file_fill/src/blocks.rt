@@ -35,7 +35,17 @@ pub fn fill_blocks(
             } => {
                 rows += 1;
                 put_row(
-                    blocks, BASE, rows, first, length, created, destroyed, used, kind, 0, 0,
+                    blocks,
+                    BASE,
+                    rows,
+                    first,
+                    length,
+                    created,
+                    destroyed,
+                    used,
+                    kind,
+                    0,
+                    0,
                 );
                 tables::copy_in(store, used as usize, &file[bytes..next]);
                 used += length;

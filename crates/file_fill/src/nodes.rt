@@ -129,14 +129,7 @@ fn put_entry(entries: &mut [u64], row: u64, number: u64, cell: u64)
 }
 
 // The entries of one node: the `count` numbers at a position, each with the first cell of its block.
-fn fill_entries(
-    entries: &mut [u64],
-    blocks: &[u64],
-    file: &[u8],
-    at: usize,
-    first: u64,
-    count: u64,
-)
+fn fill_entries(entries: &mut [u64], blocks: &[u64], file: &[u8], at: usize, first: u64, count: u64)
     requires { ⌜ first ≤ at ⌝ }
     ensures { λ _. ⌜ FilledEntries (now (blocks .entry)) (now (file .entry)) at first count (now (entries .entry)) (now (entries .exit)) ⌝ }
 {
@@ -196,8 +189,18 @@ fn fill_tree(
                 runs: runs_left,
                 next: right_at,
             } = fill_tree(
-                nodes, entries, blocks, file, kind, min, mid, next, link, more,
-            ) else {
+                nodes,
+                entries,
+                blocks,
+                file,
+                kind,
+                min,
+                mid,
+                next,
+                link,
+                more,
+            )
+            else {
                 return Filled::Wrong;
             };
             let Filled::Tree {
@@ -206,13 +209,21 @@ fn fill_tree(
                 runs: runs_all,
                 next: behind,
             } = fill_tree(
-                nodes, entries, blocks, file, kind, from, max, right_at, rows_left, runs_left,
-            ) else {
+                nodes,
+                entries,
+                blocks,
+                file,
+                kind,
+                from,
+                max,
+                right_at,
+                rows_left,
+                runs_left,
+            )
+            else {
                 return Filled::Wrong;
             };
-            put_row(
-                nodes, 0, link, min, max, left, right, runs, count, kind, 0,
-            );
+            put_row(nodes, 0, link, min, max, left, right, runs, count, kind, 0);
             Filled::Tree {
                 root: link,
                 rows: rows_all,
