@@ -1,0 +1,5 @@
+-- Laws that belong to no one function.
+pub mod Holding
+pub mod Rows
+pub mod Trees
+pub mod Judging
