@@ -2,4 +2,5 @@
 pub mod Holding
 pub mod Rows
 pub mod Trees
+pub mod Standing
 pub mod Judging
