@@ -4,3 +4,6 @@ pub mod Rows
 pub mod Trees
 pub mod Standing
 pub mod Judging
+pub mod Building
+pub mod Faults
+pub mod Loading

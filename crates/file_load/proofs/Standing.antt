@@ -36,7 +36,7 @@ use Rattle.layout.specs.Relations.{zeros}
 use Rattle.layout.specs.Files.{headed, LoadedTables}
 use Rattle.layout.proofs.Lengths.{lent-same, fit-heads}
 use Rattle.layout.proofs.Opening.{getD-zeros, no-links}
-use Rattle.file_load.specs.Load.{Ready}
+use Rattle.file_load.specs.Load.{Ready, Judged, judgement}
 use Rattle.file_load.proofs.Holding.{HoldsAt, written-holds, holds-left, holds-right, holds-part}
 use Rattle.file_load.proofs.Rows.{numbers-length, bytes-length, filled-blocks, filled-stored}
 use Rattle.file_load.proofs.Trees.{entries-used, tree-closed}
@@ -233,6 +233,10 @@ module _ {f : File} {kind n used e : ℕ} {blocks store nodes entries b₁ b₂ 
           (λ a.
           ⊎-elim (λ y. absurd (none-entered (omega (arith, F .entry-room, entries-long)) a y)) (λ y. y) (bool-cases (rule23 (endOf (f .nodes)) bs T)));
     }
+
+    -- so the judgement is the file's
+    pub judged-is : {r : ℕ} → Judged (lent b₃ nodes′ entries′) kind e n r → r ≡ judgement (endOf (f .nodes)) bs T
+    judged-is j = j .is store′ T ready ∙ ap₂ (λ (x : ℕ) (ys : List Block). judgement x ys T) (F .tree-is .ends) blocks-are
 
     -- ── the index ──
 
