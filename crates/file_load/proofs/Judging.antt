@@ -1,30 +1,29 @@
 -- The tests of rules 20 and 22 to 24: one step for each turn and each return. Assumes nothing.
 use mathlib.Core.Path.{_≡_, refl, sym, _∙_, ap}
 use mathlib.Core.Logic.{_⊎_, inl, inr, ⊎-elim}
-use mathlib.Core.Bool.{Bool, true, false, cond, _&&_, not, true≢false, false≢true}
-use mathlib.Core.List.{List, [], _∷_, map}
+use mathlib.Core.Bool.{Bool, true, false, _&&_, not, true≢false}
+use mathlib.Core.List.{List, [], _∷_}
 use Prim.Native.Nat.{ℕ, zero, suc, _+_, _*_, _-_, _/_, _^_, _≤_, _<_}
 use native.Mathlib.Omega.{arith}
 use lib.Dec.{leb, ltb}
 use lib.ListN.{length, getD}
 use borrow.Author.Tests.{lt-ltb, le-ltb, le-leb, lt-leb, not-true, not-false}
-use Rattle.lists.specs.Lists.{All, countFrom}
 use Rattle.lists.specs.Tests.{Decides}
 use Rattle.lists.proofs.Lists.{all-of-map, all-at}
-use Rattle.lists.proofs.Numbers.{bool-cases, lt-or-le, and-left, and-right, and-both}
+use Rattle.lists.proofs.Numbers.{bool-cases, lt-or-le, and-right, and-both}
 use Rattle.history.specs.Lent.{rowWidth, entryWidth, blockHead, nodeHead, entryHead}
 use Rattle.history.specs.Words.{Block, size}
 use Rattle.history.specs.Tree.{Tree, noBlock}
-use Rattle.history.specs.Rules.{every, filled, lived, rule23, apart, isHole}
+use Rattle.history.specs.Rules.{every, filled, lived, rule23, apart}
 use Rattle.history.specs.File.{rule22}
 use Rattle.history.specs.Sound.{isEmpty}
 use Rattle.history.proofs.RulesLaws.{every-decides, decided}
-use Rattle.history.proofs.FileRules.{Rule22, rule22-decides}
+use Rattle.history.proofs.FileRules.{rule22-decides}
 use Rattle.tables.specs.Columns.{blockColumn, blockFirst, blockLength, blockCreated, blockDestroyed}
 use Rattle.segment_table.specs.Closed as closed
 use Rattle.segment_test.specs.Test.{BlockRows, ClosedTree}
 use Rattle.segment_test.proofs.ClosedTree.{tested-rule-23}
-use Rattle.ordering.specs.Blocks.{lengthAt, offsetAt, blockOfRow, blocksOf, Filled, Stored}
+use Rattle.ordering.specs.Blocks.{lengthAt, blockOfRow, blocksOf, Filled, Stored}
 use Rattle.ordering.specs.Apart.{TestedApart}
 use Rattle.ordering.proofs.Blocks.{all-count-from, blocks-length, blocks-at, blocks-key, bytes-length}
 use Rattle.ordering.proofs.Agreeing.{tested-is}
@@ -47,14 +46,20 @@ module _ (blocks store nodes entries n bytes rows runs : ℕ) where
       pub room-entries : {s : ℕ} → s ≡ entries - entryHead → s / 2 < runs → false ≡ roomFor blocks store nodes entries n bytes rows runs
       unfolding roomFor
       room-entries w h =
-          rw (le-leb n ((blocks - blockHead) / rowWidth) (omega arith), le-leb rows ((nodes - nodeHead) / rowWidth) (omega arith),
-          lt-leb runs ((entries - entryHead) / entryWidth) (omega arith)) refl
+          rw (
+            le-leb n ((blocks - blockHead) / rowWidth) (omega arith),
+            le-leb rows ((nodes - nodeHead) / rowWidth) (omega arith),
+            lt-leb runs ((entries - entryHead) / entryWidth) (omega arith),
+          ) refl
 
       pub room-bytes : {s : ℕ} → s ≡ entries - entryHead → runs ≤ s / 2 → leb bytes store ≡ roomFor blocks store nodes entries n bytes rows runs
       unfolding roomFor
       room-bytes w h =
-          rw (le-leb n ((blocks - blockHead) / rowWidth) (omega arith), le-leb rows ((nodes - nodeHead) / rowWidth) (omega arith),
-          le-leb runs ((entries - entryHead) / entryWidth) (omega arith)) refl
+          rw (
+            le-leb n ((blocks - blockHead) / rowWidth) (omega arith),
+            le-leb rows ((nodes - nodeHead) / rowWidth) (omega arith),
+            le-leb runs ((entries - entryHead) / entryWidth) (omega arith),
+          ) refl
 
 pub ruleset rooming = (room-blocks, room-nodes, room-entries, room-bytes)
 
@@ -69,23 +74,30 @@ module _ (blocks : List ℕ) (link end : ℕ) {l : ℕ} (long : l ≡ blockColum
     pub lives-wraps : 18446744073709551615 - l < f → false ≡ livesAt blocks link end
     unfolding livesAt
     lives-wraps h =
-        rw (lt-ltb 0 (blockColumn blocks link blockLength) (omega arith),
-        lt-leb (blockColumn blocks link blockFirst + blockColumn blocks link blockLength) (2 ^ 64 - 1) (omega arith)) refl
+        rw (
+          lt-ltb 0 (blockColumn blocks link blockLength) (omega arith),
+          lt-leb (blockColumn blocks link blockFirst + blockColumn blocks link blockLength) (2 ^ 64 - 1) (omega arith),
+        ) refl
 
     module _ (whole : f ≤ 18446744073709551615 - l) (small : l ≤ 18446744073709551615) {d c : ℕ} (died : d ≡ blockColumn blocks link blockDestroyed) (born : c ≡ blockColumn blocks link blockCreated) where
       pub lives-never : d ≤ c → false ≡ livesAt blocks link end
       unfolding livesAt
       lives-never h =
-          rw (lt-ltb 0 (blockColumn blocks link blockLength) (omega arith),
-          le-leb (blockColumn blocks link blockFirst + blockColumn blocks link blockLength) (2 ^ 64 - 1) (omega arith),
-          le-ltb (blockColumn blocks link blockCreated) (blockColumn blocks link blockDestroyed) (omega arith)) refl
+          rw (
+            lt-ltb 0 (blockColumn blocks link blockLength) (omega arith),
+            le-leb (blockColumn blocks link blockFirst + blockColumn blocks link blockLength) (2 ^ 64 - 1) (omega arith),
+            le-ltb (blockColumn blocks link blockCreated) (blockColumn blocks link blockDestroyed) (omega arith),
+          ) refl
 
       pub lives-by : c < d → leb d end ≡ livesAt blocks link end
       unfolding livesAt
       lives-by h =
-          rw (lt-ltb 0 (blockColumn blocks link blockLength) (omega arith),
-          le-leb (blockColumn blocks link blockFirst + blockColumn blocks link blockLength) (2 ^ 64 - 1) (omega arith),
-          lt-ltb (blockColumn blocks link blockCreated) (blockColumn blocks link blockDestroyed) (omega arith), died) refl
+          rw (
+            lt-ltb 0 (blockColumn blocks link blockLength) (omega arith),
+            le-leb (blockColumn blocks link blockFirst + blockColumn blocks link blockLength) (2 ^ 64 - 1) (omega arith),
+            lt-ltb (blockColumn blocks link blockCreated) (blockColumn blocks link blockDestroyed) (omega arith),
+            died,
+          ) refl
 
 pub ruleset living = (lives-empty, lives-wraps, lives-never, lives-by)
 
