@@ -52,7 +52,7 @@ pub fn is_same(a: &[u8], b: &[u8]) -> bool {
     is_filled(a, b)
 }
 
-pub fn is_zero(table: &[u64]) -> bool {
+fn is_zero(table: &[u64]) -> bool {
     let mut i = 0;
     while i < table.len() {
         if table[i] != 0 {
@@ -63,7 +63,7 @@ pub fn is_zero(table: &[u64]) -> bool {
     true
 }
 
-pub fn is_zero_store(store: &[u8]) -> bool {
+fn is_zero_store(store: &[u8]) -> bool {
     let mut i = 0;
     while i < store.len() {
         if store[i] != 0 {
@@ -72,6 +72,29 @@ pub fn is_zero_store(store: &[u8]) -> bool {
         i += 1;
     }
     true
+}
+
+// Whether all tables hold zeros.
+pub fn are_zero(
+    pieces: &[u64],
+    blocks: &[u64],
+    store: &[u8],
+    nodes: &[u64],
+    entries: &[u64],
+) -> bool {
+    if !is_zero(pieces) {
+        return false;
+    }
+    if !is_zero(blocks) {
+        return false;
+    }
+    if !is_zero(nodes) {
+        return false;
+    }
+    if !is_zero(entries) {
+        return false;
+    }
+    is_zero_store(store)
 }
 
 // ── whether the tables are as they were ──

@@ -11,6 +11,7 @@ use libc::STDIN_FILENO;
 use libc::STDOUT_FILENO;
 
 mod alike;
+mod file;
 mod input;
 mod play;
 mod read;

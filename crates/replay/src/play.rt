@@ -1,5 +1,6 @@
 // Plays a part of the stored list, row after row, in lent tables.
 ghost use Prim.Native.Nat.{_≤_};
+use crate::file;
 use crate::input;
 use crate::read;
 use crate::rows;
@@ -9,8 +10,10 @@ use crate::update;
 // As many rows as a part can have.
 const ROWS: u64 = 65536;
 
-// What stands in the tables when a case starts: not an index.
+// What stands in the tables and in the store when a case starts: not an index.
 const GARBAGE: u64 = 11936128518282651045;
+
+const GARBAGE_BYTE: u8 = 165;
 
 fn spoil(table: &mut [u64]) {
     let mut i = 0;
@@ -20,9 +23,24 @@ fn spoil(table: &mut [u64]) {
     }
 }
 
-fn spoil_all(pieces: &mut [u64], blocks: &mut [u64], nodes: &mut [u64], entries: &mut [u64]) {
+fn spoil_store(store: &mut [u8]) {
+    let mut i = 0;
+    while i < store.len() {
+        store[i] = GARBAGE_BYTE;
+        i += 1;
+    }
+}
+
+fn spoil_all(
+    pieces: &mut [u64],
+    blocks: &mut [u64],
+    store: &mut [u8],
+    nodes: &mut [u64],
+    entries: &mut [u64],
+) {
     spoil(pieces);
     spoil(blocks);
+    spoil_store(store);
     spoil(nodes);
     spoil(entries);
 }
@@ -46,6 +64,9 @@ fn read_right(
     }
     if code == rows::CELLS {
         return read::cells(pieces, blocks, store, nodes, entries, row, pool);
+    }
+    if code == rows::WRITE {
+        return file::write(pieces, blocks, store, nodes, entries, row, pool);
     }
     if code == rows::CLOCK {
         return read::clock(row);
@@ -153,7 +174,7 @@ fn play_row(
         return 0;
     }
     if code <= rows::OWN {
-        spoil_all(pieces, blocks, nodes, entries);
+        spoil_all(pieces, blocks, store, nodes, entries);
         tally::count_case(tally, code);
         return next;
     }
