@@ -4,6 +4,7 @@ Each case is a name and a list of calls in words (board_model.py); what a call a
 fixed sequence of numbers.
 """
 from board_model import MINUTES, MOST_END, WORD, Block, Model, block_bytes, hexed, number_bytes, unhexed
+from board_oracle import differs
 
 ROOMY = (67, 1027, 259, 515)  # rows of blocks, store, nodes, entries that the small files fit in
 WIDE = (64, 64, 256, 4096, 4096, 8192)  # rows of an open with room for everything
@@ -258,11 +259,12 @@ def reads_of(model, dice):
     spots = sorted({c for b in model.blocks for c in (b.first, b.end, b.first - 1) if 0 <= c < WORD} | {0, WORD - 1})
     ticks = sorted({t for b in model.blocks for t in (b.created, b.destroyed - 1, b.destroyed) if 0 <= t < model.end} | {0, model.end - 1})
     for _ in range(min(8, 2 + len(model.blocks))):
-        tick, start = dice.pick(ticks), dice.pick(spots)
-        end = max(start, dice.pick(spots))
+        tick = dice.pick(ticks)
+        start, end = sorted([dice.pick(spots), dice.pick(spots)])
         calls.append(["find", tick, start, end, dice.pick([0, 1, 3, 40, 40, 40])])
+        start = dice.pick(spots)
         end = min(start + dice.below(40), WORD - 1)
-        calls.append(["cells", tick, start, end, end - start + dice.below(3), end - start + dice.below(3)])
+        calls.append(["cells", tick, start, end, end - start + dice.below(3), max(0, end - start + dice.below(4) - 1)])
     calls.append(["find", model.end, 0, 9, 9])
     calls.append(["find", model.end - 1, 9, 8, 9])
     return calls
@@ -364,6 +366,17 @@ def timetable(dice, end, ops):
     return calls
 
 
+def without(end, records):
+    """The records that are taken and meet neither D1 nor D2: the Rust takes the whole list."""
+    model, kept = Model(), []
+    model.answer(list(map(str, ["open", end, 1, *WIDE])))
+    for call in records:
+        meets = differs(model, call[2], unhexed(call[3]))
+        if not meets and not model.answer(list(map(str, call))).startswith("refused"):
+            kept.append(call)
+    return kept
+
+
 def played(calls):
     model = Model()
     for call in calls:
@@ -377,9 +390,11 @@ def board_case(name, dice, end, kind, records, rows=WIDE):
     model = played(calls)
     if model.state == "open":
         return name, calls
-    size = len(unhexed(model.answer(["write", str(1 << 20)])))
-    calls += reads_of(model, dice) + [["write", size], ["write", size + 3], ["finish"]]
-    return name, calls + ([["write", size - 1]] if size else [])
+    content = unhexed(model.answer(["write", str(1 << 20)]))
+    calls += reads_of(model, dice) + [["write", len(content) + 3], ["write", max(0, len(content) - 1)], ["finish"]]
+    calls += [load(content, 0, rows[2:])]
+    model = played(calls)
+    return name, calls + (after_load(model, dice, content) if model.state else [["block", 0]])
 
 
 def file_of(end, kind, records):
@@ -421,19 +436,19 @@ def own_cases():
     dice = Dice(2026)
     cases = [file_case(f"{group.__name__}-{name}", dice, content) for group in GROUPS for name, content in group()]
     cases += list(rooms(dice)) + list(positions(dice))
-    ends = [MOST_END, 1 << 40, 65, 1440] + [dice.pick([30, 32, 40, 64]) for _ in range(22)]
+    ends = [MOST_END, 1 << 40, 65, 1440] + [dice.pick([30, 32, 40, 64]) for _ in range(14)]
     days = [(end, timetable(dice, end, dice.among(3, 9 if end > 100 else 15))) for end in ends]
+    days += [(end, without(end, timetable(dice, end, 18))) for end in [16, 24, 33, 48] * 4]
     for number, (end, records) in enumerate(days):
         cases.append(board_case(f"day-{number}", dice, end, number % 5, records))
     goods = [file_of(end, number % 5, records) for number, (end, records) in enumerate(days)]
-    goods = [content for content in goods if len(content) < 2500]
-    for number, content in enumerate(goods):
-        at = dice.below(9)
-        whole = b"\4" * at + content + b"\1" * dice.below(3)
-        cases.append(file_case(f"day-file-{number}", dice, whole, at, (80, 1100, 300, 600)))
+    goods = [content for content in goods if len(content) < 2000]
+    for number, content in enumerate(goods[:12]):
+        whole = b"\4" * dice.among(1, 9) + content
+        cases.append(file_case(f"day-file-{number}", dice, whole + b"\1" * dice.below(3), len(whole) - len(content), (80, 1100, 300, 600)))
     cases += changed(dice, [SMALL] + [content for content in goods if len(content) < 1000])
-    for number, (end, records) in enumerate(days[:8]):
-        cases += tight(dice, f"tight-{number}", end, number % 5, records)
-    cases += [(f"over-{number}", over(dice, end, records)) for number, (end, records) in enumerate(days[8:12])]
+    for number, (end, records) in enumerate(days[-5:]):
+        cases += tight(dice, f"tight-{number}", end, number % 5, records[:9])
+    cases += [(f"over-{number}", over(dice, end, records)) for number, (end, records) in enumerate(days[-4:])]
     cases.append(("clock", [["clock", m] for m in list(range(0, 1440, 37)) + [MINUTES - 1, MINUTES, 7 * MINUTES + 1439, WORD - 1]]))
     return cases

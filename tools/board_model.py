@@ -278,7 +278,7 @@ class Model:
         refuse(10, len(self.blocks) + len(blocks) + len(pieces) > self.rows["blocks"])
         refuse(11, self.used + len(data) > self.rows["store"])
         self.pieces, self.last, self.used = pieces, tick, self.used + len(data)
-        self.blocks += blocks
+        self.blocks = self.blocks + blocks
         return ["update"]
 
     def finish(self):

@@ -1,31 +1,52 @@
 #!/usr/bin/env python3
 """Makes the stored list that the program `replay` plays: calls with their answers, as its standard input.
 
-  stored.py VECTORS [FILE]    from the oracle's list and the cases of board_cases.py; without FILE it only counts
+  stored.py make VECTORS FILE [ORACLE]   from the oracle's list and the cases of board_cases.py
+  stored.py show FILE [CASE]             the list, or one case of it, in words; cases count from 1
 
 Before anything is written, the model of document 01 (board_model.py) must give every answer of the oracle's list; the answers of the own cases are the
-model's. The same VECTORS give the same bytes.
+model's. With the program ORACLE they are compared with the Rust too (board_oracle.py). The same VECTORS give the same bytes.
 
 The file is parts of 65,536 bytes, the last one shorter. A part is a number P, a pool of P bytes, then rows up to one of no numbers, then zeros. A number
 below 248 is one byte; else a byte 247 + k stands before its k bytes, the highest first. A row is how many numbers it has, then those; the columns that it
 leaves out are 0. Column 0 says what it is, column 1 is the number of the refusal, 0 where the call is taken. Bytes stand in the pool of the part, and a row
-says where they start. crates/replay/src names the columns.
+says where they start. A case stands in one part.
 """
 import collections
 import sys
 
 from board_cases import own_cases
-from board_model import WORD, Model, unhexed
+from board_model import WORD, Model, hexed, unhexed
+from board_oracle import compare
 
 CASE, OWN, OPEN, RECORD, FINISH, BLOCK, FIND, CELLS, WRITE, LOAD, CLOCK = range(1, 12)
 
-# What the program has room for: numbers of each table, bytes of store, places of an answer, cells, bytes of a file.
+# The columns from 2 on; crates/replay/src names them too. `@` is where bytes start.
+LENT = ["pieces", "scratch", "blocks", "store", "nodes", "entries"]
+COLUMNS = {
+    CASE: ["case"],
+    OWN: ["own case"],
+    OPEN: ["open", "end", "kind"] + [""] * 6 + LENT,
+    RECORD: ["record", "tick", "first", "@bytes", "length", "growth"],
+    FINISH: ["finish", "blocks", "nodes", "entries"],
+    BLOCK: ["block", "number", "kind", "first", "length", "created", "destroyed", "@bytes"],
+    FIND: ["find", "tick", "start", "end", "room", "length", "visited", "@numbers"],
+    CELLS: ["cells", "tick", "start", "end", "byte room", "held room", "@bytes", "@held"],
+    WRITE: ["write", "room", "@file", "length"],
+    LOAD: ["load", "at", "@file", "length", "next", "end", "kind", "count", ""] + LENT,
+    CLOCK: ["clock", "cell", "label"],
+}
+
+# What the program has room for: numbers of each table, bytes of store, places of an answer, cells, bytes of a file; and the bytes of a part.
 PIECES, SCRATCH, BLOCKS, STORE, NODES, ENTRIES = 527, 519, 2063, 4103, 32783, 16399
-ANSWER, WINDOW, FILE, PART = 64, 64, 8192, 65536
+ANSWER, WINDOW, FILE, PART = 64, 64, 16384, 65536
 
 
 class LeftOut(Exception):
     """The program cannot make this call: a number of 65 bits, or more than it has room for."""
+
+
+# ── numbers, rows, parts ──
 
 
 def number(value):
@@ -59,6 +80,9 @@ class Part:
         return number(len(self.pool)) + bytes(self.pool) + self.rows + b"\0"
 
 
+# ── a case as rows ──
+
+
 def fits(value, most):
     if not 0 <= value <= most:
         raise LeftOut
@@ -66,7 +90,7 @@ def fits(value, most):
 
 
 class Case:
-    """One case as rows. Its tables are some numbers longer than their rows take, by its place in the list: a part of a row is no row."""
+    """Its tables are some numbers longer than their rows take, by its place in the list: a part of a row is no row."""
 
     def __init__(self, part, place):
         self.part, self.slack, self.pieces = part, place % 8, 8 + place % 8
@@ -75,12 +99,7 @@ class Case:
         return fits(head + width * int(rows) + self.slack % width, most)
 
     def lent(self, blocks, store, nodes, entries):
-        return [
-            self.table(8, 8, blocks, BLOCKS),
-            fits(int(store), STORE),
-            self.table(8, 8, nodes, NODES),
-            self.table(8, 2, entries, ENTRIES),
-        ]
+        return [self.table(8, 8, blocks, BLOCKS), fits(int(store), STORE), self.table(8, 8, nodes, NODES), self.table(8, 2, entries, ENTRIES)]
 
     def bytes(self, word):
         data = unhexed(word)
@@ -96,22 +115,20 @@ class Case:
         return [code, refusal] + numbers
 
     def open(self, words, answer):
-        pieces = self.table(8, 8, words[2], PIECES)
-        scratch = self.table(0, 8, words[3], SCRATCH)
-        lent = self.lent(*words[4:])
+        pieces, scratch = self.table(8, 8, words[2], PIECES), self.table(0, 8, words[3], SCRATCH)
         self.pieces = pieces
-        return OPEN, [int(words[0]), int(words[1])] + [0] * 6 + [pieces, scratch] + lent
+        return OPEN, [int(words[0]), int(words[1])] + [0] * 6 + [pieces, scratch] + self.lent(*words[4:])
 
     def record(self, words, answer):
-        data = self.bytes(words[2])
-        return RECORD, [int(words[0]), int(words[1])] + data + [data[1] if answer == ["update"] else 0]
+        start, length = self.bytes(words[2])
+        return RECORD, [int(words[0]), int(words[1]), start, length, length if answer == ["update"] else 0]
 
     def finish(self, words, answer):
         return FINISH, list(map(int, answer))
 
     def block(self, words, answer):
-        numbers = list(map(int, answer[:5])) + [self.part.place(unhexed(answer[5]))] if answer else []
-        return BLOCK, [int(words[0])] + numbers
+        given = list(map(int, answer[:5])) + self.bytes(answer[5])[:1] if answer else []
+        return BLOCK, [int(words[0])] + given
 
     def find(self, words, answer):
         numbers = list(map(int, answer))
@@ -120,23 +137,62 @@ class Case:
         return FIND, list(map(int, words[:3])) + [fits(int(words[3]), ANSWER)] + listed
 
     def cells(self, words, answer):
-        room = [fits(int(word), WINDOW) for word in words[3:]]
-        return CELLS, list(map(int, words[:3])) + room + [self.part.place(unhexed(word)) for word in answer]
+        rooms = [fits(int(word), WINDOW) for word in words[3:]]
+        return CELLS, list(map(int, words[:3])) + rooms + [self.bytes(word)[0] for word in answer]
 
     def write(self, words, answer):
-        """Where a write is taken, a longer slice than the program's is lent as long as that."""
-        room = int(words[0])
-        if not answer:
-            return WRITE, [fits(room, FILE)]
-        start, length = self.bytes(answer[0])
-        return WRITE, [min(room, FILE), start, fits(length, FILE)]
+        """A slice longer than the program's, of which the answer needs no more, is lent as long as that."""
+        start, length = self.bytes(answer[0]) if answer else (0, 0)
+        return WRITE, [min(int(words[0]), FILE), start, fits(length, FILE)]
 
     def load(self, words, answer):
-        lent = [0, self.pieces, 0] + self.lent(*words[1:5])
-        return LOAD, [int(words[0])] + self.bytes(words[5]) + (list(map(int, answer)) or [0] * 4) + lent
+        said = list(map(int, answer)) or [0] * 4
+        return LOAD, [int(words[0])] + self.bytes(words[5]) + said + [0, self.pieces, 0] + self.lent(*words[1:5])
 
     def clock(self, words, answer):
         return CLOCK, [int(words[0]), *map(int, answer)]
+
+
+class List:
+    """The stored list as it grows, with what is counted."""
+
+    def __init__(self):
+        self.parts, self.cases, self.left_out = [Part()], 0, 0
+        self.count = collections.Counter()
+
+    def add(self, code, calls):
+        self.cases += 1
+        part = self.parts[-1]
+        pool, rows = len(part.pool), part.rows
+        kept = self.put(part, code, calls)
+        if len(part.bytes()) > PART:
+            del part.pool[pool:]
+            part.rows = rows
+            self.parts.append(Part())
+            kept = self.put(self.parts[-1], code, calls)
+            assert len(self.parts[-1].bytes()) <= PART
+        self.left_out += len(calls) - len(kept)
+        for call, answer in kept:
+            self.count[call[0], answer[1] if answer[0] == "refused" else ""] += 1
+
+    def put(self, part, code, calls):
+        """Puts the rows of a case into a part; gives the calls that the program can make."""
+        case, kept = Case(part, self.cases), []
+        part.rows += row([code])
+        for call, answer in calls:
+            try:
+                part.rows += row(case.row(call, answer))
+            except LeftOut:
+                assert call[0] in ("block", "find", "cells", "write"), call
+                continue
+            kept.append((call, answer))
+        return kept
+
+    def bytes(self):
+        return b"".join(part.bytes().ljust(PART, b"\0") for part in self.parts[:-1]) + self.parts[-1].bytes()
+
+
+# ── making the list ──
 
 
 def vector_cases(path):
@@ -165,70 +221,86 @@ def check(cases):
                 sys.exit(f"case {place + 1}: {' '.join(call)[:200]}: {' '.join(answer)[:200]}, but the model says {' '.join(own)[:200]}")
 
 
-class List:
-    """The stored list as it grows, with what is counted."""
-
-    def __init__(self):
-        self.parts, self.place = [Part()], 0
-        self.count, self.left_out = collections.Counter(), 0
-
-    def add(self, code, calls):
-        """A case: its rows stand in one part."""
-        self.place += 1
-        self.count["case"] += 1
-        part = self.parts[-1]
-        pool, rows = len(part.pool), part.rows
-        kept = self.put(part, code, calls)
-        if len(part.bytes()) > PART:
-            del part.pool[pool:]
-            part.rows = rows
-            self.parts.append(Part())
-            self.put(self.parts[-1], code, calls)
-            assert len(self.parts[-1].bytes()) <= PART
-        for call, answer in kept:
-            self.count["answer"] += 1
-            self.count[call[0]] += 1
-            if answer[0] == "refused":
-                self.count["refused " + answer[1]] += 1
-        self.left_out += len(calls) - len(kept)
-
-    def put(self, part, code, calls):
-        """Puts the rows of a case into a part; gives the calls that the program can make."""
-        case, kept = Case(part, self.place), []
-        part.rows += row([code])
-        for call, answer in calls:
-            try:
-                part.rows += row(case.row(call, answer))
-            except LeftOut:
-                assert call[0] not in ("open", "record", "finish", "load"), call
-                continue
-            kept.append((call, answer))
-        return kept
-
-    def bytes(self):
-        return b"".join(part.bytes().ljust(PART, b"\0") for part in self.parts[:-1]) + self.parts[-1].bytes()
+def tell(stored, vectors, whole):
+    """Prints what the list has."""
+    calls = collections.Counter()
+    for (call, _), count in stored.count.items():
+        calls[call] += count
+    print(f"{vectors} cases of the oracle's list, {stored.cases - vectors} more: {sum(calls.values())} answers, {stored.left_out} left out; {len(whole)} bytes")
+    for call, count in sorted(calls.items()):
+        refusals = sorted((int(n), many) for (c, n), many in stored.count.items() if c == call and n)
+        print(f"{count} {call}" + "".join(f", {many} refused {n}" for n, many in refusals))
 
 
-def main(path, out=None):
-    sys.setrecursionlimit(10000)
+def make(path, out, oracle=None):
     cases = vector_cases(path)
     check(cases)
+    own = [(name, [list(map(str, call)) for call in calls]) for name, calls in own_cases()]
+    if oracle:
+        lists, files, differ = compare(oracle, own)
+        print(f"{lists} lists and {files} files compared with the Rust, {len(differ)} differ", *differ)
     stored = List()
     for case in cases:
         stored.add(CASE, case)
-    for _, calls in own_cases():
-        stored.add(OWN, modelled([list(map(str, call)) for call in calls]))
-    whole = stored.bytes()
-    if out:
-        with open(out, "wb") as file:
-            file.write(whole)
-    for name, count in sorted(stored.count.items()):
-        print(count, name)
-    print(stored.left_out, "calls left out")
-    print(len(whole), "bytes")
+    for _, calls in own:
+        stored.add(OWN, modelled(calls))
+    with open(out, "wb") as file:
+        file.write(stored.bytes())
+    tell(stored, len(cases), stored.bytes())
+
+
+# ── showing it ──
+
+
+def read_number(data, at):
+    if data[at] < 248:
+        return data[at], at + 1
+    width = data[at] - 247
+    return int.from_bytes(data[at + 1:at + 1 + width], "big"), at + 1 + width
+
+
+def rows_of(part):
+    """The rows of a part, each with the part's pool."""
+    size, at = read_number(part, 0)
+    pool, at = part[at:at + size], at + size
+    while part[at]:
+        count, at = read_number(part, at)
+        numbers = []
+        for _ in range(count):
+            value, at = read_number(part, at)
+            numbers.append(value)
+        yield numbers + [0] * (16 - count), pool
+
+
+def line(numbers, pool):
+    """A row in words; what a refused call would answer is left out."""
+    name, *columns = COLUMNS[numbers[0]]
+    values = dict(zip(columns, numbers[2:]))
+    length = values["end"] - values["start"] if name == "cells" else values.get("length", 0)
+    words = [name] + [f"refused {numbers[1]}"] * (numbers[1] > 0)
+    for column, value in values.items():
+        if column.startswith("@"):
+            words.append(f"{column[1:]} {hexed(pool[value:value + max(0, length)])}")
+        elif column:
+            words.append(f"{column} {value}")
+    return ", ".join(words)
+
+
+def show(path, only=None):
+    data = open(path, "rb").read()
+    case = 0
+    for start in range(0, len(data), PART):
+        for numbers, pool in rows_of(data[start:start + PART]):
+            case += numbers[0] in (CASE, OWN)
+            if only is None or case == int(only):
+                print(f"{case}: {line(numbers, pool)}")
 
 
 if __name__ == "__main__":
-    if len(sys.argv) not in (2, 3):
+    sys.setrecursionlimit(10000)
+    if sys.argv[1:2] == ["make"] and len(sys.argv) in (4, 5):
+        make(*sys.argv[2:])
+    elif sys.argv[1:2] == ["show"] and len(sys.argv) in (3, 4):
+        show(*sys.argv[2:])
+    else:
         sys.exit(__doc__)
-    main(*sys.argv[1:])

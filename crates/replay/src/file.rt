@@ -1,8 +1,11 @@
 // The calls on files: write and load. After refusals 17 to 20 the tables must be as they were, after 21 to 24 they must hold zeros.
 use crate::alike;
 use crate::input;
+use crate::kept;
 use crate::rows;
+use file_load::Loaded;
 use file_write::Written;
+use tables::block;
 
 const WRITE_ROOM: usize = 2;
 
@@ -82,6 +85,60 @@ pub fn write(
     row: &[u64],
     pool: &[u8],
 ) -> bool {
-    let mut out = [alike::UNTOUCHED; 8192];
+    let mut out = [alike::UNTOUCHED; 16384];
     write_in(pieces, blocks, store, nodes, entries, row, pool, &mut out)
+}
+
+// Whether a load came to the next position, end tick, kind and number of blocks that it must.
+fn is_loaded(blocks: &[u64], row: &[u64], next: u64) -> bool {
+    if rows::get(row, rows::REFUSAL) != 0 {
+        return false;
+    }
+    if next != rows::get(row, LOAD_NEXT) {
+        return false;
+    }
+    if block::get(blocks, 0, block::END) != rows::get(row, LOAD_END) {
+        return false;
+    }
+    if block::get(blocks, 0, block::KIND) != rows::get(row, LOAD_KIND) {
+        return false;
+    }
+    block::get(blocks, 0, block::COUNT) == rows::get(row, LOAD_BLOCKS)
+}
+
+fn is_refusal(row: &[u64], told: u64, kept: bool, zero: bool) -> bool {
+    if told != rows::get(row, rows::REFUSAL) {
+        return false;
+    }
+    if told <= LEAVES {
+        return kept;
+    }
+    zero
+}
+
+pub fn load(
+    pieces: &mut [u64],
+    blocks: &mut [u64],
+    store: &mut [u8],
+    nodes: &mut [u64],
+    entries: &mut [u64],
+    row: &[u64],
+    pool: &[u8],
+) -> bool {
+    let before = kept::sum(pieces, blocks, store, nodes, entries);
+    let file = input::part(
+        pool,
+        rows::get(row, LOAD_START),
+        rows::get(row, LOAD_LENGTH),
+    );
+    let at = rows::get(row, LOAD_AT) as usize;
+    let answer = spacetime_file::deserialize(pieces, blocks, store, nodes, entries, file, at);
+    match answer {
+        Loaded::Next(next) => is_loaded(blocks, row, next as u64),
+        Loaded::Refused(n) => {
+            let after = kept::sum(pieces, blocks, store, nodes, entries);
+            let zero = kept::are_zero(pieces, blocks, store, nodes, entries);
+            is_refusal(row, n, before == after, zero)
+        }
+    }
 }

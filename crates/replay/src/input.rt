@@ -16,7 +16,8 @@ pub struct Number {
     pub next: usize,
 }
 
-fn wide(byte: u8) -> u64
+// A byte as a number.
+pub fn wide(byte: u8) -> u64
     ensures { λ r. ⌜ r < 256 ⌝ }
 {
     byte as u64

@@ -1,18 +1,19 @@
 // Replays a stored list of calls with their answers through the public calls (docs/STORED.md). Prints the cases that differ, how many answers were compared
 // and how many differ, and the same of the files among them.
 //
-//   input      the list as it is read
-//   rows       the columns of its rows
-//   play       row after row
+//   input                the list as it is read
+//   rows                 the columns of its rows
+//   play                 row after row
 //   update, read, file   each call with the answer that must come
-//   alike      comparing
-//   tally      what is counted
+//   alike, kept          slices and tables compared
+//   tally                what is counted
 use libc::STDIN_FILENO;
 use libc::STDOUT_FILENO;
 
 mod alike;
 mod file;
 mod input;
+mod kept;
 mod play;
 mod read;
 mod rows;

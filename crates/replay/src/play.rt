@@ -2,6 +2,7 @@
 ghost use Prim.Native.Nat.{_≤_};
 use crate::file;
 use crate::input;
+use crate::kept;
 use crate::read;
 use crate::rows;
 use crate::tally;
@@ -9,41 +10,6 @@ use crate::update;
 
 // As many rows as a part can have.
 const ROWS: u64 = 65536;
-
-// What stands in the tables and in the store when a case starts: not an index.
-const GARBAGE: u64 = 11936128518282651045;
-
-const GARBAGE_BYTE: u8 = 165;
-
-fn spoil(table: &mut [u64]) {
-    let mut i = 0;
-    while i < table.len() {
-        table[i] = GARBAGE;
-        i += 1;
-    }
-}
-
-fn spoil_store(store: &mut [u8]) {
-    let mut i = 0;
-    while i < store.len() {
-        store[i] = GARBAGE_BYTE;
-        i += 1;
-    }
-}
-
-fn spoil_all(
-    pieces: &mut [u64],
-    blocks: &mut [u64],
-    store: &mut [u8],
-    nodes: &mut [u64],
-    entries: &mut [u64],
-) {
-    spoil(pieces);
-    spoil(blocks);
-    spoil_store(store);
-    spoil(nodes);
-    spoil(entries);
-}
 
 // Whether a read answers as it must.
 fn read_right(
@@ -94,6 +60,9 @@ fn call_right(
     }
     if code == rows::FINISH {
         return update::finish(pieces, blocks, store, nodes, entries, row);
+    }
+    if code == rows::LOAD {
+        return file::load(pieces, blocks, store, nodes, entries, row, pool);
     }
     read_right(pieces, blocks, store, nodes, entries, row, pool)
 }
@@ -174,7 +143,7 @@ fn play_row(
         return 0;
     }
     if code <= rows::OWN {
-        spoil_all(pieces, blocks, store, nodes, entries);
+        kept::spoil_all(pieces, blocks, store, nodes, entries);
         tally::count_case(tally, code);
         return next;
     }

@@ -7,19 +7,19 @@ pub const ORACLE: usize = 0;
 
 pub const OWN: usize = 1;
 
-const CASES: usize = 7;
+const CASES: usize = 2;
 
 // Calls of the case that is played.
-const CALL: usize = 2;
+const CALL: usize = 3;
 
-pub const COMPARED: usize = 3;
+pub const COMPARED: usize = 4;
 
-pub const DIFFER: usize = 4;
+pub const DIFFER: usize = 5;
 
 // Loads, which are answers too.
-pub const FILES: usize = 5;
+pub const FILES: usize = 6;
 
-pub const FILES_DIFFER: usize = 6;
+pub const FILES_DIFFER: usize = 7;
 
 // The columns from here on are what is lent: those of the row that opened or loaded.
 const LENT: usize = rows::PIECES;

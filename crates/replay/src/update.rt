@@ -1,6 +1,6 @@
 // The calls that change an index: open, record, finish. After a refusal the tables must be as they were.
-use crate::alike;
 use crate::input;
+use crate::kept;
 use crate::rows;
 use index::Finished;
 use index::Index;
@@ -50,14 +50,14 @@ pub fn open(
     entries: &mut [u64],
     row: &[u64],
 ) -> bool {
-    let before = alike::sum(pieces, blocks, store, nodes, entries);
+    let before = kept::sum(pieces, blocks, store, nodes, entries);
     let kind = rows::get(row, OPEN_KIND) % 256;
     let end_tick = rows::get(row, OPEN_END);
     let answer = Index::open(pieces, blocks, store, nodes, entries, end_tick, kind as u8);
     match answer {
         Opened::Opened => rows::get(row, rows::REFUSAL) == 0,
         Opened::Refused(n) => {
-            let after = alike::sum(pieces, blocks, store, nodes, entries);
+            let after = kept::sum(pieces, blocks, store, nodes, entries);
             is_refusal(row, n, before == after)
         }
     }
@@ -84,7 +84,7 @@ fn record_op(
     row: &[u64],
     bytes: &[u8],
 ) -> bool {
-    let before = alike::sum(pieces, blocks, store, nodes, entries);
+    let before = kept::sum(pieces, blocks, store, nodes, entries);
     let used_before = block::get(blocks, 0, block::USED);
     let tick = rows::get(row, RECORD_TICK);
     let first = rows::get(row, RECORD_FIRST);
@@ -102,7 +102,7 @@ fn record_op(
     match answer {
         Recorded::Accepted => is_taken(row, used_before, block::get(blocks, 0, block::USED)),
         Recorded::Refused(n) => {
-            let after = alike::sum(pieces, blocks, store, nodes, entries);
+            let after = kept::sum(pieces, blocks, store, nodes, entries);
             is_refusal(row, n, before == after)
         }
     }
@@ -161,12 +161,12 @@ pub fn finish(
     entries: &mut [u64],
     row: &[u64],
 ) -> bool {
-    let before = alike::sum(pieces, blocks, store, nodes, entries);
+    let before = kept::sum(pieces, blocks, store, nodes, entries);
     let answer = index::finalize(pieces, blocks, store, nodes, entries);
     match answer {
         Finished::Finished => is_counted(blocks, nodes, entries, row),
         Finished::Refused(n) => {
-            let after = alike::sum(pieces, blocks, store, nodes, entries);
+            let after = kept::sum(pieces, blocks, store, nodes, entries);
             is_refusal(row, n, before == after)
         }
     }

@@ -1,10 +1,10 @@
--- `replay::play::spoil_store` ends: the store keeps its length. Assumes nothing.
+-- `replay::kept::spoil_store` ends: the store keeps its length. Assumes nothing.
 use mathlib.Core.Path.{_≡_}
 use Prim.Native.Nat.{_-_}
 use lib.ListN.{length}
 use borrow.Author.Needs.{needs}
-use Rattle.replay.proofs.play.spoil_store.Statement.{statement}
-use Rattle.replay.proofs.play.spoil_store.Tie as tie
+use Rattle.replay.proofs.kept.spoil_store.Statement.{statement}
+use Rattle.replay.proofs.kept.spoil_store.Tie as tie
 
 abbrev Inv-loop : tie.InvT-loop
 Inv-loop store₀ i₀ store i = length store ≡ length store₀

@@ -1,10 +1,10 @@
--- `replay::play::spoil` ends: the table keeps its length. Assumes nothing.
+-- `replay::kept::spoil` ends: the table keeps its length. Assumes nothing.
 use mathlib.Core.Path.{_≡_}
 use Prim.Native.Nat.{_-_}
 use lib.ListN.{length}
 use borrow.Author.Needs.{needs}
-use Rattle.replay.proofs.play.spoil.Statement.{statement}
-use Rattle.replay.proofs.play.spoil.Tie as tie
+use Rattle.replay.proofs.kept.spoil.Statement.{statement}
+use Rattle.replay.proofs.kept.spoil.Tie as tie
 
 abbrev Inv-loop : tie.InvT-loop
 Inv-loop table₀ i₀ table i = length table ≡ length table₀

@@ -1,9 +1,9 @@
--- `replay::alike::is_zero` ends: the numbers still to be looked at fall. Assumes nothing.
+-- `replay::kept::is_zero` ends: the numbers still to be looked at fall. Assumes nothing.
 use Prim.Native.Nat.{_-_, _≤_}
 use lib.ListN.{length}
 use borrow.Author.Needs.{needs}
-use Rattle.replay.proofs.alike.is_zero.Statement.{statement}
-use Rattle.replay.proofs.alike.is_zero.Tie as tie
+use Rattle.replay.proofs.kept.is_zero.Statement.{statement}
+use Rattle.replay.proofs.kept.is_zero.Tie as tie
 
 abbrev Inv-loop : tie.InvT-loop
 Inv-loop table i₀ i = i ≤ length table

@@ -1,9 +1,9 @@
--- `replay::alike::is_zero_store` ends: the bytes still to be looked at fall. Assumes nothing.
+-- `replay::kept::is_zero_store` ends: the bytes still to be looked at fall. Assumes nothing.
 use Prim.Native.Nat.{_-_, _≤_}
 use lib.ListN.{length}
 use borrow.Author.Needs.{needs}
-use Rattle.replay.proofs.alike.is_zero_store.Statement.{statement}
-use Rattle.replay.proofs.alike.is_zero_store.Tie as tie
+use Rattle.replay.proofs.kept.is_zero_store.Statement.{statement}
+use Rattle.replay.proofs.kept.is_zero_store.Tie as tie
 
 abbrev Inv-loop : tie.InvT-loop
 Inv-loop store i₀ i = i ≤ length store
