@@ -1,0 +1,16 @@
+-- `replay::replay` ends: the parts still to be read fall, and the tables keep their lengths. Assumes nothing.
+use mathlib.Core.Path.{_≡_}
+use lib.ListN.{length}
+use borrow.Author.Needs.{needs}
+use Rattle.replay.proofs.replay.Statement.{statement}
+use Rattle.replay.proofs.replay.Tie as tie
+
+abbrev Inv-loop : tie.InvT-loop
+Inv-loop tally₀ pieces₀ blocks₀ store₀ nodes₀ entries₀ part₀ left₀ tally pieces blocks store nodes entries part left = (length tally ≡ length tally₀) × (length pieces ≡ length pieces₀) × (length blocks ≡ length blocks₀) × (length store ≡ length store₀) × (length nodes ≡ length nodes₀) × (length entries ≡ length entries₀) × (length part ≡ length part₀)
+
+abbrev μ-loop : tie.MeasureT-loop
+μ-loop tally₀ pieces₀ blocks₀ store₀ nodes₀ entries₀ part₀ left₀ tally pieces blocks store nodes entries part left = left
+
+pub replay-spec : {M : Type 1} → statement M
+replay-spec =
+    tie.close (tie.spec Inv-loop μ-loop (λ c. search needs) (λ c κs. search needs) (λ c. search needs) (λ c. search needs) (λ c. search needs) (λ c. search needs) (λ c. search needs) (λ c. search needs) (λ c. search needs) (λ c. search needs) (λ c κs. search needs) (λ c. search needs) (λ c. search needs) (λ c. search needs) (λ c. search needs) (λ c. search needs) (λ c. search needs) (λ c. search needs) (λ c. search needs) (λ c. search needs) (λ c. search needs) (λ c. search needs))

@@ -1,0 +1,110 @@
+// The stored list as it is read. Every read is total: past the end stand zeros, and a row of zeros ends the list.
+ghost use Prim.Native.Nat.{_<_};
+use crate::rows;
+
+// A byte below this is a number; one of LONG + k stands in front of a number of k + 1 bytes, the highest first.
+const LONG: u64 = 248;
+
+const BASE: u64 = 256;
+
+// What lies above this is pushed out by another byte.
+const UPPER: u64 = 1 << 56;
+
+// A number, and the place behind it.
+pub struct Number {
+    pub value: u64,
+    pub next: usize,
+}
+
+// A byte as a number.
+pub fn wide(byte: u8) -> u64
+    ensures { λ r. ⌜ r < 256 ⌝ }
+{
+    byte as u64
+}
+
+fn byte_at(data: &[u8], at: usize) -> u64
+    ensures { λ r. ⌜ r < 256 ⌝ }
+{
+    if data.len() <= at {
+        return 0;
+    }
+    wide(data[at])
+}
+
+// The place behind a byte, no further than the end.
+fn behind(data: &[u8], at: usize) -> usize {
+    if data.len() <= at {
+        return at;
+    }
+    at + 1
+}
+
+// A number of `width` bytes.
+fn long_at(data: &[u8], at: usize, width: u64) -> Number {
+    let mut value = 0;
+    let mut next = at;
+    let mut left = width;
+    while 0 < left {
+        value = value % UPPER * BASE + byte_at(data, next);
+        next = behind(data, next);
+        left -= 1;
+    }
+    Number { value, next }
+}
+
+pub fn number_at(data: &[u8], at: usize) -> Number {
+    let lead = byte_at(data, at);
+    let next = behind(data, at);
+    if lead < LONG {
+        return Number { value: lead, next };
+    }
+    long_at(data, next, lead - LONG + 1)
+}
+
+// A number, or 0 where the row has no more.
+fn column_at(data: &[u8], at: usize, is_there: bool) -> Number {
+    if is_there {
+        return number_at(data, at);
+    }
+    Number { value: 0, next: at }
+}
+
+// Reads a row, and answers where the next one starts.
+pub fn read_row(data: &[u8], at: usize, row: &mut [u64]) -> usize {
+    let count = number_at(data, at);
+    let many = count.value;
+    let mut next = count.next;
+    let mut col = 0;
+    while col < rows::COLUMNS {
+        let number = column_at(data, next, (col as u64) < many);
+        tables::put(row, 0, col, number.value);
+        next = number.next;
+        col += 1;
+    }
+    next
+}
+
+// So many bytes of the pool from a start on; none where it has not so many.
+pub fn part<'a>(pool: &'a [u8], start: u64, length: u64) -> &'a [u8] {
+    let from = start as usize;
+    if pool.len() < from {
+        return &pool[0..0];
+    }
+    if pool.len() - from < length as usize {
+        return &pool[0..0];
+    }
+    let to = from + length as usize;
+    &pool[from..to]
+}
+
+// The place so many bytes further on, no further than the end.
+pub fn skip(data: &[u8], at: usize, many: u64) -> usize {
+    if data.len() <= at {
+        return at;
+    }
+    if data.len() - at < many as usize {
+        return data.len();
+    }
+    at + many as usize
+}

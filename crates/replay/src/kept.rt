@@ -1,0 +1,122 @@
+// What a call finds in the tables and leaves there: garbage at first, the same after a refusal, or zeros.
+use crate::input;
+
+// What stands in the tables and in the store when a case starts: not an index.
+const GARBAGE: u64 = 11936128518282651045;
+
+const GARBAGE_BYTE: u8 = 165;
+
+fn spoil(table: &mut [u64]) {
+    let mut i = 0;
+    while i < table.len() {
+        table[i] = GARBAGE;
+        i += 1;
+    }
+}
+
+fn spoil_store(store: &mut [u8]) {
+    let mut i = 0;
+    while i < store.len() {
+        store[i] = GARBAGE_BYTE;
+        i += 1;
+    }
+}
+
+pub fn spoil_all(
+    pieces: &mut [u64],
+    blocks: &mut [u64],
+    store: &mut [u8],
+    nodes: &mut [u64],
+    entries: &mut [u64],
+) {
+    spoil(pieces);
+    spoil(blocks);
+    spoil_store(store);
+    spoil(nodes);
+    spoil(entries);
+}
+
+fn is_zero(table: &[u64]) -> bool {
+    let mut i = 0;
+    while i < table.len() {
+        if table[i] != 0 {
+            return false;
+        }
+        i += 1;
+    }
+    true
+}
+
+fn is_zero_store(store: &[u8]) -> bool {
+    let mut i = 0;
+    while i < store.len() {
+        if store[i] != 0 {
+            return false;
+        }
+        i += 1;
+    }
+    true
+}
+
+// Whether all tables hold zeros.
+pub fn are_zero(
+    pieces: &[u64],
+    blocks: &[u64],
+    store: &[u8],
+    nodes: &[u64],
+    entries: &[u64],
+) -> bool {
+    if !is_zero(pieces) {
+        return false;
+    }
+    if !is_zero(blocks) {
+        return false;
+    }
+    if !is_zero(nodes) {
+        return false;
+    }
+    if !is_zero(entries) {
+        return false;
+    }
+    is_zero_store(store)
+}
+
+// A prime of 32 bits, and one of 16.
+const PRIME: u64 = 4294967291;
+
+const STEP: u64 = 65521;
+
+// One number into a sum in which each place counts.
+fn mixed(sum: u64, number: u64) -> u64 {
+    let upper = number / PRIME % PRIME;
+    (sum % PRIME * STEP + upper + number % PRIME) % PRIME
+}
+
+fn sum_of(table: &[u64], from: u64) -> u64 {
+    let mut sum = from;
+    let mut i = 0;
+    while i < table.len() {
+        sum = mixed(sum, table[i]);
+        i += 1;
+    }
+    sum
+}
+
+fn sum_of_store(store: &[u8], from: u64) -> u64 {
+    let mut sum = from;
+    let mut i = 0;
+    while i < store.len() {
+        sum = mixed(sum, input::wide(store[i]));
+        i += 1;
+    }
+    sum
+}
+
+// A sum over all tables: after a refused call it must be what it was.
+pub fn sum(pieces: &[u64], blocks: &[u64], store: &[u8], nodes: &[u64], entries: &[u64]) -> u64 {
+    let up_to_pieces = sum_of(pieces, 1);
+    let up_to_blocks = sum_of(blocks, up_to_pieces);
+    let up_to_store = sum_of_store(store, up_to_blocks);
+    let up_to_nodes = sum_of(nodes, up_to_store);
+    sum_of(entries, up_to_nodes)
+}

@@ -1,0 +1,306 @@
+#!/usr/bin/env python3
+"""Makes the stored list that the program `replay` plays: calls with their answers, as its standard input.
+
+  stored.py make VECTORS FILE [ORACLE]   from the oracle's list and the cases of board_cases.py
+  stored.py show FILE [CASE]             the list, or one case of it, in words; cases count from 1
+
+Before anything is written, the model of document 01 (board_model.py) must give every answer of the oracle's list; the answers of the own cases are the
+model's. With the program ORACLE they are compared with the Rust too (board_oracle.py). The same VECTORS give the same bytes.
+
+The file is parts of 65,536 bytes, the last one shorter. A part is a number P, a pool of P bytes, then rows up to one of no numbers, then zeros. A number
+below 248 is one byte; else a byte 247 + k stands before its k bytes, the highest first. A row is how many numbers it has, then those; the columns that it
+leaves out are 0. Column 0 says what it is, column 1 is the number of the refusal, 0 where the call is taken. Bytes stand in the pool of the part, and a row
+says where they start. A case stands in one part.
+"""
+import collections
+import sys
+
+from board_cases import own_cases
+from board_model import WORD, Model, hexed, unhexed
+from board_oracle import compare
+
+CASE, OWN, OPEN, RECORD, FINISH, BLOCK, FIND, CELLS, WRITE, LOAD, CLOCK = range(1, 12)
+
+# The columns from 2 on; crates/replay/src names them too. `@` is where bytes start.
+LENT = ["pieces", "scratch", "blocks", "store", "nodes", "entries"]
+COLUMNS = {
+    CASE: ["case"],
+    OWN: ["own case"],
+    OPEN: ["open", "end", "kind"] + [""] * 6 + LENT,
+    RECORD: ["record", "tick", "first", "@bytes", "length", "growth"],
+    FINISH: ["finish", "blocks", "nodes", "entries"],
+    BLOCK: ["block", "number", "kind", "first", "length", "created", "destroyed", "@bytes"],
+    FIND: ["find", "tick", "start", "end", "room", "length", "visited", "@numbers"],
+    CELLS: ["cells", "tick", "start", "end", "byte room", "held room", "@bytes", "@held"],
+    WRITE: ["write", "room", "@file", "length"],
+    LOAD: ["load", "at", "@file", "length", "next", "end", "kind", "count", ""] + LENT,
+    CLOCK: ["clock", "cell", "label"],
+}
+
+# What the program has room for: numbers of each table, bytes of store, places of an answer, cells, bytes of a file; and the bytes of a part.
+PIECES, SCRATCH, BLOCKS, STORE, NODES, ENTRIES = 527, 519, 2063, 4103, 32783, 16399
+ANSWER, WINDOW, FILE, PART = 64, 64, 16384, 65536
+
+
+class LeftOut(Exception):
+    """The program cannot make this call: a number of 65 bits, or more than it has room for."""
+
+
+# ── numbers, rows, parts ──
+
+
+def number(value):
+    assert 0 <= value < WORD
+    if value < 248:
+        return bytes([value])
+    width = (value.bit_length() + 7) // 8
+    return bytes([247 + width]) + value.to_bytes(width, "big")
+
+
+def row(numbers):
+    while numbers and numbers[-1] == 0:
+        numbers = numbers[:-1]
+    return number(len(numbers)) + b"".join(map(number, numbers))
+
+
+class Part:
+    """Rows, and a pool in which each stretch of bytes is kept once."""
+
+    def __init__(self):
+        self.pool, self.rows = bytearray(), b""
+
+    def place(self, data):
+        at = self.pool.find(data)
+        if at < 0:
+            at = len(self.pool)
+            self.pool += data
+        return at
+
+    def bytes(self):
+        return number(len(self.pool)) + bytes(self.pool) + self.rows + b"\0"
+
+
+# ── a case as rows ──
+
+
+def fits(value, most):
+    if not 0 <= value <= most:
+        raise LeftOut
+    return value
+
+
+class Case:
+    """Its tables are some numbers longer than their rows take, by its place in the list: a part of a row is no row."""
+
+    def __init__(self, part, place):
+        self.part, self.slack, self.pieces = part, place % 8, 8 + place % 8
+
+    def table(self, head, width, rows, most):
+        return fits(head + width * int(rows) + self.slack % width, most)
+
+    def lent(self, blocks, store, nodes, entries):
+        return [self.table(8, 8, blocks, BLOCKS), fits(int(store), STORE), self.table(8, 8, nodes, NODES), self.table(8, 2, entries, ENTRIES)]
+
+    def bytes(self, word):
+        data = unhexed(word)
+        return [self.part.place(data), len(data)]
+
+    def row(self, call, answer):
+        """The numbers of a call and its answer."""
+        refusal = int(answer[1]) if answer[0] == "refused" else 0
+        words = call[1:]
+        for word in words[:-1] if call[0] in ("record", "load") else words:
+            fits(int(word), WORD - 1)
+        code, numbers = getattr(self, call[0])(words, [] if refusal else answer)
+        return [code, refusal] + numbers
+
+    def open(self, words, answer):
+        pieces, scratch = self.table(8, 8, words[2], PIECES), self.table(0, 8, words[3], SCRATCH)
+        self.pieces = pieces
+        return OPEN, [int(words[0]), int(words[1])] + [0] * 6 + [pieces, scratch] + self.lent(*words[4:])
+
+    def record(self, words, answer):
+        start, length = self.bytes(words[2])
+        return RECORD, [int(words[0]), int(words[1]), start, length, length if answer == ["update"] else 0]
+
+    def finish(self, words, answer):
+        return FINISH, list(map(int, answer))
+
+    def block(self, words, answer):
+        given = list(map(int, answer[:5])) + self.bytes(answer[5])[:1] if answer else []
+        return BLOCK, [int(words[0])] + given
+
+    def find(self, words, answer):
+        numbers = list(map(int, answer))
+        fits(max([0] + numbers[2:]), 255)
+        listed = numbers[:2] + [self.part.place(bytes(numbers[2:]))] if answer else []
+        return FIND, list(map(int, words[:3])) + [fits(int(words[3]), ANSWER)] + listed
+
+    def cells(self, words, answer):
+        rooms = [fits(int(word), WINDOW) for word in words[3:]]
+        return CELLS, list(map(int, words[:3])) + rooms + [self.bytes(word)[0] for word in answer]
+
+    def write(self, words, answer):
+        """A slice longer than the program's, of which the answer needs no more, is lent as long as that."""
+        start, length = self.bytes(answer[0]) if answer else (0, 0)
+        return WRITE, [min(int(words[0]), FILE), start, fits(length, FILE)]
+
+    def load(self, words, answer):
+        said = list(map(int, answer)) or [0] * 4
+        return LOAD, [int(words[0])] + self.bytes(words[5]) + said + [0, self.pieces, 0] + self.lent(*words[1:5])
+
+    def clock(self, words, answer):
+        return CLOCK, [int(words[0]), *map(int, answer)]
+
+
+class List:
+    """The stored list as it grows, with what is counted."""
+
+    def __init__(self):
+        self.parts, self.cases, self.left_out = [Part()], 0, 0
+        self.count = collections.Counter()
+
+    def add(self, code, calls):
+        self.cases += 1
+        part = self.parts[-1]
+        pool, rows = len(part.pool), part.rows
+        kept = self.put(part, code, calls)
+        if len(part.bytes()) > PART:
+            del part.pool[pool:]
+            part.rows = rows
+            self.parts.append(Part())
+            kept = self.put(self.parts[-1], code, calls)
+            assert len(self.parts[-1].bytes()) <= PART
+        self.left_out += len(calls) - len(kept)
+        for call, answer in kept:
+            self.count[call[0], answer[1] if answer[0] == "refused" else ""] += 1
+
+    def put(self, part, code, calls):
+        """Puts the rows of a case into a part; gives the calls that the program can make."""
+        case, kept = Case(part, self.cases), []
+        part.rows += row([code])
+        for call, answer in calls:
+            try:
+                part.rows += row(case.row(call, answer))
+            except LeftOut:
+                assert call[0] in ("block", "find", "cells", "write"), call
+                continue
+            kept.append((call, answer))
+        return kept
+
+    def bytes(self):
+        return b"".join(part.bytes().ljust(PART, b"\0") for part in self.parts[:-1]) + self.parts[-1].bytes()
+
+
+# ── making the list ──
+
+
+def vector_cases(path):
+    """The cases of the oracle's list, each a list of calls with their answers."""
+    cases = []
+    for line in open(path, encoding="ascii"):
+        if line.startswith("case "):
+            cases.append([])
+        elif line.strip() and not line.startswith("#"):
+            call, answer = line.rstrip("\n").split(" = ")
+            cases[-1].append((call.split(), answer.split()))
+    return cases
+
+
+def modelled(calls):
+    """The calls with the model's answers."""
+    model = Model()
+    return [(call, model.answer(call).split()) for call in calls]
+
+
+def check(cases):
+    """The model gives every answer of the oracle's list."""
+    for place, case in enumerate(cases):
+        for (call, answer), (_, own) in zip(case, modelled([call for call, _ in case])):
+            if answer != own:
+                sys.exit(f"case {place + 1}: {' '.join(call)[:200]}: {' '.join(answer)[:200]}, but the model says {' '.join(own)[:200]}")
+
+
+def tell(stored, vectors, whole):
+    """Prints what the list has."""
+    calls = collections.Counter()
+    for (call, _), count in stored.count.items():
+        calls[call] += count
+    print(f"{vectors} cases of the oracle's list, {stored.cases - vectors} more: {sum(calls.values())} answers, {stored.left_out} left out; {len(whole)} bytes")
+    for call, count in sorted(calls.items()):
+        refusals = sorted((int(n), many) for (c, n), many in stored.count.items() if c == call and n)
+        print(f"{count} {call}" + "".join(f", {many} refused {n}" for n, many in refusals))
+
+
+def make(path, out, oracle=None):
+    cases = vector_cases(path)
+    check(cases)
+    own = [(name, [list(map(str, call)) for call in calls]) for name, calls in own_cases()]
+    if oracle:
+        lists, files, differ = compare(oracle, own)
+        print(f"{lists} lists and {files} files compared with the Rust, {len(differ)} differ", *differ)
+    stored = List()
+    for case in cases:
+        stored.add(CASE, case)
+    for _, calls in own:
+        stored.add(OWN, modelled(calls))
+    with open(out, "wb") as file:
+        file.write(stored.bytes())
+    tell(stored, len(cases), stored.bytes())
+
+
+# ── showing it ──
+
+
+def read_number(data, at):
+    if data[at] < 248:
+        return data[at], at + 1
+    width = data[at] - 247
+    return int.from_bytes(data[at + 1:at + 1 + width], "big"), at + 1 + width
+
+
+def rows_of(part):
+    """The rows of a part, each with the part's pool."""
+    size, at = read_number(part, 0)
+    pool, at = part[at:at + size], at + size
+    while part[at]:
+        count, at = read_number(part, at)
+        numbers = []
+        for _ in range(count):
+            value, at = read_number(part, at)
+            numbers.append(value)
+        yield numbers + [0] * (16 - count), pool
+
+
+def line(numbers, pool):
+    """A row in words; what a refused call would answer is left out."""
+    name, *columns = COLUMNS[numbers[0]]
+    values = dict(zip(columns, numbers[2:]))
+    length = values["end"] - values["start"] if name == "cells" else values.get("length", 0)
+    words = [name] + [f"refused {numbers[1]}"] * (numbers[1] > 0)
+    for column, value in values.items():
+        if column.startswith("@"):
+            words.append(f"{column[1:]} {hexed(pool[value:value + max(0, length)])}")
+        elif column:
+            words.append(f"{column} {value}")
+    return ", ".join(words)
+
+
+def show(path, only=None):
+    data = open(path, "rb").read()
+    case = 0
+    for start in range(0, len(data), PART):
+        for numbers, pool in rows_of(data[start:start + PART]):
+            case += numbers[0] in (CASE, OWN)
+            if only is None or case == int(only):
+                print(f"{case}: {line(numbers, pool)}")
+
+
+if __name__ == "__main__":
+    sys.setrecursionlimit(10000)
+    if sys.argv[1:2] == ["make"] and len(sys.argv) in (4, 5):
+        make(*sys.argv[2:])
+    elif sys.argv[1:2] == ["show"] and len(sys.argv) in (3, 4):
+        show(*sys.argv[2:])
+    else:
+        sys.exit(__doc__)
