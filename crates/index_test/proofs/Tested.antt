@@ -19,11 +19,11 @@ use Rattle.tables.specs.Columns.{column, piecesCount, headState, headEnd, headK
 use Rattle.piece_table.specs.Piece.{pieceAt}
 use Rattle.piece_table.specs.Shown.{shown}
 use Rattle.ordering.specs.Order.{InOrder, Unordered}
-use Rattle.ordering.specs.Blocks.{blocksOf, blockOfRow, Filled, Stored}
-use Rattle.ordering.specs.Apart.{TestedApart}
-use Rattle.ordering.proofs.Agreeing.{tested-decides}
+use Rattle.ordering.specs.Blocks.{blocksOf, blockOfRow, Stored}
 use Rattle.ordering.proofs.Blocks.{blocks-length, blocks-at}
 use Rattle.segment_test.specs.Test.{BlockRows, ClosedTree}
+use Rattle.segment_apart.specs.Apart.{AllBounded, ClosedApart}
+use Rattle.segment_apart.proofs.Agreeing.{closed-decides}
 use Rattle.layout.specs.Tables.{Tables, lengthsOf, headAt, treeTables}
 use Rattle.layout.specs.Encodes.{Encodes, TreeIn, stateOf, openState, closedState}
 use Rattle.layout.specs.Formed.{WellFormed}
@@ -46,8 +46,10 @@ block-rows t =
       destroyed = λ k h. ap (λ (b : Block). b .destroyed) (blocks-at (t .store) (t .blocks) n k noBlock h);
     }
 
-rows-filled : (t : Tables) → BoardFormed t → Filled (t .blocks) (headAt t headCount)
-rows-filled t b = record { filled = λ link p q. b .rows .rows link p q .some-cell }
+rows-bounded : (t : Tables) → BoardFormed t → AllBounded (t .blocks) (headAt t headEnd) (headAt t headCount)
+rows-bounded t b = record {
+  rows = λ link p q. let row = b .rows .rows link p q in record { some-cell = row .some-cell; no-wrap = row .no-wrap; by-end = row .by-end };
+}
 
 rows-stored : (t : Tables) → BoardFormed t → Stored (length (t .store)) (t .blocks) (headAt t headCount)
 rows-stored t b = record { inside = λ link p q. omega (arith, b .rows .rows link p q .stored, b .numbers .used-fits) }
@@ -58,28 +60,28 @@ closed-pieces t n e ne = record { decides = λ b. refute (λ p. ne (e ∙ p .no-
 pub closed-order : (t : Tables) (n : ℕ) (r : Bool) → n ≡ headAt t headCount → not r ≡ true → Decides r (InOrder (t .blocks) n) → TestedClosed t false
 closed-order t n r e no-order d = record { decides = λ b. refute (λ p. d .not (not-true r no-order) (rw e (p .order))) }
 
-pub closed-apart : (t : Tables) (n : ℕ) (o r : Bool) → n ≡ headAt t headCount → not o ≡ false → Decides o (InOrder (t .blocks) n) → not r ≡ true → TestedApart (t .blocks) n r
-    → TestedClosed t false
-closed-apart t n o r e ordered d shared test = record {
-  decides = λ b.
-      let order : InOrder (t .blocks) (headAt t headCount) = rw (← e) (d .yes (not-false o ordered)) in
-      let decided = tested-decides (t .store) (rows-stored t b) (rw e at test) order (rows-filled t b) in
-      refute (λ p. decided .not (not-true r shared) (p .apart));
-}
+module _ (t : Tables) (n kind end : ℕ) (o r : Bool) (e : n ≡ headAt t headCount) (k : kind ≡ headAt t headKind) (f : end ≡ headAt t headEnd) (ordered : not o ≡ false)
+    (d : Decides o (InOrder (t .blocks) n)) (trees : (bs : List Block) → BlockRows (t .blocks) n bs → Decides r (ClosedTree (treeTables t) kind end bs)) where
+  in-order : InOrder (t .blocks) (headAt t headCount)
+  in-order = rw (← e) (d .yes (not-false o ordered))
 
-pub closed-tree : (t : Tables) (n kind end : ℕ) (o a r : Bool) (pieces : ℕ) → n ≡ headAt t headCount → kind ≡ headAt t headKind → end ≡ headAt t headEnd
-    → pieces ≡ column (t .pieces) 0 piecesCount → pieces ≡ 0
-    → not o ≡ false → Decides o (InOrder (t .blocks) n) → not a ≡ false → TestedApart (t .blocks) n a
-    → ((bs : List Block) → BlockRows (t .blocks) n bs → Decides r (ClosedTree (treeTables t) kind end bs)) → TestedClosed t r
-closed-tree t n kind end o a r pieces e k f p zero ordered d apart test trees = record {
-  decides = λ b.
-      let order : InOrder (t .blocks) (headAt t headCount) = rw (← e) (d .yes (not-false o ordered)) in
-      let decided = tested-decides (t .store) (rows-stored t b) (rw e at test) order (rows-filled t b) in
-      let tree = rw (k, f) at (trees (blocksOf (t .store) (t .blocks) (headAt t headCount)) (rw e (block-rows t))) in
-      decides-iff r (λ x. record { no-pieces = sym p ∙ zero; order = order; apart = decided .yes (not-false a apart); tree = x }) (λ x. x .tree) tree;
-}
+  tree-tested : Decides r (ClosedTree (treeTables t) (headAt t headKind) (headAt t headEnd) (blocksOf (t .store) (t .blocks) (headAt t headCount)))
+  tree-tested = rw (k, f) at (trees (blocksOf (t .store) (t .blocks) (headAt t headCount)) (rw e (block-rows t)))
 
-pub ruleset closing = (closed-pieces, closed-order, closed-apart, closed-tree)
+  pub closed-tree : not r ≡ true → TestedClosed t false
+  closed-tree no-tree = record { decides = λ b. refute (λ p. tree-tested .not (not-true r no-tree) (p .tree)) }
+
+  pub closed-apart : (pieces : ℕ) {a : Bool} → pieces ≡ column (t .pieces) 0 piecesCount → pieces ≡ 0 → not r ≡ false → ClosedApart (treeTables t) kind end n a
+      → TestedClosed t a
+  closed-apart pieces {a} p zero stands test = record {
+    decides = λ b.
+        let tree = tree-tested .yes (not-false r stands) in
+        let here : ClosedApart (treeTables t) (headAt t headKind) (headAt t headEnd) (headAt t headCount) a = rw (e, k, f) at test in
+        decides-iff a (λ x. record { no-pieces = sym p ∙ zero; order = in-order; apart = x; tree = tree }) (λ x. x .apart)
+        (closed-decides (treeTables t) (headAt t headKind) (headAt t headEnd) (headAt t headCount) (t .store) here (block-rows t) tree (rows-bounded t b) (rows-stored t b) in-order);
+  }
+
+pub ruleset closing = (closed-pieces, closed-order, closed-tree, closed-apart)
 
 -- ── all tables ──
 

@@ -10,8 +10,8 @@
 ghost use Rattle.segment_find.specs.Listing.{InWindow, Extends, Searched, Finds};
 
 pub mod neighbour;
-mod rows;
-mod walk;
+pub mod rows;
+pub mod walk;
 
 use rows::Rows;
 use walk::Node;

@@ -1,0 +1,3 @@
+pub mod Along
+pub mod Clear
+pub mod Apart
