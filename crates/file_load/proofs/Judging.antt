@@ -10,23 +10,24 @@ use lib.ListN.{length, getD}
 use borrow.Author.Tests.{lt-ltb, le-ltb, le-leb, lt-leb, not-true, not-false}
 use Rattle.lists.specs.Tests.{Decides}
 use Rattle.lists.proofs.Lists.{all-of-map, all-at}
-use Rattle.lists.proofs.Numbers.{bool-cases, lt-or-le, and-right, and-both}
+use Rattle.lists.proofs.Numbers.{bool-cases, lt-or-le, and-right, and-both, decided, decides-same}
+use Rattle.lists.proofs.Counting.{all-count-from}
 use Rattle.history.specs.Lent.{rowWidth, entryWidth, blockHead, nodeHead, entryHead}
 use Rattle.history.specs.Words.{Block, size}
 use Rattle.history.specs.Tree.{Tree, noBlock}
 use Rattle.history.specs.Rules.{every, filled, lived, rule23, apart}
 use Rattle.history.specs.File.{rule22}
 use Rattle.history.specs.Sound.{isEmpty}
-use Rattle.history.proofs.RulesLaws.{every-decides, decided}
-use Rattle.history.proofs.FileRules.{rule22-decides}
+use Rattle.history.proofs.RulesLaws.{every-decides, apart-decides}
+use Rattle.history.proofs.FileRules.{rule22-decides, LivingBlock}
 use Rattle.tables.specs.Columns.{blockColumn, blockFirst, blockLength, blockCreated, blockDestroyed}
 use Rattle.segment_table.specs.Closed as closed
 use Rattle.segment_test.specs.Test.{BlockRows, ClosedTree}
 use Rattle.segment_test.proofs.ClosedTree.{tested-rule-23}
-use Rattle.ordering.specs.Blocks.{lengthAt, blockOfRow, blocksOf, Filled, Stored}
-use Rattle.ordering.specs.Apart.{TestedApart}
-use Rattle.ordering.proofs.Blocks.{all-count-from, blocks-length, blocks-at, blocks-key, bytes-length}
-use Rattle.ordering.proofs.Agreeing.{tested-is}
+use Rattle.ordering.specs.Blocks.{lengthAt, blockOfRow, blocksOf, Stored}
+use Rattle.ordering.proofs.Blocks.{blocks-length, blocks-at, blocks-key, bytes-length}
+use Rattle.segment_apart.specs.Apart.{Bounded, AllBounded, ClosedApart}
+use Rattle.segment_apart.proofs.Agreeing.{closed-decides}
 use Rattle.file_load.specs.Load.{roomFor, livesAt, TestedLives, judgement, Ready, Judged}
 
 -- ── the returns of `room` ──
@@ -242,21 +243,25 @@ module _ (t : closed.Tables) (kind end n : ℕ) {live : Bool} (lives : TestedLiv
     unfolding judgement
     judge-entries e = record { is = λ store tree q. rw (rule store (q .stored), rule-23 store tree q, not-true stands e) refl; none = λ z. absurd (never-none z) }
 
-    module _ (whole : not stands ≡ false) {clear : Bool} (apart-is : TestedApart (t .blocks) n clear) where
-      -- no block is empty
-      full : (store : List ℕ) → Stored (length store) (t .blocks) n → Filled (t .blocks) n
+    module _ (whole : not stands ≡ false) {clear : Bool} (apart-is : ClosedApart t kind end n clear) where
+      -- no row is empty, wraps or lives past the end
+      bounded : (store : List ℕ) → Stored (length store) (t .blocks) n → AllBounded (t .blocks) end n
       unfolding blockOfRow
-      full store q = record { filled = λ link a b. one link a b }
+      bounded store q = record { rows = one }
         where
-          one : (link : ℕ) → 0 < link → link ≤ n → 0 < lengthAt (t .blocks) link
+          one : (link : ℕ) → 0 < link → link ≤ n → Bounded (t .blocks) end link
           one zero a b = absurd (omega arith)
           one (suc k) a b =
-              let living = all-at noBlock (rule22-decides end (bs store) .yes (rule store q) .blocks) k (rw (blocks-length store (t .blocks) n) b) in
-              let some-cell : 0 < size (blockOfRow store (t .blocks) (suc k) .stretch) = rw (blocks-at store (t .blocks) n k noBlock b) at (living .some-cell) in
-              omega (arith, bytes-length store (t .blocks) (suc k) (q .inside (suc k) a b))
+              let row : Block = blockOfRow store (t .blocks) (suc k) in
+              let living : LivingBlock end row =
+              rw (blocks-at store (t .blocks) n k noBlock b) at (all-at noBlock (rule22-decides end (bs store) .yes (rule store q) .blocks) k (rw (blocks-length store (t .blocks) n) b)) in
+              let long : size (row .stretch) ≡ lengthAt (t .blocks) (suc k) = bytes-length store (t .blocks) (suc k) (q .inside (suc k) a b) in
+              record { some-cell = omega (arith, living .some-cell); no-wrap = omega (arith, living .no-wrap); by-end = living .by-end }
 
       rule-24 : (store : List ℕ) (tree : Tree) → Ready t kind end n store tree → apart (bs store) ≡ clear
-      rule-24 store tree q = sym (tested-is store (q .stored) apart-is (q .order) (full store (q .stored)))
+      rule-24 store tree q =
+          decides-same (apart (bs store)) clear (apart-decides (bs store))
+          (closed-decides t kind end n store apart-is (rows store) (tested (bs store) (rows store) .yes (not-false stands whole)) (bounded store (q .stored)) (q .stored) (q .order))
 
       pub judge-shared : not clear ≡ true → Judged t kind end n 24
       unfolding judgement

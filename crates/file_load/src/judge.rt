@@ -59,7 +59,7 @@ pub fn judge(blocks: &[u64], nodes: &[u64], entries: &[u64], kind: u64, end: u64
     if !segment_test::test_tree(blocks, nodes, entries, kind, end, n) {
         return ENTRIES;
     }
-    if !ordering::apart(blocks, n) {
+    if !segment_apart::apart(blocks, nodes, entries, kind, end, n) {
         return SHARED;
     }
     0

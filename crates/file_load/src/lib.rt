@@ -2,9 +2,9 @@
 // and gives 17, 18 and 19; then 20. The second pass (`file_fill`) fills the tables, with 21 on the way down; 22, 23 and 24 are tested on the filled
 // tables. After 21 to 24 everything lent is zeros.
 //
-// A load takes O(B + n log n + k + P) steps: B bytes of the file are read, n blocks are sorted, P numbers of the piece table become zeros, and rule 24
-// meets k pairs of blocks of which one starts in a cell of the other (few where a cell has few versions, n * n / 2 at most). A refusal of 21 to 24 zeroes
-// all that is lent. No count of the file is taken on trust, and no call is deeper than 65 frames.
+// A load takes O(B + P + n log n log E) steps: B bytes of the file are read, P numbers of the piece table become zeros, n blocks are sorted, and rule 24
+// looks for each block at no more than 64 nodes, by binary search (`segment_apart`). A refusal of 21 to 24 zeroes all that is lent. No count of the file
+// is taken on trust, and no call is deeper than 65 frames.
 //
 //   room              20
 //   judge             22 to 24, on filled tables

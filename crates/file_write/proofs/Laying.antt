@@ -1,8 +1,8 @@
 -- The blocks that have a life, put one after the other: what a turn of `put_living` and of `put_blocks` adds, and a block's bytes. Assumes nothing.
 use mathlib.Core.Path.{_≡_, refl, sym, _∙_, ap}
-use mathlib.Core.Bool.{Bool, true, false, cond}
+use mathlib.Core.Bool.{Bool, true, false}
 use mathlib.Core.List.{List, [], _∷_, _++_, map, flatMap, flatten, append-assoc, append-nil}
-use Prim.Native.Nat.{ℕ, zero, suc, _+_, _-_, _≤_, _<_}
+use Prim.Native.Nat.{ℕ, suc, _+_, _-_, _≤_, _<_}
 use native.Mathlib.Numerals.{add-one}
 use native.Mathlib.Omega.{arith}
 use lib.Dec.{ltb}
@@ -12,7 +12,7 @@ use Rattle.ordering.specs.Order.{firstCellAt}
 use Rattle.ordering.specs.Blocks.{lengthAt, offsetAt, createdAt, destroyedAt, ownerAt, bytesAt, blockOfRow, Stored}
 use Rattle.ordering.proofs.Blocks.{bytes-length}
 use Rattle.file_write.specs.Putting.{Put, rowBytes}
-use Rattle.file_write.specs.Living.{lives, living, livingBlocks}
+use Rattle.file_write.specs.Living.{lives, living}
 use Rattle.file_write.specs.Parts.{PutBlock, PutBlocks}
 use Rattle.file_write.proofs.Putting.{put-none, put-append, put-same}
 

@@ -6,20 +6,17 @@ use mathlib.Core.List.{List, [], _∷_, _++_, flatMap, append-assoc, append-nil}
 use Prim.Native.Nat.{ℕ, zero, suc, _+_, _*_, _-_, _^_, _≤_, _<_}
 use native.Mathlib.Numerals.{add-one}
 use native.Mathlib.Omega.{arith}
-use lib.Dec.{eqb}
 use lib.ListN.{length, getD, take, drop, length-append}
-use lib.Seq.{sets, sets-eq, length-sets, length-take-le, take-append-seam, drop-append-add, drop-at, take-at}
+use lib.Seq.{sets, sets-eq, length-sets, length-take-le, drop-append-add, take-at}
 use borrow.Author.Tests.{eq-eqb, ne-eqb}
 use Rattle.lists.specs.Lists.{All, all-nil, all-cons, Pairs, pairs-nil, pairs-cons, Ascending, has, countFrom}
 use Rattle.lists.proofs.Lists.{all-append, all-map, all-mem, all-at, pairs-append}
 use Rattle.lists.proofs.Numbers.{eq-or-ne}
-use Rattle.lists.proofs.Counting.{has-decides}
+use Rattle.lists.proofs.Counting.{has-decides, count-from-below, count-from-append}
 use Rattle.history.specs.File.{bytesOf, numberOf, placeIn}
-use Rattle.history.proofs.FileLists.{countFrom-below}
 use Rattle.history.proofs.FileNumbers.{bytesOf-length, numberOf-bytesOf}
 use Rattle.history.proofs.FilePlaces.{placeIn-countFrom}
 use Rattle.ordering.specs.Blocks.{lengthAt}
-use Rattle.ordering.proofs.Blocks.{count-from-append}
 use Rattle.file_write.specs.Putting.{Put}
 use Rattle.file_write.specs.Living.{lives, living}
 use Rattle.file_write.specs.Sizes.{blocksSize, nodesAt}
@@ -142,7 +139,7 @@ module _ {blocks out out′ : List ℕ} {n many listed at : ℕ} (l : Listed blo
     where
       placed : (k : ℕ) → has k (countFrom 0 n) ≡ true → placeIn (countFrom 0 n) k ≡ k
       placed k h =
-          let low : k < 0 + n = all-mem (all-map (λ j p. p .1) (countFrom-below 0 n)) (has-decides k (countFrom 0 n) .yes h) in
+          let low : k < 0 + n = all-mem (all-map (λ j p. p .1) (count-from-below 0 n)) (has-decides k (countFrom 0 n) .yes h) in
           placeIn-countFrom 0 n k (omega arith) (omega arith) ∙ omega arith
 
   numbering-listed : (many ≡ n → ⊥) → Numbering out′ at listed (living blocks n)

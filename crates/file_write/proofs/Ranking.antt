@@ -1,5 +1,5 @@
 -- A block's place in the list by binary search: the returns of `listed_at`, and what a turn of `new_number` leaves. Assumes nothing.
-use mathlib.Core.Path.{_≡_, refl, sym, _∙_, ap}
+use mathlib.Core.Path.{_≡_, sym, _∙_, ap}
 use mathlib.Core.Logic.{⊎-elim}
 use mathlib.Core.Bool.{true}
 use mathlib.Core.List.{List}
@@ -9,7 +9,7 @@ use lib.ListN.{length, getD, take, drop}
 use Rattle.lists.specs.Lists.{has}
 use Rattle.lists.proofs.Lists.{pairs-at}
 use Rattle.lists.proofs.Numbers.{le-or-lt, eq-or-ne}
-use Rattle.history.specs.File.{Read, got, fault, number, numberOf, placeIn}
+use Rattle.history.specs.File.{got, fault, number, numberOf, placeIn}
 use Rattle.history.proofs.FilePlaces.{placeIn-below, placeIn-inside, placeIn-found}
 use Rattle.history.proofs.FileReads.{number-read}
 use Rattle.fields.specs.declared.Field.{Field}

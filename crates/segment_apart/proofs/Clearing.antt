@@ -2,7 +2,7 @@
 use mathlib.Core.Path.{_≡_, refl, sym, ap, _∙_}
 use mathlib.Core.Logic.{⊎-elim}
 use mathlib.Core.Bool.{Bool, true, false, not, true≢false, false≢true}
-use mathlib.Core.List.{List, [], _++_}
+use mathlib.Core.List.{List, _++_}
 use Prim.Native.Nat.{ℕ, suc, _+_, _-_, _*_, _^_, _≤_, _<_}
 use native.Mathlib.Omega.{arith}
 use lib.ListN.{length, getD}
@@ -10,7 +10,7 @@ use lib.Dec.{leb}
 use borrow.Author.Tests.{leb-true, leb-false, not-true, not-false}
 use Rattle.lists.specs.Lists.{All, all-nil, Ascending}
 use Rattle.lists.specs.Tests.{Decides}
-use Rattle.lists.proofs.Numbers.{le-or-lt, lt-or-le, confirm, refute}
+use Rattle.lists.proofs.Numbers.{le-or-lt, refute}
 use Rattle.lists.proofs.Lists.{all-append, all-map, mem-left, mem-right, pairs-at}
 use Rattle.history.specs.Lent.{rowWidth, blockHead}
 use Rattle.history.specs.Tree.{Tree, hole, node}
@@ -24,7 +24,7 @@ use Rattle.segment_find.specs.declared.walk.Node.{Node}
 use Rattle.segment_find.specs.declared.rows.Rows.{Rows}
 use Rattle.segment_find.specs.Walking.{Stands, Rooted, rootAt, Absent, halfAt}
 use Rattle.segment_find.specs.Rowing.{rowsAt, RunOf, Parts, Lower}
-use Rattle.segment_find.proofs.Halving.{Present, present, absent-hole, Down, down}
+use Rattle.segment_find.proofs.Halving.{present, absent-hole, Down, down}
 use Rattle.segment_find.proofs.Windows.{run-of}
 use Rattle.segment_apart.specs.declared.birth.Own.{Own}
 use Rattle.segment_apart.specs.Clear.{endIn, EndsBy, Owns, Parted, Reached, Clears, RunClear, WayClear, BirthClear}

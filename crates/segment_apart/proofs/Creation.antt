@@ -5,7 +5,7 @@
 -- further down the board. If j is, m starts before its end, so one parts m from j: it would end before j and start behind it. Else j and m were
 -- live before and shared a cell then.
 use mathlib.Core.Path.{_≡_, ap}
-use mathlib.Core.Logic.{_⊎_, inl, inr}
+use mathlib.Core.Logic.{inl, inr}
 use Prim.Native.Nat.{ℕ, zero, suc, _≤_, _<_}
 use native.Mathlib.Omega.{arith}
 use Rattle.lists.proofs.Numbers.{lt-or-le}

@@ -9,12 +9,11 @@ use lib.ListN.{length}
 use lib.Dec.{leb, ltb}
 use borrow.Author.Tests.{leb-true, ltb-true, not-true, not-false}
 use Rattle.lists.specs.Lists.{All, Mem, count}
-use Rattle.lists.specs.Tests.{Decides}
 use Rattle.lists.proofs.Numbers.{confirm, refute, lt-or-le, and-left, and-right}
 use Rattle.lists.proofs.Lists.{all-map, all-mem, all-of-at}
 use Rattle.lists.proofs.Counting.{mem-count, count-mem}
-use Rattle.history.specs.Words.{Block, within, live}
-use Rattle.history.specs.Tree.{Tree, noBlock, blockAt, keyIn, entriesIn}
+use Rattle.history.specs.Words.{Block, live}
+use Rattle.history.specs.Tree.{Tree, noBlock, blockAt, keyIn}
 use Rattle.history.specs.Find.{path}
 use Rattle.history.proofs.Within.{within-in}
 use Rattle.history.proofs.RulesLaws.{Rule23, rule23-decides, numbered-decides}
@@ -26,11 +25,11 @@ use Rattle.segment_table.specs.Closed.{Tables, firstCellIn}
 use Rattle.segment_test.specs.Test.{lent, createdIn, destroyedIn, BlockRows, ClosedTree}
 use Rattle.segment_find.specs.Walking.{Rooted}
 use Rattle.segment_find.proofs.Agreeing.{sorted-agree}
-use Rattle.segment_apart.specs.Clear.{endIn, Parted, Reached, Clears, BirthClear}
+use Rattle.segment_apart.specs.Clear.{endIn, Reached, Clears, BirthClear}
 use Rattle.segment_apart.specs.Along.{RowsSeen}
 use Rattle.segment_apart.specs.Apart.{AllBounded, ApartByTree, ClosedApart}
 use Rattle.segment_apart.proofs.Seeing.{seen-unshared}
-use Rattle.segment_apart.proofs.Creation.{Alive, Meet, Between, Born, born-apart}
+use Rattle.segment_apart.proofs.Creation.{Alive, Born, born-apart}
 
 -- the first k blocks are clear of those live when they are created
 pub record Passed (t nodes entries : List ℕ) (kind end k : ℕ) : Type 0 where

@@ -1,5 +1,4 @@
 -- Rule 24 of a closed index: what is decided, by its tree and by the whole test. Definitions alone.
-use mathlib.Core.Path.{_≡_}
 use mathlib.Core.Bool.{Bool}
 use mathlib.Core.List.{List}
 use Prim.Native.Nat.{ℕ, _+_, _-_, _^_, _≤_, _<_}

@@ -13,7 +13,8 @@ use Rattle.lists.specs.Lists.{Ascending, has, countFrom}
 use Rattle.lists.proofs.Lists.{all-at, pairs-at}
 use Rattle.lists.proofs.Numbers.{le-or-lt, lt-or-le}
 use Rattle.lists.proofs.Maps.{length-of-map}
-use Rattle.history.specs.Words.{Block, life}
+use Rattle.lists.proofs.Counting.{count-from-pairs}
+use Rattle.history.specs.Words.{Block}
 use Rattle.history.specs.Tree.{blockAt, entriesIn}
 use Rattle.history.specs.Ledger.{Ledger}
 use Rattle.history.specs.Reads.{treeIn, blockBy, Found, findBy, Cells}
@@ -21,7 +22,6 @@ use Rattle.history.specs.Refusals.{Answer, accepted, refused, Refusal, firstOf,
 use Rattle.history.specs.Sound.{Sound}
 use Rattle.history.specs.File.{written, savedLedger}
 use Rattle.history.proofs.Passing.{Passed}
-use Rattle.history.proofs.FileLists.{countFrom-pairs}
 use Rattle.history.proofs.FilePlaces.{thoseWith-has, thoseWith-pairs, placeIn-inside, placeIn-found, placeIn-at}
 use Rattle.history.proofs.FileKept.{Writable, written-below, written-block, living-written, entered-lives}
 use Rattle.history.proofs.FileSound.{saved-find, saved-cells}
@@ -154,7 +154,7 @@ module _ {t u : Tables} {l : Ledger} (c : ClosedIn t l) (w : Writable (l .openin
   -- ── blocks ──
 
   ascending : Ascending (λ k. k) kept
-  ascending = thoseWith-pairs (entriesIn (treeIn l)) (countFrom-pairs 0 (length (l .now .blocks)) (λ i j a b c. b))
+  ascending = thoseWith-pairs (entriesIn (treeIn l)) (count-from-pairs 0 (length (l .now .blocks)) (λ i j a b c. b))
 
   -- a block with a life is written
   pub lives-kept : (k : ℕ) → Lives l k → has k kept ≡ true

@@ -9,10 +9,9 @@ use lib.Dec.{ltb}
 use borrow.Author.Tests.{ltb-true, ltb-false}
 use Rattle.lists.specs.Lists.{sumOf}
 use Rattle.lists.proofs.Lists.{sum-append}
-use Rattle.lists.proofs.Maps.{map-append, filterMap-cons}
+use Rattle.lists.proofs.Maps.{map-append, filterMap-cons, map-map}
 use Rattle.history.specs.Words.{Stretch, Piece, Block, size, ends, clip, clipPiece, below, inside, above, blockOf}
 use Rattle.history.proofs.Clip.{part, part-ends}
-use Rattle.history.proofs.FileLists.{map-map}
 
 -- ── of pieces and of blocks ──
 

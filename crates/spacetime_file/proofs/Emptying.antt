@@ -9,17 +9,16 @@ use lib.ListN.{length, take, drop}
 use borrow.Author.Tests.{le-ltb}
 use Rattle.lists.specs.Lists.{All, all-nil, here, has, countFrom, sumOf}
 use Rattle.lists.proofs.Lists.{all-mem}
-use Rattle.lists.proofs.Numbers.{lt-or-le}
+use Rattle.lists.proofs.Numbers.{lt-or-le, decided}
 use Rattle.lists.proofs.Counting.{has-decides}
-use Rattle.history.specs.Words.{Block, life}
+use Rattle.history.specs.Words.{Block}
 use Rattle.history.specs.Lent.{Lent, nodeRows}
 use Rattle.history.specs.Tree.{Tree, nodeCount, entriesIn}
 use Rattle.history.specs.Ledger.{Ledger}
 use Rattle.history.specs.Reads.{treeIn, blockBy}
 use Rattle.history.specs.Refusals.{Answer, accepted, refused}
-use Rattle.history.specs.File.{Read, got, fault, _>>=_, onward, readFile, File, Loaded, load, bytesOf, nodeBytes, nodesOf, fileBytes, fileOf, fileBy, contents, thoseWith, written, mapTree, placeIn, rule20, rule22}
-use Rattle.history.specs.Rules.{every}
-use Rattle.history.proofs.RulesLaws.{numbered-decides, rule23-decides, decided}
+use Rattle.history.specs.File.{Read, got, fault, onward, readFile, File, Loaded, load, bytesOf, nodeBytes, nodesOf, fileBytes, fileOf, fileBy, contents, thoseWith, written, mapTree, placeIn, rule20, rule22}
+use Rattle.history.proofs.RulesLaws.{numbered-decides, rule23-decides}
 use Rattle.history.proofs.TreeCounts.{entry-count-in}
 use Rattle.history.proofs.FileReads.{number-cut}
 use Rattle.history.proofs.FileRenumbered.{mapTree-same}
