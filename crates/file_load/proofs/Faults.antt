@@ -6,7 +6,7 @@ use Prim.Native.Nat.{ℕ, zero, suc, _+_, _<_}
 use native.Mathlib.Omega.{arith}
 use lib.Dec.{leb, eqb}
 use lib.ListN.{length}
-use Rattle.history.specs.File.{Read, got, fault, Reader, onward, give, refuse_unless_, field, number, many, readBlock, Nodes, readNode, readNodes, readRoot, readFile}
+use Rattle.history.specs.File.{Read, got, fault, Reader, onward, _>>=_, give, refuse_unless_, field, number, many, readBlock, Nodes, readNode, readNodes, readRoot, readFile}
 
 -- every fault of the reader has a low number
 pub record Low {A : Type 0} (r : Reader A) : Type 0 where
