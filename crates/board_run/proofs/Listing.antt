@@ -3,13 +3,13 @@ use mathlib.Core.Path.{_≡_, refl, sym, _∙_, ap, subst}
 use mathlib.Core.Bool.{true, false}
 use mathlib.Core.Option.{Option, none, some}
 use mathlib.Core.List.{List, [], _∷_, _++_, append-assoc, append-nil, flatMap}
-use Prim.Native.Nat.{ℕ, suc, _+_, _≤_, _<_, _^_}
+use Prim.Native.Nat.{ℕ, _+_, _≤_, _<_, _^_}
 use native.Mathlib.Numerals.{add-one}
 use native.Mathlib.Omega.{arith}
-use lib.ListN.{length, getD, take, drop}
+use lib.ListN.{length, take, drop}
 use lib.Seq.{take-suc, take-all}
 use borrow.Author.Tests.{lt-leb, le-leb}
-use Rattle.history.specs.Words.{Block, firstCell}
+use Rattle.history.specs.Words.{Block}
 use Rattle.history.specs.Lent.{tooShort}
 use Rattle.history.specs.Tree.{Tree, noBlock}
 use Rattle.history.specs.Ledger.{Ledger, finished, isSome, finishBy}
@@ -23,7 +23,7 @@ use Rattle.tables.specs.Columns.{blockColumn, headCount, headState}
 use Rattle.layout.specs.Tables.{Tables, tables, headAt}
 use Rattle.layout.specs.Encodes.{Encodes, stateOf, openState}
 use Rattle.layout.specs.Formed.{WellFormed, WellFormedForFinish}
-use Rattle.layout.specs.Relations.{Fields, blockIn, blockOfFields, FinishLeaves, FinishedBy}
+use Rattle.layout.specs.Relations.{Fields, blockIn, blockOfFields, FinishLeaves}
 use Rattle.index.specs.Answers.{givenOf, finishedOf}
 use Rattle.index.specs.Reads.{BlockClosed, partOf}
 use Rattle.index.specs.Work.{FinishesOpen}

@@ -1,6 +1,5 @@
 -- Records: one step for each return of `record_one` and `record_all`, and for a turn of its loop. Assumes nothing.
-use mathlib.Core.Path.{_≡_, refl, sym, _∙_, ap, subst}
-use mathlib.Core.Bool.{true, false}
+use mathlib.Core.Path.{_≡_, refl, sym, _∙_}
 use mathlib.Core.List.{List, [], _∷_, _++_, append-assoc}
 use Prim.Native.Nat.{ℕ, suc, _+_, _-_, _^_, _≤_, _<_}
 use native.Mathlib.Numerals.{add-one}
@@ -8,7 +7,7 @@ use native.Mathlib.Omega.{arith}
 use lib.ListN.{length, take, drop}
 use Rattle.history.specs.Words.{Operation}
 use Rattle.history.specs.Ledger.{Ledger}
-use Rattle.history.specs.Refusals.{Answer, accepted, refused, recordAnswer}
+use Rattle.history.specs.Refusals.{recordAnswer}
 use Rattle.history.specs.Calls.{recordCall, answerTo, after}
 use Rattle.history.specs.Printed.{boardScratch, opLine, linesFrom, refusedLine, opText, decimal}
 use Rattle.layout.specs.Tables.{tables}

@@ -1,28 +1,27 @@
 -- How much is printed at most: lines, then the last lines by the sizes of all blocks, then how many records there are. Assumes nothing.
-use mathlib.Core.Path.{_≡_, refl, sym, _∙_, ap, subst}
+use mathlib.Core.Path.{_≡_, refl, sym, _∙_, ap}
 use mathlib.Core.Logic.{_⊎_, ⊎-elim}
 use mathlib.Core.Bool.{Bool, true, false, cond}
 use mathlib.Core.List.{List, [], _∷_, _++_, map, flatMap}
 use Prim.Native.Nat.{ℕ, suc, _+_, _*_, _≤_, _<_}
 use native.Mathlib.Omega.{arith}
 use lib.Dec.{leb}
-use lib.ListN.{length, take, length-append, length-take}
+use lib.ListN.{length, length-append}
 use Rattle.lists.proofs.Numbers.{le-or-lt}
 use Rattle.lists.proofs.Maps.{length-of-map}
 use Rattle.history.specs.Words.{Operation, Block, size, blockOf}
-use Rattle.history.specs.Lent.{Lent, blockRows}
 use Rattle.history.specs.Ledger.{Opening, Ledger, opened, settled, finishBy}
 use Rattle.history.specs.Refusals.{Answer, accepted, refused, openAnswer}
 use Rattle.history.specs.Calls.{Call, recordCall, finishCall, answerTo, acceptedBy, leaves, after, afterAll, history, noted}
 use Rattle.history.specs.Law.{LedgerLaw}
 use Rattle.history.specs.File.{Read, got, fault}
-use Rattle.history.specs.Printed.{Records, bad, all, inputMost, readRecord, boardLent, boardScratch, headerText, badRecordText, openText, opText, finishText, refusedText, newline, decimal, hexBytes, blockLine, refusedLine, opLine, lastLines, linesFrom, openLines, recordLines, printed}
+use Rattle.history.specs.Printed.{Records, bad, all, readRecord, boardLent, boardScratch, badRecordText, openText, opText, finishText, refusedText, newline, decimal, hexBytes, blockLine, refusedLine, opLine, lastLines, linesFrom, openLines, recordLines}
 use Rattle.history.proofs.EveryList.{the-law, law-after, opening-kept}
 use Rattle.board_text.specs.Input.{itemFrom, itemAt, inputFrom, recordsOf, firstRecord}
 use Rattle.board_text.specs.Walk.{Walk, walk-end, walk-on}
 use Rattle.board_text.specs.Line.{blockLineOf, blockFront}
-use Rattle.board_text.specs.declared.input.Item.the-variants.{End, Bad, Record}
-use Rattle.board_text.proofs.Walking.{OneMore, records-on, records-short}
+use Rattle.board_text.specs.declared.input.Item.the-variants.{End, Record}
+use Rattle.board_text.proofs.Walking.{records-on, records-short}
 use Rattle.board_text.proofs.Meeting.{law-of-input}
 use Rattle.board_text.proofs.Lines.{law-of-lines}
 use Rattle.board_run.specs.Runs.{printedOf}

@@ -1,5 +1,5 @@
 -- The whole: one step for each return of `play_open`, `play`, `lend`, `run_first` and `run`. Assumes nothing.
-use mathlib.Core.Path.{_≡_, refl, sym, _∙_, ap, ap₂, subst}
+use mathlib.Core.Path.{_≡_, refl, sym, _∙_, ap, subst}
 use mathlib.Core.Bool.{false}
 use mathlib.Core.List.{List, [], _∷_, _++_}
 use Prim.Native.Nat.{ℕ, _≤_, _<_}
@@ -8,16 +8,15 @@ use lib.ListN.{length, take, length-take}
 use lib.Seq.{take-all, length-take-le, length-sets}
 use Rattle.history.specs.Words.{Operation}
 use Rattle.history.specs.Lent.{Lent, tooShort}
-use Rattle.history.specs.Ledger.{Opening, Ledger, opened}
+use Rattle.history.specs.Ledger.{Opening, opened}
 use Rattle.history.specs.Refusals.{Answer, accepted, refused, openAnswer}
-use Rattle.history.specs.Printed.{Records, bad, all, inputMost, parsed, boardLent, headerText, badRecordText, openText, newline, decimal, refusedLine, linesFrom, openLines, recordLines, printed}
-use Rattle.layout.specs.Tables.{Tables, tables, lengthsOf}
+use Rattle.history.specs.Printed.{Records, bad, all, inputMost, boardLent, headerText, badRecordText, openText, newline, decimal, refusedLine, linesFrom, openLines, recordLines, printed}
+use Rattle.layout.specs.Tables.{Tables, tables}
 use Rattle.layout.specs.Relations.{openingOf, openedTables, leftBy, OpenedBy}
 use Rattle.index.specs.Answers.{openedOf}
 use Rattle.index.specs.declared.Opened.{Opened}
 use Rattle.index.specs.declared.Opened.the-variants.{Opened as IsOpened, Refused}
-use Rattle.board_text.specs.Input.{startOf, inputFrom, recordsOf, checkOf, firstRecord}
-use Rattle.board_text.specs.Walk.{Walk}
+use Rattle.board_text.specs.Input.{startOf, recordsOf, checkOf}
 use Rattle.board_text.specs.Line.{Put}
 use Rattle.board_text.specs.declared.input.Start.{Start}
 use Rattle.board_text.specs.declared.input.Start.the-variants.{Short, Open}
@@ -92,8 +91,9 @@ pub ruleset playing = (play-refused, play-opened)
 
 -- ── `lend` ──
 
-pub lend-lines : {pieces blocks store nodes entries input out out′ : List ℕ} {end kind next : ℕ} → length pieces ≡ 4104 → length blocks ≡ 8200
-    → length store ≡ 65536 → length nodes ≡ 8200 → length entries ≡ 8200 → PlayPut (tables pieces blocks store nodes entries) input end kind out out′ next
+pub lend-lines : {pieces blocks store nodes entries input out out′ : List ℕ} {end kind next : ℕ} → length pieces ≡ boardLent .pieces
+    → length blocks ≡ boardLent .blocks → length store ≡ boardLent .store → length nodes ≡ boardLent .nodes → length entries ≡ boardLent .entries
+    → PlayPut (tables pieces blocks store nodes entries) input end kind out out′ next
     → LendPut input end kind out out′ next
 lend-lines a b c d e puts = record { lines = puts .lines (rw (a, b, c, d, e)) }
 

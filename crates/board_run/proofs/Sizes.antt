@@ -176,15 +176,15 @@ held-read m o h = record { all-there = h .all-there }
 
 pub held-record : (l : Ledger) (scratch : ℕ) (o : Operation) → Held (l .now) → Held (after l (recordCall scratch o) .now)
 unfolding after leaves acceptedBy recordBy
-held-record l scratch o h = go (answerTo l (recordCall scratch o)) (isRead (l .now) o)
+held-record l scratch o h = go (answerTo l (recordCall scratch o))
   where
     either : (t : Bool) → Held (cond t (readBy (l .now) o) (updateBy (l .opening .kind) (l .now) o))
     either true = held-read (l .now) o h
     either false = held-update (l .opening .kind) (l .now) o h
 
-    go : (a : Answer Unit) (t : Bool) → Held (leaves a l (recordBy l o) .now)
-    go (accepted u) t = either (isRead (l .now) o)
-    go (refused n) t = h
+    go : (a : Answer Unit) → Held (leaves a l (recordBy l o) .now)
+    go (accepted u) = either (isRead (l .now) o)
+    go (refused n) = h
 
 -- once settled, they stand in blocks
 pub held-settled : (e : ℕ) (m : Moment) → Held m → blockSizes (settled e m) ≡ length (m .store)

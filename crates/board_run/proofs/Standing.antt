@@ -1,7 +1,7 @@
 -- The tables between calls: opening makes them stand for the ledger, and record keeps them so. Assumes nothing.
-use mathlib.Core.Path.{_≡_, refl, sym, _∙_, subst}
+use mathlib.Core.Path.{_≡_, refl, _∙_}
 use mathlib.Core.Bool.{Bool, true, false}
-use mathlib.Core.List.{List, [], _∷_}
+use mathlib.Core.List.{[], _∷_}
 use Prim.Native.Nat.{ℕ}
 use Rattle.history.specs.Words.{Operation}
 use Rattle.history.specs.Lent.{tooShort}
@@ -13,7 +13,7 @@ use Rattle.history.specs.Printed.{boardScratch}
 use Rattle.history.proofs.EveryList.{the-law, law-after}
 use Rattle.layout.specs.Tables.{Tables, lengthsOf}
 use Rattle.layout.specs.Formed.{Blank}
-use Rattle.layout.specs.Relations.{openingOf, openedTables, readTables, UpdatedTables, RecordedTables, RecordLeaves}
+use Rattle.layout.specs.Relations.{openingOf, openedTables, RecordedTables, RecordLeaves}
 use Rattle.layout.proofs.Opening.{opened-encodes, opened-blank}
 use Rattle.board_run.specs.Runs.{Standing}
 

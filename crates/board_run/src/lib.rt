@@ -26,17 +26,21 @@ use board_text::input::Start;
 use board_text::line;
 use index::Index;
 use index::Opened;
+use tables::block;
+use tables::entry;
+use tables::node;
+use tables::piece;
 
 // What is lent: 512 pieces, 1,024 blocks, 65,536 store bytes, 1,024 nodes, 4,096 entries, each table behind its head.
-const PIECES: usize = 8 + 8 * 512;
+const PIECES: usize = piece::HEAD + tables::ROW * 512;
 
-const BLOCKS: usize = 8 + 8 * 1024;
+const BLOCKS: usize = block::HEAD + tables::ROW * 1024;
 
 const STORE: usize = 65536;
 
-const NODES: usize = 8 + 8 * 1024;
+const NODES: usize = node::HEAD + tables::ROW * 1024;
 
-const ENTRIES: usize = 8 + 2 * 4096;
+const ENTRIES: usize = entry::HEAD + entry::WIDTH * 4096;
 // How many bytes of the input are read.
 pub const INPUT: usize = 65536;
 // No output is longer: the header; a line for each of at most 3,276 records; a line for each block, and two digits for each byte of the store.

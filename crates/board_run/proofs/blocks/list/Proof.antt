@@ -1,6 +1,6 @@
 -- `board_run::blocks::list` meets its contract. The loop's invariant: the lines of the first `number` blocks are put. Assumes nothing.
 use mathlib.Core.Path.{_≡_}
-use Prim.Native.Nat.{_-_, _≤_}
+use Prim.Native.Nat.{_-_}
 use borrow.Author.Needs.{needs}
 use lib.ListN.{length}
 use Rattle.board_run.proofs.Listing.{Listing, listing-none, listing-on, listing-all}

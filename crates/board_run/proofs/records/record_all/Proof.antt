@@ -1,7 +1,6 @@
 -- `board_run::records::record_all` meets its contract. The loop's invariant is `Turning`. Assumes nothing.
 use mathlib.Core.Path.{_≡_}
 use Prim.Native.Nat.{_-_}
-use native.Mathlib.Omega.{arith}
 use borrow.Author.Needs.{needs}
 use lib.ListN.{length}
 use Rattle.board_run.proofs.Recording.{Turning, turn-first, turn-inside, turn-forward, turn-count, turn-shorter, turn-on, recordingAll}
