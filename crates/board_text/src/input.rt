@@ -22,7 +22,7 @@ pub const RECORDS: usize = NUMBER + KIND;
 // What the index is opened with.
 pub enum Start {
     Short,
-    Open { end: u64, kind: u64 },
+    Open { end: u64, kind: u8 },
 }
 
 // What stands at a position: the input's end, a wrong mark or a cut record, or a record whose bytes are the `length` bytes from `start` on.
@@ -85,7 +85,7 @@ pub fn opening(input: &[u8]) -> Start
     }
     Start::Open {
         end: number_at(input, 0, NUMBER),
-        kind: number_at(input, NUMBER, KIND),
+        kind: number_at(input, NUMBER, KIND) as u8,
     }
 }
 

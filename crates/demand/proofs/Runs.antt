@@ -1,7 +1,7 @@
 -- Demand 3, proved: along every list of calls the tables stand for the ledger, so the answers are the ledger's, and after a finish the reads give what
 -- the ledger has. Assumes nothing.
 use mathlib.Core.Path.{_≡_, refl, ap, ap₂, sym, _∙_, subst}
-use mathlib.Core.Logic.{_⊎_, inl, inr}
+use mathlib.Core.Logic.{inl, inr}
 use mathlib.Core.Bool.{Bool, true, false, true≢false, false≢true}
 use mathlib.Core.List.{List, [], _∷_}
 use Prim.Native.Nat.{ℕ, _≤_, _<_}
@@ -24,7 +24,7 @@ use Rattle.layout.specs.Encodes.{Encodes}
 use Rattle.layout.specs.Formed.{WellFormed, WellFormedForFinish, Blank}
 use Rattle.layout.specs.Relations.{openingOf, openedTables, leftBy, RecordedTables, RecordLeaves, RecordedBy, FinishLeaves, FinishedBy, countsOf, answerLeft, Fields, blockIn, blockOfFields}
 use Rattle.layout.proofs.Opening.{open-accepted, opened-encodes, opened-lengths, opened-blank}
-use Rattle.demand.specs.Theorem.{CallDone, Run, run-nil, run-cons, Finished, Demand, Demand3}
+use Rattle.demand.specs.Theorem.{CallDone, Run, run-nil, run-cons, Finished, Demand3}
 
 -- ── tables too short ──
 

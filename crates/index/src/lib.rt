@@ -14,7 +14,7 @@ ghost use Rattle.index.specs.Answers.{openedOf, finishedOf, foundOf, giv
 ghost use Rattle.index.specs.Reads.{BytesGivenBy};
 ghost use Rattle.index.specs.Work.{FinishesOpen};
 
-mod reads;
+pub mod reads;
 
 use index_record::Recorded;
 use index_test::State;

@@ -7,5 +7,5 @@ use Rattle.board_text.proofs.input.opening.Tie as tie
 pub opening-spec : {M : Type 1} → statement M
 opening-spec =
     tie.close
-    (tie.spec (λ c. start-short _ (search needs)) (λ c κs. search needs) (λ c κs. search needs)
+    (tie.spec (λ c. start-short _ (search needs)) (λ c κs. search needs) (λ c κs. search needs) (λ c. search needs)
     (λ c. start-open _ (search needs) (c .before .number-at .ensures) (c .number-at2 .ensures)))
