@@ -3,7 +3,7 @@ use mathlib.Core.Path.{_≡_, refl, sym, ap, _∙_}
 use mathlib.Core.Logic.{⊎-elim}
 use mathlib.Core.Bool.{Bool, true, false, cond, not}
 use mathlib.Core.List.{List}
-use Prim.Native.Nat.{ℕ, zero, suc, _+_, _^_, _≤_, _<_, max}
+use Prim.Native.Nat.{ℕ, zero, suc, _+_, _≤_, _<_, max}
 use native.Mathlib.Omega.{arith}
 use lib.ListN.{length}
 use lib.Dec.{leb, ltb}
@@ -19,17 +19,20 @@ use Rattle.history.proofs.Within.{within-in}
 use Rattle.history.proofs.RulesLaws.{Rule23, rule23-decides, numbered-decides}
 use Rattle.history.proofs.FindMet.{path-met}
 use Rattle.history.proofs.TreePath.{live-none}
-use Rattle.ordering.specs.Order.{nextAt}
 use Rattle.ordering.specs.Apart.{Clash, Unshared}
 use Rattle.segment_table.specs.Closed.{Tables, firstCellIn}
 use Rattle.segment_test.specs.Test.{lent, createdIn, destroyedIn, BlockRows, ClosedTree}
 use Rattle.segment_find.specs.Walking.{Rooted}
 use Rattle.segment_find.proofs.Agreeing.{sorted-agree}
+<<<<<<< HEAD
 use Rattle.segment_apart.specs.Clear.{endIn, Reached, Clears, BirthClear}
-use Rattle.segment_apart.specs.Along.{RowsSeen}
 use Rattle.segment_apart.specs.Apart.{AllBounded, ApartByTree, ClosedApart}
-use Rattle.segment_apart.proofs.Seeing.{seen-unshared}
 use Rattle.segment_apart.proofs.Creation.{Alive, Born, born-apart}
+=======
+use Rattle.segment_apart.specs.Clear.{endIn, Reached, Clears, BirthClear}
+use Rattle.segment_apart.specs.Apart.{AllBounded, SeenApart, ApartByTree, ClosedApart}
+use Rattle.segment_apart.proofs.Creation.{Alive, Born, born-apart}
+>>>>>>> apart
 
 -- the first k blocks are clear of those live when they are created
 pub record Passed (t nodes entries : List ℕ) (kind end k : ℕ) : Type 0 where
@@ -179,13 +182,12 @@ pub ruleset passing = (pass-none, pass-more, clear-not, clear-all, arith)
 -- ── the returns of `apart` ──
 
 module _ {blocks nodes entries : List ℕ} {kind e n : ℕ} where
-  pub apart-seen : {head : ℕ} {r : Bool} → n < 2 ^ 64 → head ≡ nextAt blocks 0 → RowsSeen blocks head r → r ≡ true → ClosedApart (lent blocks nodes entries) kind e n true
-  apart-seen small eh seen y = record {
-    decides = λ bs rows index bounded order.
-        confirm (seen-unshared small eh seen y order (record { filled = λ link p q. bounded .rows link p q .some-cell }));
+  pub apart-seen : {r : Bool} → SeenApart blocks n r → r ≡ true → ClosedApart (lent blocks nodes entries) kind e n true
+  apart-seen seen y = record {
+    decides = λ bs rows index bounded order. confirm (seen .shown y order (record { filled = λ link p q. bounded .rows link p q .some-cell }));
   }
 
   pub apart-tree : {r : Bool} → ApartByTree (lent blocks nodes entries) kind e n r → ClosedApart (lent blocks nodes entries) kind e n r
   apart-tree d = record { decides = λ bs rows index bounded order. d .decides bs rows index bounded }
 
-pub ruleset testing = (apart-seen, apart-tree, arith)
+pub ruleset testing = (apart-seen, apart-tree)

@@ -6,11 +6,12 @@ use Prim.Native.Nat.{ℕ, _-_, _^_, _≤_, _<_}
 use native.Mathlib.Omega.{arith}
 use borrow.Author.Tests.{not-true}
 use Rattle.lists.specs.Tests.{Decides}
-use Rattle.ordering.specs.Order.{nextAt, InOrder}
-use Rattle.ordering.specs.Blocks.{createdAt, destroyedAt, Filled}
-use Rattle.ordering.specs.Apart.{Unshared, StartsWithin, LivesMeet, FollowersApart, RowsApart}
+use Rattle.ordering.specs.Order.{nextAt}
+use Rattle.ordering.specs.Blocks.{createdAt, destroyedAt}
+use Rattle.ordering.specs.Apart.{StartsWithin, LivesMeet, FollowersApart, RowsApart}
 use Rattle.ordering.proofs.Parting.{followers-lifeless, followers-none, followers-past, followers-more, rows-none, rows-more, apart-tested}
 use Rattle.segment_apart.specs.Along.{FollowersLeft, RowsSeen}
+use Rattle.segment_apart.specs.Apart.{SeenApart}
 
 -- ── those that follow a block ──
 
@@ -70,5 +71,7 @@ pub ruleset seeing = (seen-start, seen-turn, seen-all, seen-not, arith)
 
 -- ── all blocks ──
 
-pub seen-unshared : {t : List ℕ} {head n : ℕ} {r : Bool} → n < 2 ^ 64 → head ≡ nextAt t 0 → RowsSeen t head r → r ≡ true → InOrder t n → Filled t n → Unshared t n
-seen-unshared {t} {head} {n} {r} small e seen y order filled = apart-tested small e (seen .clear y n) .decides order filled .yes refl
+pub seen-apart : {t : List ℕ} {head n : ℕ} {r : Bool} → n < 2 ^ 64 → head ≡ nextAt t 0 → RowsSeen t head r → SeenApart t n r
+seen-apart {n = n} small e seen = record { shown = λ y order filled. apart-tested small e (seen .clear y n) .decides order filled .yes refl }
+
+pub ruleset showing = (seen-apart, arith)

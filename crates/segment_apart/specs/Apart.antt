@@ -1,11 +1,16 @@
 -- Rule 24 of a closed index: what is decided, by its tree and by the whole test. Definitions alone.
+<<<<<<< HEAD
 use mathlib.Core.Bool.{Bool}
+=======
+use mathlib.Core.Path.{_≡_}
+use mathlib.Core.Bool.{Bool, true}
+>>>>>>> apart
 use mathlib.Core.List.{List}
 use Prim.Native.Nat.{ℕ, _+_, _-_, _^_, _≤_, _<_}
 use Rattle.lists.specs.Tests.{Decides}
 use Rattle.history.specs.Words.{Block}
 use Rattle.ordering.specs.Order.{firstCellAt, InOrder}
-use Rattle.ordering.specs.Blocks.{lengthAt, destroyedAt}
+use Rattle.ordering.specs.Blocks.{lengthAt, destroyedAt, Filled}
 use Rattle.ordering.specs.Apart.{Unshared}
 use Rattle.segment_table.specs.Closed.{Tables}
 use Rattle.segment_test.specs.Test.{BlockRows, ClosedTree}
@@ -19,6 +24,10 @@ pub record Bounded (blocks : List ℕ) (end link : ℕ) : Type 0 where
 -- so are the rows of the links 1 to n
 pub record AllBounded (blocks : List ℕ) (end n : ℕ) : Type 0 where
   pub rows : (link : ℕ) → 0 < link → link ≤ n → Bounded blocks end link
+
+-- yes is said only of blocks in order, none of them empty, of which no two share a cell at a tick
+pub record SeenApart (blocks : List ℕ) (n : ℕ) (r : Bool) : Type 0 where
+  pub shown : r ≡ true → InOrder blocks n → Filled blocks n → Unshared blocks n
 
 -- Of the tables of a closed index with bounded rows the tree decides rule 24: no two blocks share a cell at a tick. `Unshared` is history's `Apart`
 -- (ordering, `unshared-apart`).

@@ -8,10 +8,10 @@
 //           proofs/Deciding  all blocks
 //   specs/Apart  proofs/Agreeing         what is decided; for callers, in the words of history
 ghost use Rattle.segment_test.specs.Test.{lent};
-ghost use Rattle.segment_apart.specs.Apart.{ClosedApart};
+ghost use Rattle.segment_apart.specs.Apart.{SeenApart, ClosedApart};
 
 mod along;
-mod birth;
+pub mod birth;
 
 use tables::block;
 
@@ -28,13 +28,20 @@ fn steps_for(n: u64) -> u64 {
     n
 }
 
+// Whether the n blocks, which stand in order, are seen to be apart in so many steps along the order. If they are not, nothing is said.
+pub fn seen_apart(blocks: &[u64], n: u64) -> bool
+    ensures { λ r. ⌜ SeenApart (now (blocks .entry)) n r ⌝ }
+{
+    let head = block::get(blocks, 0, block::NEXT);
+    along::rows_seen(blocks, head, steps_for(n))
+}
+
 // Rule 24 for the tables of a closed index whose blocks stand in order: whether no two of its n blocks share a cell at a tick. O(n) steps where cells
 // have few versions, O(n log E log n) for any: see `birth`. To be called only where the table has n rows.
 pub fn apart(blocks: &[u64], nodes: &[u64], entries: &[u64], kind: u64, end: u64, n: u64) -> bool
     ensures { λ r. ⌜ ClosedApart (lent (now (blocks .entry)) (now (nodes .entry)) (now (entries .entry))) kind end n r ⌝ }
 {
-    let head = block::get(blocks, 0, block::NEXT);
-    if along::rows_seen(blocks, head, steps_for(n)) {
+    if seen_apart(blocks, n) {
         return true;
     }
     birth::all_clear(blocks, nodes, entries, kind, end, n)

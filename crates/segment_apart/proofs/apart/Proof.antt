@@ -6,5 +6,4 @@ use Rattle.segment_apart.proofs.apart.Tie as tie
 
 pub apart-spec : {M : Type 1} → statement M
 apart-spec =
-    tie.close
-    (tie.spec (λ c κs. search needs) (λ c κs. search needs) (λ c κs. search needs) (λ c. search testing) (λ c κs. search needs) (λ c. search testing))
+    tie.close (tie.spec (λ c κs. search needs) (λ c. search testing) (λ c κs. search needs) (λ c. search testing))
