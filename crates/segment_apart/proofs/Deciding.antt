@@ -24,15 +24,9 @@ use Rattle.segment_table.specs.Closed.{Tables, firstCellIn}
 use Rattle.segment_test.specs.Test.{lent, createdIn, destroyedIn, BlockRows, ClosedTree}
 use Rattle.segment_find.specs.Walking.{Rooted}
 use Rattle.segment_find.proofs.Agreeing.{sorted-agree}
-<<<<<<< HEAD
-use Rattle.segment_apart.specs.Clear.{endIn, Reached, Clears, BirthClear}
-use Rattle.segment_apart.specs.Apart.{AllBounded, ApartByTree, ClosedApart}
-use Rattle.segment_apart.proofs.Creation.{Alive, Born, born-apart}
-=======
 use Rattle.segment_apart.specs.Clear.{endIn, Reached, Clears, BirthClear}
 use Rattle.segment_apart.specs.Apart.{AllBounded, SeenApart, ApartByTree, ClosedApart}
 use Rattle.segment_apart.proofs.Creation.{Alive, Born, born-apart}
->>>>>>> apart
 
 -- the first k blocks are clear of those live when they are created
 pub record Passed (t nodes entries : List ℕ) (kind end k : ℕ) : Type 0 where

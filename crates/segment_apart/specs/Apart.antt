@@ -1,10 +1,6 @@
 -- Rule 24 of a closed index: what is decided, by its tree and by the whole test. Definitions alone.
-<<<<<<< HEAD
-use mathlib.Core.Bool.{Bool}
-=======
 use mathlib.Core.Path.{_≡_}
 use mathlib.Core.Bool.{Bool, true}
->>>>>>> apart
 use mathlib.Core.List.{List}
 use Prim.Native.Nat.{ℕ, _+_, _-_, _^_, _≤_, _<_}
 use Rattle.lists.specs.Tests.{Decides}
