@@ -3,6 +3,7 @@
 
   stored.py make VECTORS FILE [ORACLE]   from the oracle's list and the cases of board_cases.py
   stored.py show FILE [CASE]             the list, or one case of it, in words; cases count from 1
+  stored.py spoil VECTORS FILE           the same cases, each up to a call whose answer is changed: replay must say that one of each differs
 
 Before anything is written, the model of document 01 (board_model.py) must give every answer of the oracle's list; the answers of the own cases are the
 model's. With the program ORACLE they are compared with the Rust too (board_oracle.py). The same VECTORS give the same bytes.
@@ -15,7 +16,7 @@ says where they start. A case stands in one part.
 import collections
 import sys
 
-from board_cases import own_cases
+from board_cases import Dice, own_cases
 from board_model import WORD, Model, hexed, unhexed
 from board_oracle import compare
 
@@ -232,21 +233,67 @@ def tell(stored, vectors, whole):
         print(f"{count} {call}" + "".join(f", {many} refused {n}" for n, many in refusals))
 
 
+def own_lists():
+    return [(name, [list(map(str, call)) for call in calls]) for name, calls in own_cases()]
+
+
+def put_out(vectors, own, out):
+    """Writes the list of both kinds of cases."""
+    stored = List()
+    for case in vectors:
+        stored.add(CASE, case)
+    for case in own:
+        stored.add(OWN, case)
+    with open(out, "wb") as file:
+        file.write(stored.bytes())
+    tell(stored, len(vectors), stored.bytes())
+
+
 def make(path, out, oracle=None):
-    cases = vector_cases(path)
-    check(cases)
-    own = [(name, [list(map(str, call)) for call in calls]) for name, calls in own_cases()]
+    vectors, own = vector_cases(path), own_lists()
+    check(vectors)
     if oracle:
         lists, files, differ = compare(oracle, own)
         print(f"{lists} lists and {files} files compared with the Rust, {len(differ)} differ", *differ)
-    stored = List()
-    for case in cases:
-        stored.add(CASE, case)
-    for _, calls in own:
-        stored.add(OWN, modelled(calls))
-    with open(out, "wb") as file:
-        file.write(stored.bytes())
-    tell(stored, len(cases), stored.bytes())
+    put_out(vectors, [modelled(calls) for _, calls in own], out)
+
+
+# ── a list that is wrong once in each case ──
+
+# The words of an answer that are bytes.
+BYTES = {("block", 5), ("cells", 0), ("cells", 1), ("write", 0)}
+
+
+def changed(dice, call, answer):
+    """Another answer: another refusal, or one word changed."""
+    other = ["refused", str(1 + (int(answer[1]) + dice.below(23)) % 24 if answer[0] == "refused" else dice.among(1, 24))]
+    place = dice.below(len(answer))
+    word, words = answer[place], list(answer)
+    if answer[0] == "refused" or word in ("ok", "-") or (call != "clock" and dice.below(5) == 0):
+        return other
+    if (call, place) in BYTES:
+        data = bytearray(unhexed(word))
+        data[dice.below(len(data))] ^= 1 << dice.below(8)
+        words[place] = hexed(data)
+    elif call == "record":
+        words[place] = "read" if word == "update" else "update"
+    else:
+        words[place] = str((int(word) + 1) % (256 if call == "find" and place > 1 else WORD))
+    return words
+
+
+def spoiled(dice, case):
+    """A case up to a call whose answer is changed."""
+    sayable = [n for n, (call, _) in enumerate(case) if str(WORD) not in call]
+    last = dice.pick(sayable)
+    call, answer = case[last]
+    return case[:last] + [(call, changed(dice, call[0], answer))]
+
+
+def spoil(path, out):
+    dice = Dice(1)
+    vectors = [spoiled(dice, case) for case in vector_cases(path)]
+    put_out(vectors, [spoiled(dice, modelled(calls)) for _, calls in own_lists()], out)
 
 
 # ── showing it ──
@@ -300,6 +347,8 @@ if __name__ == "__main__":
     sys.setrecursionlimit(10000)
     if sys.argv[1:2] == ["make"] and len(sys.argv) in (4, 5):
         make(*sys.argv[2:])
+    elif sys.argv[1:2] == ["spoil"] and len(sys.argv) == 4:
+        spoil(*sys.argv[2:])
     elif sys.argv[1:2] == ["show"] and len(sys.argv) in (3, 4):
         show(*sys.argv[2:])
     else:
