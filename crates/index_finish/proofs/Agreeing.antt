@@ -11,7 +11,7 @@ use Rattle.history.specs.Words.{Block, blockOf, size, Holds}
 use Rattle.history.specs.Rules.{Apart}
 use Rattle.history.specs.Tree.{noBlock}
 use Rattle.history.specs.Ledger.{Ledger}
-use Rattle.tables.specs.Columns.{blockDestroyed}
+use Rattle.tables.specs.Columns.{blockFirst, blockLength, blockDestroyed}
 use Rattle.ordering.specs.Order.{firstCellAt, OnlyOrder}
 use Rattle.ordering.specs.Blocks.{lengthAt, offsetAt, createdAt, destroyedAt, blockOfRow, blocksOf, Filled, Stored}
 use Rattle.ordering.specs.Apart.{HoldsAt}
@@ -19,6 +19,7 @@ use Rattle.ordering.proofs.Keeping.{order-column, filled-order, stored-order}
 use Rattle.ordering.proofs.Blocks.{blocks-at, blocks-length, blocks-order}
 use Rattle.ordering.proofs.Agreeing.{row-holds, holds-row, unshared-apart, apart-unshared}
 use Rattle.piece_table.specs.Piece.{PieceRow}
+use Rattle.segment_apart.specs.Apart.{AllBounded}
 use Rattle.piece_table.specs.Shown.{shown}
 use Rattle.recording.proofs.Telling.{settled-blocks}
 use Rattle.layout.specs.Tables.{Tables}
@@ -26,7 +27,7 @@ use Rattle.layout.proofs.Pieces.{shown-size}
 use Rattle.index_finish.specs.Finish.{StandsOpen, allBlocks}
 use Rattle.index_finish.specs.Apart.{Crosses, NoneShared}
 use Rattle.index_finish.proofs.Lists.{pairs-of-map}
-use Rattle.index_finish.proofs.Standing.{are-blocks, stored, filled, by-end, pieceRows, are-pieces, pieces-stored, pieces-some}
+use Rattle.index_finish.proofs.Standing.{are-blocks, stored, filled, no-wrap, by-end, pieceRows, are-pieces, pieces-stored, pieces-some}
 
 -- ── a block and a piece ──
 
@@ -128,6 +129,15 @@ module _ {t : Tables} {l : Ledger} {b : List ℕ} (s : StandsOpen t l) (o : Only
 
   ordered-end : (link : ℕ) → 0 < link → link ≤ length (l .now .blocks) → destroyedAt b link ≤ l .opening .end
   ordered-end link p q = rw (order-column o link blockDestroyed (omega arith) (λ z. omega arith)) (by-end s link p q)
+
+  pub ordered-bounded : AllBounded b (l .opening .end) (length (l .now .blocks))
+  ordered-bounded = record {
+    rows = λ link p q. record {
+      some-cell = ordered-filled .filled link p q;
+      no-wrap = rw (order-column o link blockFirst (omega arith) (λ z. omega arith), order-column o link blockLength (omega arith) (λ z. omega arith)) (no-wrap s link p q);
+      by-end = ordered-end link p q;
+    };
+  }
 
   -- pieces ascend, so no two of them share a cell
   pieces-apart : Apart (map (settledRow (t .store) (l .opening .end)) (pieceRows s))

@@ -12,13 +12,13 @@ use Rattle.lists.proofs.Numbers.{confirm, refute, decides-iff, eq-or-ne}
 use Rattle.tables.specs.Columns.{column, pieceFirst, pieceLength, pieceWritten}
 use Rattle.ordering.specs.Order.{firstCellAt}
 use Rattle.ordering.specs.Blocks.{lengthAt, createdAt, destroyedAt}
-use Rattle.ordering.specs.Apart.{TestedApart}
 use Rattle.segment_tree.specs.Count.{plusUpTo}
 use Rattle.piece_table.specs.Piece.{PieceRow, rowEnd, pieceAt, Follow}
 use Rattle.piece_table.specs.Rep.{Rep}
 use Rattle.piece_table.specs.Calls.{Sought}
 use Rattle.piece_table.proofs.Order.{follow-filled, follow-right}
 use Rattle.piece_table.proofs.Seeing.{rep-follow, Seen, seen-none, seen-some}
+use Rattle.index_finish.specs.Trial.{Tryable, BlocksApart}
 use Rattle.index_finish.specs.Apart.{Meets, Crosses, Uncrossed, PiecesClear, BlockClear, BlocksClear, AllApart}
 
 -- ── the returns of `pieces_clear` ──
@@ -159,12 +159,18 @@ pub ruleset passing = (clear-start, clear-turn, clear-fails, clear-end, not-true
 
 -- ── the returns of `all_apart` ──
 
-pub apart-fails : {t b : List ℕ} {n : ℕ} {q : Bool} → TestedApart b n q → q ≡ false → AllApart t b n false
-apart-fails d e = record { decides = λ ps r o f. refute (λ a. d .decides o f .not e (a .blocks-apart)) }
+module _ {b nodes entries nodes′ entries′ : List ℕ} {kind e n : ℕ} {q : Bool} (d : BlocksApart b nodes entries kind e n nodes′ entries′ q) where
+  apart-kept : (store : List ℕ) → Tryable store b nodes entries kind e n → (nodes′ ≡ nodes) × (entries′ ≡ entries)
+  apart-kept store x = (d .done store x .nodes-same, d .done store x .entries-same)
 
-pub apart-rest : {t b : List ℕ} {n : ℕ} {q r : Bool} → TestedApart b n q → q ≡ true → BlocksClear t b n r → AllApart t b n r
-apart-rest {r = r} d e c = record {
-  decides = λ ps rep o f. decides-iff r (λ u. record { blocks-apart = d .decides o f .yes e; pieces-apart = u }) (λ a. a .pieces-apart) (c .decides ps rep);
-}
+  pub apart-fails : {t : List ℕ} → q ≡ false → AllApart t b nodes entries kind e n nodes′ entries′ false
+  apart-fails f = record { kept = apart-kept; decides = λ ps r store x. refute (λ a. d .done store x .decides .not f (a .blocks-apart)) }
+
+  pub apart-rest : {t : List ℕ} {r : Bool} → q ≡ true → BlocksClear t b n r → AllApart t b nodes entries kind e n nodes′ entries′ r
+  apart-rest {r = r} f c = record {
+    kept = apart-kept;
+    decides = λ ps rep store x.
+        decides-iff r (λ u. record { blocks-apart = d .done store x .decides .yes f; pieces-apart = u }) (λ a. a .pieces-apart) (c .decides ps rep);
+  }
 
 pub ruleset parting = (apart-fails, apart-rest, not-true, not-false)

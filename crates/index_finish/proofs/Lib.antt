@@ -5,5 +5,6 @@ pub mod Standing
 pub mod Agreeing
 pub mod Counting
 pub mod Settling
+pub mod Trying
 pub mod Finishing
 pub mod Public

@@ -121,7 +121,7 @@ module _ (store : List ℕ) {b : List ℕ} {n : ℕ} {bs : List Block} (o : InOr
   bs-length : length bs ≡ n
   bs-length = ap length is ∙ blocks-length store b n
 
-  closable : {nodes entries : List ℕ} {e kind : ℕ} → n ≤ 2 ^ 64 → 0 < e → e ≤ 2 ^ 63 → Counted nodes kind e (treeOf e bs) → nodeHead ≤ length nodes → entryHead ≤ length entries
+  pub closable : {nodes entries : List ℕ} {e kind : ℕ} → n ≤ 2 ^ 64 → 0 < e → e ≤ 2 ^ 63 → Counted nodes kind e (treeOf e bs) → nodeHead ≤ length nodes → entryHead ≤ length entries
       → entryCount (treeOf e bs) ≤ entryRowsIn entries → Apart bs → All (λ (x : Block). 0 < size (x .stretch)) bs → Closable (lentTables b nodes entries) n e kind bs (numbersOf (o .links))
   closable few some small counted nodes-headed entries-headed space apart filled = record {
     some = some;

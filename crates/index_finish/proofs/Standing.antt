@@ -15,7 +15,7 @@ use Rattle.history.specs.Tree.{noBlock}
 use Rattle.history.specs.Ledger.{Ledger, isSome}
 use Rattle.history.specs.Sound.{SoundPiece, SoundBlock, SoundBoard}
 use Rattle.tables.specs.Columns.{column, piecesCount, headUsed}
-use Rattle.ordering.specs.Order.{Room, Unordered}
+use Rattle.ordering.specs.Order.{firstCellAt, Room, Unordered}
 use Rattle.ordering.specs.Blocks.{lengthAt, offsetAt, destroyedAt, blockOfRow, blocksOf, Filled, Stored}
 use Rattle.ordering.proofs.Blocks.{blocks-at, bytes-length}
 use Rattle.piece_table.specs.Piece.{PieceRow, pieceAt}
@@ -68,6 +68,10 @@ module _ {t : Tables} {l : Ledger} (s : StandsOpen t l) where
   pub filled : Filled (t .blocks) (length (l .now .blocks))
   unfolding blockOfRow
   filled = record { filled = λ link p q. rw (← bytes-length (t .store) (t .blocks) link (stored .inside link p q)) (row-sound link p q .stretch .some-cell) }
+
+  pub no-wrap : (link : ℕ) → 0 < link → link ≤ length (l .now .blocks) → firstCellAt (t .blocks) link + lengthAt (t .blocks) link ≤ 2 ^ 64 - 1
+  unfolding blockOfRow
+  no-wrap link p q = rw (← bytes-length (t .store) (t .blocks) link (stored .inside link p q)) (row-sound link p q .stretch .no-wrap)
 
   pub by-end : (link : ℕ) → 0 < link → link ≤ length (l .now .blocks) → destroyedAt (t .blocks) link ≤ l .opening .end
   unfolding blockOfRow

@@ -1,5 +1,6 @@
 -- Rule 24 between blocks and pieces, where each piece is counted as live up to the end: its life meets a block's exactly when it was written before the
 -- block was destroyed. Definitions alone.
+use mathlib.Core.Path.{_≡_}
 use mathlib.Core.Bool.{Bool}
 use mathlib.Core.List.{List}
 use Prim.Native.Nat.{ℕ, _+_, _≤_, _<_}
@@ -7,9 +8,10 @@ use Rattle.lists.specs.Lists.{All}
 use Rattle.lists.specs.Tests.{Decides}
 use Rattle.piece_table.specs.Piece.{PieceRow, rowEnd}
 use Rattle.piece_table.specs.Rep.{Rep}
-use Rattle.ordering.specs.Order.{firstCellAt, InOrder}
-use Rattle.ordering.specs.Blocks.{lengthAt, createdAt, destroyedAt, Filled}
+use Rattle.ordering.specs.Order.{firstCellAt}
+use Rattle.ordering.specs.Blocks.{lengthAt, createdAt, destroyedAt}
 use Rattle.ordering.specs.Apart.{Unshared}
+use Rattle.index_finish.specs.Trial.{Tryable}
 
 -- ── a block and a piece ──
 
@@ -47,6 +49,7 @@ pub record NoneShared (blocks : List ℕ) (n : ℕ) (ps : List PieceRow) : Type 
   pub blocks-apart : Unshared blocks n
   pub pieces-apart : Uncrossed blocks n ps
 
--- `all_apart`: of blocks in order, none empty
-pub record AllApart (pieces blocks : List ℕ) (n : ℕ) (r : Bool) : Type 0 where
-  pub decides : (ps : List PieceRow) → Rep pieces ps → InOrder blocks n → Filled blocks n → Decides r (NoneShared blocks n ps)
+-- `all_apart`: the tables that are tried in are as they were, and it is decided
+pub record AllApart (pieces blocks nodes entries : List ℕ) (kind end n : ℕ) (nodes′ entries′ : List ℕ) (r : Bool) : Type 0 where
+  pub kept : (store : List ℕ) → Tryable store blocks nodes entries kind end n → (nodes′ ≡ nodes) × (entries′ ≡ entries)
+  pub decides : (ps : List PieceRow) → Rep pieces ps → (store : List ℕ) → Tryable store blocks nodes entries kind end n → Decides r (NoneShared blocks n ps)

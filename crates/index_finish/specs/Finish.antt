@@ -77,17 +77,18 @@ pub record Tallied (t : Tables) (nodes : List ℕ) (l : Ledger) : Type 0 where
   pub counted : Counted nodes (l .opening .kind) (l .opening .end) (wholeTree l)
   pub space : entryCount (wholeTree l) ≤ entryRowsIn (t .entries)
 
--- the answer, and on a refusal the nodes as they were
-pub record Tallying (l : Ledger) (t : Tables) (nodes : List ℕ) (r : ℕ) : Type 0 where
+-- the answer, and on a refusal the nodes as they were; the entries are zeros still
+pub record Tallying (l : Ledger) (t : Tables) (nodes entries : List ℕ) (r : ℕ) : Type 0 where
   pub formed : Apart (allBlocks l) → r ≡ numberOf (finishAnswer l)
   pub unformed : (Apart (allBlocks l) → ⊥) → r ≡ 2
+  pub entries-same : entries ≡ t .entries
   pub refused-same : (r ≡ 0 → ⊥) → nodes ≡ t .nodes
   pub accepted-counted : r ≡ 0 → Tallied t nodes l
 
 -- `count_all`: `blocks` is the block table in order, `was` what it was before
-pub record CountedAll (pieces blocks nodes entries nodes′ : List ℕ) (r : ℕ) : Type 0 where
+pub record CountedAll (pieces blocks nodes entries nodes′ entries′ : List ℕ) (r : ℕ) : Type 0 where
   pub done : (was store : List ℕ) (l : Ledger) → StandsOpen (tables pieces was store nodes entries) l → Blank (tables pieces was store nodes entries)
-      → Ordered was blocks (length (l .now .blocks)) → Tallying l (tables pieces was store nodes entries) nodes′ r
+      → Ordered was blocks (length (l .now .blocks)) → Tallying l (tables pieces was store nodes entries) nodes′ entries′ r
 
 -- Nothing is changed yet but that the block rows stand in order and the tree is counted.
 pub record Accepted (t : Tables) (blocks nodes : List ℕ) (l : Ledger) : Type 0 where
@@ -97,16 +98,17 @@ pub record Accepted (t : Tables) (blocks nodes : List ℕ) (l : Ledger) : Type 0
   pub nodes-long : length nodes ≡ length (t .nodes)
 
 -- the answer, and on a refusal everything as it was
-pub record Preparing (l : Ledger) (t : Tables) (blocks nodes : List ℕ) (r : ℕ) : Type 0 where
+pub record Preparing (l : Ledger) (t : Tables) (blocks nodes entries : List ℕ) (r : ℕ) : Type 0 where
   pub formed : Finishable t l → r ≡ numberOf (finishAnswer l)
   pub unformed : (Finishable t l → ⊥) → r ≡ 2
+  pub entries-same : entries ≡ t .entries
   pub refused-same : (r ≡ 0 → ⊥) → (blocks ≡ t .blocks) × (nodes ≡ t .nodes)
   pub accepted-counted : r ≡ 0 → Accepted t blocks nodes l
 
 -- `prepare`
-pub record Prepared (pieces blocks nodes entries blocks′ nodes′ : List ℕ) (r : ℕ) : Type 0 where
+pub record Prepared (pieces blocks nodes entries blocks′ nodes′ entries′ : List ℕ) (r : ℕ) : Type 0 where
   pub done : (store : List ℕ) (l : Ledger) → StandsOpen (tables pieces blocks store nodes entries) l
-      → Preparing l (tables pieces blocks store nodes entries) blocks′ nodes′ r
+      → Preparing l (tables pieces blocks store nodes entries) blocks′ nodes′ entries′ r
 
 -- ── the work of an accepted finish ──
 

@@ -1,7 +1,9 @@
 // The work of finish on tables that stand for an open index. Ports `Indexer::finalize` of mod.rs and the building of spacetime_index.rs.
 //
 //   rule              rule 24, each piece counted as live up to the end
+//   trial             rule 24 of the blocks alone, by a tree where cells have many versions
 //   specs/Apart       which blocks and pieces share a cell at a tick, and what the tests decide
+//   specs/Trial       the same of blocks alone
 //   specs/Finish      what finish answers and leaves
 //   proofs/Lists      laws of lists that know nothing of tables
 //   proofs/Zeros      a table of zeros
@@ -10,6 +12,7 @@
 //   proofs/Agreeing   rule 24 over rows is history's over all blocks
 //   proofs/Counting   the tree that is counted is that of all blocks, and the answer is the ledger's
 //   proofs/Settling   an accepted finish leaves the tables of the finished ledger
+//   proofs/Trying     one step for each return of the trial
 //   proofs/Finishing  one step for each return of the others
 //   proofs/Public     so finish does what layout's relation says
 ghost use mathlib.Core.Path.{_≡_};
@@ -20,6 +23,7 @@ use tables::block;
 use tables::piece;
 
 mod rule;
+mod trial;
 
 // What finish answers: 0 where it is accepted, else the refusal's number in document 01. Refusals 12 and 13 come from the count of the tree.
 pub const DONE: u64 = 0;
@@ -50,24 +54,26 @@ fn blank(nodes: &[u64], entries: &[u64]) -> bool
     all_zero(entries)
 }
 
-// Tests rule 24 on blocks in order and on the pieces, and counts the tree of all of them; or tells the refusal, and leaves the nodes zeros.
-fn count_all(pieces: &[u64], blocks: &[u64], nodes: &mut [u64], entries: &[u64]) -> u64
-    ensures { λ r. ⌜ CountedAll (now (pieces .entry)) (now (blocks .entry)) (now (nodes .entry)) (now (entries .entry)) (now (nodes .exit)) r ⌝ }
+// Tests rule 24 on blocks in order and on the pieces, and counts the tree of all of them; or tells the refusal, and leaves the nodes zeros. The
+// entries are zeros again.
+fn count_all(pieces: &[u64], blocks: &[u64], nodes: &mut [u64], entries: &mut [u64]) -> u64
+    ensures { λ r. ⌜ CountedAll (now (pieces .entry)) (now (blocks .entry)) (now (nodes .entry)) (now (entries .entry))
+        (now (nodes .exit)) (now (entries .exit)) r ⌝ }
 {
     let n = block::get(blocks, 0, block::COUNT);
-    if !rule::all_apart(pieces, blocks, n) {
+    let end = block::get(blocks, 0, block::END);
+    let kind = block::get(blocks, 0, block::KIND);
+    if !rule::all_apart(pieces, blocks, nodes, entries, kind, end, n) {
         return UNFORMED;
     }
     let m = tables::get(pieces, 0, piece::COUNT);
-    let end = block::get(blocks, 0, block::END);
-    let kind = block::get(blocks, 0, block::KIND);
     segment_tree::build::count_tree(nodes, entries, blocks, n, pieces, m, end, kind)
 }
 
 // Orders the blocks and counts the tree; or tells the refusal, and leaves everything as it was.
-fn prepare(pieces: &[u64], blocks: &mut [u64], nodes: &mut [u64], entries: &[u64]) -> u64
+fn prepare(pieces: &[u64], blocks: &mut [u64], nodes: &mut [u64], entries: &mut [u64]) -> u64
     ensures { λ r. ⌜ Prepared (now (pieces .entry)) (now (blocks .entry)) (now (nodes .entry)) (now (entries .entry))
-        (now (blocks .exit)) (now (nodes .exit)) r ⌝ }
+        (now (blocks .exit)) (now (nodes .exit)) (now (entries .exit)) r ⌝ }
 {
     if !blank(nodes, entries) {
         return UNFORMED;

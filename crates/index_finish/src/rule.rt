@@ -76,11 +76,21 @@ fn blocks_clear(pieces: &[u64], blocks: &[u64], n: u64) -> bool
     true
 }
 
-// Whether no two of the blocks 1 to `n`, which stand in order, and of the pieces share a cell at a tick. Pieces never do: they follow one another.
-pub fn all_apart(pieces: &[u64], blocks: &[u64], n: u64) -> bool
-    ensures { λ r. ⌜ AllApart (now (pieces .entry)) (now (blocks .entry)) n r ⌝ }
+// Whether no two of the blocks 1 to `n`, which stand in order, and of the pieces share a cell at a tick. Pieces never do: they follow one another. The
+// blocks may be tried in the tables of zeros, which are zeros again.
+pub fn all_apart(
+    pieces: &[u64],
+    blocks: &[u64],
+    nodes: &mut [u64],
+    entries: &mut [u64],
+    kind: u64,
+    end: u64,
+    n: u64,
+) -> bool
+    ensures { λ r. ⌜ AllApart (now (pieces .entry)) (now (blocks .entry)) (now (nodes .entry)) (now (entries .entry)) kind end n
+        (now (nodes .exit)) (now (entries .exit)) r ⌝ }
 {
-    if !ordering::apart(blocks, n) {
+    if !crate::trial::blocks_apart(blocks, nodes, entries, kind, end, n) {
         return false;
     }
     blocks_clear(pieces, blocks, n)

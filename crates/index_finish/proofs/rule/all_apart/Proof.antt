@@ -5,4 +5,5 @@ use Rattle.index_finish.proofs.rule.all_apart.Statement.{statement}
 use Rattle.index_finish.proofs.rule.all_apart.Tie as tie
 
 pub all-apart-spec : {M : Type 1} → statement M
-all-apart-spec = tie.close (tie.spec (λ c κs. search needs) (λ c. search parting) (λ c κs. search needs) (λ c. search parting))
+all-apart-spec =
+    tie.close (tie.spec (λ c κs. search needs) (λ c. search needs) (λ c. search needs) (λ c. search parting) (λ c κs. search needs) (λ c. search needs) (λ c. search needs) (λ c. search parting))
