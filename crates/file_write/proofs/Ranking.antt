@@ -22,9 +22,6 @@ use Rattle.file_write.specs.Numbering.{Numbering, Numbered, NewNumber}
 pub numbered-past : (out : List ℕ) (place : ℕ) → length out / 8 ≤ place → Numbered out place 0
 numbered-past out place h = record { number = λ g. absurd (omega arith) }
 
-pub numbered-short : (out : List ℕ) (place : ℕ) → length out - 8 * place < 9 → Numbered out place 0
-numbered-short out place h = record { number = λ g. absurd (omega arith) }
-
 pub numbered-got : (out : List ℕ) (place value next : ℕ) (r : Field) → readOf r ≡ number 8 out (9 + 8 * place) → r ≡ Got value next → Numbered out place value
 numbered-got out place value next r e f =
     record {
@@ -43,7 +40,7 @@ numbered-end out place r e f =
           absurd (let z : _≡_ {A = ℕ} 0 1 = cc in omega arith);
     }
 
-pub ruleset reading = (numbered-past, numbered-short, numbered-got, numbered-end)
+pub ruleset reading = (numbered-past, numbered-got, numbered-end)
 
 -- ── between two places ──
 

@@ -43,9 +43,6 @@ fn listed_at(out: &[u8], place: usize) -> u64
     if out.len() / WIDTH <= place {
         return 0;
     }
-    if out.len() - WIDTH * place < BLOCKS_AT {
-        return 0;
-    }
     match fields::number_at(out, BLOCKS_AT + WIDTH * place) {
         Field::Got(number, _) => number,
         Field::End => 0,
