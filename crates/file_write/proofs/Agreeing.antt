@@ -33,7 +33,7 @@ use Rattle.layout.specs.Encodes.{Encodes, TreeIn}
 use Rattle.layout.proofs.Pieces.{used-fits}
 use Rattle.file_write.specs.Living.{lives, living, livingBlocks}
 use Rattle.file_write.specs.Sizes.{blocksSize, nodesSize, blockCount}
-use Rattle.file_write.proofs.Laying.{flatMap-append, flatMap-map, flatMap-one, block-parts}
+use Rattle.file_write.proofs.Laying.{flatMap-append, flatMap-map, flatMap-one, block-parts, stored-fewer}
 use Rattle.file_write.proofs.Listing.{living-below, numbers-length}
 
 -- ── which blocks are written ──
@@ -64,14 +64,11 @@ block-size : (store blocks : List ℕ) (link : ℕ) → offsetAt blocks link + l
 block-size store blocks link h =
     ap length (block-parts store blocks link h) ∙ simp (length-append, bytesOf-length) (omega (arith, bytes-length store blocks link h))
 
-stored-less : {used n : ℕ} {blocks : List ℕ} → Stored used blocks (suc n) → Stored used blocks n
-stored-less s = record { inside = λ link a b. s .inside link a (omega arith) }
-
 blocks-size : (store blocks : List ℕ) (n : ℕ) → Stored (length store) blocks n
     → length (flatMap (λ k. blockBytes (blockOfRow store blocks (suc k))) (living blocks n)) ≡ blocksSize blocks n
 unfolding living blocksSize flatMap
 blocks-size store blocks zero s = refl
-blocks-size store blocks (suc n) s = go (lives blocks n) (blocks-size store blocks n (stored-less s))
+blocks-size store blocks (suc n) s = go (lives blocks n) (blocks-size store blocks n (stored-fewer n (omega arith) s))
   where
     f : ℕ → List ℕ
     f k = blockBytes (blockOfRow store blocks (suc k))

@@ -61,9 +61,6 @@ pub file-written : (blocks store nodes entries : List ℕ) (many place count kin
 file-written blocks store nodes entries many place count kind end root listed p₂ p₃ p₄ p₅ out o₁ o₂ o₃ o₄ o₅ c k e r list tree put mark number =
     record { file = λ pieces l enc s done some m w room. whole (agrees pieces blocks store nodes entries l enc s done) some m w room }
   where
-    n : ℕ
-    n = blockCount blocks
-
     whole : {l : Ledger} → Agrees blocks store nodes entries l → 0 < blockCount blocks → many ≡ length (living blocks (blockCount blocks))
         → place ≡ nodesAt blocks (blockCount blocks) → place ≤ length out → o₅ ≡ sets out 0 (fileBy l)
     whole {l} a some m w room =

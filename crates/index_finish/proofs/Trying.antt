@@ -2,8 +2,8 @@
 -- document 01's rules; so where the test of the tree says no, two do. Assumes nothing.
 use mathlib.Core.Path.{_≡_, refl, sym, ap, _∙_}
 use mathlib.Core.Bool.{Bool, true, false, cond, not, false≢true}
-use mathlib.Core.List.{List, [], _∷_, _++_, append-nil}
-use Prim.Native.Nat.{ℕ, suc, _+_, _*_, _^_, _≤_, _<_}
+use mathlib.Core.List.{List, [], _∷_, append-nil}
+use Prim.Native.Nat.{ℕ, suc, _^_, _≤_, _<_}
 use native.Mathlib.Omega.{arith}
 use lib.ListN.{length, replicate}
 use lib.Dec.{ltb}
@@ -33,7 +33,7 @@ use Rattle.segment_test.specs.Test.{lent, BlockRows, ClosedTree}
 use Rattle.segment_apart.specs.Apart.{SeenApart, ApartByTree}
 use Rattle.layout.specs.Tables.{Tables}
 use Rattle.layout.specs.Formed.{Blank}
-use Rattle.index_finish.specs.Trial.{Tryable, StandsApart, Tried, BlocksApart}
+use Rattle.index_finish.specs.Trial.{Tryable, StandsApart, BlocksApart}
 use Rattle.index_finish.specs.Finish.{StandsOpen}
 use Rattle.index_finish.proofs.Standing.{heads, room, few-rows}
 use Rattle.index_finish.proofs.Agreeing.{ordered-stored, ordered-bounded}
