@@ -13,7 +13,7 @@ use Rattle.history.specs.Words.{Operation, Block}
 use Rattle.history.specs.Lent.{tooShort}
 use Rattle.history.specs.Ledger.{Opening, Ledger, opened, finished, isRead, recordBy, finishBy}
 use Rattle.history.specs.Reads.{Found, blockBy, findBy}
-use Rattle.history.specs.Refusals.{Answer, accepted, refused, firstOf, openAnswer, recordRefusals, recordAnswer, finishRefusals, finishAnswer, windowRefusals, findAnswer, blockRefusals, blockAnswer}
+use Rattle.history.specs.Refusals.{Answer, accepted, refused, firstOf, maxEndTick, openAnswer, recordRefusals, recordAnswer, finishRefusals, finishAnswer, windowRefusals, findAnswer, blockRefusals, blockAnswer}
 use Rattle.history.specs.Calls.{Call, recordCall, finishCall, answerTo, acceptedBy, leaves, after, answers, afterAll, noted, history}
 use Rattle.history.specs.Sound.{Sound}
 use Rattle.history.specs.Law.{LedgerLaw, Faithful}
@@ -22,7 +22,7 @@ use Rattle.history.proofs.FindSound.{find-sound}
 use Rattle.layout.specs.Tables.{Tables, lengthsOf}
 use Rattle.layout.specs.Encodes.{Encodes}
 use Rattle.layout.specs.Formed.{WellFormed, WellFormedForFinish, Blank}
-use Rattle.layout.specs.Relations.{openingOf, openedTables, leftBy, RecordedTables, RecordLeaves, RecordedBy, FinishLeaves, FinishedBy, countsOf, answerLeft, Fields, blockIn, blockOfFields}
+use Rattle.layout.specs.Relations.{openingOf, openedTables, leftBy, OpenedBy, RecordedTables, RecordLeaves, RecordedBy, FinishLeaves, FinishedBy, countsOf, answerLeft, Fields, blockIn, blockOfFields}
 use Rattle.layout.proofs.Opening.{open-accepted, opened-encodes, opened-lengths, opened-blank}
 use Rattle.demand.specs.Theorem.{CallDone, Run, run-nil, run-cons, Finished, Demand3}
 
