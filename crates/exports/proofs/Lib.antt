@@ -1,0 +1,3 @@
+pub mod Fitting
+pub mod Positive
+pub mod Answering

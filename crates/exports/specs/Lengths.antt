@@ -1,0 +1,22 @@
+-- How long a slice must be to hold so many rows. Definitions alone: head sizes and widths are those of `Lent`.
+use mathlib.Core.Bool.{cond}
+use mathlib.Core.List.{List, [], _∷_}
+use Prim.Native.Nat.{ℕ, _+_, _*_, _^_}
+use lib.Dec.{ltb}
+use lib.ListN.{getD}
+use Rattle.history.specs.Lent.{rowWidth, entryWidth, pieceHead, blockHead, nodeHead, entryHead}
+
+-- pieces, blocks, store, nodes, entries, scratch: the head, and the width of a row; a byte is the store's row
+abbrev pub heads : List ℕ
+heads = pieceHead ∷ blockHead ∷ 0 ∷ nodeHead ∷ entryHead ∷ 0 ∷ []
+
+abbrev pub widths : List ℕ
+widths = rowWidth ∷ rowWidth ∷ 1 ∷ rowWidth ∷ entryWidth ∷ rowWidth ∷ []
+
+-- a length as a 64-bit number; 0 where it is none
+unfoldable pub whole : ℕ → ℕ
+whole n = cond (ltb n (2 ^ 64)) n 0
+
+-- the length of a table's slice with so many rows; 0 where there is no such table, as where it does not fit
+unfoldable pub lengthFor : (table rows : ℕ) → ℕ
+lengthFor table rows = whole (getD heads table 0 + getD widths table 0 * rows)
