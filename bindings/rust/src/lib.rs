@@ -10,7 +10,7 @@
 //!
 //! Every call tests its tables first and so takes time linear in the rows in use.
 
-mod raw;
+pub mod raw;
 mod refusal;
 
 pub use refusal::Refusal;
