@@ -198,44 +198,65 @@ opened-open : (a : Opening) → finished (opened a) ≡ false
 unfolding opened
 opened-open a = refl
 
+module _ (end kind : ℕ) (some-tick : 1 ≤ end) (end-most : end ≤ maxEndTick) (known-kind : kind ≤ 4) (t t₀ : Tables) (opening : Answer Unit)
+    (d : OpenedBy end kind t t₀ opening) where
+  abbrev fed : Opening
+  fed = openingOf end kind t
+
+  taken : openAnswer fed ≡ accepted tt
+  taken = open-accepted fed some-tick end-most known-kind
+
+  opens : opening ≡ accepted tt
+  opens = d .answered ∙ taken
+
+  left : t₀ ≡ openedTables end kind t
+  unfolding leftBy
+  left = d .left ∙ ap (λ (x : Answer Unit). leftBy x t (openedTables end kind t)) opens
+
+  same-end : (ks : List Call) → afterAll (opened fed) ks .opening .end ≡ end
+  same-end ks = ap (λ (x : Opening). x .end) (opening-kept ks (opened fed) ∙ opened-opening fed)
+
+  -- tables that hold their heads stand for the opened ledger
+  standing : tooShort (lengthsOf t) ≡ false → Standing t₀ (opened fed) []
+  unfolding afterAll history
+  standing fits = record {
+    encodes = subst (λ (x : Tables). Encodes x (opened fed)) (sym left) (opened-encodes end kind t fits);
+    law = the-law fed taken [];
+    blank = λ _. subst Blank (sym left) (opened-blank end kind t);
+  }
+
+  module _ {ks : List Call} {given : List (Answer Unit)} {t′ : Tables} (r : Run t₀ ks given t′) where
+    -- tables too short are never finished
+    short : tooShort (lengthsOf t) ≡ true → (given ≡ answers (opened fed) ks) × (afterAll (opened fed) ks ≡ opened fed)
+    short e =
+        let lent : tooShort (opened fed .opening .lent) ≡ true = ap (λ (x : Opening). tooShort (x .lent)) (opened-opening fed) ∙ e in
+        let table : tooShort (lengthsOf t₀) ≡ true = ap tooShort (ap lengthsOf left ∙ sym (opened-lengths end kind t)) ∙ e in
+        short-run (opened fed) lent table r
+
+    short-open : tooShort (lengthsOf t) ≡ true → finished (afterAll (opened fed) ks) ≡ true → ⊥
+    short-open e done = false≢true (sym (opened-open fed) ∙ ap finished (sym (short e .1)) ∙ done)
+
+    -- after the calls the tables stand for the finished ledger
+    pub finished-encodes : finished (afterAll (opened (openingOf end kind t)) ks) ≡ true → Encodes t′ (afterAll (opened (openingOf end kind t)) ks)
+    finished-encodes done =
+        elim (bool-cases (tooShort (lengthsOf t))) [ inl e ↦ absurd (short-open e done) | inr fits ↦ runs (opened fed) [] (standing fits) r .1 .encodes ]
+
 pub demand : Demand3
-unfolding leftBy afterAll history
-demand end kind a b c t t₀ opening d = go (bool-cases (tooShort (lengthsOf t)))
-  where
-    fed : Opening
-    fed = openingOf end kind t
-
-    taken : openAnswer fed ≡ accepted tt
-    taken = open-accepted fed a b c
-
-    opens : opening ≡ accepted tt
-    opens = d .answered ∙ taken
-
-    left : t₀ ≡ openedTables end kind t
-    left = d .left ∙ ap (λ (x : Answer Unit). leftBy x t (openedTables end kind t)) opens
-
-    same-end : (ks : List Call) → afterAll (opened fed) ks .opening .end ≡ end
-    same-end ks = ap (λ (x : Opening). x .end) (opening-kept ks (opened fed) ∙ opened-opening fed)
-
-    go : (tooShort (lengthsOf t) ≡ true) ⊎ (tooShort (lengthsOf t) ≡ false) → Demand end kind t t₀ opening
-    go (inl short) =
-        let lent : tooShort (opened fed .opening .lent) ≡ true = ap (λ (x : Opening). tooShort (x .lent)) (opened-opening fed) ∙ short in
-        let table : tooShort (lengthsOf t₀) ≡ true = ap tooShort (ap lengthsOf left ∙ sym (opened-lengths end kind t)) ∙ short in
-        record {
-          opens = opens;
-          answered = λ ks given t′ r. short-run (opened fed) lent table r .0;
-          done = λ ks given t′ r e. absurd (false≢true (sym (opened-open fed) ∙ ap finished (sym (short-run (opened fed) lent table r .1)) ∙ e));
-        }
-    go (inr fits) =
-        let s : Standing t₀ (opened fed) [] = record {
-          encodes = subst (λ (x : Tables). Encodes x (opened fed)) (sym left) (opened-encodes end kind t fits);
-          law = the-law fed taken [];
-          blank = λ _. subst Blank (sym left) (opened-blank end kind t);
-        } in
-        record {
-          opens = opens;
-          answered = λ ks given t′ r. runs (opened fed) [] s r .0;
-          done = λ ks given t′ r e.
-              finished-reads (afterAll (opened fed) ks) (history [] (opened fed) ks) t′ (runs (opened fed) [] s r .1) e
-              (subst (λ (n : ℕ). Faithful n (afterAll (opened fed) ks .now .blocks) (history [] (opened fed) ks)) (sym (same-end ks)) (every-list fed taken ks .faithful e));
-        }
+demand end kind a b c t t₀ opening d =
+    elim (bool-cases (tooShort (lengthsOf t))) [
+      | inl e ↦ record {
+        opens = opens end kind a b c t t₀ opening d;
+        answered = λ ks given t′ r. short end kind a b c t t₀ opening d r e .0;
+        done = λ ks given t′ r done. absurd (short-open end kind a b c t t₀ opening d r e done);
+      }
+      | inr fits ↦ (
+          let begun = openingOf end kind t in
+          let s = standing end kind a b c t t₀ opening d fits in
+          record {
+            opens = opens end kind a b c t t₀ opening d;
+            answered = λ ks given t′ r. runs (opened begun) [] s r .0;
+            done = λ ks given t′ r e.
+                finished-reads (afterAll (opened begun) ks) (history [] (opened begun) ks) t′ (runs (opened begun) [] s r .1) e
+                (subst (λ (n : ℕ). Faithful n (afterAll (opened begun) ks .now .blocks) (history [] (opened begun) ks)) (sym (same-end end kind a b c t t₀ opening d ks)) (every-list begun (taken end kind a b c t t₀ opening d) ks .faithful e));
+          })
+    ]

@@ -1,0 +1,34 @@
+-- What the answer of write means, and its contract over a closed index. Definitions alone.
+use mathlib.Core.Path.{_≡_}
+use mathlib.Core.Bool.{true}
+use mathlib.Core.List.{List}
+use Prim.Native.Nat.{ℕ, _≤_, _<_}
+use lib.ListN.{length}
+use lib.Seq.{sets}
+use Rattle.history.specs.Ledger.{Ledger, finished}
+use Rattle.history.specs.Refusals.{Answer, accepted, refused}
+use Rattle.history.specs.File.{fileBy, writeAnswer}
+use Rattle.history.specs.Sound.{Sound}
+use Rattle.layout.specs.Tables.{tables}
+use Rattle.layout.specs.Encodes.{Encodes}
+use Rattle.layout.specs.Files.{bytesWritten, outLeft}
+use Rattle.file_write.specs.Living.{living}
+use Rattle.file_write.specs.Sizes.{blockCount, nodesAt}
+use Rattle.file_write.specs.declared.Written.{Written}
+use Rattle.file_write.specs.declared.Written.the-variants.{Bytes, Refused}
+
+-- document 01's number and values for each case
+abbrev pub writtenOf : Written → Answer ℕ
+writtenOf (Bytes n) = accepted n
+writtenOf (Refused n) = refused n
+
+-- the file of a closed index with blocks, whatever pieces are lent with it, in a slice: `living` blocks, and the nodes from place `nodes-at` on
+pub record FileWritten (blocks store nodes entries : List ℕ) (many nodes-at : ℕ) (out out′ : List ℕ) : Type 0 where
+  pub file : (pieces : List ℕ) (l : Ledger) → Encodes (tables pieces blocks store nodes entries) l → Sound l → finished l ≡ true
+      → 0 < blockCount blocks → many ≡ length (living blocks (blockCount blocks)) → nodes-at ≡ nodesAt blocks (blockCount blocks)
+      → nodes-at ≤ length out → out′ ≡ sets out 0 (fileBy l)
+
+-- `write_closed`: the ledger's answer, and the file in the slice; the rest of it is as it was
+pub record WrittenClosed (blocks store nodes entries out out′ : List ℕ) (answer : Answer ℕ) : Type 0 where
+  pub written : (pieces : List ℕ) (l : Ledger) → Encodes (tables pieces blocks store nodes entries) l → Sound l → finished l ≡ true
+      → (answer ≡ bytesWritten (writeAnswer l (length out))) × (out′ ≡ outLeft (writeAnswer l (length out)) out)

@@ -1,0 +1,6 @@
+pub mod Putting
+pub mod Living
+pub mod Sizes
+pub mod Numbering
+pub mod Parts
+pub mod Answers

@@ -1,0 +1,82 @@
+// Writing the file of a closed index (`write` of spacetime_index.rs), without the test of its tables: for callers that have tested them.
+//
+// The file is measured first, so that a refusal has written nothing. Blocks of no life have no entry and are not written; the others are numbered
+// anew. While the nodes are written, the old numbers of the blocks stand where the blocks will be, ascending, and a block's new number is its place
+// among them, found by binary search. Nothing past the file is touched, and no memory but the lent slice is used.
+//
+//   specs/Answers    proofs/Answering            what the answer means; 16 and the file
+//   put              specs/Putting    proofs/Putting      bytes put one part after the other
+//   plan             specs/Sizes      proofs/Planning     how long the file is
+//   blocks           specs/Living, Parts  proofs/Laying   the blocks that have a life
+//   numbers          specs/Numbering  proofs/Listing, Ranking   new numbers
+//   nodes            specs/Parts      proofs/Treeing      the tree, root first
+//                    proofs/Stores, Agreeing              stores over stores; the tables and the ledger's file
+ghost use Rattle.file_write.specs.Answers.{writtenOf, FileWritten, WrittenClosed};
+
+mod blocks;
+mod nodes;
+mod numbers;
+mod plan;
+mod put;
+
+use plan::Plan;
+use tables::block;
+
+// How many bytes the file has; or a refusal, and nothing has changed.
+pub enum Written {
+    Bytes(u64),
+    Refused(u64),
+}
+
+// The result exceeds the lent slice.
+const TOO_LONG: u64 = 16;
+
+// Writes the file of an index with blocks: the list of those written, if it is needed, then the nodes by it from `place`
+// on, then the blocks over it.
+fn write_file(
+    blocks: &[u64],
+    store: &[u8],
+    nodes: &[u64],
+    entries: &[u64],
+    living: u64,
+    place: usize,
+    out: &mut [u8],
+)
+    ensures { λ _. ⌜ FileWritten (now (blocks .entry)) (now (store .entry)) (now (nodes .entry)) (now (entries .entry)) living place (now (out .entry)) (now (out .exit)) ⌝ }
+{
+    let count = block::get(blocks, 0, block::COUNT);
+    let kind = block::get(blocks, 0, block::KIND);
+    let end = block::get(blocks, 0, block::END);
+    let root = tables::get(nodes, 0, kind as usize);
+    let listed = numbers::list(blocks, count, living, out);
+    nodes::put_tree(nodes, entries, root, 0, end, listed, out, place);
+    blocks::put_blocks(blocks, store, count, out, plan::BLOCKS_AT);
+    let count_at = put::byte(out, 0, kind);
+    put::number(out, count_at, living);
+}
+
+// Writes the file of a closed index: 16 if it exceeds the slice. An index without blocks writes nothing.
+pub fn write_closed(
+    blocks: &[u64],
+    store: &[u8],
+    nodes: &[u64],
+    entries: &[u64],
+    out: &mut [u8],
+) -> Written
+    ensures { λ r. ⌜ WrittenClosed (now (blocks .entry)) (now (store .entry)) (now (nodes .entry)) (now (entries .entry)) (now (out .entry)) (now (out .exit)) (writtenOf r) ⌝ }
+{
+    if block::get(blocks, 0, block::COUNT) == 0 {
+        return Written::Bytes(0);
+    }
+    match plan::measure(blocks, nodes, entries, out.len()) {
+        Plan::TooLong => Written::Refused(TOO_LONG),
+        Plan::Fits {
+            living,
+            nodes_at,
+            size,
+        } => {
+            write_file(blocks, store, nodes, entries, living, nodes_at, out);
+            Written::Bytes(size as u64)
+        }
+    }
+}
