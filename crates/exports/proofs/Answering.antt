@@ -20,11 +20,15 @@ use Rattle.index.specs.declared.Found.{Found}
 use Rattle.index.specs.declared.Found.the-variants.{Listed, Refused as FindRefused}
 use Rattle.index.specs.declared.Given.{Given}
 use Rattle.index.specs.declared.Given.the-variants.{Block, Refused as BlockRefused}
+use Rattle.layout.specs.Files.{WrittenBy}
+use Rattle.file_write.specs.Answers.{writtenOf}
+use Rattle.file_write.specs.declared.Written.{Written}
+use Rattle.file_write.specs.declared.Written.the-variants.{Bytes, Refused as WriteRefused}
 use Rattle.cells.specs.Answers.{readOf, CellsReadBy}
 use Rattle.cells.specs.declared.Read.{Read}
 use Rattle.cells.specs.declared.Read.the-variants.{Filled, Refused as ReadRefused}
 use Rattle.exports.specs.Numbers.{answerOf, ByNumber, counts, fields}
-use Rattle.exports.proofs.Positive.{open-positive, record-positive, finish-positive, block-positive, find-positive, cells-positive}
+use Rattle.exports.proofs.Positive.{open-positive, record-positive, finish-positive, block-positive, find-positive, cells-positive, write-positive}
 
 -- ── any call ──
 
@@ -105,3 +109,14 @@ module _ {t : Tables} {tick start stop : ℕ} {bytes bytes′ held held′ : Lis
   cells-n e = by-refused (subst (λ (x : Read). CellsReadBy t tick start stop bytes bytes′ held held′ (readOf x)) e told) cells-positive
 
 pub ruleset reading = (cells-0, cells-n)
+
+-- ── write ──
+
+module _ {t : Tables} {out out′ : List ℕ} {before : ℕ} {r : Written} (told : WrittenBy t out out′ (writtenOf r)) where
+  pub write-0 : {written : ℕ} → r ≡ Bytes written → ByNumber (WrittenBy t out out′) 0 before written
+  write-0 e = by-accepted (subst (λ (x : Written). WrittenBy t out out′ (writtenOf x)) e told)
+
+  pub write-n : {n : ℕ} → r ≡ WriteRefused n → ByNumber (WrittenBy t out out′) n before before
+  write-n e = by-refused (subst (λ (x : Written). WrittenBy t out out′ (writtenOf x)) e told) write-positive
+
+pub ruleset writing = (write-0, write-n)

@@ -1,3 +1,4 @@
 pub mod Fitting
 pub mod Positive
+pub mod PositiveLoad
 pub mod Answering

@@ -11,10 +11,12 @@ use Rattle.lists.proofs.Numbers.{and-left, and-right}
 use Rattle.history.specs.Words.{Operation}
 use Rattle.history.specs.Ledger.{Ledger}
 use Rattle.history.specs.Reads.{Found, Cells, findBy, cellsBy}
-use Rattle.history.specs.Refusals.{Answer, accepted, refused, Refusal, firstOf, openRefusals, recordRefusals, finishRefusals, windowRefusals, blockRefusals, findAnswer, cellsAnswer}
+use Rattle.history.specs.Refusals.{Answer, accepted, refused, Refusal, firstOf, openRefusals, recordRefusals, finishRefusals, windowRefusals, blockRefusals, writeRefusals, findAnswer, cellsAnswer}
+use Rattle.history.specs.File.{fileBy}
 use Rattle.layout.specs.Tables.{Tables}
 use Rattle.layout.specs.Formed.{WellFormed, WellFormedForFinish}
 use Rattle.layout.specs.Relations.{openingOf, OpenedBy, RecordedBy, FinishedBy, countsOf, FoundBy, blockOfFields, BlockGivenBy}
+use Rattle.layout.specs.Files.{bytesWritten, WrittenBy}
 use Rattle.cells.specs.Answers.{CellsReadBy, givenBy}
 
 -- ── a list of refusals ──
@@ -63,7 +65,7 @@ block-positive {t} {k} told =
     let ill : WellFormed t → ⊥ = λ w. first-positive (blockRefusals (w .ledger) k) _ refl (sym (told .formed (w .ledger) (w .encodes) (w .sound))) in
     not-2 (told .unformed ill)
 
--- ── find and read cells: as the ledger's answer, with other values ──
+-- ── find, read cells and write: as the ledger's answer, with other values ──
 
 counts-refused : (x : Answer Found) → refused 0 ≡ countsOf x → x ≡ refused 0
 unfolding countsOf
@@ -74,6 +76,11 @@ cells-refused : (x : Answer Cells) → refused 0 ≡ givenBy x → x ≡ refused
 unfolding givenBy
 cells-refused (accepted f) e = let z : _≡_ {A = ℕ} 0 1 = cc in absurd (omega arith)
 cells-refused (refused n) e = cc
+
+bytes-refused : (x : Answer (List ℕ)) → refused 0 ≡ bytesWritten x → x ≡ refused 0
+unfolding bytesWritten
+bytes-refused (accepted f) e = let z : _≡_ {A = ℕ} 0 1 = cc in absurd (omega arith)
+bytes-refused (refused n) e = cc
 
 module _ (l : Ledger) (tick start stop : ℕ) where
   found-positive : (room : ℕ) → findAnswer l tick start stop room ≡ refused 0 → ⊥
@@ -94,4 +101,11 @@ pub cells-positive : {t : Tables} {tick start stop : ℕ} {bytes bytes′ held h
 cells-positive {t} {tick} {start} {stop} {bytes} {bytes′} {held} told =
     let ill : WellFormed t → ⊥ = λ w.
     shown-positive (w .ledger) tick start stop (length bytes) (length held) (cells-refused _ (told .formed (w .ledger) (w .encodes) (w .sound) .answered)) in
+    not-2 (told .unformed ill .0)
+
+pub write-positive : {t : Tables} {out out′ : List ℕ} → WrittenBy t out out′ (refused 0) → ⊥
+unfolding writeRefusals positive
+write-positive {t} {out} told =
+    let ill : WellFormed t → ⊥ = λ w.
+    first-positive (writeRefusals (w .ledger) (length out) (length (fileBy (w .ledger)))) (fileBy (w .ledger)) refl (bytes-refused _ (told .formed (w .ledger) (w .encodes) (w .sound) .0)) in
     not-2 (told .unformed ill .0)

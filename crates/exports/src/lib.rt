@@ -10,6 +10,7 @@ ghost use lib.ListN.{length};
 ghost use Rattle.history.specs.Reads.{clockLabel};
 ghost use Rattle.layout.specs.Tables.{tables};
 ghost use Rattle.layout.specs.Relations.{OpenedBy, RecordedBy, FinishedBy, BlockGivenBy, FoundBy};
+ghost use Rattle.layout.specs.Files.{WrittenBy};
 ghost use Rattle.index_record.specs.Calls.{operation};
 ghost use Rattle.cells.specs.Answers.{CellsReadBy};
 ghost use Rattle.exports.specs.Lengths.{lengthFor};
@@ -18,6 +19,7 @@ ghost use Rattle.exports.specs.Numbers.{ByNumber, counts, fields};
 mod lengths;
 
 use cells::Read;
+use file_write::Written;
 use index::Finished;
 use index::Found;
 use index::Given;
@@ -230,6 +232,31 @@ pub extern "C" fn index_read_cells(
     match read {
         Read::Filled => 0,
         Read::Refused(number) => number,
+    }
+}
+
+// Writes the file of a finished or loaded index from the start of `out` on: how many bytes.
+#[no_mangle]
+pub extern "C" fn index_write(
+    pieces: &[u64],
+    blocks: &[u64],
+    store: &[u8],
+    nodes: &[u64],
+    entries: &[u64],
+    out: &mut [u8],
+    written: &mut u64,
+) -> u64
+    ensures { λ r. ⌜ ByNumber (WrittenBy
+        (tables (now (pieces .entry)) (now (blocks .entry)) (now (store .entry)) (now (nodes .entry)) (now (entries .entry)))
+        (now (out .entry)) (now (out .exit))) r (now (written .entry)) (now (written .exit)) ⌝ }
+{
+    let wrote = spacetime_file::serialize_to(pieces, blocks, store, nodes, entries, out);
+    match wrote {
+        Written::Bytes(count) => {
+            *written = count;
+            0
+        }
+        Written::Refused(number) => number,
     }
 }
 
