@@ -13,7 +13,7 @@ ghost use Rattle.layout.specs.Relations.{OpenedBy, RecordedBy, FinishedBy, Bloc
 ghost use Rattle.layout.specs.Files.{WrittenBy};
 ghost use Rattle.index_record.specs.Calls.{operation};
 ghost use Rattle.cells.specs.Answers.{CellsReadBy};
-ghost use Rattle.exports.specs.Lengths.{lengthFor};
+ghost use Rattle.exports.specs.Lengths.{lengthFor, LengthsHold};
 ghost use Rattle.exports.specs.Numbers.{ByNumber, counts, fields};
 
 mod lengths;
@@ -35,6 +35,11 @@ pub extern "C" fn index_length(table: u64, rows: u64) -> u64
 {
     lengths::length_for(table, rows)
 }
+
+// A slice of that length has the rows asked for.
+pub fn lengths_hold()
+    ensures { λ _. ⌜ LengthsHold ⌝ }
+{}
 
 // Opens an index in the lent tables.
 #[no_mangle]
