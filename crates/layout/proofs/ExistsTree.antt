@@ -81,7 +81,7 @@ node-rows-behind kind lo hi link first (node xs l r) =
     behind-append (first + length xs) a b ∙ ap (λ (f : ℕ). behind f b) p ∙ q ∙ z
 
 -- they are one behind the other
-node-rows-runs : (kind lo hi link first : ℕ) (T : Tree) → Runs first (nodeRows kind lo hi link first T)
+pub node-rows-runs : (kind lo hi link first : ℕ) (T : Tree) → Runs first (nodeRows kind lo hi link first T)
 unfolding nodeRows Runs
 node-rows-runs kind lo hi link first hole = tt
 node-rows-runs kind lo hi link first (node xs l r) =
@@ -93,13 +93,13 @@ node-rows-runs kind lo hi link first (node xs l r) =
           (rw p (node-rows-runs kind (mid lo hi) hi (suc link + nodeCount l) (first + length xs + entryCount l) r)),
     )
 
-runs-first : (first : ℕ) (rows : List (List ℕ)) → Runs first rows → 0 < length rows → getD (getD rows 0 []) nodeFirst 0 ≡ first
+pub runs-first : (first : ℕ) (rows : List (List ℕ)) → Runs first rows → 0 < length rows → getD (getD rows 0 []) nodeFirst 0 ≡ first
 unfolding Runs
 runs-first first [] h k = absurd (omega arith)
 runs-first first (r ∷ rs) h k = h .0
 
 -- from row to row
-runs-next : (first : ℕ) (rows : List (List ℕ)) → Runs first rows → (k : ℕ) → suc k < length rows
+pub runs-next : (first : ℕ) (rows : List (List ℕ)) → Runs first rows → (k : ℕ) → suc k < length rows
     → getD (getD rows (suc k) []) nodeFirst 0 ≡ getD (getD rows k []) nodeFirst 0 + getD (getD rows k []) nodeEntries 0
 unfolding Runs
 runs-next first [] h k p = absurd (omega arith)

@@ -1,0 +1,57 @@
+-- Rows written: one step for each return of the functions that write a row, and numbers written in front of others. Assumes nothing.
+use mathlib.Core.Path.{_≡_, refl, sym, _∙_, ap}
+use mathlib.Core.List.{List, [], _∷_, _++_}
+use Prim.Native.Nat.{ℕ, zero, suc, _+_, _*_, _≤_, _<_}
+use native.Mathlib.Omega.{arith}
+use lib.ListN.{length, set}
+use lib.Seq.{sets, set-comm}
+use Rattle.lists.proofs.Stores.{sets-append}
+use Rattle.history.specs.Lent.{rowWidth, entryWidth, entryHead}
+use Rattle.file_fill.specs.Fill.{entryPlace, rootIn, nodeHeadNumbers}
+
+-- ── a row ──
+
+module _ (t : List ℕ) (link col a b c d : ℕ) where
+  pub half-put : {t₁ t₂ t₃ t₄ : List ℕ} → t₁ ≡ set t (rowWidth * link + col) a → t₂ ≡ set t₁ (rowWidth * link + (col + 1)) b
+      → t₃ ≡ set t₂ (rowWidth * link + (col + 2)) c → t₄ ≡ set t₃ (rowWidth * link + (col + 3)) d
+      → t₄ ≡ sets t (rowWidth * link + col) (a ∷ b ∷ c ∷ d ∷ [])
+  half-put p q r s =
+      let one : rowWidth * link + (col + 1) ≡ suc (rowWidth * link + col) = omega arith in
+      let two : rowWidth * link + (col + 2) ≡ suc (suc (rowWidth * link + col)) = omega arith in
+      let three : rowWidth * link + (col + 3) ≡ suc (suc (suc (rowWidth * link + col))) = omega arith in
+      s ∙ rw (r, q, p, one, two, three) refl
+
+  pub row-put : (e f g h : ℕ) {half all : List ℕ} → half ≡ sets t (rowWidth * link + col) (a ∷ b ∷ c ∷ d ∷ [])
+      → all ≡ sets half (rowWidth * link + (col + 4)) (e ∷ f ∷ g ∷ h ∷ []) → all ≡ sets t (rowWidth * link + col) (a ∷ b ∷ c ∷ d ∷ e ∷ f ∷ g ∷ h ∷ [])
+  row-put e f g h p q =
+      let four : rowWidth * link + (col + 4) ≡ suc (suc (suc (suc (rowWidth * link + col)))) = omega arith in
+      q ∙ rw (p, four) refl
+
+pub entry-put : (t : List ℕ) (row number cell : ℕ) {t₁ t₂ : List ℕ} → t₁ ≡ set t (entryHead + (entryWidth * row + 0)) number
+    → t₂ ≡ set t₁ (entryHead + (entryWidth * row + 1)) cell → t₂ ≡ sets t (entryHead + entryWidth * row) (number ∷ cell ∷ [])
+entry-put t row number cell p q =
+    let none : entryHead + (entryWidth * row + 0) ≡ entryHead + entryWidth * row = omega arith in
+    let one : entryHead + (entryWidth * row + 1) ≡ suc (entryHead + entryWidth * row) = omega arith in
+    q ∙ rw (p, none, one) refl
+
+-- the head of the node table is the row of link 0
+pub head-put : (t : List ℕ) (kind count : ℕ) {a b c d e : ℕ} {t′ : List ℕ} → a ≡ rootIn kind 0 → b ≡ rootIn kind 1 → c ≡ rootIn kind 2 → d ≡ rootIn kind 3
+    → e ≡ rootIn kind 4 → t′ ≡ sets t (rowWidth * 0 + 0) (a ∷ b ∷ c ∷ d ∷ e ∷ count ∷ 0 ∷ 0 ∷ []) → t′ ≡ sets t 0 (nodeHeadNumbers kind count)
+head-put t kind count p q r s u w = rw (← p, ← q, ← r, ← s, ← u) w
+
+pub ruleset putting = (half-put, row-put, entry-put, head-put)
+
+-- ── in front of others ──
+
+set-before : (l : List ℕ) (i x j : ℕ) (ys : List ℕ) → i < j → set (sets l j ys) i x ≡ sets (set l i x) j ys
+set-before l i x j [] h = refl
+set-before l i x j (y ∷ ys) h =
+    set-before (set l j y) i x (suc j) ys (omega arith) ∙ ap (λ (m : List ℕ). sets m (suc j) ys) (set-comm l j i y x (λ e. omega arith))
+
+-- numbers written in front of others that were written before are one list
+pub sets-before : (l : List ℕ) (i : ℕ) (xs ys : List ℕ) → sets (sets l (i + length xs) ys) i xs ≡ sets l i (xs ++ ys)
+sets-before l i [] ys = let z : i + 0 ≡ i = omega arith in rw z
+sets-before l i (x ∷ xs) ys =
+    let z : i + suc (length xs) ≡ suc i + length xs = omega arith in
+    ap (λ (m : List ℕ). sets m (suc i) xs) (set-before l i x (i + suc (length xs)) ys (omega arith))
+    ∙ rw z (sets-before (set l i x) (suc i) xs ys)

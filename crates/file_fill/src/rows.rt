@@ -1,0 +1,38 @@
+// A row of eight numbers.
+ghost use mathlib.Core.Path.{_≡_};
+ghost use mathlib.Core.List.{[], _∷_};
+ghost use Prim.Native.Nat.{_+_, _*_, _≤_};
+ghost use lib.Seq.{sets};
+ghost use Rattle.history.specs.Lent.{rowWidth};
+
+// Half a row: four numbers from column `col` on.
+fn put_half(table: &mut [u64], link: u64, col: usize, a: u64, b: u64, c: u64, d: u64)
+    requires { ⌜ col ≤ 8192 ⌝ }
+    ensures { λ _. ⌜ now (table .exit) ≡ sets (now (table .entry)) (rowWidth * link + col) (a ∷ b ∷ c ∷ d ∷ []) ⌝ }
+{
+    tables::put(table, link, col, a);
+    tables::put(table, link, col + 1, b);
+    tables::put(table, link, col + 2, c);
+    tables::put(table, link, col + 3, d);
+}
+
+// The row of `link`, in a table whose row of link 0 stands at `base`: so much of it as the table holds.
+pub fn put_row(
+    table: &mut [u64],
+    base: usize,
+    link: u64,
+    a: u64,
+    b: u64,
+    c: u64,
+    d: u64,
+    e: u64,
+    f: u64,
+    g: u64,
+    h: u64,
+)
+    requires { ⌜ base ≤ 4096 ⌝ }
+    ensures { λ _. ⌜ now (table .exit) ≡ sets (now (table .entry)) (rowWidth * link + base) (a ∷ b ∷ c ∷ d ∷ e ∷ f ∷ g ∷ h ∷ []) ⌝ }
+{
+    put_half(table, link, base, a, b, c, d);
+    put_half(table, link, base + 4, e, f, g, h);
+}
