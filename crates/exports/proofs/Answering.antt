@@ -20,15 +20,19 @@ use Rattle.index.specs.declared.Found.{Found}
 use Rattle.index.specs.declared.Found.the-variants.{Listed, Refused as FindRefused}
 use Rattle.index.specs.declared.Given.{Given}
 use Rattle.index.specs.declared.Given.the-variants.{Block, Refused as BlockRefused}
-use Rattle.layout.specs.Files.{WrittenBy}
+use Rattle.layout.specs.Files.{WrittenBy, LoadedBy}
 use Rattle.file_write.specs.Answers.{writtenOf}
 use Rattle.file_write.specs.declared.Written.{Written}
 use Rattle.file_write.specs.declared.Written.the-variants.{Bytes, Refused as WriteRefused}
+use Rattle.file_load.specs.Load.{loadedOf}
+use Rattle.file_load.specs.declared.Loaded.{Loaded}
+use Rattle.file_load.specs.declared.Loaded.the-variants.{Next, Refused as LoadRefused}
 use Rattle.cells.specs.Answers.{readOf, CellsReadBy}
 use Rattle.cells.specs.declared.Read.{Read}
 use Rattle.cells.specs.declared.Read.the-variants.{Filled, Refused as ReadRefused}
 use Rattle.exports.specs.Numbers.{answerOf, ByNumber, counts, fields}
 use Rattle.exports.proofs.Positive.{open-positive, record-positive, finish-positive, block-positive, find-positive, cells-positive, write-positive}
+use Rattle.exports.proofs.PositiveLoad.{load-positive}
 
 -- ── any call ──
 
@@ -120,3 +124,14 @@ module _ {t : Tables} {out out′ : List ℕ} {before : ℕ} {r : Written} (told
   write-n e = by-refused (subst (λ (x : Written). WrittenBy t out out′ (writtenOf x)) e told) write-positive
 
 pub ruleset writing = (write-0, write-n)
+
+-- ── load ──
+
+module _ {file : List ℕ} {at : ℕ} {t t′ : Tables} {before : ℕ} {r : Loaded} (told : LoadedBy file at t t′ (loadedOf r)) where
+  pub load-0 : {next : ℕ} → r ≡ Next next → ByNumber (LoadedBy file at t t′) 0 before next
+  load-0 e = by-accepted (subst (λ (x : Loaded). LoadedBy file at t t′ (loadedOf x)) e told)
+
+  pub load-n : {n : ℕ} → r ≡ LoadRefused n → ByNumber (LoadedBy file at t t′) n before before
+  load-n e = by-refused (subst (λ (x : Loaded). LoadedBy file at t t′ (loadedOf x)) e told) load-positive
+
+pub ruleset loading = (load-0, load-n)

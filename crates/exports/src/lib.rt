@@ -10,7 +10,7 @@ ghost use lib.ListN.{length};
 ghost use Rattle.history.specs.Reads.{clockLabel};
 ghost use Rattle.layout.specs.Tables.{tables};
 ghost use Rattle.layout.specs.Relations.{OpenedBy, RecordedBy, FinishedBy, BlockGivenBy, FoundBy};
-ghost use Rattle.layout.specs.Files.{WrittenBy};
+ghost use Rattle.layout.specs.Files.{WrittenBy, LoadedBy};
 ghost use Rattle.index_record.specs.Calls.{operation};
 ghost use Rattle.cells.specs.Answers.{CellsReadBy};
 ghost use Rattle.exports.specs.Lengths.{lengthFor, LengthsHold};
@@ -19,6 +19,7 @@ ghost use Rattle.exports.specs.Numbers.{ByNumber, counts, fields};
 mod lengths;
 
 use cells::Read;
+use file_load::Loaded;
 use file_write::Written;
 use index::Finished;
 use index::Found;
@@ -262,6 +263,33 @@ pub extern "C" fn index_write(
             0
         }
         Written::Refused(number) => number,
+    }
+}
+
+// Loads a finished index from a file, from a position on: the position after it.
+#[no_mangle]
+pub extern "C" fn index_load(
+    pieces: &mut [u64],
+    blocks: &mut [u64],
+    store: &mut [u8],
+    nodes: &mut [u64],
+    entries: &mut [u64],
+    file: &[u8],
+    at: u64,
+    next: &mut u64,
+) -> u64
+    ensures { λ r. ⌜ ByNumber (LoadedBy (now (file .entry)) at
+        (tables (now (pieces .entry)) (now (blocks .entry)) (now (store .entry)) (now (nodes .entry)) (now (entries .entry)))
+        (tables (now (pieces .exit)) (now (blocks .exit)) (now (store .exit)) (now (nodes .exit)) (now (entries .exit)))) r
+        (now (next .entry)) (now (next .exit)) ⌝ }
+{
+    let loaded = file_load::load(pieces, blocks, store, nodes, entries, file, at as usize);
+    match loaded {
+        Loaded::Next(position) => {
+            *next = position as u64;
+            0
+        }
+        Loaded::Refused(number) => number,
     }
 }
 

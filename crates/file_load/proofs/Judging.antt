@@ -47,14 +47,20 @@ module _ (blocks store nodes entries n bytes rows runs : ℕ) where
       pub room-entries : {s : ℕ} → s ≡ entries - entryHead → s / 2 < runs → false ≡ roomFor blocks store nodes entries n bytes rows runs
       unfolding roomFor
       room-entries w h =
-          rw (le-leb n ((blocks - blockHead) / rowWidth) (omega arith), le-leb rows ((nodes - nodeHead) / rowWidth) (omega arith),
-          lt-leb runs ((entries - entryHead) / entryWidth) (omega arith)) refl
+          rw (
+            le-leb n ((blocks - blockHead) / rowWidth) (omega arith),
+            le-leb rows ((nodes - nodeHead) / rowWidth) (omega arith),
+            lt-leb runs ((entries - entryHead) / entryWidth) (omega arith),
+          ) refl
 
       pub room-bytes : {s : ℕ} → s ≡ entries - entryHead → runs ≤ s / 2 → leb bytes store ≡ roomFor blocks store nodes entries n bytes rows runs
       unfolding roomFor
       room-bytes w h =
-          rw (le-leb n ((blocks - blockHead) / rowWidth) (omega arith), le-leb rows ((nodes - nodeHead) / rowWidth) (omega arith),
-          le-leb runs ((entries - entryHead) / entryWidth) (omega arith)) refl
+          rw (
+            le-leb n ((blocks - blockHead) / rowWidth) (omega arith),
+            le-leb rows ((nodes - nodeHead) / rowWidth) (omega arith),
+            le-leb runs ((entries - entryHead) / entryWidth) (omega arith),
+          ) refl
 
 pub ruleset rooming = (room-blocks, room-nodes, room-entries, room-bytes)
 
@@ -69,23 +75,30 @@ module _ (blocks : List ℕ) (link end : ℕ) {l : ℕ} (long : l ≡ blockColum
     pub lives-wraps : 18446744073709551615 - l < f → false ≡ livesAt blocks link end
     unfolding livesAt
     lives-wraps h =
-        rw (lt-ltb 0 (blockColumn blocks link blockLength) (omega arith),
-        lt-leb (blockColumn blocks link blockFirst + blockColumn blocks link blockLength) (2 ^ 64 - 1) (omega arith)) refl
+        rw (
+          lt-ltb 0 (blockColumn blocks link blockLength) (omega arith),
+          lt-leb (blockColumn blocks link blockFirst + blockColumn blocks link blockLength) (2 ^ 64 - 1) (omega arith),
+        ) refl
 
     module _ (whole : f ≤ 18446744073709551615 - l) (small : l ≤ 18446744073709551615) {d c : ℕ} (died : d ≡ blockColumn blocks link blockDestroyed) (born : c ≡ blockColumn blocks link blockCreated) where
       pub lives-never : d ≤ c → false ≡ livesAt blocks link end
       unfolding livesAt
       lives-never h =
-          rw (lt-ltb 0 (blockColumn blocks link blockLength) (omega arith),
-          le-leb (blockColumn blocks link blockFirst + blockColumn blocks link blockLength) (2 ^ 64 - 1) (omega arith),
-          le-ltb (blockColumn blocks link blockCreated) (blockColumn blocks link blockDestroyed) (omega arith)) refl
+          rw (
+            lt-ltb 0 (blockColumn blocks link blockLength) (omega arith),
+            le-leb (blockColumn blocks link blockFirst + blockColumn blocks link blockLength) (2 ^ 64 - 1) (omega arith),
+            le-ltb (blockColumn blocks link blockCreated) (blockColumn blocks link blockDestroyed) (omega arith),
+          ) refl
 
       pub lives-by : c < d → leb d end ≡ livesAt blocks link end
       unfolding livesAt
       lives-by h =
-          rw (lt-ltb 0 (blockColumn blocks link blockLength) (omega arith),
-          le-leb (blockColumn blocks link blockFirst + blockColumn blocks link blockLength) (2 ^ 64 - 1) (omega arith),
-          lt-ltb (blockColumn blocks link blockCreated) (blockColumn blocks link blockDestroyed) (omega arith), died) refl
+          rw (
+            lt-ltb 0 (blockColumn blocks link blockLength) (omega arith),
+            le-leb (blockColumn blocks link blockFirst + blockColumn blocks link blockLength) (2 ^ 64 - 1) (omega arith),
+            lt-ltb (blockColumn blocks link blockCreated) (blockColumn blocks link blockDestroyed) (omega arith),
+            died,
+          ) refl
 
 pub ruleset living = (lives-empty, lives-wraps, lives-never, lives-by)
 

@@ -50,14 +50,7 @@ fn all_live(blocks: &[u64], n: u64, end: u64) -> bool
 }
 
 // The first rule of 22 to 24 that the index in the tables breaks, or 0.
-pub fn judge(
-    blocks: &[u64],
-    nodes: &[u64],
-    entries: &[u64],
-    kind: u64,
-    end: u64,
-    n: u64,
-) -> u64
+pub fn judge(blocks: &[u64], nodes: &[u64], entries: &[u64], kind: u64, end: u64, n: u64) -> u64
     ensures { λ r. ⌜ Judged (lent (now (blocks .entry)) (now (nodes .entry)) (now (entries .entry))) kind end n r ⌝ }
 {
     if !all_live(blocks, n, end) {

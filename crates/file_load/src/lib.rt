@@ -125,13 +125,29 @@ pub fn load(
             next,
         } => {
             if !room::room(
-                blocks, store, nodes, entries, n, bytes, node_rows, entry_rows,
+                blocks,
+                store,
+                nodes,
+                entries,
+                n,
+                bytes,
+                node_rows,
+                entry_rows,
             ) {
                 return Loaded::Refused(ROOM);
             }
             let start = at + FRONT;
             let fault = build(
-                blocks, store, nodes, entries, file, kind, n, bytes, start, nodes_at,
+                blocks,
+                store,
+                nodes,
+                entries,
+                file,
+                kind,
+                n,
+                bytes,
+                start,
+                nodes_at,
             );
             tables::zero(pieces);
             if fault != 0 {
