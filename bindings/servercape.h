@@ -1,7 +1,7 @@
 /* The board's history, for C. Link target/staticlib/libexports.a, which `rt staticlib exports` writes.
 
    Every call is proved to give its answer for all slices of any length and content. It returns 0, or the number of the refusal; then nothing
-   has changed, the values handed out included.
+   has changed, the values handed out included (but see index_load).
 
    A slice is a pointer and how many elements it has. The proof takes for granted what it takes of every caller in Rust: a pointer is not null and
    aligned, even where the length is 0; the elements are there; what a call may write to overlaps nothing else that it is lent.
@@ -98,6 +98,29 @@ uint64_t index_read_cells(
     uint64_t tick, uint64_t start, uint64_t end,
     uint8_t *bytes, size_t bytes_length,
     uint8_t *held, size_t held_length);
+
+/* Writes the file of an index from the start of `out` on; `written` says how many bytes.
+   Refusals 2, 4, 16. */
+uint64_t index_write(
+    const uint64_t *pieces, size_t pieces_length,
+    const uint64_t *blocks, size_t blocks_length,
+    const uint8_t *store, size_t store_length,
+    const uint64_t *nodes, size_t nodes_length,
+    const uint64_t *entries, size_t entries_length,
+    uint8_t *out, size_t out_length,
+    uint64_t *written);
+
+/* Loads a finished index from a file, from position `at` on; `next` is the position after it. The tables need not be opened. After refusals 21 to 24
+   the tables hold zeros.
+   Refusals 17 to 24. */
+uint64_t index_load(
+    uint64_t *pieces, size_t pieces_length,
+    uint64_t *blocks, size_t blocks_length,
+    uint8_t *store, size_t store_length,
+    uint64_t *nodes, size_t nodes_length,
+    uint64_t *entries, size_t entries_length,
+    const uint8_t *file, size_t file_length,
+    uint64_t at, uint64_t *next);
 
 /* The clock label of a cell: hours times 100 plus minutes. */
 uint64_t index_clock(uint64_t cell);

@@ -144,6 +144,48 @@ static void read_all_cells(struct lent x)
     same("held too short", index_read_cells(TABLES(x), 6, 99, 106, bytes, 8, held, 6), 16);
 }
 
+/* ── the file ── */
+
+/* How many bytes of a slice are not 0. */
+static uint64_t not_zero(const uint8_t *bytes, size_t length)
+{
+    uint64_t count = 0;
+    for (size_t i = 0; i < length; i++)
+        count += bytes[i] != 0;
+    return count;
+}
+
+static void write_and_load(struct lent x)
+{
+    uint8_t file[1024], again[1024];
+    uint64_t written = 77, next = 77;
+    same("too short", index_write(TABLES(x), file, 100, &written), 16);
+    same("kept length", written, 77);
+    same("write", index_write(TABLES(x), file + 3, sizeof file - 3, &written), 0);
+    same("its length", written, 651);
+
+    struct lent y = lend(0, 6, 7, 10, 12);
+    same("bytes end", index_load(TABLES(y), file, written + 2, 3, &next), 17);
+    same("past the end", index_load(TABLES(y), file, sizeof file, sizeof file, &next), 17);
+    same("kept position", next, 77);
+    same("untouched", y.blocks[0], UINT64_C(0xA5A5A5A5A5A5A5A5));
+    same("load", index_load(TABLES(y), file, sizeof file, 3, &next), 0);
+    same("next", next, 3 + written);
+    read_blocks(y);
+    read_finds(y);
+    read_all_cells(y);
+    same("write again", index_write(TABLES(y), again, sizeof again, &written), 0);
+    same("the same bytes", memcmp(file + 3, again, written) == 0, 1);
+
+    y.entries_length -= 2;
+    same("an entry too few", index_load(TABLES(y), file, sizeof file, 3, &next), 20);
+    y.entries_length += 2;
+    file[3 + 9 + 17] = 8;
+    same("a block that ends as it starts", index_load(TABLES(y), file, sizeof file, 3, &next), 22);
+    same("zeros", not_zero((uint8_t *)y.blocks, 8 * y.blocks_length) + not_zero(y.store, y.store_length), 0);
+    give_back(y);
+}
+
 /* ── the rest ── */
 
 static void lengths(void)
@@ -179,6 +221,7 @@ int main(void)
     read_blocks(x);
     read_finds(x);
     read_all_cells(x);
+    write_and_load(x);
     same("clock", index_clock((UINT64_C(7) << 32) + 3 * 1440 + 605), 1005);
     give_back(x);
     printf("C: %d checks, %d wrong\n", checks, wrong);

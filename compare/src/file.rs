@@ -10,7 +10,7 @@ fn put(out: &mut Vec<u8>, number: u64) {
 }
 
 /// A kind, blocks and nodes, as they stand.
-fn bytes_of(kind: u64, blocks: &[&Block], tree: &Tree) -> Vec<u8> {
+pub fn bytes_of(kind: u64, blocks: &[&Block], tree: &Tree) -> Vec<u8> {
     let mut out = vec![kind as u8];
     put(&mut out, blocks.len() as u64);
     for block in blocks {
@@ -108,6 +108,25 @@ impl<'a> Reader<'a> {
         let (left, right) = (self.tree()?, self.tree()?);
         Ok(Tree(Some(Box::new(Node { min, max, mid, entries, left, right }))))
     }
+}
+
+/// Where the fields of eight bytes of a good file stand.
+pub fn numbers(file: &[u8]) -> Vec<usize> {
+    let number = |at: usize| u64::from_le_bytes(file[at..at + 8].try_into().unwrap());
+    let (mut fields, mut at) = (vec![1], 9);
+    for _ in 0..number(1) {
+        fields.extend([at + 1, at + 9, at + 17, at + 25]);
+        at += 33 + number(at + 9) as usize;
+    }
+    while at < file.len() {
+        if file[at] == 0 {
+            at += 1;
+            continue;
+        }
+        fields.extend((0..4 + number(at + 25) as usize).map(|k| at + 1 + 8 * k));
+        at += 33 + 8 * number(at + 25) as usize;
+    }
+    fields
 }
 
 /// What a file says, with the next position; or 17, 18 or 19, whichever comes first.

@@ -61,7 +61,7 @@ pub fn need(case: &Case) -> Room {
 
 // ── what the proved calls answer ──
 
-fn number<T>(answer: &Result<T, Refusal>) -> u64 {
+pub fn number<T>(answer: &Result<T, Refusal>) -> u64 {
     answer.as_ref().err().map_or(0, |refusal| refusal.number())
 }
 
@@ -149,7 +149,7 @@ struct Asked {
     with_difference: Option<Difference>,
 }
 
-fn lists_of(index: &Index, blocks: &[Block], queries: &[Query]) -> Vec<Vec<Block>> {
+pub fn lists_of(index: &Index, blocks: &[Block], queries: &[Query]) -> Vec<Vec<Block>> {
     let list = |&(tick, start, end): &Query| {
         let found = index.find(tick, start..end).expect("a tick and a window that find takes");
         found.numbers.iter().map(|&k| blocks[k as usize].clone()).collect()
@@ -157,14 +157,10 @@ fn lists_of(index: &Index, blocks: &[Block], queries: &[Query]) -> Vec<Vec<Block
     queries.iter().map(list).collect()
 }
 
-fn file_of(_: &Index, closed: &Closed) -> Vec<u8> {
-    file::written(closed)
-}
-
-fn asked(case: Case, index: &Index, closed: &Closed, with_difference: Option<Difference>) -> Asked {
+fn asked(case: Case, index: &Index, with_difference: Option<Difference>) -> Asked {
     let blocks: Vec<Block> = index.blocks().expect("a closed index").map(owned).collect();
     let listed = lists_of(index, &blocks, &case.queries);
-    let file = file_of(index, closed);
+    let file = index.write().expect("a closed index");
     Asked { case, blocks, listed, file, with_difference }
 }
 
@@ -208,16 +204,19 @@ pub fn compare(cases: &[Case], rust: &mut Option<Rust>, tally: &mut Tally) -> Ve
         let index = played(case, &want, tally);
         let (Some(index), Ok(closed)) = (index, &want.closed) else { continue };
         read(&index, closed, &case.queries, tally, &|| format!("{case:?}"));
+        let file = index.write().expect("a closed index");
+        tally.same(|| format!("file of {case:?}"), &file, &file::written(closed));
+        tally.count(5, "file bytes compared with the document", file.len() as u64);
+        files.push(file);
         // the operations that were accepted, up to the first that meets a difference, and with it
         let part = |count: usize| Case { ops: want.accepted[..count].to_vec(), ..case.clone() };
         match want.meets {
-            None => waiting.push(asked(part(want.accepted.len()), &index, closed, None)),
+            None => waiting.push(asked(part(want.accepted.len()), &index, None)),
             Some((before, difference)) => {
                 for (count, with) in [(before, None), (before + 1, Some(difference))] {
                     let case = part(count);
-                    let want = expected(&case);
-                    if let (Some(index), Ok(closed)) = (played(&case, &want, tally), &want.closed) {
-                        waiting.push(asked(case, &index, closed, with));
+                    if let Some(index) = played(&case, &expected(&case), tally) {
+                        waiting.push(asked(case, &index, with));
                     }
                 }
             }

@@ -7,6 +7,7 @@
 //! The Rust is looked for in the folder that ORACLE names, or else beside the repository, in ../shared/oracle.
 mod board;
 mod file;
+mod files;
 mod lists;
 mod random;
 mod rust;
@@ -28,27 +29,34 @@ struct Extent {
     /// Lists of each size, for each table and each of one less, as many, one more.
     tight: u64,
     random: u64,
+    /// Copies of good files, most of them damaged.
+    files: usize,
 }
 
-const SHORT: Extent = Extent { worlds: &[World { end: 2, cells: 3, letters: 2, most: 2 }], tight: 1, random: 3_000 };
+const SHORT: Extent = Extent { worlds: &[World { end: 2, cells: 3, letters: 2, most: 2 }], tight: 1, random: 3_000, files: 4_000 };
 
 const FULL: Extent = Extent {
     worlds: &[World { end: 3, cells: 3, letters: 2, most: 3 }, World { end: 4, cells: 4, letters: 2, most: 2 }],
     tight: 30,
     random: 120_000,
+    files: 100_000,
 };
 
 /// Sizes of the lists around each boundary.
 const SIZES: std::ops::RangeInclusive<u64> = 0..=40;
 
-/// Lists that go to the Rust at once.
+/// Lists or files that go to the Rust at once.
 const BATCH: usize = 500;
+
+/// Good files that are copied: not more, and none longer.
+const GOOD: usize = 5_000;
+const LONGEST: usize = 4_096;
 
 fn oracle() -> Option<Rust> {
     let here = Path::new(env!("CARGO_MANIFEST_DIR"));
     let folder = std::env::var("ORACLE").map(PathBuf::from).unwrap_or_else(|_| here.join("../../shared/oracle"));
     if !folder.join("rust/Cargo.toml").exists() {
-        println!("The Rust is not at {}: only the document is compared with.", folder.display());
+        println!("The Rust is not at {}: the comparison is with the document alone. `rt check replay` replays the stored list of answers.", folder.display());
         return None;
     }
     println!("The Rust: {}/rust, the published source over its stand-ins.", folder.display());
@@ -97,8 +105,20 @@ fn main() -> ExitCode {
     }
     let cases = random_cases(&extent, seed);
     println!("Random lists, seed {seed}: {} lists", cases.len());
+    let mut good = vec![];
     for batch in cases.chunks(BATCH) {
-        lists::compare(batch, &mut rust, &mut tally);
+        let files = lists::compare(batch, &mut rust, &mut tally);
+        let room = GOOD - good.len();
+        good.extend(files.into_iter().filter(|f| !f.is_empty() && f.len() <= LONGEST).take(room));
+    }
+    let mut random = Random::new(seed ^ 0xF11E);
+    println!("Copies of {} good files, as they are or damaged: {} files", good.len(), extent.files);
+    for start in (0..extent.files).step_by(BATCH) {
+        let batch: Vec<files::Case> = (start..extent.files.min(start + BATCH)).map(|k| files::damaged(&mut random, &good[k % good.len()])).collect();
+        files::compare(&batch, &mut random, &mut rust, &mut tally);
+    }
+    if let Some(rust) = &rust {
+        println!("The Rust died {} times on a file, and was started anew.", rust.deaths);
     }
     tally.print();
     if tally.differences == 0 {

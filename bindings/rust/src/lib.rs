@@ -136,6 +136,29 @@ impl Index {
         })
     }
 
+    /// A finished index from a file's bytes from a position on, with the position after it. Refusals 17 to 24.
+    pub fn load(room: Room, file: &[u8], at: usize) -> Result<(Index, usize), Refusal> {
+        let mut index = Index::lend(room);
+        let next = index.reload(file, at)?;
+        Ok((index, next))
+    }
+
+    /// Loads a file into the same tables. After a refusal above 20 they hold zeros, and after one up to 20 what they held. Refusals 17 to 24.
+    pub fn reload(&mut self, file: &[u8], at: usize) -> Result<usize, Refusal> {
+        let mut next = 0;
+        Refusal::unless_zero(unsafe {
+            raw::index_load(
+                self.pieces.as_mut_ptr(), self.pieces.len(),
+                self.blocks.as_mut_ptr(), self.blocks.len(),
+                self.store.as_mut_ptr(), self.store.len(),
+                self.nodes.as_mut_ptr(), self.nodes.len(),
+                self.entries.as_mut_ptr(), self.entries.len(),
+                file.as_ptr(), file.len(), at as u64, &mut next,
+            )
+        })?;
+        Ok(next as usize)
+    }
+
     /// Records the bytes of the cells from `first` on, at a tick. Refusals 3, 5 to 11.
     pub fn record(&mut self, tick: u64, first: u64, bytes: &[u8]) -> Result<(), Refusal> {
         Refusal::unless_zero(unsafe {
@@ -200,6 +223,24 @@ impl Index {
             reads!(index_find, self, tick, window.start, window.end, answer.as_mut_ptr(), answer.len(), &mut count, &mut visited)
         })?;
         Ok((count as usize, visited))
+    }
+
+    /// The file of the index. Refusal 4.
+    pub fn write(&self) -> Result<Vec<u8>, Refusal> {
+        let Room { blocks, bytes, nodes, entries, .. } = self.room;
+        // kind and count; a block's fields and bytes; a node's fields, its entries, and a byte for each child that is not there
+        let most = 9 + 33 * blocks + bytes + 33 * nodes + 8 * entries + nodes + 1;
+        let mut out = vec![0; most as usize];
+        let written = self.write_into(&mut out)?;
+        out.truncate(written);
+        Ok(out)
+    }
+
+    /// The same into a slice: how many bytes it wrote. Refusals 4, 16.
+    pub fn write_into(&self, out: &mut [u8]) -> Result<usize, Refusal> {
+        let mut written = 0;
+        Refusal::unless_zero(unsafe { reads!(index_write, self, out.as_mut_ptr(), out.len(), &mut written) })?;
+        Ok(written as usize)
     }
 
     /// For each cell of the window the byte that it holds at a tick, if it holds one. Refusals 4, 14, 15.

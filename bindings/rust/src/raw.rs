@@ -63,5 +63,25 @@ extern "C" {
         held: *mut u8, held_length: usize,
     ) -> u64;
 
+    pub fn index_write(
+        pieces: *const u64, pieces_length: usize,
+        blocks: *const u64, blocks_length: usize,
+        store: *const u8, store_length: usize,
+        nodes: *const u64, nodes_length: usize,
+        entries: *const u64, entries_length: usize,
+        out: *mut u8, out_length: usize,
+        written: &mut u64,
+    ) -> u64;
+
+    pub fn index_load(
+        pieces: *mut u64, pieces_length: usize,
+        blocks: *mut u64, blocks_length: usize,
+        store: *mut u8, store_length: usize,
+        nodes: *mut u64, nodes_length: usize,
+        entries: *mut u64, entries_length: usize,
+        file: *const u8, file_length: usize,
+        at: u64, next: &mut u64,
+    ) -> u64;
+
     pub fn index_clock(cell: u64) -> u64;
 }

@@ -39,6 +39,27 @@ fn the_listing() {
 }
 
 #[test]
+fn written_and_loaded() {
+    let index = listing();
+    let file = index.write().unwrap();
+    assert_eq!(number(index.write_into(&mut vec![0; file.len() - 1])), 16);
+    let (loaded, next) = Index::load(Room::even(64), &file, 0).unwrap();
+    assert_eq!(next, file.len());
+    assert!(loaded.blocks().unwrap().eq(index.blocks().unwrap()));
+    assert_eq!(loaded.find(6, 100..104), index.find(6, 100..104));
+    assert_eq!(loaded.write().unwrap(), file);
+    // as one of several in a file
+    let twice = [&file[..], &file[..]].concat();
+    assert_eq!(Index::load(Room::even(64), &twice, next).unwrap().1, twice.len());
+    assert_eq!(number(Index::load(Room::even(64), &twice, twice.len())), 17);
+    assert_eq!(number(Index::load(Room { entries: 11, ..Room::even(64) }, &file, 0)), 20);
+    // nothing was recorded: no bytes
+    let mut empty = opened(1);
+    empty.finish().unwrap();
+    assert_eq!(empty.write().unwrap(), []);
+}
+
+#[test]
 fn a_matching_operation_that_runs_on() {
     let mut index = opened(2);
     index.record(0, 10, &[5, 5]).unwrap();
@@ -70,6 +91,7 @@ fn refusals_change_nothing() {
     assert_eq!(number(index.blocks()), 4);
     assert_eq!(number(index.find(0, 0..1)), 4);
     assert_eq!(number(index.cells(0, 0..1)), 4);
+    assert_eq!(number(index.write()), 4);
     index.finish().unwrap();
     assert_eq!(number(index.finish()), 3);
     assert_eq!(number(index.record(3, 5, &[1])), 3);
