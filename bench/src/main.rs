@@ -188,6 +188,19 @@ fn measured(pieces: u64, count: u64) -> Measured {
     let rust = each(READS, || seen(&mut of_rust));
     times.push(Times { call: "read cells, an hour", public, inner: None, rust });
 
+    let mut out = vec![0; file.len()];
+    assert_eq!(tables.write(&mut out), file.len() as u64, "as many bytes as the Rust writes");
+    let public = each(1, || tables.write(&mut out));
+    let inner = each(1, || tables.write_inner(&mut out));
+    let rust = each(1, || ported::write(&tree).len() as u64);
+    times.push(Times { call: "write", public, inner: Some(inner), rust });
+
+    let mut loaded = Tables::open(rows, 1);
+    let public = each(1, || loaded.load(&out));
+    assert_eq!(loaded.find(stream.end - 1, 0, u64::MAX, &mut answer), tables.find(stream.end - 1, 0, u64::MAX, &mut answer), "loaded");
+    let rust = each(1, || ported::load(&out).last_tick());
+    times.push(Times { call: "load", public, inner: None, rust });
+
     Measured { pieces: stream.pieces, ops: count, blocks: blocks.len() as u64, test_open, test_closed, times }
 }
 

@@ -26,6 +26,14 @@ extern "C" {
         entries: *mut u64, entries_length: usize,
     ) -> u64;
 
+    fn inner_write(
+        blocks: *const u64, blocks_length: usize,
+        store: *const u8, store_length: usize,
+        nodes: *const u64, nodes_length: usize,
+        entries: *const u64, entries_length: usize,
+        out: *mut u8, out_length: usize,
+    ) -> u64;
+
     fn inner_block(blocks: *const u64, blocks_length: usize, number: u64, length: &mut u64, offset: &mut u64);
 
     fn inner_find(
@@ -191,5 +199,40 @@ impl Tables {
         let refusal =
             reads!(raw::index_read_cells, self, tick, start, end, bytes.as_mut_ptr(), bytes.len(), held.as_mut_ptr(), held.len());
         assert_eq!(refusal, 0, "read cells");
+    }
+
+    pub fn write(&self, out: &mut [u8]) -> u64 {
+        let mut written = 0;
+        let refusal = reads!(raw::index_write, self, out.as_mut_ptr(), out.len(), &mut written);
+        assert_eq!(refusal, 0, "write");
+        written
+    }
+
+    pub fn write_inner(&self, out: &mut [u8]) -> u64 {
+        unsafe {
+            inner_write(
+                self.blocks.as_ptr(), self.blocks.len(),
+                self.store.as_ptr(), self.store.len(),
+                self.nodes.as_ptr(), self.nodes.len(),
+                self.entries.as_ptr(), self.entries.len(),
+                out.as_mut_ptr(), out.len(),
+            )
+        }
+    }
+
+    pub fn load(&mut self, file: &[u8]) -> u64 {
+        let mut next = 0;
+        let refusal = unsafe {
+            raw::index_load(
+                self.pieces.as_mut_ptr(), self.pieces.len(),
+                self.blocks.as_mut_ptr(), self.blocks.len(),
+                self.store.as_mut_ptr(), self.store.len(),
+                self.nodes.as_mut_ptr(), self.nodes.len(),
+                self.entries.as_mut_ptr(), self.entries.len(),
+                file.as_ptr(), file.len(), 0, &mut next,
+            )
+        };
+        assert_eq!(refusal, 0, "load");
+        next
     }
 }

@@ -119,12 +119,15 @@ fn refused_finds(index: &Index, want: &Closed, (tick, start, end): Query, count:
     if count > 0 {
         let got = number(&index.find_into(tick, start..end, &mut answer));
         tally.same(|| format!("find {tick} {start} {end} into too few of {}", of()), &got, &16);
+        tally.refused(got);
     }
     let late = number(&index.find_into(want.end, start..end, &mut answer));
     tally.same(|| format!("find at the end of {}", of()), &late, &14);
+    tally.refused(late);
     if start < end {
         let turned = number(&index.find_into(tick, end..start, &mut answer));
         tally.same(|| format!("find {end} {start} of {}", of()), &turned, &15);
+        tally.refused(turned);
     }
     tally.same(|| format!("answer of refused finds of {}", of()), &answer.iter().all(|&k| k == 77), &true);
 }

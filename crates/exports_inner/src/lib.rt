@@ -1,5 +1,7 @@
-// For the benchmark: the test behind refusal 2, and record, finish, block by number and find without it. Beside the calls of `exports` they show what the test takes.
+// For the benchmark: the test behind refusal 2, and record, finish, block by number, find and write
+// without it. Beside the calls of `exports` they show what the test takes.
 // The functions called have their contracts; here it is proved that every call is safe and ends, on any slices.
+use file_write::Written;
 use index::Finished;
 use index_record::Recorded;
 use index_test::State;
@@ -82,5 +84,21 @@ pub extern "C" fn inner_find(
     match found {
         Found::Listed { count, visited: _ } => count as u64,
         Found::TooSmall => u64::MAX,
+    }
+}
+
+// Write on a closed index: how many bytes, 2^64 - 1 where the slice is too short.
+#[no_mangle]
+pub extern "C" fn inner_write(
+    blocks: &[u64],
+    store: &[u8],
+    nodes: &[u64],
+    entries: &[u64],
+    out: &mut [u8],
+) -> u64 {
+    let written = file_write::write_closed(blocks, store, nodes, entries, out);
+    match written {
+        Written::Bytes(count) => count,
+        Written::Refused(_) => u64::MAX,
     }
 }
