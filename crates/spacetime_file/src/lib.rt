@@ -7,9 +7,11 @@
 //         proofs/Taking, Emptying         what the loader takes; files that it refuses
 //         proofs/Cited, Injective         the theorems speak of the contracts; each answer's meaning is its own
 ghost use Rattle.layout.specs.Tables.{tables};
-ghost use Rattle.layout.specs.Files.{WrittenBy};
+ghost use Rattle.layout.specs.Files.{WrittenBy, LoadedBy};
 ghost use Rattle.file_write.specs.Answers.{writtenOf};
+ghost use Rattle.file_load.specs.Load.{loadedOf};
 ghost use Rattle.spacetime_file.specs.Law.{SavedAndLoaded, LoadedAndWritten, TakenAndNotRefused, EmptyFiles};
+use file_load::Loaded;
 use file_write::Written;
 use index_test::State;
 
@@ -31,6 +33,22 @@ pub fn serialize_to(
         State::Open => Written::Refused(4),
         State::Closed => file_write::write_closed(blocks, store, nodes, entries, out),
     }
+}
+
+// Loads the index whose file starts at a position, and gives the next one.
+pub fn deserialize(
+    pieces: &mut [u64],
+    blocks: &mut [u64],
+    store: &mut [u8],
+    nodes: &mut [u64],
+    entries: &mut [u64],
+    file: &[u8],
+    at: usize,
+) -> Loaded
+    ensures { λ r. ⌜ LoadedBy (now (file .entry)) at (tables (now (pieces .entry)) (now (blocks .entry)) (now (store .entry)) (now (nodes .entry)) (now (entries .entry)))
+        (tables (now (pieces .exit)) (now (blocks .exit)) (now (store .exit)) (now (nodes .exit)) (now (entries .exit))) (loadedOf r) ⌝ }
+{
+    file_load::load(pieces, blocks, store, nodes, entries, file, at)
 }
 
 // An index that was written and loaded answers every find, block and read of cells alike.
