@@ -283,7 +283,15 @@ pub extern "C" fn index_load(
         (tables (now (pieces .exit)) (now (blocks .exit)) (now (store .exit)) (now (nodes .exit)) (now (entries .exit)))) r
         (now (next .entry)) (now (next .exit)) ⌝ }
 {
-    let loaded = file_load::load(pieces, blocks, store, nodes, entries, file, at as usize);
+    let loaded = spacetime_file::deserialize(
+        pieces,
+        blocks,
+        store,
+        nodes,
+        entries,
+        file,
+        at as usize,
+    );
     match loaded {
         Loaded::Next(position) => {
             *next = position as u64;
