@@ -2,9 +2,9 @@
 // A slice is a pointer and a length, in the order of the parameters. The contracts are the relations of the calls behind, at the answer that the
 // number and the values stand for.
 //
-//   specs/Numbers   what the numbers mean
-//   specs/Lengths   how long a slice must be
-//   proofs/Positive no refusal is 0
+//   lib       specs/Numbers   proofs/Answering                what the numbers mean; an answer as its number
+//                             proofs/Positive, PositiveLoad   no refusal is 0
+//   lengths   specs/Lengths   proofs/Fitting, Holding         how long a slice must be; it has the rows asked for
 ghost use mathlib.Core.Path.{_≡_};
 ghost use lib.ListN.{length};
 ghost use Rattle.history.specs.Reads.{clockLabel};
