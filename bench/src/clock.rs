@@ -25,13 +25,21 @@ pub fn once<T>(run: impl FnOnce() -> T) -> (f64, T) {
     (now() - start, given)
 }
 
-/// Nanoseconds of one call, over so many calls a run: each measurement takes at least LEAST, and the least of RUNS counts.
-pub fn each(calls: usize, mut run: impl FnMut() -> u64) -> f64 {
+/// How many different calls are mixed.
+pub const MIXED: usize = 64;
+
+/// Nanoseconds of one call, given a number below MIXED: each run takes at least LEAST, and the least of RUNS counts. A call of more than LONG is made once.
+pub fn each(mut call: impl FnMut(usize) -> u64) -> f64 {
     const RUNS: usize = 3;
     const LEAST: f64 = 5e6;
-    let (first, _) = once(&mut run);
-    let times = (LEAST / first.max(1.0)).ceil().clamp(1.0, 1e5) as usize;
-    let measure = || once(|| (0..times).map(|_| black_box(run())).fold(0u64, u64::wrapping_add)).0;
+    const LONG: f64 = 5e8;
+    let (first, _) = once(|| call(0));
+    if first > LONG {
+        return first;
+    }
+    let calls = (LEAST / first.max(1.0)).ceil().clamp(1.0, 1e6) as usize;
+    let calls = if calls > MIXED { calls.next_multiple_of(MIXED) } else { calls };
+    let measure = || once(|| (0..calls).map(|k| black_box(call(k % MIXED))).fold(0u64, u64::wrapping_add)).0;
     let least = std::iter::repeat_with(measure).take(RUNS).fold(f64::INFINITY, f64::min);
-    least / (times * calls) as f64
+    least / calls as f64
 }

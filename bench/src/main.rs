@@ -1,4 +1,6 @@
-//! bench [--short]
+//! bench [OPERATIONS..]
+//!
+//! OPERATIONS are 1,000, 10,000 and 100,000 where none are given.
 //!
 //! Times of the proved calls beside those of the Rust that they are ported from: same machine, same inputs, one run. A ratio is the time of the proved
 //! call by the time of the Rust; below 1 is faster. Both sides must give the same blocks and as many hits, or the run ends.
@@ -21,8 +23,9 @@ use table::{Measured, Times};
 /// The tables hold the Rust's blocks: some of them are looked at.
 fn same_blocks(tables: &Tables, blocks: &[SpacetimeBlock]) {
     for (number, block) in blocks.iter().enumerate().step_by(1 + blocks.len() / 64) {
-        assert_eq!(tables.block_bytes(number as u64), block.data, "block {number}");
+        assert_eq!(tables.block_bytes_inner(number as u64), block.data, "block {number}");
     }
+    assert_eq!(tables.block_bytes(0), blocks[0].data, "block 0");
 }
 
 /// Everything on a board of about so many pieces, with so many operations.
@@ -49,7 +52,7 @@ fn measured(pieces: u64, count: u64) -> Measured {
         Times { call: "finish", public: public.finish, inner: Some(inner.finish), rust: rust.finish },
         Times { call: "the whole stream: fill, record, finish", public: public.whole(), inner: Some(inner.whole()), rust: rust.whole() },
     ];
-    let test_closed = clock::each(1, || tables.test());
+    let test_closed = clock::each(|_| tables.test());
     let mut reads = Reads::new(&stream, &tables, &blocks, &file);
     times.push(reads.find("find, an hour of a platform", |cell| (cell, cell + reads::HOUR)));
     times.push(reads.find("find, the whole board", |_| (0, u64::MAX)));
@@ -61,9 +64,8 @@ fn measured(pieces: u64, count: u64) -> Measured {
 }
 
 fn main() {
-    let short = std::env::args().any(|a| a == "--short");
-    let counts: &[u64] = if short { &[1_000] } else { &[1_000, 10_000, 100_000] };
-    for &count in counts {
+    let given: Vec<u64> = std::env::args().skip(1).map(|a| a.parse().expect("a number of operations")).collect();
+    for count in if given.is_empty() { vec![1_000, 10_000, 100_000] } else { given } {
         let boards: Vec<Measured> = [64, 512, 4_096].iter().map(|&pieces| measured(pieces, count)).collect();
         table::print(&boards);
     }

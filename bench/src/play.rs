@@ -37,7 +37,7 @@ pub fn played(stream: &Stream, rows: Rows, inner: bool) -> (Played, f64, Tables)
         taken
     };
     let (fill, record) = (all(&stream.fill), all(&stream.ops));
-    let test = each(1, || tables.test());
+    let test = each(|_| tables.test());
     let finish = if inner { Tables::finish_inner } else { Tables::finish };
     let (finish, refused) = once(|| finish(&mut tables));
     assert_eq!(refused, 0, "finish");
