@@ -1,0 +1,238 @@
+//! The proved calls, public and inner, on tables of their own.
+use servercape::raw;
+
+extern "C" {
+    fn inner_test(
+        pieces: *const u64, pieces_length: usize,
+        blocks: *const u64, blocks_length: usize,
+        store: *const u8, store_length: usize,
+        nodes: *const u64, nodes_length: usize,
+        entries: *const u64, entries_length: usize,
+    ) -> u64;
+
+    fn inner_record(
+        pieces: *mut u64, pieces_length: usize,
+        blocks: *mut u64, blocks_length: usize,
+        store: *mut u8, store_length: usize,
+        scratch: u64,
+        tick: u64, first: u64,
+        bytes: *const u8, bytes_length: usize,
+    ) -> u64;
+
+    fn inner_finish(
+        pieces: *mut u64, pieces_length: usize,
+        blocks: *mut u64, blocks_length: usize,
+        nodes: *mut u64, nodes_length: usize,
+        entries: *mut u64, entries_length: usize,
+    ) -> u64;
+
+    fn inner_write(
+        blocks: *const u64, blocks_length: usize,
+        store: *const u8, store_length: usize,
+        nodes: *const u64, nodes_length: usize,
+        entries: *const u64, entries_length: usize,
+        out: *mut u8, out_length: usize,
+    ) -> u64;
+
+    fn inner_block(blocks: *const u64, blocks_length: usize, number: u64, length: &mut u64, offset: &mut u64);
+
+    fn inner_find(
+        blocks: *const u64, blocks_length: usize,
+        nodes: *const u64, nodes_length: usize,
+        entries: *const u64, entries_length: usize,
+        tick: u64, start: u64, end: u64,
+        answer: *mut u64, answer_length: usize,
+    ) -> u64;
+}
+
+/// How many rows each table has; of the store, how many bytes.
+#[derive(Clone, Copy)]
+pub struct Rows {
+    pub pieces: u64,
+    pub blocks: u64,
+    pub bytes: u64,
+    pub nodes: u64,
+    pub entries: u64,
+}
+
+#[derive(PartialEq)]
+pub struct Tables {
+    pieces: Vec<u64>,
+    blocks: Vec<u64>,
+    store: Vec<u8>,
+    nodes: Vec<u64>,
+    entries: Vec<u64>,
+    scratch: Vec<u64>,
+}
+
+/// The five tables as pointers and lengths, in the order that every call has, and what comes after them.
+macro_rules! reads {
+    ($call:path, $t:expr $(, $rest:expr)* $(,)?) => {
+        unsafe {
+            $call(
+                $t.pieces.as_ptr(), $t.pieces.len(),
+                $t.blocks.as_ptr(), $t.blocks.len(),
+                $t.store.as_ptr(), $t.store.len(),
+                $t.nodes.as_ptr(), $t.nodes.len(),
+                $t.entries.as_ptr(), $t.entries.len(),
+                $($rest),*
+            )
+        }
+    };
+}
+
+impl Tables {
+    /// An open index. Opening clears the tables, so every page of them has been touched before anything is timed.
+    pub fn open(rows: Rows, end_tick: u64) -> Tables {
+        let length = |table, rows| unsafe { raw::index_length(table, rows) as usize };
+        let mut t = Tables {
+            pieces: vec![7; length(0, rows.pieces)],
+            blocks: vec![7; length(1, rows.blocks)],
+            store: vec![7; length(2, rows.bytes)],
+            nodes: vec![7; length(3, rows.nodes)],
+            entries: vec![7; length(4, rows.entries)],
+            scratch: vec![7; length(5, rows.pieces)],
+        };
+        let number = unsafe {
+            raw::index_open(
+                t.pieces.as_mut_ptr(), t.pieces.len(),
+                t.blocks.as_mut_ptr(), t.blocks.len(),
+                t.store.as_ptr(), t.store.len(),
+                t.nodes.as_mut_ptr(), t.nodes.len(),
+                t.entries.as_mut_ptr(), t.entries.len(),
+                end_tick, 1,
+            )
+        };
+        assert_eq!(number, 0, "open");
+        t
+    }
+
+    pub fn record(&mut self, tick: u64, first: u64, bytes: &[u8]) -> u64 {
+        unsafe {
+            raw::index_record(
+                self.pieces.as_mut_ptr(), self.pieces.len(),
+                self.blocks.as_mut_ptr(), self.blocks.len(),
+                self.store.as_mut_ptr(), self.store.len(),
+                self.nodes.as_ptr(), self.nodes.len(),
+                self.entries.as_ptr(), self.entries.len(),
+                self.scratch.as_ptr(), self.scratch.len(),
+                tick, first, bytes.as_ptr(), bytes.len(),
+            )
+        }
+    }
+
+    pub fn record_inner(&mut self, tick: u64, first: u64, bytes: &[u8]) -> u64 {
+        unsafe {
+            inner_record(
+                self.pieces.as_mut_ptr(), self.pieces.len(),
+                self.blocks.as_mut_ptr(), self.blocks.len(),
+                self.store.as_mut_ptr(), self.store.len(),
+                self.scratch.len() as u64,
+                tick, first, bytes.as_ptr(), bytes.len(),
+            )
+        }
+    }
+
+    pub fn finish(&mut self) -> u64 {
+        unsafe {
+            raw::index_finish(
+                self.pieces.as_mut_ptr(), self.pieces.len(),
+                self.blocks.as_mut_ptr(), self.blocks.len(),
+                self.store.as_ptr(), self.store.len(),
+                self.nodes.as_mut_ptr(), self.nodes.len(),
+                self.entries.as_mut_ptr(), self.entries.len(),
+            )
+        }
+    }
+
+    pub fn finish_inner(&mut self) -> u64 {
+        unsafe {
+            inner_finish(
+                self.pieces.as_mut_ptr(), self.pieces.len(),
+                self.blocks.as_mut_ptr(), self.blocks.len(),
+                self.nodes.as_mut_ptr(), self.nodes.len(),
+                self.entries.as_mut_ptr(), self.entries.len(),
+            )
+        }
+    }
+
+    /// The test behind refusal 2: 1 open, 2 closed.
+    pub fn test(&self) -> u64 {
+        reads!(inner_test, self,)
+    }
+
+    /// The bytes of a block, by its number.
+    pub fn block_bytes(&self, number: u64) -> &[u8] {
+        let [mut kind, mut first, mut length, mut created, mut destroyed, mut offset] = [0; 6];
+        let refusal =
+            reads!(raw::index_block, self, number, &mut kind, &mut first, &mut length, &mut created, &mut destroyed, &mut offset);
+        assert_eq!(refusal, 0, "block");
+        &self.store[offset as usize..(offset + length) as usize]
+    }
+
+    pub fn block_bytes_inner(&self, number: u64) -> &[u8] {
+        let (mut length, mut offset) = (0, 0);
+        unsafe { inner_block(self.blocks.as_ptr(), self.blocks.len(), number, &mut length, &mut offset) };
+        &self.store[offset as usize..(offset + length) as usize]
+    }
+
+    pub fn find(&self, tick: u64, start: u64, end: u64, answer: &mut [u64]) -> u64 {
+        let (mut count, mut visited) = (0, 0);
+        let refusal =
+            reads!(raw::index_find, self, tick, start, end, answer.as_mut_ptr(), answer.len(), &mut count, &mut visited);
+        assert_eq!(refusal, 0, "find");
+        count
+    }
+
+    pub fn find_inner(&self, tick: u64, start: u64, end: u64, answer: &mut [u64]) -> u64 {
+        unsafe {
+            inner_find(
+                self.blocks.as_ptr(), self.blocks.len(),
+                self.nodes.as_ptr(), self.nodes.len(),
+                self.entries.as_ptr(), self.entries.len(),
+                tick, start, end, answer.as_mut_ptr(), answer.len(),
+            )
+        }
+    }
+
+    pub fn cells(&self, tick: u64, start: u64, end: u64, bytes: &mut [u8], held: &mut [u8]) {
+        let refusal =
+            reads!(raw::index_read_cells, self, tick, start, end, bytes.as_mut_ptr(), bytes.len(), held.as_mut_ptr(), held.len());
+        assert_eq!(refusal, 0, "read cells");
+    }
+
+    pub fn write(&self, out: &mut [u8]) -> u64 {
+        let mut written = 0;
+        let refusal = reads!(raw::index_write, self, out.as_mut_ptr(), out.len(), &mut written);
+        assert_eq!(refusal, 0, "write");
+        written
+    }
+
+    pub fn write_inner(&self, out: &mut [u8]) -> u64 {
+        unsafe {
+            inner_write(
+                self.blocks.as_ptr(), self.blocks.len(),
+                self.store.as_ptr(), self.store.len(),
+                self.nodes.as_ptr(), self.nodes.len(),
+                self.entries.as_ptr(), self.entries.len(),
+                out.as_mut_ptr(), out.len(),
+            )
+        }
+    }
+
+    pub fn load(&mut self, file: &[u8]) -> u64 {
+        let mut next = 0;
+        let refusal = unsafe {
+            raw::index_load(
+                self.pieces.as_mut_ptr(), self.pieces.len(),
+                self.blocks.as_mut_ptr(), self.blocks.len(),
+                self.store.as_mut_ptr(), self.store.len(),
+                self.nodes.as_mut_ptr(), self.nodes.len(),
+                self.entries.as_mut_ptr(), self.entries.len(),
+                file.as_ptr(), file.len(), 0, &mut next,
+            )
+        };
+        assert_eq!(refusal, 0, "load");
+        next
+    }
+}

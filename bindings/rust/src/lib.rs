@@ -1,0 +1,288 @@
+//! The history of a planning board: which bytes its cells held at each tick. Every call here is one proved call of `libexports.a`; this crate
+//! owns the tables that those calls are lent, and gives their answers Rust types.
+//!
+//! ```text
+//! let mut index = Index::open(Room::even(1024), 8, Kind::Memory)?;
+//! index.record(1, 100, &[7, 7, 7])?;
+//! index.finish()?;
+//! for block in index.blocks()? { .. }
+//! ```
+//!
+//! Every call tests its tables first and so takes time linear in the rows in use.
+
+pub mod raw;
+mod refusal;
+
+pub use refusal::Refusal;
+use std::ops::Range;
+
+/// The largest end tick.
+pub const MAX_END_TICK: u64 = 1 << 63;
+
+/// The kind of space that an index is of.
+#[derive(Clone, Copy, PartialEq, Eq, Hash, Debug)]
+pub enum Kind {
+    Constant,
+    Memory,
+    Register,
+    Unique,
+    Other,
+}
+
+impl Kind {
+    const ALL: [Kind; 5] = [Kind::Constant, Kind::Memory, Kind::Register, Kind::Unique, Kind::Other];
+
+    /// The kind of a code from 0 to 4.
+    pub fn of(code: u64) -> Option<Kind> {
+        Kind::ALL.get(usize::try_from(code).ok()?).copied()
+    }
+}
+
+/// How many rows each table has; of the store, how many bytes.
+#[derive(Clone, Copy, PartialEq, Eq, Debug)]
+pub struct Room {
+    pub pieces: u64,
+    pub blocks: u64,
+    pub bytes: u64,
+    pub nodes: u64,
+    pub entries: u64,
+}
+
+impl Room {
+    /// As many of each.
+    pub fn even(rows: u64) -> Room {
+        Room { pieces: rows, blocks: rows, bytes: rows, nodes: rows, entries: rows }
+    }
+}
+
+/// A block: bytes that some cells held from one tick up to another.
+#[derive(Clone, Copy, PartialEq, Eq, Debug)]
+pub struct Block<'a> {
+    pub kind: Kind,
+    pub first: u64,
+    pub created: u64,
+    pub destroyed: u64,
+    pub bytes: &'a [u8],
+}
+
+/// What find lists: block numbers, and how many nodes were visited.
+#[derive(Clone, PartialEq, Eq, Debug)]
+pub struct Found {
+    pub numbers: Vec<u64>,
+    pub visited: u64,
+}
+
+/// An index and its tables.
+#[derive(Clone)]
+pub struct Index {
+    pieces: Vec<u64>,
+    blocks: Vec<u64>,
+    store: Vec<u8>,
+    nodes: Vec<u64>,
+    entries: Vec<u64>,
+    scratch: Vec<u64>,
+    room: Room,
+}
+
+/// The five tables as pointers and lengths, in the order that every call has, and what comes after them.
+macro_rules! reads {
+    ($call:ident, $index:expr $(, $rest:expr)* $(,)?) => {
+        raw::$call(
+            $index.pieces.as_ptr(), $index.pieces.len(),
+            $index.blocks.as_ptr(), $index.blocks.len(),
+            $index.store.as_ptr(), $index.store.len(),
+            $index.nodes.as_ptr(), $index.nodes.len(),
+            $index.entries.as_ptr(), $index.entries.len(),
+            $($rest),*
+        )
+    };
+}
+
+// Every `unsafe` below calls a function that is proved for all slices. Its arguments are the parts of this crate's own vectors or of references,
+// so they are there, aligned, and apart from one another.
+impl Index {
+    /// Tables for an index, not opened yet. Panics where there is not so much memory.
+    fn lend(room: Room) -> Index {
+        let numbers = |table, rows| vec![0; length(table, rows)];
+        Index {
+            pieces: numbers(0, room.pieces),
+            blocks: numbers(1, room.blocks),
+            store: vec![0; length(2, room.bytes)],
+            nodes: numbers(3, room.nodes),
+            entries: numbers(4, room.entries),
+            scratch: numbers(5, room.pieces),
+            room,
+        }
+    }
+
+    /// Opens an index. Refusal 1.
+    pub fn open(room: Room, end_tick: u64, kind: Kind) -> Result<Index, Refusal> {
+        let mut index = Index::lend(room);
+        index.reopen(end_tick, kind)?;
+        Ok(index)
+    }
+
+    /// Opens an index anew in the same tables. Refusal 1.
+    pub fn reopen(&mut self, end_tick: u64, kind: Kind) -> Result<(), Refusal> {
+        Refusal::unless_zero(unsafe {
+            raw::index_open(
+                self.pieces.as_mut_ptr(), self.pieces.len(),
+                self.blocks.as_mut_ptr(), self.blocks.len(),
+                self.store.as_ptr(), self.store.len(),
+                self.nodes.as_mut_ptr(), self.nodes.len(),
+                self.entries.as_mut_ptr(), self.entries.len(),
+                end_tick, kind as u8,
+            )
+        })
+    }
+
+    /// A finished index from a file's bytes from a position on, with the position after it. Refusals 17 to 24.
+    pub fn load(room: Room, file: &[u8], at: usize) -> Result<(Index, usize), Refusal> {
+        let mut index = Index::lend(room);
+        let next = index.reload(file, at)?;
+        Ok((index, next))
+    }
+
+    /// Loads a file into the same tables. After a refusal above 20 they hold zeros, and after one up to 20 what they held. Refusals 17 to 24.
+    pub fn reload(&mut self, file: &[u8], at: usize) -> Result<usize, Refusal> {
+        let mut next = 0;
+        Refusal::unless_zero(unsafe {
+            raw::index_load(
+                self.pieces.as_mut_ptr(), self.pieces.len(),
+                self.blocks.as_mut_ptr(), self.blocks.len(),
+                self.store.as_mut_ptr(), self.store.len(),
+                self.nodes.as_mut_ptr(), self.nodes.len(),
+                self.entries.as_mut_ptr(), self.entries.len(),
+                file.as_ptr(), file.len(), at as u64, &mut next,
+            )
+        })?;
+        Ok(next as usize)
+    }
+
+    /// Records the bytes of the cells from `first` on, at a tick. Refusals 3, 5 to 11.
+    pub fn record(&mut self, tick: u64, first: u64, bytes: &[u8]) -> Result<(), Refusal> {
+        Refusal::unless_zero(unsafe {
+            raw::index_record(
+                self.pieces.as_mut_ptr(), self.pieces.len(),
+                self.blocks.as_mut_ptr(), self.blocks.len(),
+                self.store.as_mut_ptr(), self.store.len(),
+                self.nodes.as_ptr(), self.nodes.len(),
+                self.entries.as_ptr(), self.entries.len(),
+                self.scratch.as_ptr(), self.scratch.len(),
+                tick, first, bytes.as_ptr(), bytes.len(),
+            )
+        })
+    }
+
+    /// Finishes the index: it can be read from now on, and takes no more operations. Refusals 3, 12, 13.
+    pub fn finish(&mut self) -> Result<(), Refusal> {
+        Refusal::unless_zero(unsafe {
+            raw::index_finish(
+                self.pieces.as_mut_ptr(), self.pieces.len(),
+                self.blocks.as_mut_ptr(), self.blocks.len(),
+                self.store.as_ptr(), self.store.len(),
+                self.nodes.as_mut_ptr(), self.nodes.len(),
+                self.entries.as_mut_ptr(), self.entries.len(),
+            )
+        })
+    }
+
+    /// The block of a number, from 0 in recorded order. Refusals 4, 15.
+    pub fn block(&self, number: u64) -> Result<Block<'_>, Refusal> {
+        let [mut kind, mut first, mut length, mut created, mut destroyed, mut offset] = [0; 6];
+        Refusal::unless_zero(unsafe {
+            reads!(index_block, self, number, &mut kind, &mut first, &mut length, &mut created, &mut destroyed, &mut offset)
+        })?;
+        let from = offset as usize;
+        let bytes = &self.store[from..from + length as usize];
+        let kind = Kind::of(kind).expect("a well-formed index has a kind");
+        Ok(Block { kind, first, created, destroyed, bytes })
+    }
+
+    /// All blocks in recorded order. Refusal 4.
+    pub fn blocks(&self) -> Result<Blocks<'_>, Refusal> {
+        match self.block(0) {
+            Err(refusal) if refusal.number() != 15 => Err(refusal),
+            _ => Ok(Blocks { index: self, next: 0 }),
+        }
+    }
+
+    /// The blocks live at a tick whose first cell is in the window. Refusals 4, 14, 15.
+    pub fn find(&self, tick: u64, window: Range<u64>) -> Result<Found, Refusal> {
+        // a block is listed once at most
+        let mut numbers = vec![0; self.room.blocks as usize];
+        let (count, visited) = self.find_into(tick, window, &mut numbers)?;
+        numbers.truncate(count);
+        Ok(Found { numbers, visited })
+    }
+
+    /// The same into a slice: how many it lists there, and how many nodes were visited. Refusals 4, 14 to 16.
+    pub fn find_into(&self, tick: u64, window: Range<u64>, answer: &mut [u64]) -> Result<(usize, u64), Refusal> {
+        let (mut count, mut visited) = (0, 0);
+        Refusal::unless_zero(unsafe {
+            reads!(index_find, self, tick, window.start, window.end, answer.as_mut_ptr(), answer.len(), &mut count, &mut visited)
+        })?;
+        Ok((count as usize, visited))
+    }
+
+    /// The file of the index. Refusal 4.
+    pub fn write(&self) -> Result<Vec<u8>, Refusal> {
+        let Room { blocks, bytes, nodes, entries, .. } = self.room;
+        // kind and count; a block's fields and bytes; a node's fields, its entries, and a byte for each child that is not there
+        let most = 9 + 33 * blocks + bytes + 33 * nodes + 8 * entries + nodes + 1;
+        let mut out = vec![0; most as usize];
+        let written = self.write_into(&mut out)?;
+        out.truncate(written);
+        Ok(out)
+    }
+
+    /// The same into a slice: how many bytes it wrote. Refusals 4, 16.
+    pub fn write_into(&self, out: &mut [u8]) -> Result<usize, Refusal> {
+        let mut written = 0;
+        Refusal::unless_zero(unsafe { reads!(index_write, self, out.as_mut_ptr(), out.len(), &mut written) })?;
+        Ok(written as usize)
+    }
+
+    /// For each cell of the window the byte that it holds at a tick, if it holds one. Refusals 4, 14, 15.
+    pub fn cells(&self, tick: u64, window: Range<u64>) -> Result<Vec<Option<u8>>, Refusal> {
+        let count = window.end.saturating_sub(window.start) as usize;
+        let (mut bytes, mut held) = (vec![0; count], vec![0; count]);
+        self.cells_into(tick, window, &mut bytes, &mut held)?;
+        Ok(bytes.into_iter().zip(held).map(|(byte, held)| (held == 1).then_some(byte)).collect())
+    }
+
+    /// The same into two slices: the bytes, and 1 where a cell is held. Refusals 4, 14 to 16.
+    pub fn cells_into(&self, tick: u64, window: Range<u64>, bytes: &mut [u8], held: &mut [u8]) -> Result<(), Refusal> {
+        Refusal::unless_zero(unsafe {
+            reads!(index_read_cells, self, tick, window.start, window.end, bytes.as_mut_ptr(), bytes.len(), held.as_mut_ptr(), held.len())
+        })
+    }
+}
+
+/// The blocks of an index in recorded order.
+pub struct Blocks<'a> {
+    index: &'a Index,
+    next: u64,
+}
+
+impl<'a> Iterator for Blocks<'a> {
+    type Item = Block<'a>;
+
+    fn next(&mut self) -> Option<Block<'a>> {
+        let block = self.index.block(self.next).ok()?;
+        self.next += 1;
+        Some(block)
+    }
+}
+
+/// The clock label of a cell: hours times 100 plus minutes.
+pub fn clock(cell: u64) -> u64 {
+    unsafe { raw::index_clock(cell) }
+}
+
+/// How many numbers (of the store: bytes) a table of so many rows has.
+fn length(table: u64, rows: u64) -> usize {
+    let length = unsafe { raw::index_length(table, rows) };
+    assert!(length != 0 || rows == 0, "no table has {rows} rows");
+    length as usize
+}

@@ -1,0 +1,87 @@
+//! The exported functions as the linker sees them: a slice is a pointer and a length. ../../servercape.h says what each does.
+
+extern "C" {
+    pub fn index_length(table: u64, rows: u64) -> u64;
+
+    pub fn index_open(
+        pieces: *mut u64, pieces_length: usize,
+        blocks: *mut u64, blocks_length: usize,
+        store: *const u8, store_length: usize,
+        nodes: *mut u64, nodes_length: usize,
+        entries: *mut u64, entries_length: usize,
+        end_tick: u64, kind: u8,
+    ) -> u64;
+
+    pub fn index_record(
+        pieces: *mut u64, pieces_length: usize,
+        blocks: *mut u64, blocks_length: usize,
+        store: *mut u8, store_length: usize,
+        nodes: *const u64, nodes_length: usize,
+        entries: *const u64, entries_length: usize,
+        scratch: *const u64, scratch_length: usize,
+        tick: u64, first: u64,
+        bytes: *const u8, bytes_length: usize,
+    ) -> u64;
+
+    pub fn index_finish(
+        pieces: *mut u64, pieces_length: usize,
+        blocks: *mut u64, blocks_length: usize,
+        store: *const u8, store_length: usize,
+        nodes: *mut u64, nodes_length: usize,
+        entries: *mut u64, entries_length: usize,
+    ) -> u64;
+
+    pub fn index_block(
+        pieces: *const u64, pieces_length: usize,
+        blocks: *const u64, blocks_length: usize,
+        store: *const u8, store_length: usize,
+        nodes: *const u64, nodes_length: usize,
+        entries: *const u64, entries_length: usize,
+        number: u64,
+        kind: &mut u64, first: &mut u64, length: &mut u64, created: &mut u64, destroyed: &mut u64, offset: &mut u64,
+    ) -> u64;
+
+    pub fn index_find(
+        pieces: *const u64, pieces_length: usize,
+        blocks: *const u64, blocks_length: usize,
+        store: *const u8, store_length: usize,
+        nodes: *const u64, nodes_length: usize,
+        entries: *const u64, entries_length: usize,
+        tick: u64, start: u64, end: u64,
+        answer: *mut u64, answer_length: usize,
+        count: &mut u64, visited: &mut u64,
+    ) -> u64;
+
+    pub fn index_read_cells(
+        pieces: *const u64, pieces_length: usize,
+        blocks: *const u64, blocks_length: usize,
+        store: *const u8, store_length: usize,
+        nodes: *const u64, nodes_length: usize,
+        entries: *const u64, entries_length: usize,
+        tick: u64, start: u64, end: u64,
+        bytes: *mut u8, bytes_length: usize,
+        held: *mut u8, held_length: usize,
+    ) -> u64;
+
+    pub fn index_write(
+        pieces: *const u64, pieces_length: usize,
+        blocks: *const u64, blocks_length: usize,
+        store: *const u8, store_length: usize,
+        nodes: *const u64, nodes_length: usize,
+        entries: *const u64, entries_length: usize,
+        out: *mut u8, out_length: usize,
+        written: &mut u64,
+    ) -> u64;
+
+    pub fn index_load(
+        pieces: *mut u64, pieces_length: usize,
+        blocks: *mut u64, blocks_length: usize,
+        store: *mut u8, store_length: usize,
+        nodes: *mut u64, nodes_length: usize,
+        entries: *mut u64, entries_length: usize,
+        file: *const u8, file_length: usize,
+        at: u64, next: &mut u64,
+    ) -> u64;
+
+    pub fn index_clock(cell: u64) -> u64;
+}

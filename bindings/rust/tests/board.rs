@@ -1,0 +1,125 @@
+//! The boards of document 01 and the edges of its refusals, through the Rust types.
+use servercape::{clock, Block, Index, Kind, Room, MAX_END_TICK};
+
+fn opened(end_tick: u64) -> Index {
+    Index::open(Room::even(64), end_tick, Kind::Memory).unwrap()
+}
+
+/// First cell, length, created, destroyed, bytes in hexadecimal.
+fn shown(block: &Block) -> String {
+    let hex: String = block.bytes.iter().map(|b| format!("{b:02x}")).collect();
+    format!("{} {} {} {} {hex}", block.first, block.bytes.len(), block.created, block.destroyed)
+}
+
+fn number<T>(answer: Result<T, servercape::Refusal>) -> u64 {
+    answer.err().map_or(0, |refusal| refusal.number())
+}
+
+fn listing() -> Index {
+    let mut index = opened(8);
+    index.record(1, 100, &[7, 7, 7]).unwrap();
+    index.record(3, 102, &[9, 9, 9]).unwrap();
+    index.record(5, 100, &[7, 7]).unwrap();
+    index.record(6, 103, &[4]).unwrap();
+    index.finish().unwrap();
+    index
+}
+
+#[test]
+fn the_listing() {
+    let index = listing();
+    let blocks: Vec<String> = index.blocks().unwrap().map(|b| shown(&b)).collect();
+    assert_eq!(blocks, ["102 1 1 3 07", "103 1 3 6 09", "100 2 1 8 0707", "102 1 3 8 09", "103 1 6 8 04", "104 1 3 8 09"]);
+    assert!(index.blocks().unwrap().all(|b| b.kind == Kind::Memory));
+    let found = index.find(6, 100..104).unwrap();
+    let cells: Vec<u64> = found.numbers.iter().map(|&k| index.block(k).unwrap().first).collect();
+    assert_eq!((cells, found.visited), (vec![100, 102, 103], 3));
+    assert_eq!(index.find(6, 104..104).unwrap().numbers, []);
+    assert_eq!(index.cells(6, 99..106).unwrap(), [None, Some(7), Some(7), Some(9), Some(4), Some(9), None]);
+}
+
+#[test]
+fn written_and_loaded() {
+    let index = listing();
+    let file = index.write().unwrap();
+    assert_eq!(number(index.write_into(&mut vec![0; file.len() - 1])), 16);
+    let (loaded, next) = Index::load(Room::even(64), &file, 0).unwrap();
+    assert_eq!(next, file.len());
+    assert!(loaded.blocks().unwrap().eq(index.blocks().unwrap()));
+    assert_eq!(loaded.find(6, 100..104), index.find(6, 100..104));
+    assert_eq!(loaded.write().unwrap(), file);
+    // as one of several in a file
+    let twice = [&file[..], &file[..]].concat();
+    assert_eq!(Index::load(Room::even(64), &twice, next).unwrap().1, twice.len());
+    assert_eq!(number(Index::load(Room::even(64), &twice, twice.len())), 17);
+    assert_eq!(number(Index::load(Room { entries: 11, ..Room::even(64) }, &file, 0)), 20);
+    // nothing was recorded: no bytes
+    let mut empty = opened(1);
+    empty.finish().unwrap();
+    assert_eq!(empty.write().unwrap(), []);
+}
+
+#[test]
+fn a_matching_operation_that_runs_on() {
+    let mut index = opened(2);
+    index.record(0, 10, &[5, 5]).unwrap();
+    index.record(1, 10, &[5, 5, 5, 5]).unwrap();
+    index.finish().unwrap();
+    let blocks: Vec<String> = index.blocks().unwrap().map(|b| shown(&b)).collect();
+    assert_eq!(blocks, ["10 2 0 1 0505", "10 4 1 2 05050505"]);
+}
+
+#[test]
+fn through_midnight() {
+    let mut index = opened(1);
+    index.record(0, 1432, &[3; 14]).unwrap();
+    index.finish().unwrap();
+    assert_eq!(index.find(0, 1440..1450).unwrap().numbers, []);
+    assert_eq!(index.cells(0, 1444..1447).unwrap(), [Some(3), Some(3), None]);
+    assert_eq!((clock(1432), clock(1445)), (2352, 5));
+}
+
+#[test]
+fn refusals_change_nothing() {
+    let mut index = opened(8);
+    index.record(3, 5, &[1]).unwrap();
+    assert_eq!(number(index.record(3, 5, &[])), 5);
+    assert_eq!(number(index.record(3, u64::MAX, &[1])), 6);
+    assert_eq!(number(index.record(8, 5, &[2])), 7);
+    assert_eq!(number(index.record(2, 5, &[2])), 8);
+    assert_eq!(number(index.record(3, 6, &[2; 64])), 11);
+    assert_eq!(number(index.blocks()), 4);
+    assert_eq!(number(index.find(0, 0..1)), 4);
+    assert_eq!(number(index.cells(0, 0..1)), 4);
+    assert_eq!(number(index.write()), 4);
+    index.finish().unwrap();
+    assert_eq!(number(index.finish()), 3);
+    assert_eq!(number(index.record(3, 5, &[1])), 3);
+    assert_eq!(number(index.block(1)), 15);
+    assert_eq!(number(index.find(8, 0..1)), 14);
+    assert_eq!(number(index.cells(0, 1..0)), 15);
+    assert_eq!(number(index.find_into(3, 0..9, &mut [])), 16);
+    assert_eq!(index.blocks().unwrap().map(|b| shown(&b)).collect::<Vec<_>>(), ["5 1 3 8 01"]);
+}
+
+#[test]
+fn the_room_is_used_to_its_end() {
+    let room = Room { pieces: 2, blocks: 3, bytes: 4, nodes: 2, entries: 3 };
+    let mut index = Index::open(room, 2, Kind::Other).unwrap();
+    index.record(0, 0, &[1]).unwrap();
+    index.record(0, 4, &[1]).unwrap();
+    assert_eq!(number(index.record(0, 8, &[1])), 9);
+    index.record(1, 4, &[2]).unwrap();
+    assert_eq!(number(index.record(1, 4, &[3])), 10);
+    assert_eq!(number(index.finish()), 12);
+    assert_eq!(number(index.clone().reopen(0, Kind::Other)), 1);
+}
+
+#[test]
+fn the_largest_end_tick() {
+    assert_eq!(number(Index::open(Room::even(1), MAX_END_TICK + 1, Kind::Unique)), 1);
+    let mut index = Index::open(Room::even(64), MAX_END_TICK, Kind::Unique).unwrap();
+    index.record(MAX_END_TICK - 1, 0, &[9]).unwrap();
+    index.finish().unwrap();
+    assert_eq!(index.find(MAX_END_TICK - 1, 0..1).unwrap().visited, 64);
+}

@@ -1,0 +1,132 @@
+/* The board's history, for C. Link target/staticlib/libexports.a, which `rt staticlib exports` writes.
+
+   Every call is proved to give its answer for all slices of any length and content. It returns 0, or the number of the refusal; then nothing
+   has changed, the values handed out included (but see index_load).
+
+   A slice is a pointer and how many elements it has. The proof takes for granted what it takes of every caller in Rust: a pointer is not null and
+   aligned, even where the length is 0; the elements are there; what a call may write to overlaps nothing else that it is lent.
+
+   An index is five tables: pieces, blocks, store, nodes, entries. docs/LAYOUT.md says what stands in them; a caller need not know. Lend the same five
+   to every call on the index, and change nothing in between. */
+#ifndef SERVERCAPE_H
+#define SERVERCAPE_H
+
+#include <stddef.h>
+#include <stdint.h>
+
+#ifdef __cplusplus
+extern "C" {
+#endif
+
+/* What `index_length` counts. */
+enum index_table {
+    INDEX_PIECES = 0,
+    INDEX_BLOCKS = 1,
+    INDEX_STORE = 2,
+    INDEX_NODES = 3,
+    INDEX_ENTRIES = 4,
+    INDEX_SCRATCH = 5
+};
+
+/* How many numbers (of the store: bytes) to lend for so many rows. 0 where that is no 64-bit number, and for any other table. */
+uint64_t index_length(uint64_t table, uint64_t rows);
+
+/* Opens an index: the end tick is from 1 to 2^63, the kind 0 Constant, 1 Memory, 2 Register, 3 Unique, 4 Other.
+   Refusal 1. */
+uint64_t index_open(
+    uint64_t *pieces, size_t pieces_length,
+    uint64_t *blocks, size_t blocks_length,
+    const uint8_t *store, size_t store_length,
+    uint64_t *nodes, size_t nodes_length,
+    uint64_t *entries, size_t entries_length,
+    uint64_t end_tick, uint8_t kind);
+
+/* Records an operation: the bytes of the cells from `first` on, at a tick. Of the scratch only the length counts.
+   Refusals 2, 3, 5 to 11. */
+uint64_t index_record(
+    uint64_t *pieces, size_t pieces_length,
+    uint64_t *blocks, size_t blocks_length,
+    uint8_t *store, size_t store_length,
+    const uint64_t *nodes, size_t nodes_length,
+    const uint64_t *entries, size_t entries_length,
+    const uint64_t *scratch, size_t scratch_length,
+    uint64_t tick, uint64_t first,
+    const uint8_t *bytes, size_t bytes_length);
+
+/* Finishes an index: its blocks can be read, and it takes no more operations.
+   Refusals 2, 3, 12, 13. */
+uint64_t index_finish(
+    uint64_t *pieces, size_t pieces_length,
+    uint64_t *blocks, size_t blocks_length,
+    const uint8_t *store, size_t store_length,
+    uint64_t *nodes, size_t nodes_length,
+    uint64_t *entries, size_t entries_length);
+
+/* The block of a number, from 0 in recorded order. Its bytes are store[offset] to store[offset + length - 1]. It is live from tick `created`
+   up to, and not including, `destroyed`.
+   Refusals 2, 4, 15. */
+uint64_t index_block(
+    const uint64_t *pieces, size_t pieces_length,
+    const uint64_t *blocks, size_t blocks_length,
+    const uint8_t *store, size_t store_length,
+    const uint64_t *nodes, size_t nodes_length,
+    const uint64_t *entries, size_t entries_length,
+    uint64_t number,
+    uint64_t *kind, uint64_t *first, uint64_t *length, uint64_t *created, uint64_t *destroyed, uint64_t *offset);
+
+/* The blocks that are live at a tick and whose first cell is in [start, end): their numbers go into the answer. `count` says how many, `visited` how
+   many nodes were looked at.
+   Refusals 2, 4, 14 to 16. */
+uint64_t index_find(
+    const uint64_t *pieces, size_t pieces_length,
+    const uint64_t *blocks, size_t blocks_length,
+    const uint8_t *store, size_t store_length,
+    const uint64_t *nodes, size_t nodes_length,
+    const uint64_t *entries, size_t entries_length,
+    uint64_t tick, uint64_t start, uint64_t end,
+    uint64_t *answer, size_t answer_length,
+    uint64_t *count, uint64_t *visited);
+
+/* For each cell of [start, end) at a tick: its byte, and 1 where a live block holds it; 0 and 0 where none does.
+   Refusals 2, 4, 14 to 16. */
+uint64_t index_read_cells(
+    const uint64_t *pieces, size_t pieces_length,
+    const uint64_t *blocks, size_t blocks_length,
+    const uint8_t *store, size_t store_length,
+    const uint64_t *nodes, size_t nodes_length,
+    const uint64_t *entries, size_t entries_length,
+    uint64_t tick, uint64_t start, uint64_t end,
+    uint8_t *bytes, size_t bytes_length,
+    uint8_t *held, size_t held_length);
+
+/* Writes the file of an index from the start of `out` on; `written` says how many bytes.
+   Refusals 2, 4, 16. */
+uint64_t index_write(
+    const uint64_t *pieces, size_t pieces_length,
+    const uint64_t *blocks, size_t blocks_length,
+    const uint8_t *store, size_t store_length,
+    const uint64_t *nodes, size_t nodes_length,
+    const uint64_t *entries, size_t entries_length,
+    uint8_t *out, size_t out_length,
+    uint64_t *written);
+
+/* Loads a finished index from a file, from position `at` on; `next` is the position after it. The tables need not be opened. After refusals 21 to 24
+   the tables hold zeros.
+   Refusals 17 to 24. */
+uint64_t index_load(
+    uint64_t *pieces, size_t pieces_length,
+    uint64_t *blocks, size_t blocks_length,
+    uint8_t *store, size_t store_length,
+    uint64_t *nodes, size_t nodes_length,
+    uint64_t *entries, size_t entries_length,
+    const uint8_t *file, size_t file_length,
+    uint64_t at, uint64_t *next);
+
+/* The clock label of a cell: hours times 100 plus minutes. */
+uint64_t index_clock(uint64_t cell);
+
+#ifdef __cplusplus
+}
+#endif
+
+#endif

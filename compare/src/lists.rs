@@ -1,0 +1,238 @@
+//! Lists of operations, played by the proved calls, by the plain reading of the document and by the Rust.
+use crate::board::{Block, Board, Closed, Difference, Op};
+use crate::file;
+use crate::rust::{Answer, Job, Query, Rust};
+use crate::tally::Tally;
+use servercape::{Index, Kind, Refusal, Room};
+
+#[derive(Clone, Debug)]
+pub struct Case {
+    pub end: u64,
+    pub kind: u64,
+    pub room: Room,
+    pub ops: Vec<Op>,
+    pub queries: Vec<Query>,
+}
+
+/// Room for anything that is tried here.
+pub const UNBOUNDED: Room = Room { pieces: u64::MAX, blocks: u64::MAX, bytes: u64::MAX, nodes: u64::MAX, entries: u64::MAX };
+
+// ── what the document says ──
+
+/// What must come of a list.
+struct Expected {
+    numbers: Vec<u64>,
+    closed: Result<Closed, u64>,
+    /// The accepted operations, and the first of them that meets a difference.
+    accepted: Vec<Op>,
+    meets: Option<(usize, Difference)>,
+}
+
+fn expected(case: &Case) -> Expected {
+    let mut board = Board::open(case.end, case.kind, case.room);
+    let (mut numbers, mut accepted, mut meets) = (vec![], vec![], None);
+    for op in &case.ops {
+        let before = board.clone();
+        let number = board.record(op);
+        numbers.push(number);
+        if number != 0 {
+            continue;
+        }
+        if meets.is_none() {
+            meets = before.meets(op).map(|d| (accepted.len(), d));
+        }
+        accepted.push(op.clone());
+    }
+    Expected { numbers, closed: board.finish(), accepted, meets }
+}
+
+/// How much room a list needs, at its fullest.
+pub fn need(case: &Case) -> Room {
+    let mut board = Board::open(case.end, case.kind, UNBOUNDED);
+    let mut most = (0, 0, 0);
+    for op in &case.ops {
+        board.record(op);
+        let (pieces, blocks, bytes) = board.use_now();
+        most = (most.0.max(pieces), most.1.max(blocks), most.2.max(bytes));
+    }
+    let tree = board.finish().expect("room for anything").tree;
+    Room { pieces: most.0, blocks: most.1, bytes: most.2, nodes: tree.nodes(), entries: tree.entries() }
+}
+
+// ── what the proved calls answer ──
+
+pub fn number<T>(answer: &Result<T, Refusal>) -> u64 {
+    answer.as_ref().err().map_or(0, |refusal| refusal.number())
+}
+
+pub fn opened(case: &Case) -> Index {
+    Index::open(case.room, case.end, Kind::of(case.kind).unwrap()).expect("an end tick and a kind that opening takes")
+}
+
+pub fn owned(block: servercape::Block) -> Block {
+    Block { first: block.first, created: block.created, destroyed: block.destroyed, bytes: block.bytes.to_vec() }
+}
+
+/// Plays a list, compares every answer with the document's, and gives the finished index.
+fn played(case: &Case, want: &Expected, tally: &mut Tally) -> Option<Index> {
+    let mut index = opened(case);
+    for (op, want) in case.ops.iter().zip(&want.numbers) {
+        let got = number(&index.record(op.tick, op.first, &op.bytes));
+        tally.same(|| format!("record {op:?} of {case:?}"), &got, want);
+        tally.count(1, "operations recorded, the answer compared with the document", 1);
+        if got != 0 {
+            tally.refused(got);
+        }
+    }
+    let got = number(&index.finish());
+    tally.same(|| format!("finish of {case:?}"), &got, &want.closed.as_ref().err().copied().unwrap_or(0));
+    if got != 0 {
+        tally.refused(got);
+    }
+    (got == 0).then_some(index)
+}
+
+/// Reads a closed index and compares with the document: blocks, finds, cells and refused reads.
+pub fn read(index: &Index, want: &Closed, queries: &[Query], tally: &mut Tally, of: &dyn Fn() -> String) {
+    let blocks: Vec<servercape::Block> = index.blocks().expect("a closed index").collect();
+    let kinds = blocks.iter().all(|b| b.kind as u64 == want.kind);
+    tally.same(|| format!("kinds of {}", of()), &kinds, &true);
+    let blocks: Vec<Block> = blocks.into_iter().map(owned).collect();
+    tally.same(|| format!("blocks of {}", of()), &blocks, &want.blocks);
+    tally.count(2, "blocks compared with the document", blocks.len() as u64);
+    let past = number(&index.block(want.blocks.len() as u64));
+    tally.same(|| format!("block past the last of {}", of()), &past, &15);
+    for &(tick, start, end) in queries {
+        let found = index.find(tick, start..end).expect("a tick and a window that find takes");
+        let mut numbers = found.numbers.clone();
+        numbers.sort();
+        tally.same(|| format!("find {tick} {start} {end} of {}", of()), &numbers, &want.starting(tick, start, end));
+        tally.same(|| format!("visited by find {tick} of {}", of()), &found.visited, &want.tree.visited(tick));
+        tally.count(3, "finds compared with the document", 1);
+        refused_finds(index, want, (tick, start, end), numbers.len(), tally, of);
+        cells(index, want, tick, start, tally, of);
+    }
+}
+
+fn refused_finds(index: &Index, want: &Closed, (tick, start, end): Query, count: usize, tally: &mut Tally, of: &dyn Fn() -> String) {
+    let mut answer = vec![77; count.saturating_sub(1)];
+    if count > 0 {
+        let got = number(&index.find_into(tick, start..end, &mut answer));
+        tally.same(|| format!("find {tick} {start} {end} into too few of {}", of()), &got, &16);
+        tally.refused(got);
+    }
+    let late = number(&index.find_into(want.end, start..end, &mut answer));
+    tally.same(|| format!("find at the end of {}", of()), &late, &14);
+    tally.refused(late);
+    if start < end {
+        let turned = number(&index.find_into(tick, end..start, &mut answer));
+        tally.same(|| format!("find {end} {start} of {}", of()), &turned, &15);
+        tally.refused(turned);
+    }
+    tally.same(|| format!("answer of refused finds of {}", of()), &answer.iter().all(|&k| k == 77), &true);
+}
+
+/// Some cells from a place on.
+fn cells(index: &Index, want: &Closed, tick: u64, start: u64, tally: &mut Tally, of: &dyn Fn() -> String) {
+    let end = start.saturating_add(24);
+    let shown: Vec<Option<u8>> = (start..end).map(|c| want.cell(tick, c)).collect();
+    let got = index.cells(tick, start..end).expect("a tick and a window that read cells takes");
+    tally.same(|| format!("cells {start} to {end} at {tick} of {}", of()), &got, &shown);
+    tally.count(4, "cells read and compared with the document", end - start);
+}
+
+// ── what the Rust gives ──
+
+/// A list that has been played, and what the Rust is asked about it: the list up to the first difference, and with it.
+struct Asked {
+    case: Case,
+    blocks: Vec<Block>,
+    listed: Vec<Vec<Block>>,
+    file: Vec<u8>,
+    with_difference: Option<Difference>,
+}
+
+pub fn lists_of(index: &Index, blocks: &[Block], queries: &[Query]) -> Vec<Vec<Block>> {
+    let list = |&(tick, start, end): &Query| {
+        let found = index.find(tick, start..end).expect("a tick and a window that find takes");
+        found.numbers.iter().map(|&k| blocks[k as usize].clone()).collect()
+    };
+    queries.iter().map(list).collect()
+}
+
+fn asked(case: Case, index: &Index, with_difference: Option<Difference>) -> Asked {
+    let blocks: Vec<Block> = index.blocks().expect("a closed index").map(owned).collect();
+    let listed = lists_of(index, &blocks, &case.queries);
+    let file = index.write().expect("a closed index");
+    Asked { case, blocks, listed, file, with_difference }
+}
+
+fn compared(asked: &Asked, answer: &Answer, tally: &mut Tally) {
+    let case = &asked.case;
+    if let Some(difference) = asked.with_difference {
+        let (line, run, others) = match difference {
+            Difference::D1 => (20, "lists run up to an operation that meets D1", "  of these the Rust gave other blocks"),
+            Difference::D2 => (22, "lists run up to an operation that meets D2", "  of these the Rust gave other blocks"),
+        };
+        tally.count(line, run, 1);
+        tally.count(line + 1, others, (answer.failed.is_some() || answer.blocks != asked.blocks) as u64);
+        return;
+    }
+    tally.count(10, "lists compared with the Rust", 1);
+    if let Some(why) = &answer.failed {
+        return tally.differs(format!("the Rust fails, {why}, on {case:?}"));
+    }
+    tally.same(|| format!("blocks of the Rust for {case:?}"), &asked.blocks, &answer.blocks);
+    tally.count(11, "blocks compared with the Rust, their order too", answer.blocks.len() as u64);
+    for ((got, want), query) in asked.listed.iter().zip(&answer.finds).zip(&case.queries) {
+        tally.same(|| format!("find {query:?} of the Rust for {case:?}"), &Some(got), &want.as_ref());
+        tally.count(12, "finds compared with the Rust, their order too", 1);
+    }
+    let want = match file::parsed(&answer.file, 0) {
+        Err(_) => Some(vec![]),
+        Ok((parsed, _)) => file::reordered(&parsed, &asked.blocks),
+    };
+    tally.same(|| format!("file of the Rust for {case:?}"), &Some(&asked.file), &want.as_ref());
+    tally.count(13, "file bytes compared with the Rust, after renumbering", asked.file.len() as u64);
+}
+
+// ── all of it ──
+
+/// Plays some lists. A list is compared with the document whole, and with the Rust up to the first difference.
+pub fn compare(cases: &[Case], rust: &mut Option<Rust>, tally: &mut Tally) -> Vec<Vec<u8>> {
+    let (mut waiting, mut files) = (vec![], vec![]);
+    for case in cases {
+        tally.count(0, "lists compared with the document", 1);
+        let want = expected(case);
+        let index = played(case, &want, tally);
+        let (Some(index), Ok(closed)) = (index, &want.closed) else { continue };
+        read(&index, closed, &case.queries, tally, &|| format!("{case:?}"));
+        let file = index.write().expect("a closed index");
+        tally.same(|| format!("file of {case:?}"), &file, &file::written(closed));
+        tally.count(5, "file bytes compared with the document", file.len() as u64);
+        files.push(file);
+        // the operations that were accepted, up to the first that meets a difference, and with it
+        let part = |count: usize| Case { ops: want.accepted[..count].to_vec(), ..case.clone() };
+        match want.meets {
+            None => waiting.push(asked(part(want.accepted.len()), &index, None)),
+            Some((before, difference)) => {
+                for (count, with) in [(before, None), (before + 1, Some(difference))] {
+                    let case = part(count);
+                    if let Some(index) = played(&case, &expected(&case), tally) {
+                        waiting.push(asked(case, &index, with));
+                    }
+                }
+            }
+        }
+    }
+    if let Some(rust) = rust {
+        // without operations the Rust writes no file, and finds need one
+        let queries = |a: &Asked| if a.case.ops.is_empty() { vec![] } else { a.case.queries.clone() };
+        let job = |a: &Asked| Job::Ops { end: a.case.end, kind: a.case.kind, ops: a.case.ops.clone(), queries: queries(a) };
+        let jobs: Vec<Job> = waiting.iter().map(job).collect();
+        for (asked, answer) in waiting.iter().zip(rust.ask(&jobs)) {
+            compared(asked, &answer, tally);
+        }
+    }
+    files
+}

@@ -1,0 +1,5 @@
+pub mod Fitting
+pub mod Holding
+pub mod Positive
+pub mod PositiveLoad
+pub mod Answering

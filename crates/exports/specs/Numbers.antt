@@ -1,0 +1,25 @@
+-- What the numbers mean that Rust and C get. Definitions alone.
+use mathlib.Core.Path.{_≡_}
+use mathlib.Core.Bool.{cond}
+use Prim.Native.Nat.{ℕ}
+use lib.Dec.{eqb}
+use Rattle.history.specs.Refusals.{Answer, accepted, refused}
+use Rattle.layout.specs.Relations.{Counts, Fields}
+
+-- 0 is accepted, and gives the values handed out; any other number is that refusal
+unfoldable pub answerOf : {A : Type 0} → (number : ℕ) → A → Answer A
+answerOf n a = cond (eqb n 0) (accepted a) (refused n)
+
+-- The relation of a call, at the answer that its number and the values at exit stand for. On a refusal the values are as they were.
+pub record ByNumber {A : Type 0} (relation : Answer A → Type 0) (number : ℕ) (before after : A) : Type 0 where
+  pub answered : relation (answerOf number after)
+  pub kept : (number ≡ 0 → ⊥) → after ≡ before
+
+-- ── the values handed out ──
+
+abbrev pub counts : (count visited : ℕ) → Counts
+counts count visited = record { count = count; visited = visited }
+
+abbrev pub fields : (kind first length created destroyed offset : ℕ) → Fields
+fields kind first length created destroyed offset =
+    record { kind = kind; first = first; length = length; created = created; destroyed = destroyed; offset = offset }
