@@ -1,15 +1,12 @@
 -- Demand 3, proved: along every list of calls the tables stand for the ledger, so the answers are the ledger's, and after a finish the reads give what
 -- the ledger has. Assumes nothing.
 use mathlib.Core.Path.{_≡_, refl, ap, ap₂, sym, _∙_, subst}
-use mathlib.Core.Logic.{_⊎_, inl, inr}
-use mathlib.Core.Bool.{Bool, true, false, cond, true≢false, false≢true}
-use mathlib.Core.Option.{Option, none, some}
+use mathlib.Core.Logic.{inl, inr}
+use mathlib.Core.Bool.{Bool, true, false, true≢false, false≢true}
 use mathlib.Core.List.{List, [], _∷_}
 use Prim.Native.Nat.{ℕ, _≤_, _<_}
 use native.Mathlib.Omega.{arith}
-use lib.Dec.{leb, ltb}
-use lib.ListN.{length, replicate}
-use lib.Seq.{sets}
+use lib.ListN.{length}
 use borrow.Author.Tests.{lt-leb, le-leb, le-ltb, lt-ltb}
 use Rattle.lists.proofs.Numbers.{bool-cases}
 use Rattle.history.specs.Words.{Operation, Block}
@@ -18,14 +15,14 @@ use Rattle.history.specs.Ledger.{Opening, Ledger, opened, finished, isRead, rec
 use Rattle.history.specs.Reads.{Found, blockBy, findBy}
 use Rattle.history.specs.Refusals.{Answer, accepted, refused, firstOf, maxEndTick, openAnswer, recordRefusals, recordAnswer, finishRefusals, finishAnswer, windowRefusals, findAnswer, blockRefusals, blockAnswer}
 use Rattle.history.specs.Calls.{Call, recordCall, finishCall, answerTo, acceptedBy, leaves, after, answers, afterAll, noted, history}
-use Rattle.history.specs.Sound.{Sound, SoundForFinish}
-use Rattle.history.specs.Law.{LedgerLaw, Faithful, FindLaw}
+use Rattle.history.specs.Sound.{Sound}
+use Rattle.history.specs.Law.{LedgerLaw, Faithful}
 use Rattle.history.proofs.EveryList.{the-law, every-list, law-after, opening-kept}
 use Rattle.history.proofs.FindSound.{find-sound}
 use Rattle.layout.specs.Tables.{Tables, tables, lengthsOf}
 use Rattle.layout.specs.Encodes.{Encodes}
 use Rattle.layout.specs.Formed.{WellFormed, WellFormedForFinish, Blank}
-use Rattle.layout.specs.Relations.{openingOf, openedTables, leftBy, OpenedBy, readTables, UpdatedTables, RecordedTables, RecordLeaves, RecordedBy, FinishLeaves, FinishedBy, Counts, countsOf, answerLeft, FoundBy, Fields, blockIn, blockOfFields, BlockGivenBy}
+use Rattle.layout.specs.Relations.{openingOf, openedTables, leftBy, OpenedBy, RecordedTables, RecordLeaves, RecordedBy, FinishLeaves, FinishedBy, countsOf, answerLeft, Fields, blockIn, blockOfFields}
 use Rattle.layout.proofs.Opening.{open-accepted, opened-encodes, opened-lengths, opened-blank}
 use Rattle.demand.specs.Theorem.{CallDone, Run, run-nil, run-cons, Finished, Demand, Demand3}
 

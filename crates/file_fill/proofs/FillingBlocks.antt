@@ -1,7 +1,7 @@
 -- Blocks written one after the other: one step for the turn of `fill_blocks` and for each of its returns. Assumes nothing.
 use mathlib.Core.Path.{_≡_, refl, sym, _∙_, ap, ap₂}
-use mathlib.Core.List.{List, [], _∷_, _++_, flatMap}
-use Prim.Native.Nat.{ℕ, zero, suc, _+_, _*_, _-_, _≤_, _<_}
+use mathlib.Core.List.{List, [], _∷_, flatMap}
+use Prim.Native.Nat.{ℕ, suc, _+_, _*_, _-_, _≤_, _<_}
 use native.Mathlib.Omega.{arith}
 use lib.ListN.{length, take, drop}
 use lib.Seq.{sets}
@@ -15,9 +15,9 @@ use Rattle.tables.specs.Columns.{blockBase}
 use Rattle.file_scan.specs.declared.rows.BlockRow.{BlockRow}
 use Rattle.file_scan.specs.declared.rows.BlockRow.the-variants as block
 use Rattle.file_scan.specs.Rows.{rowHead, blockRow}
-use Rattle.file_scan.proofs.Readers.{onward-got, Passes}
+use Rattle.file_scan.proofs.Readers.{onward-got}
 use Rattle.file_scan.proofs.RowReads.{block-passes}
-use Rattle.file_scan.proofs.RowBytes.{BlockBytes, block-bytes}
+use Rattle.file_scan.proofs.RowBytes.{block-bytes}
 use Rattle.file_fill.specs.Fill.{blockNumbers, blocksNumbers, bytesOfAll, FilledBlocks}
 
 -- ── what a row says of the reading ──

@@ -1,18 +1,18 @@
 -- Entries written one after the other: one step for the turn of `fill_entries` and for each of its returns. Assumes nothing.
 use mathlib.Core.Path.{_≡_, refl, sym, _∙_, ap}
-use mathlib.Core.List.{List, [], _∷_, _++_}
-use Prim.Native.Nat.{ℕ, zero, suc, _+_, _*_, _-_, _≤_, _<_}
+use mathlib.Core.List.{List, [], _∷_}
+use Prim.Native.Nat.{ℕ, suc, _+_, _*_, _-_, _≤_, _<_}
 use native.Mathlib.Omega.{arith}
 use lib.ListN.{length}
 use lib.Seq.{sets}
 use Rattle.lists.proofs.Numbers.{suc-of}
 use Rattle.history.specs.Lent.{entryWidth, entryHead}
-use Rattle.history.specs.File.{Read, got, fault, onward, _>>=_, give, number, many}
+use Rattle.history.specs.File.{got, onward, _>>=_, give, number, many}
 use Rattle.history.proofs.FileYields.{got-value, got-next, fault-got}
 use Rattle.fields.specs.Fields.{readOf}
 use Rattle.fields.specs.declared.Field.{Field}
 use Rattle.fields.specs.declared.Field.the-variants.{Got, End}
-use Rattle.file_scan.proofs.Readers.{onward-got, Passes, number-passes}
+use Rattle.file_scan.proofs.Readers.{onward-got, number-passes}
 use Rattle.file_fill.specs.Fill.{firstCellOf, entryNumbers, entryPlace, FilledEntries}
 
 -- what the rest leaves, all leave from the start; each entry has bytes of its own

@@ -1,18 +1,17 @@
 -- The whole tree with the heads: one step for each return of `fill_nodes`. Assumes nothing.
 use mathlib.Core.Path.{_≡_, refl, sym, _∙_, ap, ap₂}
-use mathlib.Core.Logic.{_⊎_, inl, inr}
-use mathlib.Core.Bool.{Bool, true, false, cond, true≢false}
+use mathlib.Core.Logic.{inl, inr}
+use mathlib.Core.Bool.{true, cond}
 use mathlib.Core.List.{List, [], _∷_, _++_}
-use Prim.Native.Nat.{ℕ, zero, suc, _+_, _*_, _^_, _≤_, _<_}
+use Prim.Native.Nat.{ℕ, _+_, _*_, _^_, _≤_, _<_}
 use native.Mathlib.Omega.{arith}
 use lib.Dec.{leb}
-use lib.ListN.{length}
 use lib.Seq.{sets}
 use borrow.Author.Tests.{le-leb, lt-leb}
 use Rattle.lists.proofs.Numbers.{le-or-lt}
 use Rattle.history.specs.Lent.{rowWidth}
 use Rattle.history.specs.Tree.{nodeCount, entryCount, entriesIn}
-use Rattle.history.specs.File.{Nodes, absent, present, Read, got, fault, readRoot, treeFrom, endOf, rule21}
+use Rattle.history.specs.File.{Nodes, Read, got, fault, readRoot, treeFrom, endOf, rule21}
 use Rattle.history.proofs.FileRules.{Rule21, rule21-decides}
 use Rattle.file_scan.specs.Rows.{Head, headAbsent, headPresent, readHead}
 use Rattle.file_fill.specs.declared.nodes.Filled.{Filled}

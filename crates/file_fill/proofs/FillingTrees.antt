@@ -1,23 +1,23 @@
 -- Nodes written by halves: one step for each return of `fill_tree`. Assumes nothing.
 use mathlib.Core.Path.{_≡_, refl, sym, _∙_, ap, ap₂}
-use mathlib.Core.Logic.{_⊎_, inl, inr, ⊎-elim}
-use mathlib.Core.Bool.{Bool, true, false, cond, _&&_, true≢false}
+use mathlib.Core.Logic.{_⊎_, ⊎-elim}
+use mathlib.Core.Bool.{true, false, _&&_, true≢false}
 use mathlib.Core.List.{List, [], _∷_, _++_}
-use Prim.Native.Nat.{ℕ, zero, suc, _+_, _*_, _-_, _/_, _≤_, _<_}
+use Prim.Native.Nat.{ℕ, suc, _+_, _*_, _-_, _≤_, _<_}
 use native.Mathlib.Omega.{arith}
 use lib.ListN.{length, length-append}
 use lib.Seq.{sets}
-use borrow.Author.Tests.{lt-ltb, ltb-true, le-ltb}
+use borrow.Author.Tests.{lt-ltb, le-ltb}
 use Rattle.lists.proofs.Numbers.{and-left, and-right, and-both, lt-or-le, bool-cases}
 use Rattle.lists.proofs.Stores.{sets-append}
-use Rattle.history.specs.Lent.{rowWidth, entryWidth, entryHead}
-use Rattle.history.specs.Tree.{Tree, hole, node, mid, halves, nodeCount, entryCount, entriesIn}
-use Rattle.history.specs.File.{Nodes, absent, present, Read, got, fault, onward, number, many, readRoot, treeFrom}
+use Rattle.history.specs.Lent.{rowWidth, entryWidth}
+use Rattle.history.specs.Tree.{Tree, hole, node, mid, nodeCount, entryCount, entriesIn}
+use Rattle.history.specs.File.{Nodes, absent, present, got, fault, onward, many, readRoot, treeFrom}
 use Rattle.history.proofs.FileYields.{got-value, got-next, fault-got}
 use Rattle.history.proofs.TreeCounts.{entry-count-in}
-use Rattle.file_scan.specs.Rows.{rowHead, Head, headAbsent, headPresent, readHead}
+use Rattle.file_scan.specs.Rows.{rowHead, headAbsent, headPresent, readHead}
 use Rattle.file_scan.proofs.Readers.{onward-got, Passes, numbersAt, many-got}
-use Rattle.file_scan.proofs.RowReads.{headSize, head-passes}
+use Rattle.file_scan.proofs.RowReads.{head-passes}
 use Rattle.file_scan.proofs.RowBytes.{head-entries}
 use Rattle.file_scan.proofs.Forest.{root-parts}
 use Rattle.file_fill.specs.declared.nodes.Half.{Half}

@@ -1,23 +1,22 @@
 -- Where a node should stand: one step for each return of `is_place`, `right_start`, `half_at`, `root_end`, `root_in` and `first_cell`. Assumes nothing.
-use mathlib.Core.Path.{_≡_, refl, sym, _∙_, ap}
-use mathlib.Core.Logic.{_⊎_, inl, inr, ⊎-elim}
-use mathlib.Core.Bool.{Bool, true, false, cond, _&&_, not}
-use mathlib.Core.List.{List, []}
-use Prim.Native.Nat.{ℕ, zero, suc, _+_, _*_, _-_, _/_, _^_, _≤_, _<_}
+use mathlib.Core.Path.{_≡_, refl, sym, _∙_}
+use mathlib.Core.Logic.{_⊎_, ⊎-elim}
+use mathlib.Core.Bool.{Bool, true, false, _&&_, not}
+use mathlib.Core.List.{List}
+use Prim.Native.Nat.{ℕ, _+_, _-_, _/_, _^_, _≤_, _<_}
 use native.Mathlib.Omega.{arith}
 use native.Mathlib.Numerals.{add-one}
-use lib.Dec.{leb, ltb, eqb}
+use lib.Dec.{ltb, eqb}
 use lib.ListN.{length}
-use borrow.Author.Tests.{ltb-true, ltb-false, lt-ltb, le-ltb, le-leb, lt-leb, eq-eqb, ne-eqb, not-true, not-false}
+use borrow.Author.Tests.{ltb-true, lt-ltb, le-ltb, le-leb, lt-leb, eq-eqb, ne-eqb, not-true, not-false}
 use Rattle.lists.proofs.Numbers.{bool-cases, and-left}
-use Rattle.history.specs.Tree.{mid, halves}
+use Rattle.history.specs.Tree.{mid}
 use Rattle.history.specs.File.{Read, got, fault}
 use Rattle.tables.specs.Columns.{blockColumn, blockFirst}
 use Rattle.tables.proofs.Past.{read-past}
 use Rattle.file_scan.specs.declared.rows.NodeRow.{NodeRow}
 use Rattle.file_scan.specs.declared.rows.NodeRow.the-variants as node
 use Rattle.file_scan.specs.Rows.{rowHead, Head, headAbsent, headPresent, nodeRow}
-use Rattle.file_fill.specs.declared.nodes.Half.{Half}
 use Rattle.file_fill.specs.declared.nodes.Half.the-variants as half
 use Rattle.file_fill.specs.Fill.{isPlace, rightStart, halfOf, rootEnd, rootIn, firstCellOf}
 

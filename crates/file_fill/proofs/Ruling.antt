@@ -1,14 +1,13 @@
 -- Rule 21 on the way down is rule 21 of history. Assumes nothing.
-use mathlib.Core.Path.{_≡_, refl, sym, _∙_, ap, ap₂}
-use mathlib.Core.Logic.{_⊎_, inl, inr, ⊎-elim}
-use mathlib.Core.Bool.{Bool, true, false, cond, _&&_, _||_}
-use mathlib.Core.List.{List}
-use Prim.Native.Nat.{ℕ, zero, suc, _+_, _/_, _^_, _≤_, _<_}
+use mathlib.Core.Path.{_≡_, refl, sym, _∙_}
+use mathlib.Core.Logic.{_⊎_, ⊎-elim}
+use mathlib.Core.Bool.{Bool, true, false, _&&_}
+use Prim.Native.Nat.{ℕ, _+_, _^_, _≤_, _<_}
 use native.Mathlib.Omega.{arith}
-use lib.Dec.{leb, ltb, eqb}
+use lib.Dec.{eqb}
 use borrow.Author.Tests.{lt-ltb, le-ltb, le-leb}
 use Rattle.lists.proofs.Numbers.{lt-or-le}
-use Rattle.history.specs.Tree.{mid, halves}
+use Rattle.history.specs.Tree.{mid}
 use Rattle.history.specs.Rules.{isHole, halved}
 use Rattle.history.specs.File.{Nodes, absent, present, treeFrom, placedIn, endOf, rule21}
 use Rattle.file_fill.specs.Fill.{isPlace, rightStart, fits}
@@ -22,13 +21,6 @@ both-halves true true false true d = refl
 both-halves true true false false d = refl
 both-halves true false b c d = refl
 both-halves false a b c d = refl
-
--- a false part
-no-part : (x y : Bool) → (x && false) ≡ (y && false)
-no-part true true = refl
-no-part true false = refl
-no-part false true = refl
-no-part false false = refl
 
 and-true : (x : Bool) → (x && true) ≡ x
 and-true true = refl

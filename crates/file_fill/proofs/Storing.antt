@@ -1,13 +1,12 @@
 -- Rows written: one step for each return of the functions that write a row, and numbers written in front of others. Assumes nothing.
-use mathlib.Core.Path.{_≡_, refl, sym, _∙_, ap}
+use mathlib.Core.Path.{_≡_, refl, _∙_, ap}
 use mathlib.Core.List.{List, [], _∷_, _++_}
-use Prim.Native.Nat.{ℕ, zero, suc, _+_, _*_, _≤_, _<_}
+use Prim.Native.Nat.{ℕ, suc, _+_, _*_, _<_}
 use native.Mathlib.Omega.{arith}
 use lib.ListN.{length, set}
 use lib.Seq.{sets, set-comm}
-use Rattle.lists.proofs.Stores.{sets-append}
 use Rattle.history.specs.Lent.{rowWidth, entryWidth, entryHead}
-use Rattle.file_fill.specs.Fill.{entryPlace, rootIn, nodeHeadNumbers}
+use Rattle.file_fill.specs.Fill.{rootIn, nodeHeadNumbers}
 
 -- ── a row ──
 

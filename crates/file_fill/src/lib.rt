@@ -5,7 +5,6 @@
 //   blocks            the block rows, and the blocks' bytes in the store
 //   nodes             the node rows and their entries, by halves, with rule 21
 //   specs/Fill        the numbers that are written, and what each function leaves
-ghost use mathlib.Core.Path.{_≡_};
 
 pub mod blocks;
 pub mod nodes;

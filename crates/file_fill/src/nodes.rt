@@ -3,7 +3,6 @@
 ghost use mathlib.Core.Path.{_≡_};
 ghost use mathlib.Core.List.{[], _∷_};
 ghost use Prim.Native.Nat.{_+_, _*_, _≤_, _<_};
-ghost use lib.ListN.{set};
 ghost use lib.Seq.{sets};
 ghost use Rattle.history.specs.Lent.{entryWidth, entryHead};
 ghost use Rattle.history.specs.Tree.{mid};
@@ -35,12 +34,7 @@ pub enum Half {
 
 // A tree that was filled: the link of its root, or 0 for none; how many node and entry rows are in use, and the position behind it.
 pub enum Filled {
-    Tree {
-        root: u64,
-        rows: u64,
-        runs: u64,
-        next: usize,
-    },
+    Tree(u64, u64, u64, usize),
     Wrong,
 }
 
@@ -167,12 +161,7 @@ fn fill_tree(
 {
     match half_at(file, at, min, max) {
         Half::Wrong => Filled::Wrong,
-        Half::Absent { next } => Filled::Tree {
-            root: 0,
-            rows: rows,
-            runs: runs,
-            next: next,
-        },
+        Half::Absent { next } => Filled::Tree(0, rows, runs, next),
         Half::Present {
             count,
             entries: entries_at,
@@ -183,12 +172,7 @@ fn fill_tree(
             let mid = middle_of(min, max);
             let from = right_start(min, max);
             fill_entries(entries, blocks, file, entries_at, runs, count);
-            let Filled::Tree {
-                root: left,
-                rows: rows_left,
-                runs: runs_left,
-                next: right_at,
-            } = fill_tree(
+            let Filled::Tree(left, rows_left, runs_left, right_at) = fill_tree(
                 nodes,
                 entries,
                 blocks,
@@ -199,16 +183,10 @@ fn fill_tree(
                 next,
                 link,
                 more,
-            )
-            else {
+            ) else {
                 return Filled::Wrong;
             };
-            let Filled::Tree {
-                root: right,
-                rows: rows_all,
-                runs: runs_all,
-                next: behind,
-            } = fill_tree(
+            let Filled::Tree(right, rows_all, runs_all, behind) = fill_tree(
                 nodes,
                 entries,
                 blocks,
@@ -219,17 +197,11 @@ fn fill_tree(
                 right_at,
                 rows_left,
                 runs_left,
-            )
-            else {
+            ) else {
                 return Filled::Wrong;
             };
             put_row(nodes, 0, link, min, max, left, right, runs, count, kind, 0);
-            Filled::Tree {
-                root: link,
-                rows: rows_all,
-                runs: runs_all,
-                next: behind,
-            }
+            Filled::Tree(link, rows_all, runs_all, behind)
         }
     }
 }
@@ -289,7 +261,7 @@ pub fn fill_nodes(
     }
     match fill_tree(nodes, entries, blocks, file, kind, 0, end, at, 0, 0) {
         Filled::Wrong => 0,
-        Filled::Tree { rows, runs, .. } => {
+        Filled::Tree(_, rows, runs, _) => {
             put_node_head(nodes, kind, rows);
             put_row(entries, 0, 0, runs, 0, 0, 0, 0, 0, 0, 0);
             end

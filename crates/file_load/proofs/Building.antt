@@ -1,9 +1,9 @@
 -- The second pass and the tests behind it: one step for each return of `build`. Assumes nothing.
-use mathlib.Core.Path.{_≡_, refl, sym, _∙_, ap, ap₂}
+use mathlib.Core.Path.{_≡_, refl, sym, _∙_}
 use mathlib.Core.Logic.{_⊎_, inl, inr, ⊎-elim}
-use mathlib.Core.Bool.{Bool, true, false, cond, true≢false}
+use mathlib.Core.Bool.{Bool, true, false, cond}
 use mathlib.Core.List.{List, [], _∷_}
-use Prim.Native.Nat.{ℕ, zero, suc, _+_, _*_, _≤_, _<_}
+use Prim.Native.Nat.{ℕ, _+_, _*_, _<_}
 use native.Mathlib.Omega.{arith}
 use lib.ListN.{length}
 use lib.Seq.{sets}
@@ -12,16 +12,14 @@ use Rattle.history.specs.Lent.{rowWidth}
 use Rattle.history.specs.Words.{Block}
 use Rattle.history.specs.Tree.{Tree}
 use Rattle.history.specs.Rules.{rule23, apart}
-use Rattle.history.specs.File.{File, treeFrom, endOf, rule20, rule21, rule22, loadedFrom}
-use Rattle.history.proofs.FileRules.{Rule20, Rule21, Rule22, rule20-decides, rule21-decides, rule22-decides}
+use Rattle.history.specs.File.{File, treeFrom, endOf, rule20, rule21, rule22}
+use Rattle.history.proofs.FileRules.{Rule20, rule20-decides, rule21-decides, rule22-decides}
 use Rattle.segment_test.specs.Test.{lent}
 use Rattle.ordering.specs.Order.{Sorted}
 use Rattle.file_fill.specs.Fill.{FilledBlocks, FilledNodes}
-use Rattle.layout.specs.Tables.{Tables, tables, lengthsOf}
+use Rattle.layout.specs.Tables.{tables, lengthsOf}
 use Rattle.layout.specs.Encodes.{closedState}
-use Rattle.layout.specs.Relations.{zeros}
-use Rattle.layout.specs.Files.{LoadedTables}
-use Rattle.file_load.specs.Load.{judgement, Judged, verdict, Read, Built}
+use Rattle.file_load.specs.Load.{judgement, Judged, verdict, PartsAt, Built}
 use Rattle.file_load.proofs.Standing.{Filled, judged-is, loaded}
 
 -- ── the verdict ──
@@ -80,7 +78,7 @@ module _ (file : List ℕ) (kind n used start root : ℕ) {blocks store nodes en
     stands = λ f pieces r room v. absurd (let w : 21 ≡ 0 = sym (is f r) ∙ v in omega arith);
   }
     where
-      is : (f : File) → Read file kind n used start root f → verdict f ≡ 21
+      is : (f : File) → PartsAt file kind n used start root f → verdict f ≡ 21
       is f r =
           ⊎-elim
           (λ y.
@@ -91,10 +89,10 @@ module _ (file : List ℕ) (kind n used start root : ℕ) {blocks store nodes en
   module _ (some-end : e ≡ 0 → ⊥) {b₂ b₃ : List ℕ}
       (head : b₂ ≡ sets b₁ (rowWidth * 0 + 0) (closedState ∷ e ∷ kind ∷ n ∷ used ∷ 0 ∷ 0 ∷ 0 ∷ []))
       (sorted : Sorted b₂ b₃ n) {r : ℕ} (judged : Judged (lent b₃ nodes′ entries′) kind e n r) where
-    keeps-21 : (f : File) → Read file kind n used start root f → rule21 (f .nodes) ≡ true
+    keeps-21 : (f : File) → PartsAt file kind n used start root f → rule21 (f .nodes) ≡ true
     keeps-21 f q = ⊎-elim (λ y. y) (λ y. absurd (some-end (filled-nodes .wrong (f .nodes) (q .nodes-end) (q .nodes) y))) (bool-cases (rule21 (f .nodes)))
 
-    filled : (f : File) (pieces : List ℕ) → Read file kind n used start root f → rule20 (lengthsOf (tables pieces blocks store nodes entries)) f ≡ true
+    filled : (f : File) (pieces : List ℕ) → PartsAt file kind n used start root f → rule20 (lengthsOf (tables pieces blocks store nodes entries)) f ≡ true
         → Filled f kind n used e blocks store nodes entries b₁ b₂ b₃ store′ nodes′ entries′
     filled f pieces q room =
         let r20 : Rule20 (lengthsOf (tables pieces blocks store nodes entries)) f = rule20-decides (lengthsOf (tables pieces blocks store nodes entries)) f .yes room in

@@ -1,12 +1,12 @@
 -- The reader of a file gives no fault but 17, 18 and 19: all are below 20. Assumes nothing.
-use mathlib.Core.Path.{_≡_, refl, sym, _∙_}
+use mathlib.Core.Path.{_≡_, refl}
 use mathlib.Core.Bool.{Bool, true, false, cond}
 use mathlib.Core.List.{List, []}
 use Prim.Native.Nat.{ℕ, zero, suc, _+_, _<_}
 use native.Mathlib.Omega.{arith}
 use lib.Dec.{leb, eqb}
 use lib.ListN.{length}
-use Rattle.history.specs.File.{Read, got, fault, Reader, onward, _>>=_, give, refuse_unless_, field, number, many, readBlock, Nodes, readNode, readNodes, readRoot, File, readFile}
+use Rattle.history.specs.File.{Read, got, fault, Reader, onward, _>>=_, give, refuse_unless_, field, number, many, readBlock, Nodes, readNode, readNodes, readRoot, readFile}
 
 -- every fault of the reader has a low number
 pub record Low {A : Type 0} (r : Reader A) : Type 0 where

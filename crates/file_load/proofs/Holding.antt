@@ -1,12 +1,11 @@
 -- Numbers that stand in a table from a place on: parts of them, and what a write leaves. Assumes nothing.
-use mathlib.Core.Path.{_≡_, refl, sym, _∙_, ap}
-use mathlib.Core.Logic.{_⊎_, inl, inr}
-use mathlib.Core.List.{List, [], _∷_, _++_}
-use Prim.Native.Nat.{ℕ, zero, suc, _+_, _*_, _-_, _≤_, _<_}
+use mathlib.Core.Path.{_≡_, _∙_}
+use mathlib.Core.List.{List, _++_}
+use Prim.Native.Nat.{ℕ, _+_, _-_, _≤_, _<_}
 use native.Mathlib.Omega.{arith}
 use lib.ListN.{length, getD, take, drop, length-append, length-drop, List·getD-append}
 use lib.Seq.{sets, getD-append-add, getD-take, getD-drop, length-take-le, ext-getD}
-use Rattle.lists.proofs.Stores.{getD-sets-in, getD-sets-out}
+use Rattle.lists.proofs.Stores.{getD-sets-in}
 
 -- from the place on the numbers stand in the table
 pub record HoldsAt (table : List ℕ) (place : ℕ) (numbers : List ℕ) : Type 0 where

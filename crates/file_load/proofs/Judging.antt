@@ -1,30 +1,29 @@
 -- The tests of rules 20 and 22 to 24: one step for each turn and each return. Assumes nothing.
 use mathlib.Core.Path.{_≡_, refl, sym, _∙_, ap}
 use mathlib.Core.Logic.{_⊎_, inl, inr, ⊎-elim}
-use mathlib.Core.Bool.{Bool, true, false, cond, _&&_, not, true≢false, false≢true}
-use mathlib.Core.List.{List, [], _∷_, map}
+use mathlib.Core.Bool.{Bool, true, false, _&&_, not, true≢false}
+use mathlib.Core.List.{List, [], _∷_}
 use Prim.Native.Nat.{ℕ, zero, suc, _+_, _*_, _-_, _/_, _^_, _≤_, _<_}
 use native.Mathlib.Omega.{arith}
 use lib.Dec.{leb, ltb}
 use lib.ListN.{length, getD}
 use borrow.Author.Tests.{lt-ltb, le-ltb, le-leb, lt-leb, not-true, not-false}
-use Rattle.lists.specs.Lists.{All, countFrom}
 use Rattle.lists.specs.Tests.{Decides}
 use Rattle.lists.proofs.Lists.{all-of-map, all-at}
-use Rattle.lists.proofs.Numbers.{bool-cases, lt-or-le, and-left, and-right, and-both}
+use Rattle.lists.proofs.Numbers.{bool-cases, lt-or-le, and-right, and-both}
 use Rattle.history.specs.Lent.{rowWidth, entryWidth, blockHead, nodeHead, entryHead}
 use Rattle.history.specs.Words.{Block, size}
 use Rattle.history.specs.Tree.{Tree, noBlock}
-use Rattle.history.specs.Rules.{every, filled, lived, rule23, apart, isHole}
+use Rattle.history.specs.Rules.{every, filled, lived, rule23, apart}
 use Rattle.history.specs.File.{rule22}
 use Rattle.history.specs.Sound.{isEmpty}
 use Rattle.history.proofs.RulesLaws.{every-decides, decided}
-use Rattle.history.proofs.FileRules.{Rule22, rule22-decides}
+use Rattle.history.proofs.FileRules.{rule22-decides}
 use Rattle.tables.specs.Columns.{blockColumn, blockFirst, blockLength, blockCreated, blockDestroyed}
 use Rattle.segment_table.specs.Closed as closed
 use Rattle.segment_test.specs.Test.{BlockRows, ClosedTree}
 use Rattle.segment_test.proofs.ClosedTree.{tested-rule-23}
-use Rattle.ordering.specs.Blocks.{lengthAt, offsetAt, blockOfRow, blocksOf, Filled, Stored}
+use Rattle.ordering.specs.Blocks.{lengthAt, blockOfRow, blocksOf, Filled, Stored}
 use Rattle.ordering.specs.Apart.{TestedApart}
 use Rattle.ordering.proofs.Blocks.{all-count-from, blocks-length, blocks-at, blocks-key, bytes-length}
 use Rattle.ordering.proofs.Agreeing.{tested-is}

@@ -1,29 +1,27 @@
 -- The whole loader: one step for each return of `load`. Assumes nothing.
-use mathlib.Core.Path.{_≡_, refl, sym, _∙_, ap, ap₂, subst}
-use mathlib.Core.Logic.{_⊎_, inl, inr, ⊎-elim}
-use mathlib.Core.Bool.{Bool, true, false, cond, _&&_, not}
+use mathlib.Core.Path.{_≡_, refl, sym, _∙_, ap}
+use mathlib.Core.Logic.{_⊎_, ⊎-elim}
+use mathlib.Core.Bool.{Bool, true, false, not}
 use mathlib.Core.List.{List}
-use Prim.Native.Nat.{ℕ, zero, suc, _+_, _≤_, _<_}
+use Prim.Native.Nat.{ℕ, _+_, _≤_, _<_}
 use native.Mathlib.Omega.{arith}
-use lib.Dec.{ltb}
 use lib.ListN.{length, replicate}
 use borrow.Author.Tests.{lt-ltb, le-ltb, not-true, not-false}
 use Rattle.lists.proofs.Numbers.{bool-cases}
 use Rattle.history.specs.Lent.{Lent}
-use Rattle.history.specs.Tree.{Tree}
 use Rattle.history.specs.Rules.{rule23, apart}
-use Rattle.history.specs.Refusals.{Answer, accepted, refused}
-use Rattle.history.specs.File.{got, fault, File, readFile, many, readBlock, readRoot, treeFrom, endOf, rule20, rule21, rule22, loadedFrom, load}
+use Rattle.history.specs.Refusals.{accepted, refused}
+use Rattle.history.specs.File.{got, fault, File, readFile, treeFrom, endOf, rule20, rule21, rule22, loadedFrom, load}
 use Rattle.history.proofs.FileLoad.{load-fault, load-room, load-halves, load-blocks, load-entries, load-disjoint, load-taken}
 use Rattle.file_scan.specs.declared.Scanned.{Scanned}
 use Rattle.file_scan.specs.declared.Scanned.the-variants as scan
-use Rattle.file_scan.specs.Counts.{scanOf, nodesAt}
+use Rattle.file_scan.specs.Counts.{scanOf}
 use Rattle.file_scan.proofs.Readers.{number-passes}
-use Rattle.file_scan.proofs.FileParts.{Parts, file-parts, Counted, scan-counts, scan-fault}
+use Rattle.file_scan.proofs.FileParts.{file-parts, Counted, scan-counts, scan-fault}
 use Rattle.layout.specs.Tables.{Tables, tables, lengthsOf}
 use Rattle.layout.specs.Relations.{zeros}
-use Rattle.layout.specs.Files.{zeroedTables, afterFault, positionOf, LoadLeaves, LoadedBy}
-use Rattle.file_load.specs.Load.{roomFor, judgement, verdict, Read, Built, Zeroed}
+use Rattle.layout.specs.Files.{zeroedTables, afterFault, positionOf, LoadedBy}
+use Rattle.file_load.specs.Load.{roomFor, verdict, PartsAt, Built, Zeroed}
 use Rattle.file_load.proofs.Building.{verdict-by}
 use Rattle.file_load.proofs.Faults.{low-file}
 
@@ -110,7 +108,7 @@ module _ (file : List ℕ) (at : ℕ) (pieces blocks store nodes entries : List 
       module _ (fits : not room ≡ false) {blocks′ store′ nodes′ entries′ : List ℕ} {number : ℕ}
           (built : Built file kind n bytes (at + 9) root blocks store nodes entries blocks′ store′ nodes′ entries′ number) where
         -- the parts of the file, where they stand
-        parts : (f : File) → readFile file at ≡ got f next → Counted at f kind n bytes rows runs root → Read file kind n bytes (at + 9) root f
+        parts : (f : File) → readFile file at ≡ got f next → Counted at f kind n bytes rows runs root → PartsAt file kind n bytes (at + 9) root f
         parts f r c =
             let p = file-parts file at r in
             record {

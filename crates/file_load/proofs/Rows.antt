@@ -1,11 +1,10 @@
 -- The block rows that were written are the file's blocks, with their bytes in the store. Assumes nothing.
-use mathlib.Core.Path.{_≡_, refl, sym, _∙_, ap, ap₂}
-use mathlib.Core.Logic.{_⊎_, inl, inr}
-use mathlib.Core.List.{List, [], _∷_, _++_, map, flatMap}
-use Prim.Native.Nat.{ℕ, zero, suc, _+_, _*_, _-_, _≤_, _<_}
+use mathlib.Core.Path.{_≡_, refl, _∙_, ap₂}
+use mathlib.Core.Logic.{inl, inr}
+use mathlib.Core.List.{List, [], _∷_, map, flatMap}
+use Prim.Native.Nat.{ℕ, suc, _+_, _*_, _-_, _≤_, _<_}
 use native.Mathlib.Omega.{arith}
 use lib.ListN.{length, getD, take, drop, length-append}
-use lib.Seq.{sets}
 use Rattle.lists.specs.Lists.{countFrom, sumOf}
 use Rattle.lists.proofs.Numbers.{eq-or-ne}
 use Rattle.history.specs.Lent.{rowWidth}

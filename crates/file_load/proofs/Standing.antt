@@ -1,14 +1,14 @@
 -- Tables that were filled from a file stand for its index. Assumes nothing.
 use mathlib.Core.Path.{_≡_, refl, sym, _∙_, ap, ap₂, subst}
 use mathlib.Core.Logic.{_⊎_, inl, inr, ⊎-elim}
-use mathlib.Core.Bool.{Bool, true, false, true≢false, false≢true}
-use mathlib.Core.List.{List, [], _∷_, _++_, flatMap}
-use Prim.Native.Nat.{ℕ, zero, suc, _+_, _*_, _-_, _/_, _^_, _≤_, _<_, max}
+use mathlib.Core.Bool.{true, false, true≢false, false≢true}
+use mathlib.Core.List.{List, [], _∷_, _++_}
+use Prim.Native.Nat.{ℕ, suc, _+_, _*_, _-_, _/_, _≤_, _<_, max}
 use native.Mathlib.Omega.{arith}
-use lib.ListN.{length, getD, take, replicate, length-append, length-replicate}
+use lib.ListN.{length, getD, length-append, length-replicate}
 use lib.Seq.{sets, length-sets}
-use Rattle.lists.specs.Lists.{All, all-nil, has, countFrom}
-use Rattle.lists.proofs.Lists.{all-at, count-from-length, count-from-at}
+use Rattle.lists.specs.Lists.{all-nil, has, countFrom}
+use Rattle.lists.proofs.Lists.{all-at, count-from-length}
 use Rattle.lists.proofs.Numbers.{bool-cases, lt-or-le}
 use Rattle.lists.proofs.Stores.{getD-sets-out}
 use Rattle.history.specs.Lent.{rowWidth, entryWidth, blockHead, nodeHead, entryHead, pieceHead}
@@ -17,20 +17,20 @@ use Rattle.history.specs.Tree.{Tree, hole, node, nodeCount, entryCount, entries
 use Rattle.history.specs.Rules.{isHole, rule23}
 use Rattle.history.specs.File.{Nodes, absent, present, File, treeFrom, endOf, rule22, loadedFrom, loadedLedger}
 use Rattle.history.proofs.TreeCounts.{entry-count-in}
-use Rattle.history.proofs.FileRules.{Rule20, Rule21, Rule22, rule22-decides}
+use Rattle.history.proofs.FileRules.{Rule21, Rule22, rule22-decides}
 use Rattle.history.proofs.FileContents.{Entered, rules-enter}
 use Rattle.tables.specs.Columns.{blockColumn, blockBase, blockFirst, blockNext, headState, headEnd, headKind, headCount, headUsed, headLast}
 use Rattle.segment_table.specs.Closed.{firstCellIn, Closed}
 use Rattle.segment_test.specs.Test.{lent}
-use Rattle.ordering.specs.Order.{nextAt, nextPlace, Room, InOrder, OnlyOrder, Ordered, Sorted}
-use Rattle.ordering.specs.Blocks.{offsetAt, lengthAt, blocksOf, Stored}
+use Rattle.ordering.specs.Order.{Room, InOrder, Ordered, Sorted}
+use Rattle.ordering.specs.Blocks.{blocksOf, Stored}
 use Rattle.ordering.proofs.Keeping.{order-column, stored-order}
 use Rattle.ordering.proofs.Blocks.{blocks-order}
 use Rattle.file_scan.specs.Counts.{bytesIn}
 use Rattle.file_fill.specs.Fill.{blocksNumbers, bytesOfAll, firstCellOf, entryNumbers, nodeNumbers, nodeHeadNumbers, entryHeadNumbers, NodesLeft}
 use Rattle.file_fill.proofs.Storing.{sets-before}
 use Rattle.file_fill.proofs.FillingTrees.{node-numbers-length, entry-numbers-length}
-use Rattle.layout.specs.Tables.{Tables, tables, lengthsOf, headAt, treeTables}
+use Rattle.layout.specs.Tables.{Tables, tables, lengthsOf, headAt}
 use Rattle.layout.specs.Encodes.{closedState, Encodes}
 use Rattle.layout.specs.Relations.{zeros}
 use Rattle.layout.specs.Files.{headed, LoadedTables}

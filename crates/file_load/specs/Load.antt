@@ -2,7 +2,7 @@
 use mathlib.Core.Path.{_≡_}
 use mathlib.Core.Bool.{Bool, true, false, cond, _&&_}
 use mathlib.Core.List.{List}
-use Prim.Native.Nat.{ℕ, zero, suc, _+_, _-_, _*_, _/_, _^_, _≤_, _<_}
+use Prim.Native.Nat.{ℕ, _+_, _-_, _*_, _/_, _^_, _≤_, _<_}
 use lib.Dec.{leb, ltb}
 use lib.ListN.{length}
 use Rattle.history.specs.Lent.{rowWidth, entryWidth, blockHead, nodeHead, entryHead}
@@ -79,7 +79,7 @@ unfoldable pub verdict : File → ℕ
 verdict f = cond (rule21 (f .nodes)) (judgement (endOf (f .nodes)) (f .blocks) (treeFrom (f .nodes))) 21
 
 -- a file whose parts are read where they stand, with the counts of the first pass
-pub record Read (file : List ℕ) (kind n used start root : ℕ) (f : File) : Type 0 where
+pub record PartsAt (file : List ℕ) (kind n used start root : ℕ) (f : File) : Type 0 where
   pub blocks : many (readBlock kind) n file start ≡ got (f .blocks) root
   pub nodes-end : ℕ
   pub nodes : readRoot file root ≡ got (f .nodes) nodes-end
@@ -90,9 +90,9 @@ pub record Read (file : List ℕ) (kind n used start root : ℕ) (f : File) : Ty
 
 -- the verdict, and where it is 0, tables that stand for the file's index
 pub record Built (file : List ℕ) (kind n used start root : ℕ) (blocks store nodes entries blocks′ store′ nodes′ entries′ : List ℕ) (r : ℕ) : Type 0 where
-  pub answered : (f : File) (pieces : List ℕ) → Read file kind n used start root f → rule20 (lengthsOf (tables pieces blocks store nodes entries)) f ≡ true
+  pub answered : (f : File) (pieces : List ℕ) → PartsAt file kind n used start root f → rule20 (lengthsOf (tables pieces blocks store nodes entries)) f ≡ true
       → r ≡ verdict f
-  pub stands : (f : File) (pieces : List ℕ) → Read file kind n used start root f → rule20 (lengthsOf (tables pieces blocks store nodes entries)) f ≡ true
+  pub stands : (f : File) (pieces : List ℕ) → PartsAt file kind n used start root f → rule20 (lengthsOf (tables pieces blocks store nodes entries)) f ≡ true
       → verdict f ≡ 0 → LoadedTables (loadedFrom f) (tables pieces blocks store nodes entries) (tables (zeros pieces) blocks′ store′ nodes′ entries′)
 
 -- ── zeros ──

@@ -2,8 +2,9 @@
 // and gives 17, 18 and 19; then 20. The second pass (`file_fill`) fills the tables, with 21 on the way down; 22, 23 and 24 are tested on the filled
 // tables. After 21 to 24 everything lent is zeros.
 //
-// With B bytes from the position on, n blocks and L numbers and bytes lent, loading takes O(B + n log n + k) steps, and L more where all that is lent is
-// zeroed. k is the number of pairs of blocks whose first cells lie in one of the two, as rule 24 meets them; without rule 24's test it is O(B + n log n).
+// A load takes O(B + n log n + k + P) steps: B bytes of the file are read, n blocks are sorted, P numbers of the piece table become zeros, and rule 24
+// meets k pairs of blocks of which one starts in a cell of the other (few where a cell has few versions, n * n / 2 at most). A refusal of 21 to 24 zeroes
+// all that is lent. No count of the file is taken on trust, and no call is deeper than 65 frames.
 //
 //   room              20
 //   judge             22 to 24, on filled tables
@@ -36,7 +37,7 @@ pub enum Loaded {
 }
 
 // Bytes in front of the blocks: the kind and the block count.
-const FRONT: usize = 9;
+const FRONT: usize = 1 + fields::WIDTH;
 
 // 20, and 21 where the second pass finds it.
 const ROOM: u64 = 20;

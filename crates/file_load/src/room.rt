@@ -7,6 +7,11 @@ use tables::block;
 use tables::entry;
 use tables::node;
 
+// Numbers in a row, and in a row of entries.
+const ROW: u64 = tables::ROW as u64;
+
+const ENTRY: u64 = entry::WIDTH as u64;
+
 // How many numbers a table has past its head.
 fn past(len: usize, head: usize) -> u64
     ensures { λ r. ⌜ r ≡ len - head ⌝ }
@@ -30,13 +35,13 @@ pub fn room(
 ) -> bool
     ensures { λ r. ⌜ r ≡ roomFor (length (now (blocks .entry))) (length (now (store .entry))) (length (now (nodes .entry))) (length (now (entries .entry))) n bytes rows runs ⌝ }
 {
-    if past(blocks.len(), block::HEAD) / 8 < n {
+    if past(blocks.len(), block::HEAD) / ROW < n {
         return false;
     }
-    if past(nodes.len(), node::HEAD) / 8 < rows {
+    if past(nodes.len(), node::HEAD) / ROW < rows {
         return false;
     }
-    if past(entries.len(), entry::HEAD) / 2 < runs {
+    if past(entries.len(), entry::HEAD) / ENTRY < runs {
         return false;
     }
     bytes <= store.len() as u64

@@ -1,9 +1,9 @@
 -- The tables of a closed index and the ledger's file: the blocks that have a life are those with an entry, and the file is made of the parts that are
 -- put. Assumes nothing.
-use mathlib.Core.Path.{_≡_, refl, sym, _∙_, ap, ap₂}
+use mathlib.Core.Path.{_≡_, refl, _∙_, ap}
 use mathlib.Core.Bool.{Bool, true, false, cond, false≢true}
 use mathlib.Core.Option.{Option, none, some}
-use mathlib.Core.List.{List, [], _∷_, _++_, map, flatMap, flatten, append-assoc, append-nil}
+use mathlib.Core.List.{List, [], _∷_, _++_, flatMap, flatten, append-assoc, append-nil}
 use Prim.Native.Nat.{ℕ, zero, suc, _+_, _*_, _≤_, _<_}
 use native.Mathlib.Numerals.{add-one}
 use native.Mathlib.Omega.{arith}
@@ -17,22 +17,22 @@ use Rattle.history.specs.Tree.{Tree, hole, node, mid, noBlock, blockAt, nodeCou
 use Rattle.history.specs.Ledger.{Ledger, finished, isSome}
 use Rattle.history.specs.Reads.{treeOrHole}
 use Rattle.history.specs.Sound.{Sound, SoundTree, SoundClosed}
-use Rattle.history.specs.File.{bytesOf, blockBytes, nodeBytes, fileBytes, thoseWith, written, writtenBlocks, newNumber, renumbered, placeIn, mapTree, nodesOf, contents, fileOf, fileBy}
+use Rattle.history.specs.File.{bytesOf, blockBytes, nodeBytes, fileBytes, thoseWith, written, writtenBlocks, placeIn, mapTree, nodesOf, contents, fileOf, fileBy}
 use Rattle.history.proofs.RulesLaws.{rule23-decides, numbered-decides}
 use Rattle.history.proofs.TreeEntries.{entry-life}
 use Rattle.history.proofs.FileNumbers.{bytesOf-length}
 use Rattle.history.proofs.FileRenumbered.{mapTree-nodeCount, mapTree-entryCount}
 use Rattle.history.proofs.FileKept.{entries-written}
-use Rattle.tables.specs.Columns.{column, blockColumn, headKind, headEnd, headCount}
+use Rattle.tables.specs.Columns.{column, blockColumn, headKind, headEnd}
 use Rattle.ordering.specs.Blocks.{lengthAt, offsetAt, blockOfRow, Stored}
 use Rattle.ordering.proofs.Blocks.{count-from-append, blocks-at, bytes-length}
-use Rattle.segment_table.specs.Closed.{TreeAt, Closed, nodesUsed, entriesUsed}
-use Rattle.layout.specs.Tables.{Tables, tables, headAt, treeTables}
+use Rattle.segment_table.specs.Closed.{TreeAt, Closed}
+use Rattle.layout.specs.Tables.{tables}
 use Rattle.layout.specs.Encodes.{Encodes, TreeIn}
 use Rattle.layout.proofs.Pieces.{used-fits}
 use Rattle.file_write.specs.Living.{lives, living, livingBlocks}
-use Rattle.file_write.specs.Sizes.{blocksSize, nodesSize, blockCount, fileSize}
-use Rattle.file_write.proofs.Laying.{flatMap-append, flatMap-map, flatMap-one, block-parts}
+use Rattle.file_write.specs.Sizes.{blocksSize, nodesSize, blockCount}
+use Rattle.file_write.proofs.Laying.{flatMap-append, flatMap-map, flatMap-one, block-parts, stored-fewer}
 use Rattle.file_write.proofs.Listing.{living-below, numbers-length}
 
 -- ── which blocks are written ──
@@ -63,14 +63,11 @@ block-size : (store blocks : List ℕ) (link : ℕ) → offsetAt blocks link + l
 block-size store blocks link h =
     ap length (block-parts store blocks link h) ∙ simp (length-append, bytesOf-length) (omega (arith, bytes-length store blocks link h))
 
-stored-less : {used n : ℕ} {blocks : List ℕ} → Stored used blocks (suc n) → Stored used blocks n
-stored-less s = record { inside = λ link a b. s .inside link a (omega arith) }
-
 blocks-size : (store blocks : List ℕ) (n : ℕ) → Stored (length store) blocks n
     → length (flatMap (λ k. blockBytes (blockOfRow store blocks (suc k))) (living blocks n)) ≡ blocksSize blocks n
 unfolding living blocksSize flatMap
 blocks-size store blocks zero s = refl
-blocks-size store blocks (suc n) s = go (lives blocks n) (blocks-size store blocks n (stored-less s))
+blocks-size store blocks (suc n) s = go (lives blocks n) (blocks-size store blocks n (stored-fewer n (omega arith) s))
   where
     f : ℕ → List ℕ
     f k = blockBytes (blockOfRow store blocks (suc k))

@@ -2,10 +2,10 @@
 use mathlib.Core.Path.{_≡_, refl, sym, _∙_, ap}
 use mathlib.Core.Logic.{⊎-elim}
 use mathlib.Core.Bool.{Bool, true, false, cond}
-use mathlib.Core.List.{List, [], _∷_, _++_, flatMap}
-use Prim.Native.Nat.{ℕ, _+_, _*_, _≤_, _<_}
+use mathlib.Core.List.{List, [], _++_, flatMap}
+use Prim.Native.Nat.{ℕ, _+_, _≤_, _<_}
 use native.Mathlib.Omega.{arith}
-use lib.Dec.{ltb, leb, eqb}
+use lib.Dec.{eqb}
 use lib.ListN.{length, length-append}
 use lib.Seq.{sets}
 use borrow.Author.Tests.{lt-ltb, le-ltb, le-leb, lt-leb}
@@ -13,8 +13,7 @@ use Rattle.lists.proofs.Numbers.{le-or-lt}
 use Rattle.lists.proofs.Stores.{sets-append}
 use Rattle.history.specs.Lent.{tooShort}
 use Rattle.history.specs.Ledger.{Ledger, finished}
-use Rattle.history.specs.Refusals.{Answer, accepted, refused, firstOf, writeRefusals}
-use Rattle.history.specs.Sound.{Sound}
+use Rattle.history.specs.Refusals.{accepted, refused, firstOf, writeRefusals}
 use Rattle.history.specs.File.{bytesOf, blockBytes, nodeBytes, nodesOf, mapTree, placeIn, fileBy, writeAnswer}
 use Rattle.history.proofs.FileNumbers.{bytesOf-length}
 use Rattle.tables.specs.Columns.{column, blockColumn, headKind, headEnd}
@@ -23,7 +22,7 @@ use Rattle.layout.specs.Encodes.{Encodes}
 use Rattle.layout.specs.Files.{bytesWritten, outLeft}
 use Rattle.file_write.specs.Putting.{Put}
 use Rattle.file_write.specs.Living.{living, livingBlocks}
-use Rattle.file_write.specs.Sizes.{blocksSize, nodesSize, blockCount, nodesAt, fileSize, planOf}
+use Rattle.file_write.specs.Sizes.{blocksSize, blockCount, nodesAt, fileSize, planOf}
 use Rattle.file_write.specs.Numbering.{Listed}
 use Rattle.file_write.specs.Parts.{PutBlocks, PutTree}
 use Rattle.file_write.specs.Answers.{FileWritten, WrittenClosed}
@@ -62,9 +61,6 @@ pub file-written : (blocks store nodes entries : List ℕ) (many place count kin
 file-written blocks store nodes entries many place count kind end root listed p₂ p₃ p₄ p₅ out o₁ o₂ o₃ o₄ o₅ c k e r list tree put mark number =
     record { file = λ pieces l enc s done some m w room. whole (agrees pieces blocks store nodes entries l enc s done) some m w room }
   where
-    n : ℕ
-    n = blockCount blocks
-
     whole : {l : Ledger} → Agrees blocks store nodes entries l → 0 < blockCount blocks → many ≡ length (living blocks (blockCount blocks))
         → place ≡ nodesAt blocks (blockCount blocks) → place ≤ length out → o₅ ≡ sets out 0 (fileBy l)
     whole {l} a some m w room =

@@ -1,8 +1,8 @@
 -- The blocks that have a life, put one after the other: what a turn of `put_living` and of `put_blocks` adds, and a block's bytes. Assumes nothing.
 use mathlib.Core.Path.{_≡_, refl, sym, _∙_, ap}
-use mathlib.Core.Bool.{Bool, true, false, cond}
+use mathlib.Core.Bool.{Bool, true, false}
 use mathlib.Core.List.{List, [], _∷_, _++_, map, flatMap, flatten, append-assoc, append-nil}
-use Prim.Native.Nat.{ℕ, zero, suc, _+_, _-_, _≤_, _<_}
+use Prim.Native.Nat.{ℕ, suc, _+_, _-_, _≤_, _<_}
 use native.Mathlib.Numerals.{add-one}
 use native.Mathlib.Omega.{arith}
 use lib.Dec.{ltb}
@@ -12,7 +12,7 @@ use Rattle.ordering.specs.Order.{firstCellAt}
 use Rattle.ordering.specs.Blocks.{lengthAt, offsetAt, createdAt, destroyedAt, ownerAt, bytesAt, blockOfRow, Stored}
 use Rattle.ordering.proofs.Blocks.{bytes-length}
 use Rattle.file_write.specs.Putting.{Put, rowBytes}
-use Rattle.file_write.specs.Living.{lives, living, livingBlocks}
+use Rattle.file_write.specs.Living.{lives, living}
 use Rattle.file_write.specs.Parts.{PutBlock, PutBlocks}
 use Rattle.file_write.proofs.Putting.{put-none, put-append, put-same}
 
@@ -124,8 +124,9 @@ pub ruleset blocking = (put-block-long, put-block-past, put-block-whole, arith)
 pub record BlocksTo (store blocks out : List ℕ) (at n : ℕ) (o : List ℕ) (next : ℕ) : Type 0 where
   pub put : Stored (length store) blocks n → Put out at (flatMap (λ k. blockBytes (blockOfRow store blocks (suc k))) (living blocks n)) o next
 
-stored-less : {used n : ℕ} {blocks : List ℕ} → Stored used blocks (n + 1) → Stored used blocks n
-stored-less s = record { inside = λ link a b. s .inside link a (omega arith) }
+-- the bytes of fewer blocks
+pub stored-fewer : {used n : ℕ} {blocks : List ℕ} (m : ℕ) → m ≤ n → Stored used blocks n → Stored used blocks m
+stored-fewer m h s = record { inside = λ link a b. s .inside link a (omega arith) }
 
 pub blocks-start : (store blocks out : List ℕ) (at : ℕ) → BlocksTo store blocks out at 0 out at
 blocks-start store blocks out at = record { put = λ s. lay-start _ blocks out at }
@@ -137,12 +138,12 @@ blocks-one store blocks out o o′ at n next next′ t a e y b =
     record {
       put = λ s.
           let one : Put o next (blockBytes (blockOfRow store blocks (n + 1))) o′ next′ = b .put (s .inside (n + 1) (omega arith) (omega arith)) in
-          lay-one blocks n t e _ out o at next (a .put (stored-less s)) y (rw (add-one n) at one);
+          lay-one blocks n t e _ out o at next (a .put (stored-fewer n (omega arith) s)) y (rw (add-one n) at one);
     }
 
 pub blocks-none : (store blocks out o : List ℕ) (at n next : ℕ) (t : Bool) → BlocksTo store blocks out at n o next
     → t ≡ ltb (createdAt blocks (n + 1)) (destroyedAt blocks (n + 1)) → t ≡ false → BlocksTo store blocks out at (n + 1) o next
-blocks-none store blocks out o at n next t a e y = record { put = λ s. lay-none blocks n t e _ out o at next (a .put (stored-less s)) y }
+blocks-none store blocks out o at n next t a e y = record { put = λ s. lay-none blocks n t e _ out o at next (a .put (stored-fewer n (omega arith) s)) y }
 
 pub blocks-all : (store blocks out o : List ℕ) (at n count next : ℕ) → BlocksTo store blocks out at n o next → n ≤ count → count ≤ n
     → PutBlocks store blocks count out at o next

@@ -6,9 +6,8 @@ use mathlib.Core.List.{List, [], _∷_, _++_, flatMap, append-assoc, append-nil}
 use Prim.Native.Nat.{ℕ, zero, suc, _+_, _*_, _-_, _^_, _≤_, _<_}
 use native.Mathlib.Numerals.{add-one}
 use native.Mathlib.Omega.{arith}
-use lib.Dec.{eqb}
 use lib.ListN.{length, getD, take, drop, length-append}
-use lib.Seq.{sets, sets-eq, length-sets, length-take-le, take-append-seam, drop-append-add, drop-at, take-at}
+use lib.Seq.{sets, sets-eq, length-sets, length-take-le, drop-append-add, take-at}
 use borrow.Author.Tests.{eq-eqb, ne-eqb}
 use Rattle.lists.specs.Lists.{All, all-nil, all-cons, Pairs, pairs-nil, pairs-cons, Ascending, has, countFrom}
 use Rattle.lists.proofs.Lists.{all-append, all-map, all-mem, all-at, pairs-append}

@@ -1,22 +1,21 @@
 -- The file's size: the turns of `measure_blocks`, and its returns and those of `measure`. Assumes nothing.
-use mathlib.Core.Path.{_≡_, refl, sym, _∙_, ap}
+use mathlib.Core.Path.{_≡_, refl, sym, _∙_}
 use mathlib.Core.Logic.{⊎-elim}
-use mathlib.Core.Bool.{Bool, true, false, cond}
-use mathlib.Core.List.{List, [], _∷_, _++_}
+use mathlib.Core.Bool.{Bool, true, false}
+use mathlib.Core.List.{List, [], _∷_}
 use Prim.Native.Nat.{ℕ, zero, suc, _+_, _*_, _-_, _/_, _≤_, _<_}
 use native.Mathlib.Numerals.{add-one}
 use native.Mathlib.Omega.{arith}
 use lib.Dec.{ltb}
 use lib.ListN.{length, length-append}
 use borrow.Author.Tests.{le-leb, lt-leb}
-use Rattle.lists.proofs.Numbers.{eq-or-ne, le-or-lt}
+use Rattle.lists.proofs.Numbers.{le-or-lt}
 use Rattle.ordering.specs.Blocks.{lengthAt, createdAt, destroyedAt}
 use Rattle.segment_table.specs.Closed.{nodesUsed, entriesUsed}
-use Rattle.file_write.specs.Living.{lives, living}
+use Rattle.file_write.specs.Living.{living}
 use Rattle.file_write.specs.Sizes.{blocksSize, nodesSize, blockCount, nodesAt, fileSize, shareOf, planOf}
 use Rattle.file_write.specs.declared.plan.Share.{Share}
 use Rattle.file_write.specs.declared.plan.Share.the-variants as share
-use Rattle.file_write.specs.declared.plan.Plan.{Plan}
 use Rattle.file_write.specs.declared.plan.Plan.the-variants as plan
 use Rattle.file_write.proofs.Laying.{told, living-one, living-none}
 

@@ -1,15 +1,15 @@
 -- A block's place in the list by binary search: the returns of `listed_at`, and what a turn of `new_number` leaves. Assumes nothing.
-use mathlib.Core.Path.{_≡_, refl, sym, _∙_, ap}
+use mathlib.Core.Path.{_≡_, sym, _∙_, ap}
 use mathlib.Core.Logic.{⊎-elim}
 use mathlib.Core.Bool.{true}
 use mathlib.Core.List.{List}
 use Prim.Native.Nat.{ℕ, _+_, _*_, _-_, _/_, _≤_, _<_}
 use native.Mathlib.Omega.{arith}
 use lib.ListN.{length, getD, take, drop}
-use Rattle.lists.specs.Lists.{has}
+use Rattle.lists.specs.Lists.{Ascending, has}
 use Rattle.lists.proofs.Lists.{pairs-at}
-use Rattle.lists.proofs.Numbers.{le-or-lt, eq-or-ne}
-use Rattle.history.specs.File.{Read, got, fault, number, numberOf, placeIn}
+use Rattle.lists.proofs.Numbers.{le-or-lt, lt-or-le, eq-or-ne}
+use Rattle.history.specs.File.{got, fault, number, numberOf, placeIn}
 use Rattle.history.proofs.FilePlaces.{placeIn-below, placeIn-inside, placeIn-found}
 use Rattle.history.proofs.FileReads.{number-read}
 use Rattle.fields.specs.declared.Field.{Field}
@@ -21,9 +21,6 @@ use Rattle.file_write.specs.Numbering.{Numbering, Numbered, NewNumber}
 
 pub numbered-past : (out : List ℕ) (place : ℕ) → length out / 8 ≤ place → Numbered out place 0
 numbered-past out place h = record { number = λ g. absurd (omega arith) }
-
-pub numbered-short : (out : List ℕ) (place : ℕ) → length out - 8 * place < 9 → Numbered out place 0
-numbered-short out place h = record { number = λ g. absurd (omega arith) }
 
 pub numbered-got : (out : List ℕ) (place value next : ℕ) (r : Field) → readOf r ≡ number 8 out (9 + 8 * place) → r ≡ Got value next → Numbered out place value
 numbered-got out place value next r e f =
@@ -43,9 +40,18 @@ numbered-end out place r e f =
           absurd (let z : _≡_ {A = ℕ} 0 1 = cc in omega arith);
     }
 
-pub ruleset reading = (numbered-past, numbered-short, numbered-got, numbered-end)
+pub ruleset reading = (numbered-past, numbered-got, numbered-end)
 
 -- ── between two places ──
+
+-- in an ascending list the lower number has the lower place
+ascend-back : {ks : List ℕ} → Ascending (λ k. k) ks → (i j : ℕ) → i < length ks → getD ks i 0 < getD ks j 0 → i < j
+ascend-back {ks} a i j h less =
+    ⊎-elim (λ (g : i < j). g)
+    (λ (g : j ≤ i).
+    absurd
+    (⊎-elim (λ (e : i ≡ j). omega (arith, ap (λ (n : ℕ). getD ks n 0) e)) (λ (e : i ≡ j → ⊥). omega (arith, pairs-at 0 a j i (omega arith) h)) (eq-or-ne i j)))
+    (lt-or-le i j)
 
 -- the place of a number on the list is from lo to hi
 pub record Between (out : List ℕ) (listed k lo hi : ℕ) : Type 0 where
@@ -70,32 +76,19 @@ module _ (out : List ℕ) (listed k lo hi r : ℕ) (b : Between out listed k lo 
   rank-up h =
       record {
         place = λ at ks n z.
-            let p = placeIn ks k in
-            let found : getD ks (placeIn ks k) 0 ≡ k = placeIn-found ks k z in
             let mid = at-mid at ks n in
-            let above : lo + (hi - lo) / 2 + 1 ≤ placeIn ks k =
-            ⊎-elim
-            (λ (g : placeIn ks k ≤ j).
-            ⊎-elim (λ (e : placeIn ks k ≡ j). absurd (omega (arith, ap (λ (i : ℕ). getD ks i 0) e, mid .0)))
-            (λ (e : placeIn ks k ≡ j → ⊥). absurd (omega (arith, mid .0, pairs-at 0 (n .ascend) (placeIn ks k) j (let q : placeIn ks k < j = apart (placeIn ks k) j g e in q) (mid .1))))
-            (eq-or-ne (placeIn ks k) j))
-            (λ (g : j < placeIn ks k). omega arith)
-            (le-or-lt (placeIn ks k) j) in
-            (above, b .place at ks n z .1);
+            let low : getD ks j 0 < getD ks (placeIn ks k) 0 = omega (arith, mid .0, placeIn-found ks k z) in
+            (omega (arith, ascend-back (n .ascend) j (placeIn ks k) (mid .1) low), b .place at ks n z .1);
       }
-    where
-      apart : (x y : ℕ) → x ≤ y → (x ≡ y → ⊥) → x < y
-      apart x y h ne = omega arith
 
   pub rank-down : k ≤ r → Between out listed k lo (lo + (hi - lo) / 2)
   rank-down h =
       record {
         place = λ at ks n z.
-            let found : getD ks (placeIn ks k) 0 ≡ k = placeIn-found ks k z in
             let mid = at-mid at ks n in
             let below : placeIn ks k ≤ lo + (hi - lo) / 2 =
             ⊎-elim (λ (g : placeIn ks k ≤ j). g)
-            (λ (g : j < placeIn ks k). absurd (omega (arith, mid .0, pairs-at 0 (n .ascend) j (placeIn ks k) g (placeIn-inside ks k z))))
+            (λ (g : j < placeIn ks k). absurd (omega (arith, mid .0, placeIn-found ks k z, pairs-at 0 (n .ascend) j (placeIn ks k) g (placeIn-inside ks k z))))
             (le-or-lt (placeIn ks k) j) in
             (b .place at ks n z .0, below);
       }

@@ -22,11 +22,11 @@ abbrev pub writtenOf : Written → Answer ℕ
 writtenOf (Bytes n) = accepted n
 writtenOf (Refused n) = refused n
 
--- the file of a closed index with blocks, whatever pieces are lent with it, in a slice: `living` blocks, and the nodes from place `nodes-at` on
-pub record FileWritten (blocks store nodes entries : List ℕ) (many nodes-at : ℕ) (out out′ : List ℕ) : Type 0 where
+-- the file of a closed index with blocks, whatever pieces are lent with it: `many` blocks are written, and the nodes from `place` on
+pub record FileWritten (blocks store nodes entries : List ℕ) (many place : ℕ) (out out′ : List ℕ) : Type 0 where
   pub file : (pieces : List ℕ) (l : Ledger) → Encodes (tables pieces blocks store nodes entries) l → Sound l → finished l ≡ true
-      → 0 < blockCount blocks → many ≡ length (living blocks (blockCount blocks)) → nodes-at ≡ nodesAt blocks (blockCount blocks)
-      → nodes-at ≤ length out → out′ ≡ sets out 0 (fileBy l)
+      → 0 < blockCount blocks → many ≡ length (living blocks (blockCount blocks)) → place ≡ nodesAt blocks (blockCount blocks)
+      → place ≤ length out → out′ ≡ sets out 0 (fileBy l)
 
 -- `write_closed`: the ledger's answer, and the file in the slice; the rest of it is as it was
 pub record WrittenClosed (blocks store nodes entries out out′ : List ℕ) (answer : Answer ℕ) : Type 0 where

@@ -1,16 +1,15 @@
-// Writing the file of a closed index (`write` of spacetime_index.rs), without the test of its tables: for callers that have tested them.
+// Writing the file of a closed index (`serialize_to` of spacetime_index.rs), without the test of its tables: for callers that have tested them.
 //
 // The file is measured first, so that a refusal has written nothing. Blocks of no life have no entry and are not written; the others are numbered
-// anew. While the nodes are written, the old numbers of the blocks stand where the blocks will be, ascending, and a block's new number is its place
+// anew. While the nodes are written, the numbers of these blocks stand where the blocks will be, ascending, and a block's new number is its place
 // among them, found by binary search. Nothing past the file is touched, and no memory but the lent slice is used.
 //
-//   specs/Answers    proofs/Answering            what the answer means; 16 and the file
-//   put              specs/Putting    proofs/Putting      bytes put one part after the other
-//   plan             specs/Sizes      proofs/Planning     how long the file is
-//   blocks           specs/Living, Parts  proofs/Laying   the blocks that have a life
-//   numbers          specs/Numbering  proofs/Listing, Ranking   new numbers
-//   nodes            specs/Parts      proofs/Treeing      the tree, root first
-//                    proofs/Stores, Agreeing              stores over stores; the tables and the ledger's file
+//   lib        specs/Answers         proofs/Agreeing, Answering   the file in parts, as the ledger has it; 16
+//   plan       specs/Sizes           proofs/Planning              how long the file is
+//   put        specs/Putting         proofs/Putting, Stores       bytes put one part after the other, or over another
+//   blocks     specs/Living, Parts   proofs/Laying                the blocks that have a life
+//   numbers    specs/Numbering       proofs/Listing, Ranking      their new numbers
+//   nodes      specs/Parts           proofs/Treeing               the tree, root first
 ghost use Rattle.file_write.specs.Answers.{writtenOf, FileWritten, WrittenClosed};
 
 mod blocks;
@@ -31,8 +30,8 @@ pub enum Written {
 // The result exceeds the lent slice.
 const TOO_LONG: u64 = 16;
 
-// Writes the file of an index with blocks: the list of those written, if it is needed, then the nodes by it from `place`
-// on, then the blocks over it.
+// Writes the file of an index with blocks, `living` of which have a life: the list of these, if it is needed, then by it the nodes, from `place` on,
+// then the blocks over it.
 fn write_file(
     blocks: &[u64],
     store: &[u8],

@@ -43,7 +43,7 @@ fn put_entries(
     next
 }
 
-// A node without its halves.
+// A node without its halves (`begin_rtree_serialization`, and its block numbers).
 fn put_node(
     nodes: &[u64],
     entries: &[u64],

@@ -1,6 +1,5 @@
 // The new numbers of blocks. Where some block has no life, the numbers of the others stand in the slice, ascending, from the place on where the
 // blocks will be: 8 bytes for each, less than the block takes. Where all have one, numbers stay.
-ghost use mathlib.Core.Path.{_≡_};
 ghost use mathlib.Core.List.{flatMap};
 ghost use Rattle.history.specs.File.{bytesOf};
 ghost use Rattle.file_write.specs.Putting.{Put};
@@ -42,9 +41,6 @@ fn listed_at(out: &[u8], place: usize) -> u64
     ensures { λ r. ⌜ Numbered (now (out .entry)) place r ⌝ }
 {
     if out.len() / WIDTH <= place {
-        return 0;
-    }
-    if out.len() - WIDTH * place < BLOCKS_AT {
         return 0;
     }
     match fields::number_at(out, BLOCKS_AT + WIDTH * place) {

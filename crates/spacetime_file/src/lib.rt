@@ -1,4 +1,5 @@
-// The file of a closed index: writing it, loading it, and what is proved of the two together.
+// The file of a closed index: writing it, loading it, and what is proved of the two together. Ports `serialize_to` and `deserialize` of
+// spacetime_index.rs.
 //
 //   lib   proofs/Answering                2 and 4; the rest stands in file_write and file_load
 //         specs/Law                       the theorems, each the contract of a function without work
@@ -51,7 +52,7 @@ pub fn deserialize(
     file_load::load(pieces, blocks, store, nodes, entries, file, at)
 }
 
-// An index that was written and loaded answers every find, block and read of cells alike.
+// An index that was written and loaded answers every find, block and read of cells alike, and shows the history.
 pub fn saved_and_loaded()
     ensures { λ _. ⌜ SavedAndLoaded ⌝ }
 {}

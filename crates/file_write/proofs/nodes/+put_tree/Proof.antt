@@ -1,6 +1,5 @@
 -- `file_write::nodes::put_tree` meets its contract: each return is a step of `noding`; the width falls at each call. Assumes nothing.
 use Prim.Native.Nat.{ℕ, _-_, _<_}
-use native.Mathlib.Omega.{arith}
 use borrow.Author.Needs.{needs}
 use borrow.Fn.Kinds.{In}
 use borrow.Fn.PlainCycle.{Measures, is, falls, and}

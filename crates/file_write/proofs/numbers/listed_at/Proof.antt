@@ -6,5 +6,5 @@ use Rattle.file_write.proofs.numbers.listed_at.Tie as tie
 
 pub listed-at-spec : {M : Type 1} → statement M
 listed-at-spec =
-    tie.close (tie.spec (λ c. search needs) (λ c. search needs) (λ c. search needs) (λ c. search needs) (λ c. search needs) (λ c. search needs) (λ c κs. search needs)
-    (λ c. search needs) (λ c. search needs) (λ c. search reading) (λ c. search reading))
+    tie.close (tie.spec (λ c. search needs) (λ c. search needs) (λ c. search needs) (λ c κs. search needs) (λ c. search needs) (λ c. search needs) (λ c. search reading)
+    (λ c. search reading))
