@@ -17,7 +17,7 @@ use Rattle.history.specs.Tree.{Tree, nodeCount, entriesIn}
 use Rattle.history.specs.Ledger.{Ledger}
 use Rattle.history.specs.Reads.{treeIn, blockBy}
 use Rattle.history.specs.Refusals.{Answer, accepted, refused}
-use Rattle.history.specs.File.{Read, got, fault, onward, readFile, File, Loaded, load, bytesOf, nodeBytes, nodesOf, fileBytes, fileOf, fileBy, contents, thoseWith, written, mapTree, placeIn, rule20, rule22}
+use Rattle.history.specs.File.{Read, got, fault, onward, readFile, File, Loaded, load, bytesOf, nodeBytes, nodesOf, fileBytes, fileOf, fileBy, contents, thoseWith, written, mapTree, placeIn, rule20, rule22, _>>=_}
 use Rattle.history.proofs.RulesLaws.{numbered-decides, rule23-decides}
 use Rattle.history.proofs.TreeCounts.{entry-count-in}
 use Rattle.history.proofs.FileReads.{number-cut}
