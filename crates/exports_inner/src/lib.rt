@@ -1,6 +1,10 @@
-// For the benchmark: the test behind refusal 2, and record, finish, block by number, find and write
-// without it. Beside the calls of `exports` they show what the test takes.
-// The functions called have their contracts; here it is proved that every call is safe and ends, on any slices.
+// For the benchmark: the test behind refusal 2, and record, finish, block by number, find and write without it. Beside the calls of `exports` they show
+// what the test takes. Each is the inner call behind a public one, at a number that stands for its answer (specs/Inner).
+ghost use Rattle.tables.specs.Columns.{blockColumn, headEnd, headKind};
+ghost use Rattle.layout.specs.Tables.{tables};
+ghost use Rattle.index_record.specs.Calls.{operation, RecordedOpen};
+ghost use Rattle.segment_find.specs.Listing.{Finds};
+ghost use Rattle.exports_inner.specs.Inner.{Told, Numbered, FinishedAs, WrittenAs, PartGiven, recordNumber, findNumber};
 use file_write::Written;
 use index::Finished;
 use index_record::Recorded;
@@ -16,7 +20,9 @@ pub extern "C" fn inner_test(
     store: &[u8],
     nodes: &[u64],
     entries: &[u64],
-) -> u64 {
+) -> u64
+    ensures { λ r. ⌜ Told (tables (now (pieces .entry)) (now (blocks .entry)) (now (store .entry)) (now (nodes .entry)) (now (entries .entry))) r ⌝ }
+{
     let state = index_test::test(pieces, blocks, store, nodes, entries);
     match state {
         State::Bad => 0,
@@ -35,7 +41,10 @@ pub extern "C" fn inner_record(
     tick: u64,
     first: u64,
     bytes: &[u8],
-) -> u64 {
+) -> u64
+    ensures { λ r. ⌜ Numbered (RecordedOpen (now (pieces .entry)) (now (blocks .entry)) (now (store .entry)) (now (pieces .exit)) (now (blocks .exit)) (now (store .exit))
+        scratch (operation tick first (now (bytes .entry)))) recordNumber r ⌝ }
+{
     let recorded = index_record::record_open(pieces, blocks, store, scratch, tick, first, bytes);
     match recorded {
         Recorded::Accepted => 0,
@@ -50,7 +59,10 @@ pub extern "C" fn inner_finish(
     blocks: &mut [u64],
     nodes: &mut [u64],
     entries: &mut [u64],
-) -> u64 {
+) -> u64
+    ensures { λ r. ⌜ FinishedAs (now (pieces .entry)) (now (blocks .entry)) (now (nodes .entry)) (now (entries .entry))
+        (now (pieces .exit)) (now (blocks .exit)) (now (nodes .exit)) (now (entries .exit)) r ⌝ }
+{
     let finished = index::finish_open(pieces, blocks, nodes, entries);
     match finished {
         Finished::Finished => 0,
@@ -60,7 +72,9 @@ pub extern "C" fn inner_finish(
 
 // Where the bytes of a block of a closed index stand, for a number below its count.
 #[no_mangle]
-pub extern "C" fn inner_block(blocks: &[u64], number: u64, length: &mut u64, offset: &mut u64) {
+pub extern "C" fn inner_block(blocks: &[u64], number: u64, length: &mut u64, offset: &mut u64)
+    ensures { λ _. ⌜ PartGiven (now (blocks .entry)) number (now (length .entry)) (now (offset .entry)) (now (length .exit)) (now (offset .exit)) ⌝ }
+{
     if number < block::get(blocks, 0, block::COUNT) {
         *length = block::get(blocks, number + 1, block::LENGTH);
         *offset = block::get(blocks, number + 1, block::OFFSET);
@@ -77,7 +91,10 @@ pub extern "C" fn inner_find(
     start: u64,
     end: u64,
     answer: &mut [u64],
-) -> u64 {
+) -> u64
+    ensures { λ r. ⌜ Numbered (Finds (now (nodes .entry)) (now (entries .entry)) (blockColumn (now (blocks .entry)) 0 headKind) (blockColumn (now (blocks .entry)) 0 headEnd)
+        tick start end (now (answer .entry)) (now (answer .exit))) findNumber r ⌝ }
+{
     let kind = block::get(blocks, 0, block::KIND);
     let last = block::get(blocks, 0, block::END);
     let found = segment_find::find(nodes, entries, kind, last, tick, start, end, answer);
@@ -95,7 +112,9 @@ pub extern "C" fn inner_write(
     nodes: &[u64],
     entries: &[u64],
     out: &mut [u8],
-) -> u64 {
+) -> u64
+    ensures { λ r. ⌜ WrittenAs (now (blocks .entry)) (now (store .entry)) (now (nodes .entry)) (now (entries .entry)) (now (out .entry)) (now (out .exit)) r ⌝ }
+{
     let written = file_write::write_closed(blocks, store, nodes, entries, out);
     match written {
         Written::Bytes(count) => count,
