@@ -15,14 +15,14 @@ pub mod birth;
 
 use tables::block;
 
-// Steps along the order for each block, and some more.
-const STEPS: u64 = 8;
+// Steps along the order for each block, and some more: about as much time as the tree takes for a block.
+const STEPS: u64 = 256;
 
 const SOME_STEPS: u64 = 64;
 
-// The steps along the order for n blocks; a table that fits the memory has fewer than 2^60 rows.
+// The steps along the order for n blocks; no memory holds a table of 2^55 rows.
 fn steps_for(n: u64) -> u64 {
-    if n < 1 << 60 {
+    if n < 1 << 55 {
         return STEPS * n + SOME_STEPS;
     }
     n

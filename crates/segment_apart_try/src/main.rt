@@ -60,13 +60,15 @@ fn build_tree(
     close::close_tree(nodes, entries, blocks, board::BLOCKS, end, KIND);
 }
 
-// Compares the two tests of rule 24 with the scan.
+// Compares the test of the tree, rule 24 and rule 24 by the tree alone with the scan.
 fn try_apart(tally: &mut [u64], blocks: &[u64], nodes: &[u64], entries: &[u64], end: u64) {
     let plain = scan::plainly_apart(blocks);
     let tree = segment_test::test_tree(blocks, nodes, entries, KIND, end, board::BLOCKS);
     compare(tally, tree);
     let apart = segment_apart::apart(blocks, nodes, entries, KIND, end, board::BLOCKS);
+    let by_tree = segment_apart::birth::all_clear(blocks, nodes, entries, KIND, end, board::BLOCKS);
     compare(tally, apart == plain);
+    compare(tally, by_tree == plain);
     count_if(tally, APART, apart);
 }
 
