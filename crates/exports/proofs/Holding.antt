@@ -4,6 +4,7 @@ use mathlib.Core.Bool.{Bool, true, false, cond}
 use Prim.Native.Nat.{ℕ, _+_, _*_, _^_, _<_}
 use native.Mathlib.Omega.{arith}
 use lib.Dec.{ltb}
+use Rattle.history.specs.Lent.{rowWidth, entryWidth, pieceHead, blockHead, nodeHead, entryHead}
 use Rattle.exports.specs.Lengths.{whole, lengthFor, LengthsHold}
 
 -- a length that is not 0 was not cut
@@ -19,10 +20,10 @@ pub rows-held : LengthsHold
 unfolding lengthFor
 rows-held rows n scratch =
     record {
-      pieces = λ e h. let long = uncut (n .pieces) (8 + 8 * rows) e h in omega arith;
-      blocks = λ e h. let long = uncut (n .blocks) (8 + 8 * rows) e h in omega arith;
+      pieces = λ e h. let long = uncut (n .pieces) (pieceHead + rowWidth * rows) e h in omega arith;
+      blocks = λ e h. let long = uncut (n .blocks) (blockHead + rowWidth * rows) e h in omega arith;
       store = λ e h. let long = uncut (n .store) (0 + 1 * rows) e h in omega arith;
-      nodes = λ e h. let long = uncut (n .nodes) (8 + 8 * rows) e h in omega arith;
-      entries = λ e h. let long = uncut (n .entries) (8 + 2 * rows) e h in omega arith;
-      scratch-rows = λ e h. let long = uncut scratch (0 + 8 * rows) e h in omega arith;
+      nodes = λ e h. let long = uncut (n .nodes) (nodeHead + rowWidth * rows) e h in omega arith;
+      entries = λ e h. let long = uncut (n .entries) (entryHead + entryWidth * rows) e h in omega arith;
+      scratch-rows = λ e h. let long = uncut scratch (0 + rowWidth * rows) e h in omega arith;
     }
