@@ -7,9 +7,10 @@ use lib.ListN.{length, set, replicate}
 use borrow.Author.Tests.{eq-eqb, ne-eqb, lt-ltb, le-ltb}
 use Rattle.history.specs.Refusals.{accepted, refused, firstOf, maxEndTick, openRefusals}
 use Rattle.tables.specs.Columns.{headState, headEnd, headKind}
+use Rattle.block_table.specs.Blocks.{headPlace}
 use Rattle.layout.specs.Tables.{Tables, tables}
 use Rattle.layout.specs.Encodes.{openState}
-use Rattle.layout.specs.Relations.{openingOf, openedTables, headPlace, leftBy, OpenedBy}
+use Rattle.layout.specs.Relations.{openingOf, openedTables, leftBy, OpenedBy}
 use Rattle.layout.proofs.Opening.{open-accepted}
 
 module _ (end kind : ℕ) (t : Tables) where
