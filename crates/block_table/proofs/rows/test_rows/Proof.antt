@@ -3,10 +3,10 @@ use Prim.Native.Nat.{_≤_}
 use native.Mathlib.Omega.{arith}
 use borrow.Author.Needs.{needs}
 use borrow.Author.Tests.{not-true, not-false}
-use Rattle.index_test.specs.Rows.{RowsSound}
-use Rattle.index_test.proofs.RowsTested.{rows-none, rows-more, rows-fail, rows-all}
-use Rattle.index_test.proofs.rows.test_rows.Statement.{statement}
-use Rattle.index_test.proofs.rows.test_rows.Tie as tie
+use Rattle.block_table.specs.Rows.{RowsSound}
+use Rattle.block_table.proofs.RowsTested.{rows-none, rows-more, rows-fail, rows-all}
+use Rattle.block_table.proofs.rows.test_rows.Statement.{statement}
+use Rattle.block_table.proofs.rows.test_rows.Tie as tie
 
 abbrev Inv-loop : tie.InvT-loop
 Inv-loop blocks n kind end used link₀ link = (link ≤ n) × RowsSound blocks (record { kind = kind; end = end; used = used }) link n

@@ -2,8 +2,8 @@
 use native.Mathlib.Omega.{arith}
 use borrow.Author.Needs.{needs}
 use Rattle.lists.proofs.Numbers.{confirm, refute}
-use Rattle.index_test.proofs.rows.test_row.Statement.{statement}
-use Rattle.index_test.proofs.rows.test_row.Tie as tie
+use Rattle.block_table.proofs.rows.test_row.Statement.{statement}
+use Rattle.block_table.proofs.rows.test_row.Tie as tie
 
 pub test-row-spec : {M : Type 1} → statement M
 test-row-spec =

@@ -12,9 +12,8 @@ use Rattle.lists.proofs.Maps.{map-append, length-of-map, getD-of-map, map-all}
 use Rattle.history.specs.Words.{Block, firstCell}
 use Rattle.history.specs.Tree.{noBlock, keyIn}
 use Rattle.tables.specs.Columns.{blockColumn, blockFirst, blockLength, blockCreated, blockDestroyed, blockOffset, blockOwner, blockNext}
-use Rattle.ordering.specs.Order.{firstCellAt, OnlyOrder}
-use Rattle.ordering.specs.Blocks.{lengthAt, offsetAt, bytesAt, blockOfRow, blocksOf, SameRows, Stored}
-use Rattle.ordering.proofs.Keeping.{kept-column, order-column}
+use Rattle.block_table.specs.Blocks.{firstCellAt, lengthAt, offsetAt, bytesAt, blockOfRow, blocksOf, SameRows, Stored}
+use Rattle.block_table.proofs.Keeping.{kept-column}
 
 -- ── how many, and which ──
 
@@ -64,10 +63,6 @@ blocks-same store t t′ n f =
 -- the head and what stands behind the rows are nothing to them
 pub blocks-kept : (store : List ℕ) {t t′ : List ℕ} {n : ℕ} → SameRows t t′ n → blocksOf store t′ n ≡ blocksOf store t n
 blocks-kept store {t} {t′} {n} s = blocks-same store t t′ n (λ link c a b h. kept-column s link c a b (omega arith))
-
--- nor is the order
-pub blocks-order : (store : List ℕ) {t t′ : List ℕ} {m : ℕ} (n : ℕ) → OnlyOrder t t′ m → blocksOf store t′ n ≡ blocksOf store t n
-blocks-order store {t} {t′} n o = blocks-same store t t′ n (λ link c a b h. order-column o link c (omega arith) (λ e. omega arith))
 
 -- rows written behind n rows that stay
 pub blocks-append : (store : List ℕ) {t t′ : List ℕ} {n : ℕ} (m : ℕ) → SameRows t t′ n

@@ -7,7 +7,7 @@ use Prim.Native.Nat.{ℕ, _-_, _≤_, _<_}
 use native.Mathlib.Omega.{arith}
 use Rattle.lists.specs.Tests.{Decides}
 use Rattle.lists.proofs.Numbers.{confirm, refute, eq-or-ne}
-use Rattle.index_test.specs.Rows.{Bounds, RowSound, RowsSound}
+use Rattle.block_table.specs.Rows.{Bounds, RowSound, RowsSound}
 
 -- ── rows from the last one down ──
 

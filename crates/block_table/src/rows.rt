@@ -1,6 +1,6 @@
 // The rows of the block table, one by one.
 ghost use Rattle.lists.specs.Tests.{Decides};
-ghost use Rattle.index_test.specs.Rows.{RowSound, RowsSound};
+ghost use Rattle.block_table.specs.Rows.{RowSound, RowsSound};
 use tables::block;
 
 // The largest number of 64 bits.

@@ -2,8 +2,7 @@
 use mathlib.Core.Path.{_≡_}
 use mathlib.Core.List.{List}
 use Prim.Native.Nat.{ℕ, _+_, _-_, _^_, _≤_, _<_}
-use Rattle.ordering.specs.Order.{firstCellAt}
-use Rattle.ordering.specs.Blocks.{lengthAt, createdAt, destroyedAt, offsetAt, ownerAt}
+use Rattle.block_table.specs.Blocks.{firstCellAt, lengthAt, createdAt, destroyedAt, offsetAt, ownerAt}
 
 -- what is the same for all rows of an index: its kind, end tick and store use
 pub record Bounds : Type 0 where
