@@ -14,19 +14,11 @@ use Rattle.history.proofs.EveryList.{the-law, law-after}
 use Rattle.layout.specs.Tables.{Tables, lengthsOf}
 use Rattle.layout.specs.Formed.{Blank}
 use Rattle.layout.specs.Relations.{openingOf, openedTables, RecordedTables, RecordLeaves}
+use Rattle.layout.proofs.Recording.{record-blank, record-open}
 use Rattle.layout.proofs.Opening.{opened-encodes, opened-blank}
 use Rattle.board_run.specs.Runs.{Standing}
 
 -- ── record ──
-
--- a record leaves the node and entry tables as they were
-record-blank : (r : Bool) (l : Ledger) (o : Operation) (t t′ : Tables) → RecordedTables r l o t t′ → Blank t → Blank t′
-record-blank true l o t t′ e b = rw e (record { nodes = b .nodes; entries = b .entries })
-record-blank false l o t t′ u b = record { nodes = rw (u .nodes) (b .nodes); entries = rw (u .entries) (b .entries) }
-
-same-tree : (l : Ledger) (o : Operation) → finished (recordBy l o) ≡ finished l
-unfolding recordBy
-same-tree l o = refl
 
 pub record-stands : (o : Operation) (t t′ : Tables) (l : Ledger) → Standing t l → RecordLeaves (recordAnswer l boardScratch o) l o t t′
     → Standing t′ (after l (recordCall boardScratch o))
@@ -39,7 +31,7 @@ record-stands o t t′ l s x = go (recordAnswer l boardScratch o) (law-after l (
       encodes = x .0;
       calls = o ∷ s .calls;
       law = law;
-      unfinished = same-tree l o ∙ s .unfinished;
+      unfinished = record-open l o ∙ s .unfinished;
       blank = record-blank (isRead (l .now) o) l o t t′ (x .1) (s .blank);
     }
     go (refused n) law x = rw x s

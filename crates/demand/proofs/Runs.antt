@@ -23,6 +23,7 @@ use Rattle.layout.specs.Tables.{Tables, lengthsOf}
 use Rattle.layout.specs.Encodes.{Encodes}
 use Rattle.layout.specs.Formed.{WellFormed, WellFormedForFinish, Blank}
 use Rattle.layout.specs.Relations.{openingOf, openedTables, leftBy, OpenedBy, RecordedTables, RecordLeaves, RecordedBy, FinishLeaves, FinishedBy, countsOf, answerLeft, Fields, blockIn, blockOfFields}
+use Rattle.layout.proofs.Recording.{record-blank, record-open}
 use Rattle.layout.proofs.Opening.{open-accepted, opened-encodes, opened-lengths, opened-blank}
 use Rattle.demand.specs.Theorem.{CallDone, Run, run-nil, run-cons, Finished, Demand3}
 
@@ -66,15 +67,6 @@ record Standing (t : Tables) (l : Ledger) (h : List Operation) : Type 0 where
   law : LedgerLaw l h
   blank : finished l ≡ false → Blank t
 
--- a record leaves the node and entry tables of an open index as they were
-record-blank : (r : Bool) (l : Ledger) (o : Operation) (t t′ : Tables) → RecordedTables r l o t t′ → Blank t → Blank t′
-record-blank true l o t t′ e b = rw e (record { nodes = b .nodes; entries = b .entries })
-record-blank false l o t t′ u b = record { nodes = rw (u .nodes) (b .nodes); entries = rw (u .entries) (b .entries) }
-
-same-tree : (l : Ledger) (o : Operation) → finished (recordBy l o) ≡ finished l
-unfolding recordBy
-same-tree l o = refl
-
 finish-done : (l : Ledger) → finished (finishBy l) ≡ true
 unfolding finishBy
 finish-done l = refl
@@ -91,7 +83,7 @@ step-record scratch o t t′ l h a s d =
     go (accepted b) law x = record {
       encodes = x .0;
       law = law;
-      blank = λ still. record-blank (isRead (l .now) o) l o t t′ (x .1) (s .blank (sym (same-tree l o) ∙ still));
+      blank = λ still. record-blank (isRead (l .now) o) l o t t′ (x .1) (s .blank (sym (record-open l o) ∙ still));
     }
     go (refused n) law x = rw x (record { encodes = s .encodes; law = law; blank = s .blank })
 

@@ -18,7 +18,8 @@ use Rattle.file_scan.specs.Rows.{rowHead, blockRow}
 use Rattle.file_scan.proofs.Readers.{onward-got}
 use Rattle.file_scan.proofs.RowReads.{block-passes}
 use Rattle.file_scan.proofs.RowBytes.{block-bytes}
-use Rattle.file_fill.specs.Fill.{blockNumbers, blocksNumbers, bytesOfAll, FilledBlocks}
+use Rattle.layout.specs.Rows.{blockNumbers, blocksNumbers}
+use Rattle.file_fill.specs.Fill.{bytesOfAll, FilledBlocks}
 
 -- ── what a row says of the reading ──
 

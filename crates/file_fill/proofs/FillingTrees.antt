@@ -24,7 +24,8 @@ use Rattle.file_fill.specs.declared.nodes.Half.{Half}
 use Rattle.file_fill.specs.declared.nodes.Half.the-variants as half
 use Rattle.file_fill.specs.declared.nodes.Filled.{Filled}
 use Rattle.file_fill.specs.declared.nodes.Filled.the-variants as filled
-use Rattle.file_fill.specs.Fill.{isPlace, rightStart, fits, halfOf, firstCellOf, entryNumbers, entryPlace, FilledEntries, rootLink, nodeNumbers, TreeLeft, FilledTree}
+use Rattle.layout.specs.Rows.{entryNumbers, rootLink, nodeNumbers}
+use Rattle.file_fill.specs.Fill.{isPlace, rightStart, fits, halfOf, firstCellOf, entryPlace, FilledEntries, TreeLeft, FilledTree}
 use Rattle.file_fill.proofs.Storing.{sets-before}
 use Rattle.file_fill.proofs.Places.{place-some, half-is-absent, half-is-wrong, half-is-there, There}
 

@@ -18,7 +18,8 @@ use Rattle.file_scan.specs.declared.rows.NodeRow.{NodeRow}
 use Rattle.file_scan.specs.declared.rows.NodeRow.the-variants as node
 use Rattle.file_scan.specs.Rows.{rowHead, Head, headAbsent, headPresent, nodeRow}
 use Rattle.file_fill.specs.declared.nodes.Half.the-variants as half
-use Rattle.file_fill.specs.Fill.{isPlace, rightStart, halfOf, rootEnd, rootIn, firstCellOf}
+use Rattle.layout.specs.Rows.{rootIn}
+use Rattle.file_fill.specs.Fill.{isPlace, rightStart, halfOf, rootEnd, firstCellOf}
 
 -- ── the returns of `is_place` ──
 

@@ -1,12 +1,14 @@
--- Rows written: one step for each return of the functions that write a row, and numbers written in front of others. Assumes nothing.
-use mathlib.Core.Path.{_≡_, refl, _∙_, ap}
+-- Rows written: one step for each return of the functions that write a row, and numbers written in front of others; zeros from the start on. Assumes nothing.
+use mathlib.Core.Path.{_≡_, refl, sym, _∙_, ap}
 use mathlib.Core.List.{List, [], _∷_, _++_}
-use Prim.Native.Nat.{ℕ, suc, _+_, _*_, _<_}
+use Prim.Native.Nat.{ℕ, suc, _+_, _-_, _*_, _≤_, _<_}
 use native.Mathlib.Omega.{arith}
-use lib.ListN.{length, set}
+use lib.ListN.{length, set, replicate, length-replicate, replicate-append-replicate}
 use lib.Seq.{sets, set-comm}
+use Rattle.lists.proofs.Stores.{sets-append}
 use Rattle.history.specs.Lent.{rowWidth, entryWidth, entryHead}
-use Rattle.file_fill.specs.Fill.{rootIn, nodeHeadNumbers}
+use Rattle.tables.proofs.Past.{sets-front}
+use Rattle.layout.specs.Rows.{rootIn, nodeHeadNumbers}
 
 -- ── a row ──
 
@@ -54,3 +56,21 @@ sets-before l i (x ∷ xs) ys =
     let z : i + suc (length xs) ≡ suc i + length xs = omega arith in
     ap (λ (m : List ℕ). sets m (suc i) xs) (set-before l i x (i + suc (length xs)) ys (omega arith))
     ∙ rw z (sets-before (set l i x) (suc i) xs ys)
+
+-- ── zeros ──
+
+-- one zero more
+pub zeros-more : (l : List ℕ) (i : ℕ) → set (sets l 0 (replicate i 0)) i 0 ≡ sets l 0 (replicate (i + 1) 0)
+zeros-more l i =
+    let z : 0 + i ≡ i = omega arith in
+    sym (rw (← replicate-append-replicate {A = ℕ} i 1 0, sets-append l 0 (replicate i 0) (0 ∷ []), length-replicate {A = ℕ} i 0, z))
+
+-- zeros up to the end of the table are all that are written
+pub zeros-cut : (l : List ℕ) (n i : ℕ) → i ≤ n → length l ≤ i → sets l 0 (replicate i 0) ≡ sets l 0 (replicate n 0)
+zeros-cut l n i h k =
+    let e : i + (n - i) ≡ n = omega arith in
+    sym (sets-front l (replicate i 0) (replicate (n - i) 0) 0 (omega (arith, length-replicate {A = ℕ} i 0))) ∙ rw (replicate-append-replicate {A = ℕ} i (n - i) 0, e)
+
+-- n of them are all
+pub zeros-upto : (l : List ℕ) (n i : ℕ) → i ≤ n → n ≤ i → sets l 0 (replicate i 0) ≡ sets l 0 (replicate n 0)
+zeros-upto l n i h k = let e : i ≡ n = omega arith in rw e

@@ -12,7 +12,8 @@ use Rattle.history.specs.Words.{Block, size}
 use Rattle.tables.specs.Columns.{blockColumn, blockBase, blockFirst, blockLength, blockCreated, blockDestroyed, blockOffset, blockOwner}
 use Rattle.block_table.specs.Blocks.{lengthAt, offsetAt, blockOfRow, blocksOf, Stored}
 use Rattle.file_scan.specs.Counts.{bytesIn}
-use Rattle.file_fill.specs.Fill.{blockNumbers, blocksNumbers, bytesOfAll}
+use Rattle.layout.specs.Rows.{blockNumbers, blocksNumbers}
+use Rattle.file_fill.specs.Fill.{bytesOfAll}
 use Rattle.file_load.proofs.Holding.{HoldsAt, holds-left, holds-right, holds-moved, holds-part}
 
 -- ── sizes ──

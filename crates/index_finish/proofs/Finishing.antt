@@ -160,7 +160,7 @@ module _ {pieces blocks nodes entries b nodes′ entries′ : List ℕ} {n r : �
       unformed = λ never. sym z ∙ untold s never;
       entries-same = told s .entries-same;
       refused-same = λ nz. absurd (nz refl);
-      accepted-counted = λ _. record { stands = s; ordered = ordered s; tallied = told s .accepted-counted z; nodes-long = long };
+      accepted-counted = λ _. record { stands = s; ordered = ordered s; tallied = told s .accepted-counted z; nodes-long = long; entry-zeros = still-blank s .entries };
     };
   }
 

@@ -8,7 +8,7 @@ use lib.ListN.{length, getD, set, take, replicate, length-set, length-replicate}
 use lib.Seq.{getD-set-same, getD-set-other}
 use Rattle.lists.specs.Lists.{All, all-nil, all-cons, Pairs, pairs-nil, pairs-cons, Ascending, count}
 use Rattle.lists.proofs.Lists.{all-map, all-both, all-at, all-of-map}
-use Rattle.lists.proofs.Maps.{length-of-map}
+use Rattle.lists.proofs.Maps.{length-of-map, getD-of-map}
 use Rattle.lists.proofs.Numbers.{le-or-lt}
 use Rattle.history.specs.Lent.{rowWidth, blockHead, nodeHead, entryHead}
 use Rattle.history.specs.Words.{Block, size}
@@ -16,13 +16,14 @@ use Rattle.history.specs.Tree.{treeOf, entryCount}
 use Rattle.history.specs.Rules.{Apart}
 use Rattle.history.specs.Ledger.{Ledger, finishBy}
 use Rattle.history.proofs.Steps.{settled-sound}
-use Rattle.tables.specs.Columns.{blockColumn, blockBase, blockLength, blockOffset, blockNext, headState, headEnd, headKind, headCount, headUsed, headLast}
+use Rattle.tables.specs.Columns.{blockColumn, blockBase, blockLength, blockOffset, blockNext, blockSpare, headState, headEnd, headKind, headCount, headUsed, headLast}
 use Rattle.block_table.specs.Blocks.{Room, lengthAt, offsetAt, blocksOf, SameRows, Stored, blockCount}
 use Rattle.block_table.proofs.Keeping.{rows-set, rows-then, kept-column}
 use Rattle.block_table.proofs.Blocks.{blocks-length, blocks-kept}
 use Rattle.block_table.specs.Appended.{blockRow}
 use Rattle.block_table.proofs.Appending.{appended-kept, appended-length, appended-other}
 use Rattle.segment_table.specs.Closed as closed
+use Rattle.segment_table.specs.Alone.{TreeAlone}
 use Rattle.ordering.specs.Order as order
 use Rattle.ordering.specs.Order.{nextAt, rankOf, Trail, InOrder, numbersOf, Ordered, SortedMore}
 use Rattle.ordering.proofs.Rank.{rank-first}
@@ -37,9 +38,10 @@ use Rattle.recording.proofs.Recorded.{recorded-out, recorded-blocks, recorded-c
 use Rattle.segment_tree.specs.Lives.{Counted, entryRowsIn}
 use Rattle.segment_tree.specs.Fill.{Met, met-end, met-next, lentTables, Closable, ClosedTree}
 use Rattle.layout.specs.Tables.{Tables, tables, lengthsOf, headAt}
-use Rattle.layout.specs.Encodes.{Encodes, closedState}
-use Rattle.layout.specs.Relations.{AppendedInOrder}
+use Rattle.layout.specs.Encodes.{Links, Encodes, closedState}
+use Rattle.layout.specs.Relations.{AppendedInOrder, SameBytes}
 use Rattle.layout.proofs.Lengths.{lent-same}
+use Rattle.layout.proofs.Unique.{links-one}
 use Rattle.layout.proofs.Opening.{getD-zeros, no-links}
 use Rattle.index_finish.specs.Finish.{StandsOpen, allBlocks, wholeTree, Accepted, Finished, SettledTables}
 use Rattle.index_finish.proofs.Standing.{heads, room, pieceRows, are-pieces, rep}
@@ -229,14 +231,36 @@ module _ {pieces was store blank entries b nodes : List ℕ} {l : Ledger} (a : A
     all-filled : All (λ (x : Block). 0 < size (x .stretch)) (allBlocks l)
     all-filled = all-map (λ x h. h .stretch .some-cell) (settled-sound l (s .sound .board))
 
-    -- the old rows but for the order, and what lies past all rows
+    -- a column of a new row, but for the order
+    new-column : (i c : ℕ) → i < length rs → c < rowWidth → (c ≡ blockNext → ⊥) → blockColumn b′ (suc n + i) c ≡ getD (blockRow (blockRowOf e (getD rs i noPiece))) c 0
+    new-column i c h k f = order-column (o .only) (suc n + i) c k f ∙ grown-column e rs b fits i c h k
+
+    same-bytes : (links : List ℕ) → Links pieces links → SameBytes pieces links b′ (length (l .now .blocks))
+    same-bytes links is = record {
+      offset = λ i h.
+          let one : links ≡ s .encodes .links = links-one pieces links (s .encodes .links) is (s .encodes .linked) in
+          let k : i < length (s .encodes .links) = rw (← one) h in
+          rw (← count-is, one)
+          (new-column i blockOffset (rw (length-of-map (pieceAt pieces) (s .encodes .links)) k) (omega arith) (λ z. omega arith)
+          ∙ ap (λ (p : PieceRow). p .offset) (getD-of-map (pieceAt pieces) (s .encodes .links) i 0 noPiece k));
+    }
+
+    -- the head and the old rows but for what is set and the order, and what lies past all rows
     appended-in-order : AppendedInOrder was b′ (length (l .now .blocks)) (length (allBlocks l))
     appended-in-order = record {
       len = b′-long;
+      head = λ i h f₁ f₂ f₃.
+          o .only .same i (λ k p q. f₃ (omega arith))
+          ∙ getD-set-other (recorded e rs b) statePlace i closedState 0 (λ q. f₁ (omega arith))
+          ∙ recorded-out e rs b i (λ q. f₂ (omega arith)) (inl (omega arith))
+          ∙ a .ordered .only .same i (λ k p q. f₃ (omega arith));
       rows = λ k c p q h f.
           order-column (o .only) k c h f
           ∙ grown-other e rs b k c h (omega (arith, count-is)) (λ z. absurd (omega arith)) (λ z. absurd (omega arith))
           ∙ order-column (a .ordered .only) k c h f;
+      spare = λ link p q.
+          let at : link ≡ suc n + (link - suc n) = omega (arith, count-is) in
+          rw at (new-column (link - suc n) blockSpare (omega (arith, count-is, all-many)) (omega arith) (λ z. omega arith));
       rest = λ i h.
           let z : length (allBlocks l) ≡ n + length rs = all-many in
           o .only .same i (λ k p q. omega arith)
@@ -250,7 +274,7 @@ module _ {pieces was store blank entries b nodes : List ℕ} {l : Ledger} (a : A
         (omega (arith, a .nodes-long, heads s .nodes)) (heads s .entries) (a .tallied .space) (a .tallied .apart) all-filled
 
     module _ {nodes′ entries′ : List ℕ} (nodes-long : length nodes′ ≡ length nodes) (entries-long : length entries′ ≡ length entries)
-        (tree : closed.Closed (lentTables b′ nodes′ entries′) (l .opening .kind) e (wholeTree l)) where
+        (tree : closed.Closed (lentTables b′ nodes′ entries′) (l .opening .kind) e (wholeTree l)) (alone : TreeAlone nodes′ entries′ (wholeTree l)) where
       abbrev t′ : Tables
       t′ = tables (replicate (length pieces) 0) b′ store nodes′ entries′
 
@@ -281,7 +305,7 @@ module _ {pieces was store blank entries b nodes : List ℕ} {l : Ledger} (a : A
 
       finished-tables : Finished l t t′
       unfolding finishBy
-      finished-tables = record { encodes = finished-encodes; tables-are = record { pieces = refl; store = refl; blocks = appended-in-order } }
+      finished-tables = record { encodes = finished-encodes; tables-are = record { pieces = refl; store = refl; blocks = appended-in-order; bytes = same-bytes; tree = alone } }
 
 -- ── the return of `settle` ──
 
@@ -304,4 +328,7 @@ settle-done {pieces} {b} {nodes} {entries} {b₁} {b₂} {b₃} {nodes′} {entr
         let sorted : SortedMore (g a) b₃ (n a) (n a + length (rs a)) = rw (← b₂-is, ← all-is, ← er) sort in
         let o : Ordered (g a) b₃ (n a + length (rs a)) = sorted .done (g-order a) (omega arith) (g-room a) in
         let made : ClosedTree (lentTables b₃ nodes entries) (lentTables b₃ nodes′ entries′) (n a + length (rs a)) (l .opening .end) (l .opening .kind) = rw (← all-is, ← end-is, ← kind-is) close in
-        rw zeros (finished-tables a o nodes-long entries-long (made .done (allBlocks l) (numbersOf (o .order .links)) (tree-closable a o few)))
+        let c = tree-closable a o few in
+        rw zeros
+        (finished-tables a o nodes-long entries-long (made .done (allBlocks l) (numbersOf (o .order .links)) c)
+        (made .alone (allBlocks l) (numbersOf (o .order .links)) c (a .entry-zeros)))

@@ -4,7 +4,7 @@ use mathlib.Core.Path.{_≡_}
 use mathlib.Core.Bool.{Bool, false}
 use mathlib.Core.List.{List}
 use Prim.Native.Nat.{ℕ, zero, suc, _≤_, _<_, _^_}
-use lib.ListN.{length}
+use lib.ListN.{length, replicate}
 use Rattle.lists.specs.Tests.{Decides}
 use Rattle.history.specs.Words.{Block}
 use Rattle.history.specs.Tree.{Tree, entryCount, treeOf}
@@ -96,6 +96,7 @@ pub record Accepted (t : Tables) (blocks nodes : List ℕ) (l : Ledger) : Type 0
   pub ordered : Ordered (t .blocks) blocks (length (l .now .blocks))
   pub tallied : Tallied t nodes l
   pub nodes-long : length nodes ≡ length (t .nodes)
+  pub entry-zeros : t .entries ≡ replicate (length (t .entries)) 0
 
 -- the answer, and on a refusal everything as it was
 pub record Preparing (l : Ledger) (t : Tables) (blocks nodes entries : List ℕ) (r : ℕ) : Type 0 where

@@ -2,4 +2,5 @@ pub mod Tables
 pub mod Encodes
 pub mod Formed
 pub mod Relations
+pub mod Rows
 pub mod Files

@@ -8,15 +8,17 @@ use lib.ListN.{length, getD, set, take, drop, replicate}
 use lib.Seq.{sets}
 use Rattle.history.specs.Words.{Operation, Block}
 use Rattle.history.specs.Lent.{rowWidth}
+use Rattle.history.specs.Tree.{treeOf}
 use Rattle.history.specs.Ledger.{Opening, Ledger, isRead, recordBy, finishBy}
 use Rattle.history.specs.Reads.{Found}
 use Rattle.history.specs.Refusals.{Answer, accepted, refused, openAnswer, recordAnswer, finishAnswer, findAnswer, blockAnswer}
 use Rattle.history.specs.Sound.{Sound}
-use Rattle.tables.specs.Columns.{blockBase, headLast, blockNext, blockColumn}
+use Rattle.tables.specs.Columns.{column, blockBase, blockColumn, blockOffset, blockNext, blockSpare, headState, headCount, headLast, pieceOffset}
 use Rattle.block_table.specs.Blocks.{headPlace}
 use Rattle.block_table.specs.Appended.{Appended}
+use Rattle.segment_table.specs.Alone.{TreeAlone}
 use Rattle.layout.specs.Tables.{Tables, tables, lengthsOf}
-use Rattle.layout.specs.Encodes.{Encodes, openState}
+use Rattle.layout.specs.Encodes.{Links, Encodes, openState}
 use Rattle.layout.specs.Formed.{WellFormed, WellFormedForFinish}
 
 -- ── open ──
@@ -71,17 +73,28 @@ pub record RecordedBy (scratch : ℕ) (o : Operation) (t t′ : Tables) (answer 
 
 -- ── finish ──
 
--- Rows appended behind the first n, and the order of all: every other number of the old rows, and what lies past the rows, is as it was.
+-- Rows appended behind the first n, up to m, and the order of all. The head but for state, count and first in order, every other number of the old
+-- rows, and what lies past the rows, is as it was; the spare column of a new row is 0.
 pub record AppendedInOrder (blocks blocks′ : List ℕ) (n m : ℕ) : Type 0 where
   pub len : length blocks′ ≡ length blocks
+  pub head : (i : ℕ) → i < blockBase + rowWidth → (i ≡ headPlace headState → ⊥) → (i ≡ headPlace headCount → ⊥) → (i ≡ headPlace blockNext → ⊥)
+      → getD blocks′ i 0 ≡ getD blocks i 0
   pub rows : (link c : ℕ) → 0 < link → link ≤ n → c < rowWidth → (c ≡ blockNext → ⊥) → blockColumn blocks′ link c ≡ blockColumn blocks link c
+  pub spare : (link : ℕ) → n < link → link ≤ m → blockColumn blocks′ link blockSpare ≡ 0
   pub rest : (i : ℕ) → blockBase + rowWidth * suc m ≤ i → getD blocks′ i 0 ≡ getD blocks i 0
 
--- pieces zeros; the store as it was; blocks appended, ordered and the head set. Nodes and entries stand for the ledger's tree.
+-- The blocks of the pieces stand behind the first n, in the pieces' order: each names the bytes that its piece named, which have not moved.
+pub record SameBytes (pieces links blocks′ : List ℕ) (n : ℕ) : Type 0 where
+  pub offset : (i : ℕ) → i < length links → blockColumn blocks′ (suc n + i) blockOffset ≡ column pieces (getD links i 0) pieceOffset
+
+-- Pieces zeros; the store as it was; blocks appended, ordered and the head set; the tree of all blocks alone in nodes and entries. What this leaves
+-- open of the block table and of the tree, `Encodes` says.
 pub record FinishedTables (l : Ledger) (t t′ : Tables) : Type 0 where
   pub pieces : t′ .pieces ≡ zeros (t .pieces)
   pub store : t′ .store ≡ t .store
   pub blocks : AppendedInOrder (t .blocks) (t′ .blocks) (length (l .now .blocks)) (length (finishBy l .now .blocks))
+  pub bytes : (links : List ℕ) → Links (t .pieces) links → SameBytes (t .pieces) links (t′ .blocks) (length (l .now .blocks))
+  pub tree : TreeAlone (t′ .nodes) (t′ .entries) (treeOf (l .opening .end) (finishBy l .now .blocks))
 
 abbrev pub FinishLeaves : Answer Unit → Ledger → (t t′ : Tables) → Type 0
 FinishLeaves (accepted a) l t t′ = Encodes t′ (finishBy l) × FinishedTables l t t′

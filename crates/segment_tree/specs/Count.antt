@@ -128,6 +128,8 @@ pub record Grown (nodes nodes′ : List ℕ) (s : Spot) (T T′ : Tree) : Type 0
   pub rows : nodesUsed nodes′ + nodeCount T ≡ nodesUsed nodes + nodeCount T′
   pub more : nodesUsed nodes ≤ nodesUsed nodes′
   pub entries : allEntries nodes′ + entryCount T ≡ allEntries nodes + entryCount T′
+  -- the columns behind the kind are free
+  pub free : (k j : ℕ) → nodeKind < j → j < rowWidth → column nodes′ k j ≡ column nodes k j
   pub kept : Kept nodes nodes′ s
   pub clean : Clean nodes′
   pub inside : nodesUsed nodes′ ≤ rowsIn nodes′

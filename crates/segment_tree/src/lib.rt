@@ -2,12 +2,10 @@
 //
 //   build          lives go down, nodes are made, entries are counted; too little room is told
 //   close          each node gets its run of the entry table, and the blocks fill the runs in order
-//   list           the nodes in the order of the file
 //   specs/Count    the node table while it is counted, and what adding a life leaves
 //   specs/Lives    the lives in the block and piece tables, and the whole count
 //   specs/Runs     the runs of entries
 //   specs/Fill     the tables while they are filled, and the whole closing
-//   specs/Listing  the order of the file
 use tables::entry;
 use tables::node;
 ghost use mathlib.Core.Path.{_≡_};
@@ -18,7 +16,6 @@ ghost use Rattle.segment_tree.specs.Lives.{entryRowsIn};
 
 pub mod build;
 pub mod close;
-pub mod list;
 
 // The life [created, destroyed) covers [min, max).
 fn covers_node(created: u64, destroyed: u64, min: u64, max: u64) -> bool
