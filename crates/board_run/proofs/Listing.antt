@@ -8,13 +8,11 @@ use native.Mathlib.Numerals.{add-one}
 use native.Mathlib.Omega.{arith}
 use lib.ListN.{length, take, drop}
 use lib.Seq.{take-suc, take-all}
-use borrow.Author.Tests.{lt-leb, le-leb}
 use Rattle.history.specs.Words.{Block}
-use Rattle.history.specs.Lent.{tooShort}
 use Rattle.history.specs.Tree.{Tree, noBlock}
 use Rattle.history.specs.Ledger.{Ledger, finished, isSome, finishBy}
 use Rattle.history.specs.Reads.{blockBy}
-use Rattle.history.specs.Refusals.{Answer, accepted, refused, firstOf, finishAnswer, blockRefusals, blockAnswer}
+use Rattle.history.specs.Refusals.{Answer, accepted, refused, finishAnswer, blockAnswer}
 use Rattle.history.specs.Calls.{finishCall, answerTo, acceptedBy, leaves, after}
 use Rattle.history.specs.Sound.{Sound}
 use Rattle.history.specs.Printed.{blockLine, refusedLine, finishText, lastLines}
@@ -23,14 +21,17 @@ use Rattle.tables.specs.Columns.{blockColumn, headCount, headState}
 use Rattle.layout.specs.Tables.{Tables, tables, headAt}
 use Rattle.layout.specs.Encodes.{Encodes, stateOf, openState}
 use Rattle.layout.specs.Formed.{WellFormed, WellFormedForFinish}
-use Rattle.layout.specs.Relations.{Fields, blockIn, blockOfFields, FinishLeaves}
-use Rattle.index.specs.Answers.{givenOf, finishedOf}
-use Rattle.index.specs.Reads.{BlockClosed, partOf}
-use Rattle.index.specs.Work.{FinishesOpen}
-use Rattle.index.specs.declared.Given.{Given}
-use Rattle.index.specs.declared.Given.the-variants.{Block as IsBlock, Refused}
-use Rattle.index.specs.declared.Finished.{Finished}
-use Rattle.index.specs.declared.Finished.the-variants.{Finished as IsFinished, Refused as FinishRefused}
+use Rattle.layout.specs.Reads.{valuesOf}
+use Rattle.layout.specs.Relations.{Fields, blockIn, FinishLeaves}
+use Rattle.layout.proofs.ReadLaws.{block-there}
+use Rattle.index_read.specs.Answers.{givenOf}
+use Rattle.index_read.specs.Reads.{BlockClosed, partOf}
+use Rattle.index_read.specs.declared.Given.{Given}
+use Rattle.index_read.specs.declared.Given.the-variants.{Block as IsBlock, Refused}
+use Rattle.index_read.proofs.Giving.{part-whole}
+use Rattle.index_finish.specs.Answers.{finishedOf, FinishesOpen}
+use Rattle.index_finish.specs.declared.Finished.{Finished}
+use Rattle.index_finish.specs.declared.Finished.the-variants.{Finished as IsFinished, Refused as FinishRefused}
 use Rattle.board_text.specs.Line.{Put, blockLineOf}
 use Rattle.board_text.proofs.Putting.{put-none, put-append}
 use Rattle.board_text.proofs.Lines.{law-of-lines}
@@ -38,42 +39,29 @@ use Rattle.board_run.specs.Runs.{Standing, ListedOne, Listed, FinishPut}
 
 -- ── the returns of `list_one` ──
 
--- block by number gives a block that is there
-block-there : (t : Tables) (l : Ledger) (k : ℕ) → Encodes t l → finished l ≡ true → k < length (l .now .blocks) → blockAnswer l k ≡ accepted (blockBy l k)
-unfolding blockRefusals firstOf
-block-there t l k e done below =
-    let fits : tooShort (l .opening .lent) ≡ false = rw (e .lengths) (e .heads) in
-    rw (fits, done, lt-leb (length (l .now .blocks)) k below)
-
-part-whole : (store : List ℕ) (offset n : ℕ) → offset + n ≤ length store → partOf store offset n ≡ take n (drop offset store)
-unfolding partOf
-part-whole store offset n h = rw (le-leb (offset + n) (length store) h)
-
 module _ {blocks store : List ℕ} {k : ℕ} {r : Given} (d : BlockClosed blocks k (givenOf r)) where
   pub one-none : {n at : ℕ} {out : List ℕ} → r ≡ Refused n → ListedOne blocks store k out at out at
-  unfolding blockOfFields
   one-none {n} e =
       record {
         line = λ pieces nodes entries l enc s done below.
-            let given : blockOfFields store (refused n) ≡ blockAnswer l k = rw e at (d .given pieces store nodes entries l enc s done .0) in
-            let never : _≡_ {A = Answer Block} (refused n) (accepted (blockBy l k)) = given ∙ block-there _ l k enc done below in
+            let given : _≡_ {A = Answer Block} (refused n) (blockAnswer l k) = rw e at (d .given pieces store nodes entries .closed l enc s done .bytes-there) in
+            let never : _≡_ {A = Answer Block} (refused n) (accepted (blockBy l k)) = given ∙ block-there enc done k below in
             let z : _≡_ {A = ℕ} 0 1 = cc in
             absurd (omega arith);
       }
 
   pub one-line : {kind first n created destroyed offset at next : ℕ} {bytes out out′ : List ℕ} → r ≡ IsBlock kind first n created destroyed offset
       → bytes ≡ partOf store offset n → Put out at (blockLineOf first created destroyed bytes) out′ next → ListedOne blocks store k out at out′ next
-  unfolding blockOfFields
   one-line {kind} {first} {n} {created} {destroyed} {offset} {at} {next} {bytes} {out} {out′} e part put =
       record {
         line = λ pieces nodes entries l enc s done below.
-            let g = d .given pieces store nodes entries l enc s done in
+            let g = d .given pieces store nodes entries .closed l enc s done in
             let f : Fields = record { kind = kind; first = first; length = n; created = created; destroyed = destroyed; offset = offset } in
             let same : givenOf r ≡ accepted f = ap givenOf e in
             let given : _≡_ {A = Answer Block} (accepted (blockIn store f)) (accepted (blockBy l k)) =
-            ap (blockOfFields store) (sym same) ∙ g .0 ∙ block-there _ l k enc done below in
+            ap (valuesOf (blockIn store)) (sym same) ∙ g .bytes-there ∙ block-there enc done k below in
             let block : blockIn store f ≡ blockBy l k = cc in
-            let whole : bytes ≡ take n (drop offset store) = part ∙ part-whole store offset n (g .1 f same) in
+            let whole : bytes ≡ take n (drop offset store) = part ∙ part-whole store offset n (g .whole f same) in
             let text : blockLineOf first created destroyed bytes ≡ blockLine (blockBy l k) =
             ap (blockLineOf first created destroyed) whole ∙ sym (law-of-lines .in-parts (blockIn store f)) ∙ ap blockLine block in
             subst (λ (x : List ℕ). Put out at x out′ next) text put;

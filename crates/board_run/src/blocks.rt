@@ -2,16 +2,15 @@
 ghost use Rattle.layout.specs.Tables.{tables};
 ghost use Rattle.board_run.specs.Runs.{ListedOne, Listed, FinishPut};
 use board_text::line;
-use index::Finished;
-use index::Given;
-use index::reads;
+use index_finish::Finished;
+use index_read::Given;
 use tables::block;
 
 // The line of the block of a number.
 fn list_one(blocks: &[u64], store: &[u8], number: u64, out: &mut [u8], at: usize) -> usize
     ensures { λ r. ⌜ ListedOne (now (blocks .entry)) (now (store .entry)) number (now (out .entry)) at (now (out .exit)) r ⌝ }
 {
-    match reads::block_closed(blocks, number) {
+    match index_read::block_closed(blocks, number) {
         Given::Refused(_) => at,
         Given::Block {
             kind: _,
@@ -21,7 +20,7 @@ fn list_one(blocks: &[u64], store: &[u8], number: u64, out: &mut [u8], at: usize
             destroyed,
             offset,
         } => {
-            let bytes = reads::part(store, offset, length);
+            let bytes = index_read::part(store, offset, length);
             line::block_line(out, at, first, created, destroyed, bytes)
         }
     }
@@ -54,7 +53,7 @@ pub fn finish(
     ensures { λ r. ⌜ FinishPut (tables (now (pieces .entry)) (now (blocks .entry)) (now (store .entry)) (now (nodes .entry)) (now (entries .entry)))
         (now (out .entry)) at (now (out .exit)) r ⌝ }
 {
-    match index::finish_open(pieces, blocks, nodes, entries) {
+    match index_finish::finish_open(pieces, blocks, nodes, entries) {
         Finished::Refused(number) => line::finish_refused(out, at, number),
         Finished::Finished => list(blocks, store, out, at),
     }

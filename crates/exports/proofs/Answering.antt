@@ -10,15 +10,17 @@ use Rattle.layout.specs.Relations.{OpenedBy, RecordedBy, FinishedBy, FoundBy, B
 use Rattle.index_record.specs.Calls.{recordedOf}
 use Rattle.index_record.specs.declared.Recorded.{Recorded}
 use Rattle.index_record.specs.declared.Recorded.the-variants.{Accepted, Refused as RecordRefused}
-use Rattle.index.specs.Answers.{openedOf, finishedOf, foundOf, givenOf}
+use Rattle.index_finish.specs.Answers.{finishedOf}
+use Rattle.index_read.specs.Answers.{foundOf, givenOf}
+use Rattle.index.specs.Answers.{openedOf}
 use Rattle.index.specs.declared.Opened.{Opened}
 use Rattle.index.specs.declared.Opened.the-variants.{Opened as IsOpened, Refused as OpenRefused}
-use Rattle.index.specs.declared.Finished.{Finished}
-use Rattle.index.specs.declared.Finished.the-variants.{Finished as IsFinished, Refused as FinishRefused}
-use Rattle.index.specs.declared.Found.{Found}
-use Rattle.index.specs.declared.Found.the-variants.{Listed, Refused as FindRefused}
-use Rattle.index.specs.declared.Given.{Given}
-use Rattle.index.specs.declared.Given.the-variants.{Block, Refused as BlockRefused}
+use Rattle.index_finish.specs.declared.Finished.{Finished}
+use Rattle.index_finish.specs.declared.Finished.the-variants.{Finished as IsFinished, Refused as FinishRefused}
+use Rattle.index_read.specs.declared.Found.{Found}
+use Rattle.index_read.specs.declared.Found.the-variants.{Listed, Refused as FindRefused}
+use Rattle.index_read.specs.declared.Given.{Given}
+use Rattle.index_read.specs.declared.Given.the-variants.{Block, Refused as BlockRefused}
 use Rattle.layout.specs.Files.{WrittenBy, LoadedBy}
 use Rattle.file_write.specs.Answers.{writtenOf}
 use Rattle.file_write.specs.declared.Written.{Written}
@@ -26,9 +28,10 @@ use Rattle.file_write.specs.declared.Written.the-variants.{Bytes, Refused as Wr
 use Rattle.file_load.specs.Load.{loadedOf}
 use Rattle.file_load.specs.declared.Loaded.{Loaded}
 use Rattle.file_load.specs.declared.Loaded.the-variants.{Next, Refused as LoadRefused}
-use Rattle.cells.specs.Answers.{readOf, CellsReadBy}
-use Rattle.cells.specs.declared.Read.{Read}
-use Rattle.cells.specs.declared.Read.the-variants.{Filled, Refused as ReadRefused}
+use Rattle.cells_read.specs.Answers.{readOf}
+use Rattle.cells.specs.Answers.{CellsReadBy}
+use Rattle.cells_read.specs.declared.Read.{Read}
+use Rattle.cells_read.specs.declared.Read.the-variants.{Filled, Refused as ReadRefused}
 use Rattle.exports.specs.Numbers.{answerOf, ByNumber, counts, fields}
 use Rattle.exports.proofs.Positive.{open-positive, record-positive, finish-positive, block-positive, find-positive, cells-positive, write-positive}
 use Rattle.exports.proofs.PositiveLoad.{load-positive}

@@ -4,6 +4,15 @@
 //   board   what any index has, open or closed
 //   specs/Board     what is decided
 //   proofs/Ledgers  tables that pass stand for a ledger, and those of a sound ledger pass
+//   proofs/Told     what the test found turned into 2, 3 and 4, for every call
+//
+// How a read of a closed index is written, as find, read cells and write are:
+//   1. `history` says what the ledger gives and the refusals, made of `readRefusals` or `tickRefusals`: `xAnswer : Ledger → .. → Answer A`.
+//   2. An inner call `x_closed` answers without a test of the tables; its contract is `ClosedBy` (layout, `Reads`) at `xAnswer`, whatever else is
+//      lent, and what is handed out: `HandedInto` for values and one slice, a record of its own for more. Its refusals are steps by `closed-refuses`
+//      and the laws of `ReadLaws` (`window-14`, `window-15`, `window-rest`).
+//   3. The relation of the public call is a record of one field, `read : ReadBy t (λ l. xAnswer l ..) (HandedInto ..)`.
+//   4. The public call matches on `test`: 2, 4, or the inner call. Its three returns are `read-2`, `read-4` and `read-on` (proofs/Told).
 ghost use mathlib.Core.Path.{_≡_};
 ghost use Rattle.layout.specs.Tables.{tables};
 ghost use Rattle.index_test.specs.Board.{Outcome, TestedClosed};

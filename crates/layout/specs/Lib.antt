@@ -1,5 +1,6 @@
 pub mod Tables
 pub mod Encodes
 pub mod Formed
+pub mod Reads
 pub mod Relations
 pub mod Files
