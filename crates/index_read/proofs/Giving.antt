@@ -11,9 +11,8 @@ use Rattle.history.specs.Tree.{noBlock}
 use Rattle.history.specs.Reads.{blockBy}
 use Rattle.history.specs.Refusals.{Answer, accepted, refused}
 use Rattle.tables.specs.Columns.{blockColumn, headCount}
-use Rattle.ordering.specs.Blocks.{blockOfRow, lengthAt, createdAt, destroyedAt, offsetAt, ownerAt}
-use Rattle.ordering.specs.Order.{firstCellAt}
-use Rattle.ordering.proofs.Blocks.{blocks-at, bytes-length}
+use Rattle.block_table.specs.Blocks.{blockOfRow, lengthAt, createdAt, destroyedAt, offsetAt, ownerAt, firstCellAt}
+use Rattle.block_table.proofs.Blocks.{blocks-at, bytes-length}
 use Rattle.layout.specs.Tables.{Tables, tables, headAt}
 use Rattle.layout.specs.Relations.{Fields, fieldsAt, BlockHanded}
 use Rattle.layout.proofs.Pieces.{used-fits}
