@@ -4,7 +4,6 @@ ghost use Rattle.board_run.specs.Runs.{ListedOne, Listed, FinishPut};
 use board_text::line;
 use index_finish::Finished;
 use index_read::Given;
-use tables::block;
 
 // The line of the block of a number.
 fn list_one(blocks: &[u64], store: &[u8], number: u64, out: &mut [u8], at: usize) -> usize
@@ -30,7 +29,7 @@ fn list_one(blocks: &[u64], store: &[u8], number: u64, out: &mut [u8], at: usize
 fn list(blocks: &[u64], store: &[u8], out: &mut [u8], from: usize) -> usize
     ensures { λ r. ⌜ Listed (now (blocks .entry)) (now (store .entry)) (now (out .entry)) from (now (out .exit)) r ⌝ }
 {
-    let count = block::get(blocks, 0, block::COUNT);
+    let count = block_table::count(blocks);
     let mut number = 0;
     let mut at = from;
     while number < count {

@@ -8,8 +8,6 @@ ghost use Rattle.cells_read.specs.Answers.{readOf, ReadClosed};
 
 mod show;
 
-use tables::block;
-
 // The answer of read cells: both slices are filled, or nothing has changed.
 pub enum Read {
     Filled,
@@ -31,7 +29,7 @@ pub fn read_closed(
     ensures { λ r. ⌜ ReadClosed (now (blocks .entry)) (now (store .entry)) (now (nodes .entry)) (now (entries .entry)) tick start end
         (now (bytes .entry)) (now (bytes .exit)) (now (held .entry)) (now (held .exit)) (readOf r) ⌝ }
 {
-    if block::get(blocks, 0, block::END) <= tick {
+    if block_table::end(blocks) <= tick {
         return Read::Refused(14);
     }
     if end < start {
@@ -44,7 +42,7 @@ pub fn read_closed(
     if held.len() < many {
         return Read::Refused(16);
     }
-    let kind = block::get(blocks, 0, block::KIND);
+    let kind = block_table::kind(blocks);
     show::show(
         blocks,
         store,

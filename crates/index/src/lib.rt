@@ -60,9 +60,9 @@ impl Index {
         tables::zero(blocks);
         tables::zero(nodes);
         tables::zero(entries);
-        block::put(blocks, 0, block::STATE, block::OPEN);
-        block::put(blocks, 0, block::END, end_tick);
-        block::put(blocks, 0, block::KIND, kind as u64);
+        block_table::set_state(blocks, block::OPEN);
+        block_table::set_end(blocks, end_tick);
+        block_table::set_kind(blocks, kind as u64);
         Opened::Opened
     }
 }

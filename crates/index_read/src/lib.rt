@@ -32,7 +32,7 @@ pub enum Given {
 pub fn block_closed(blocks: &[u64], number: u64) -> Given
     ensures { λ r. ⌜ BlockClosed (now (blocks .entry)) number (givenOf r) ⌝ }
 {
-    if block::get(blocks, 0, block::COUNT) <= number {
+    if block_table::count(blocks) <= number {
         return Given::Refused(15);
     }
     let link = number + 1;
@@ -58,14 +58,14 @@ pub fn find_closed(
 ) -> Found
     ensures { λ r. ⌜ FindClosed (now (blocks .entry)) (now (nodes .entry)) (now (entries .entry)) tick start end (now (answer .entry)) (now (answer .exit)) (foundOf r) ⌝ }
 {
-    let last = block::get(blocks, 0, block::END);
+    let last = block_table::end(blocks);
     if last <= tick {
         return Found::Refused(14);
     }
     if end < start {
         return Found::Refused(15);
     }
-    let kind = block::get(blocks, 0, block::KIND);
+    let kind = block_table::kind(blocks);
     let found = segment_find::find(nodes, entries, kind, last, tick, start, end, answer);
     match found {
         segment_find::Found::Listed { count, visited } => Found::Listed {

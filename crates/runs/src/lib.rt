@@ -43,7 +43,7 @@ fn free(until: u64) -> Run
 fn part(blocks: &[u64], store: &[u8], number: u64, place: u64, end: u64) -> Run
     ensures { λ r. ⌜ PartOf (now (blocks .entry)) (now (store .entry)) number place end r ⌝ }
 {
-    if block::get(blocks, 0, block::COUNT) <= number {
+    if block_table::count(blocks) <= number {
         return free(place);
     }
     let link = number + 1;
@@ -87,7 +87,7 @@ pub fn first_run(
 ) -> Run
     ensures { λ r. ⌜ FirstRun (now (blocks .entry)) (now (store .entry)) (now (nodes .entry)) (now (entries .entry)) kind tick start end r ⌝ }
 {
-    let last = block::get(blocks, 0, block::END);
+    let last = block_table::end(blocks);
     let before = neighbour::last_before(nodes, entries, kind, last, tick, start);
     match before {
         Neighbour::Block { number, first: _ } => part(blocks, store, number, start, end),
@@ -108,7 +108,7 @@ pub fn next_run(
 ) -> Run
     ensures { λ r. ⌜ NextRun (now (blocks .entry)) (now (store .entry)) (now (nodes .entry)) (now (entries .entry)) kind tick place end r ⌝ }
 {
-    let last = block::get(blocks, 0, block::END);
+    let last = block_table::end(blocks);
     let next = neighbour::first_from(nodes, entries, kind, last, tick, place);
     let Neighbour::Block { number, first } = next else {
         return free(end);
