@@ -1,6 +1,6 @@
 // The records of the input, one after the other.
 ghost use Rattle.index_record.specs.Calls.{operation};
-ghost use Rattle.board_run.specs.Runs.{RecordedOne, RecordedAll};
+ghost use Rattle.board_lines.specs.Lines.{RecordedOne, RecordedAll};
 use board_text::input;
 use board_text::input::Item;
 use board_text::line;

@@ -1,8 +1,8 @@
--- `board_run::records::record_one` meets its contract: each arm is a step of `recordingOne`. Assumes nothing.
+-- `board_lines::records::record_one` meets its contract: each arm is a step of `recordingOne`. Assumes nothing.
 use borrow.Author.Needs.{needs}
-use Rattle.board_run.proofs.Recording.{recordingOne}
-use Rattle.board_run.proofs.records.record_one.Statement.{statement}
-use Rattle.board_run.proofs.records.record_one.Tie as tie
+use Rattle.board_lines.proofs.Recording.{recordingOne}
+use Rattle.board_lines.proofs.records.record_one.Statement.{statement}
+use Rattle.board_lines.proofs.records.record_one.Tie as tie
 
 pub record-one-spec : {M : Type 1} → statement M
 record-one-spec =

@@ -1,8 +1,8 @@
--- `board_run::blocks::list_one` meets its contract: each arm is a step of `listingOne`. Assumes nothing.
+-- `board_lines::blocks::list_one` meets its contract: each arm is a step of `listingOne`. Assumes nothing.
 use borrow.Author.Needs.{needs}
-use Rattle.board_run.proofs.Listing.{listingOne}
-use Rattle.board_run.proofs.blocks.list_one.Statement.{statement}
-use Rattle.board_run.proofs.blocks.list_one.Tie as tie
+use Rattle.board_lines.proofs.Listing.{listingOne}
+use Rattle.board_lines.proofs.blocks.list_one.Statement.{statement}
+use Rattle.board_lines.proofs.blocks.list_one.Tie as tie
 
 returns : tie.Need-returns
 returns c = search listingOne

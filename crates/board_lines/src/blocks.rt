@@ -1,6 +1,6 @@
 // Finish, and the blocks in recorded order, those of no life too.
 ghost use Rattle.layout.specs.Tables.{tables};
-ghost use Rattle.board_run.specs.Runs.{ListedOne, Listed, FinishPut};
+ghost use Rattle.board_lines.specs.Lines.{ListedOne, Listed, FinishPut};
 use board_text::line;
 use index_finish::Finished;
 use index_read::Given;

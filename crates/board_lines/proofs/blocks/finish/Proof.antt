@@ -1,8 +1,8 @@
--- `board_run::blocks::finish` meets its contract: each arm is a step of `finishing`. Assumes nothing.
+-- `board_lines::blocks::finish` meets its contract: each arm is a step of `finishing`. Assumes nothing.
 use borrow.Author.Needs.{needs}
-use Rattle.board_run.proofs.Listing.{finishing}
-use Rattle.board_run.proofs.blocks.finish.Statement.{statement}
-use Rattle.board_run.proofs.blocks.finish.Tie as tie
+use Rattle.board_lines.proofs.Listing.{finishing}
+use Rattle.board_lines.proofs.blocks.finish.Statement.{statement}
+use Rattle.board_lines.proofs.blocks.finish.Tie as tie
 
 returns : tie.Need-returns
 returns c = search (finishing, needs)

@@ -22,8 +22,8 @@ use Rattle.board_text.specs.declared.input.Item.{Item}
 use Rattle.board_text.specs.declared.input.Item.the-variants.{End, Bad, Record}
 use Rattle.board_text.proofs.Walking.{OneMore, records-on}
 use Rattle.board_text.proofs.Putting.{put-none, put-append}
-use Rattle.board_run.specs.Runs.{Standing, RecordedOne, Midway, RecordedAll}
-use Rattle.board_run.proofs.Standing.{record-stands}
+use Rattle.board_lines.specs.Lines.{Standing, RecordedOne, Midway, RecordedAll}
+use Rattle.board_lines.proofs.Standing.{record-stands}
 
 -- ── the returns of `record_one` ──
 

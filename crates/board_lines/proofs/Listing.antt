@@ -35,7 +35,7 @@ use Rattle.index_finish.specs.declared.Finished.the-variants.{Finished as IsFin
 use Rattle.board_text.specs.Line.{Put, blockLineOf}
 use Rattle.board_text.proofs.Putting.{put-none, put-append}
 use Rattle.board_text.proofs.Lines.{law-of-lines}
-use Rattle.board_run.specs.Runs.{Standing, ListedOne, Listed, FinishPut}
+use Rattle.board_lines.specs.Lines.{Standing, ListedOne, Listed, FinishPut}
 
 -- ── the returns of `list_one` ──
 

@@ -1,11 +1,11 @@
--- `board_run::blocks::list` meets its contract. The loop's invariant: the lines of the first `number` blocks are put. Assumes nothing.
+-- `board_lines::blocks::list` meets its contract. The loop's invariant: the lines of the first `number` blocks are put. Assumes nothing.
 use mathlib.Core.Path.{_≡_}
 use Prim.Native.Nat.{_-_}
 use borrow.Author.Needs.{needs}
 use lib.ListN.{length}
-use Rattle.board_run.proofs.Listing.{Listing, listing-none, listing-on, listing-all}
-use Rattle.board_run.proofs.blocks.list.Statement.{statement}
-use Rattle.board_run.proofs.blocks.list.Tie as tie
+use Rattle.board_lines.proofs.Listing.{Listing, listing-none, listing-on, listing-all}
+use Rattle.board_lines.proofs.blocks.list.Statement.{statement}
+use Rattle.board_lines.proofs.blocks.list.Tie as tie
 
 abbrev Inv-loop : tie.InvT-loop
 Inv-loop blocks store out₀ from count number₀ at₀ out number at = (length out ≡ length out₀) × Listing blocks store out₀ from number out at

@@ -1,11 +1,11 @@
--- `board_run::records::record_all` meets its contract. The loop's invariant is `Turning`. Assumes nothing.
+-- `board_lines::records::record_all` meets its contract. The loop's invariant is `Turning`. Assumes nothing.
 use mathlib.Core.Path.{_≡_}
 use Prim.Native.Nat.{_-_}
 use borrow.Author.Needs.{needs}
 use lib.ListN.{length}
-use Rattle.board_run.proofs.Recording.{Turning, turn-first, turn-inside, turn-forward, turn-count, turn-shorter, turn-on, recordingAll}
-use Rattle.board_run.proofs.records.record_all.Statement.{statement}
-use Rattle.board_run.proofs.records.record_all.Tie as tie
+use Rattle.board_lines.proofs.Recording.{Turning, turn-first, turn-inside, turn-forward, turn-count, turn-shorter, turn-on, recordingAll}
+use Rattle.board_lines.proofs.records.record_all.Statement.{statement}
+use Rattle.board_lines.proofs.records.record_all.Tie as tie
 
 abbrev Inv-loop : tie.InvT-loop
 Inv-loop input pieces₀ blocks₀ store₀ out₀ from position₀ k₀ at₀ pieces blocks store out position k at =

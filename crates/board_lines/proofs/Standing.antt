@@ -15,7 +15,7 @@ use Rattle.layout.specs.Tables.{Tables, lengthsOf}
 use Rattle.layout.specs.Formed.{Blank}
 use Rattle.layout.specs.Relations.{openingOf, openedTables, RecordedTables, RecordLeaves}
 use Rattle.layout.proofs.Opening.{opened-encodes, opened-blank}
-use Rattle.board_run.specs.Runs.{Standing}
+use Rattle.board_lines.specs.Lines.{Standing}
 
 -- ── record ──
 
