@@ -25,9 +25,10 @@ use Rattle.board_text.specs.declared.input.Check.the-variants.{Good, Bad}
 use Rattle.board_text.proofs.Putting.{put-append}
 use Rattle.board_text.proofs.Meeting.{law-of-input}
 use Rattle.board_text.proofs.Lines.{law-of-lines}
-use Rattle.board_run.specs.Runs.{Standing, RecordedAll, FinishPut, OpenPut, PlayPut, LendPut, printedOf}
+use Rattle.board_lines.specs.Lines.{Standing, RecordedAll, FinishPut}
+use Rattle.board_lines.proofs.Standing.{opened-stands}
+use Rattle.board_run.specs.Runs.{OpenPut, PlayPut, LendPut, printedOf}
 use Rattle.board_run.specs.Room.{outputMost, PrintsBoard}
-use Rattle.board_run.proofs.Standing.{opened-stands}
 use Rattle.board_run.proofs.Room.{room}
 
 -- ── `play_open` ──

@@ -1,25 +1,18 @@
 // The program `board`, but for reading and writing: the input is played on tables of the lengths that document 01 lends, and all that is to be printed
 // is put into a lent buffer.
 //
-//   records         the records one after the other, and the lines of the refused ones
-//   blocks          finish, and the lines of the blocks
-//
 //   specs/Room      what `run` ensures, and how much is printed at most
-//   specs/Runs      what is known of the tables between calls, and what each part puts
-//   proofs/Standing, Recording, Listing, Running   one step for each return and each turn
+//   specs/Runs      what each part puts; the lines of records and blocks stand in `board_lines`
+//   proofs/Running  one step for each return
 //   proofs/Sizes, Room   every byte recorded is printed once, so there is room for all that is printed
-//
-// No table is tested here: opening makes them well formed, and each call after it keeps them so.
 ghost use mathlib.Core.Path.{_≡_};
 ghost use lib.ListN.{length};
 ghost use Rattle.layout.specs.Tables.{tables};
 ghost use Rattle.board_run.specs.Runs.{OpenPut, PlayPut, LendPut, printedOf};
 ghost use Rattle.board_run.specs.Room.{outputMost, PrintsBoard};
 ghost use Rattle.board_text.specs.Line.{Put};
-
-mod blocks;
-mod records;
-
+use board_lines::blocks;
+use board_lines::records;
 use board_text::input;
 use board_text::input::Check;
 use board_text::input::Start;

@@ -4,7 +4,6 @@
 ghost use mathlib.Core.Path.{_≡_};
 ghost use Prim.Native.Nat.{_≤_, _<_, _^_};
 ghost use lib.ListN.{length};
-use index::reads;
 use libc::STDIN_FILENO;
 use libc::STDOUT_FILENO;
 
@@ -39,9 +38,9 @@ fn number_at(data: &[u8], at: usize) -> usize
 // The text whose length stands at a position; the empty one where the data is cut.
 fn text_at<'a>(data: &'a [u8], at: usize) -> &'a [u8] {
     if data.len() < at {
-        return reads::part(data, 0, 0);
+        return index_read::part(data, 0, 0);
     }
-    reads::part(data, (at + NUMBER) as u64, number_at(data, at) as u64)
+    index_read::part(data, (at + NUMBER) as u64, number_at(data, at) as u64)
 }
 
 // The position behind that text, or the end of the data.

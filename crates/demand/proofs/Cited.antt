@@ -8,7 +8,9 @@ use denote.Ref.{now}
 use Rattle.layout.specs.Tables.{tables}
 use Rattle.layout.specs.Relations.{OpenedBy, RecordedBy, FinishedBy, FoundBy, BlockGivenBy}
 use Rattle.index_record.specs.Calls.{operation, recordedOf}
-use Rattle.index.specs.Answers.{openedOf, finishedOf, foundOf, givenOf}
+use Rattle.index_finish.specs.Answers.{finishedOf}
+use Rattle.index_read.specs.Answers.{foundOf, givenOf}
+use Rattle.index.specs.Answers.{openedOf}
 use Rattle.index.proofs.Index.open.Kinds as open-kinds
 use Rattle.index.proofs.Index.open.Reads as open-reads
 use Rattle.index.proofs.record_op.Kinds as record-kinds

@@ -7,13 +7,15 @@ use Rattle.index_record.specs.declared.Recorded.{Recorded}
 use Rattle.index_record.specs.declared.Recorded.the-variants.{Accepted, Refused as RecordRefused}
 use Rattle.index.specs.declared.Opened.{Opened}
 use Rattle.index.specs.declared.Opened.the-variants.{Opened as IsOpened, Refused as OpenRefused}
-use Rattle.index.specs.declared.Finished.{Finished}
-use Rattle.index.specs.declared.Finished.the-variants.{Finished as IsFinished, Refused as FinishRefused}
-use Rattle.index.specs.declared.Found.{Found}
-use Rattle.index.specs.declared.Found.the-variants.{Listed, Refused as FindRefused}
-use Rattle.index.specs.declared.Given.{Given}
-use Rattle.index.specs.declared.Given.the-variants.{Block, Refused as BlockRefused}
-use Rattle.index.specs.Answers.{openedOf, finishedOf, foundOf, givenOf}
+use Rattle.index_finish.specs.declared.Finished.{Finished}
+use Rattle.index_finish.specs.declared.Finished.the-variants.{Finished as IsFinished, Refused as FinishRefused}
+use Rattle.index_read.specs.declared.Found.{Found}
+use Rattle.index_read.specs.declared.Found.the-variants.{Listed, Refused as FindRefused}
+use Rattle.index_read.specs.declared.Given.{Given}
+use Rattle.index_read.specs.declared.Given.the-variants.{Block, Refused as BlockRefused}
+use Rattle.index_finish.specs.Answers.{finishedOf}
+use Rattle.index_read.specs.Answers.{foundOf, givenOf}
+use Rattle.index.specs.Answers.{openedOf}
 
 -- a meaning that can be undone is injective
 undone : {A B : Type 0} (of : A → B) (back : B → A) → ((x : A) → back (of x) ≡ x) → (x y : A) → of x ≡ of y → x ≡ y

@@ -59,7 +59,7 @@ pub record Finishing (l : Ledger) (t t′ : Tables) (r : ℕ) : Type 0 where
   pub formed : Finishable t l → (r ≡ numberOf (finishAnswer l)) × FinishLeaves (finishAnswer l) l t t′
   pub unformed : (Finishable t l → ⊥) → (r ≡ 2) × (t′ ≡ t)
 
--- `finish_open`
+-- of every store and ledger; `r` is the answer as a number
 pub record FinishedOpen (pieces blocks nodes entries pieces′ blocks′ nodes′ entries′ : List ℕ) (r : ℕ) : Type 0 where
   pub done : (store : List ℕ) (l : Ledger) → StandsOpen (tables pieces blocks store nodes entries) l
       → Finishing l (tables pieces blocks store nodes entries) (tables pieces′ blocks′ store nodes′ entries′) r

@@ -1,3 +1,4 @@
 pub mod BoardTested
 pub mod Ledgers
 pub mod Tested
+pub mod Told

@@ -2,6 +2,7 @@ pub mod Lengths
 pub mod Opening
 pub mod Pieces
 pub mod Unique
+pub mod ReadLaws
 pub mod ExistsTable
 pub mod ExistsPieces
 pub mod ExistsBlocks

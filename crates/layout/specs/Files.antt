@@ -8,34 +8,21 @@ use lib.ListN.{length, replicate}
 use lib.Seq.{sets}
 use Rattle.history.specs.Lent.{pieceHead}
 use Rattle.history.specs.Tree.{keyIn}
-use Rattle.history.specs.Ledger.{Ledger}
 use Rattle.history.specs.Refusals.{Answer, accepted, refused}
 use Rattle.history.specs.File.{Read, got, fault, Loaded, load, loadedLedger, writeAnswer}
-use Rattle.history.specs.Sound.{Sound}
 use Rattle.tables.specs.Columns.{blockBase}
 use Rattle.ordering.specs.Order.{ordered}
 use Rattle.layout.specs.Tables.{Tables, tables, lengthsOf}
 use Rattle.layout.specs.Encodes.{Encodes, closedState}
-use Rattle.layout.specs.Formed.{WellFormed}
+use Rattle.layout.specs.Reads.{HandedInto, ReadBy}
 use Rattle.layout.specs.Relations.{zeros}
 use Rattle.layout.specs.Rows.{headNumbers, blocksNumbers, treeNumbers, runNumbers}
 
 -- ── write ──
 
--- how many bytes
-unfoldable pub bytesWritten : Answer (List ℕ) → Answer ℕ
-bytesWritten (accepted file) = accepted (length file)
-bytesWritten (refused n) = refused n
-
--- the file from the slice's start on, and the rest as it was
-unfoldable pub outLeft : Answer (List ℕ) → List ℕ → List ℕ
-outLeft (accepted file) out = sets out 0 file
-outLeft (refused n) out = out
-
+-- how many bytes, and the file in the lent slice
 pub record WrittenBy (t : Tables) (out out′ : List ℕ) (answer : Answer ℕ) : Type 0 where
-  pub formed : (l : Ledger) → Encodes t l → Sound l
-      → (answer ≡ bytesWritten (writeAnswer l (length out))) × (out′ ≡ outLeft (writeAnswer l (length out)) out)
-  pub unformed : (WellFormed t → ⊥) → (answer ≡ refused 2) × (out′ ≡ out)
+  pub read : ReadBy t (λ l. writeAnswer l (length out)) (HandedInto length (λ file. file) out out′ answer)
 
 -- ── load ──
 

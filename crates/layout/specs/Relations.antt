@@ -6,7 +6,7 @@ use mathlib.Core.List.{List, [], _∷_}
 use Prim.Native.Nat.{ℕ, suc, _+_, _*_, _≤_, _<_}
 use lib.ListN.{length, getD, set, take, drop, replicate}
 use lib.Seq.{sets}
-use Rattle.history.specs.Words.{Operation, Block}
+use Rattle.history.specs.Words.{Operation, Block, size}
 use Rattle.history.specs.Lent.{rowWidth}
 use Rattle.history.specs.Tree.{treeOf}
 use Rattle.history.specs.Ledger.{Opening, Ledger, isRead, recordBy, finishBy}
@@ -20,6 +20,7 @@ use Rattle.segment_table.specs.Alone.{TreeAlone}
 use Rattle.layout.specs.Tables.{Tables, tables, lengthsOf}
 use Rattle.layout.specs.Encodes.{Links, Encodes, openState}
 use Rattle.layout.specs.Formed.{WellFormed, WellFormedForFinish}
+use Rattle.layout.specs.Reads.{valuesOf, HandedInto, ReadBy}
 
 -- ── open ──
 
@@ -111,19 +112,12 @@ pub record Counts : Type 0 where
   pub count : ℕ
   pub visited : ℕ
 
-unfoldable pub countsOf : Answer Found → Answer Counts
-countsOf (accepted f) = accepted (record { count = length (f .numbers); visited = f .visited })
-countsOf (refused n) = refused n
+abbrev pub countsOf : Found → Counts
+countsOf f = record { count = length (f .numbers); visited = f .visited }
 
--- the answer up to its count, and the rest as it was
-unfoldable pub answerLeft : Answer Found → List ℕ → List ℕ
-answerLeft (accepted f) out = sets out 0 (f .numbers)
-answerLeft (refused n) out = out
-
+-- the counts, and the numbers in the lent answer
 pub record FoundBy (t : Tables) (tick start stop : ℕ) (out out′ : List ℕ) (answer : Answer Counts) : Type 0 where
-  pub formed : (l : Ledger) → Encodes t l → Sound l
-      → (answer ≡ countsOf (findAnswer l tick start stop (length out))) × (out′ ≡ answerLeft (findAnswer l tick start stop (length out)) out)
-  pub unformed : (WellFormed t → ⊥) → (answer ≡ refused 2) × (out′ ≡ out)
+  pub read : ReadBy t (λ l. findAnswer l tick start stop (length out)) (HandedInto countsOf (λ f. f .numbers) out out′ answer)
 
 -- ── block by number ──
 
@@ -136,6 +130,11 @@ pub record Fields : Type 0 where
   pub destroyed : ℕ
   pub offset : ℕ
 
+-- the fields of a block whose bytes stand at an offset
+abbrev pub fieldsAt : (offset : ℕ) → Block → Fields
+fieldsAt offset b =
+    record { kind = b .kind; first = b .stretch .first; length = size (b .stretch); created = b .created; destroyed = b .destroyed; offset = offset }
+
 -- the block that fields stand for
 abbrev pub blockIn : (store : List ℕ) → Fields → Block
 blockIn store f =
@@ -146,12 +145,11 @@ blockIn store f =
       destroyed = f .destroyed;
     }
 
-unfoldable pub blockOfFields : (store : List ℕ) → Answer Fields → Answer Block
-blockOfFields store (accepted f) = accepted (blockIn store f)
-blockOfFields store (refused n) = refused n
-
--- the fields are the ledger's block, whole: its bytes are there
-pub record BlockGivenBy (t : Tables) (k : ℕ) (answer : Answer Fields) : Type 0 where
-  pub formed : (l : Ledger) → Encodes t l → Sound l → blockOfFields (t .store) answer ≡ blockAnswer l k
+-- The ledger's block: its fields, with the offset that the row of link k + 1 has, and its bytes there, whole.
+pub record BlockHanded (t : Tables) (k : ℕ) (answer : Answer Fields) (x : Answer Block) : Type 0 where
+  pub answered : answer ≡ valuesOf (fieldsAt (blockColumn (t .blocks) (suc k) blockOffset)) x
+  pub bytes-there : valuesOf (blockIn (t .store)) answer ≡ x
   pub whole : (f : Fields) → answer ≡ accepted f → f .offset + f .length ≤ length (t .store)
-  pub unformed : (WellFormed t → ⊥) → answer ≡ refused 2
+
+pub record BlockGivenBy (t : Tables) (k : ℕ) (answer : Answer Fields) : Type 0 where
+  pub read : ReadBy t (λ l. blockAnswer l k) (BlockHanded t k answer)

@@ -1,8 +1,8 @@
 -- No refusal has the number 0, which stands for accepted. Assumes nothing.
 use mathlib.Core.Path.{_≡_, refl, sym}
-use mathlib.Core.Bool.{Bool, true, false, cond, _&&_, _||_}
+use mathlib.Core.Bool.{Bool, true, false, cond, _&&_}
 use mathlib.Core.List.{List, [], _∷_}
-use Prim.Native.Nat.{ℕ, _-_}
+use Prim.Native.Nat.{ℕ}
 use native.Mathlib.Omega.{arith}
 use lib.Dec.{ltb}
 use lib.ListN.{length}
@@ -10,14 +10,15 @@ use borrow.Author.Tests.{ltb-true}
 use Rattle.lists.proofs.Numbers.{and-left, and-right}
 use Rattle.history.specs.Words.{Operation}
 use Rattle.history.specs.Ledger.{Ledger}
-use Rattle.history.specs.Reads.{Found, Cells, findBy, cellsBy}
-use Rattle.history.specs.Refusals.{Answer, accepted, refused, Refusal, firstOf, openRefusals, recordRefusals, finishRefusals, windowRefusals, blockRefusals, writeRefusals, findAnswer, cellsAnswer}
+use Rattle.history.specs.Reads.{findBy, cellsBy}
+use Rattle.history.specs.Refusals.{Answer, accepted, refused, Refusal, firstOf, openRefusals, recordRefusals, finishRefusals, windowRefusals, blockRefusals, writeRefusals}
 use Rattle.history.specs.File.{fileBy}
 use Rattle.layout.specs.Tables.{Tables}
 use Rattle.layout.specs.Formed.{WellFormed, WellFormedForFinish}
-use Rattle.layout.specs.Relations.{openingOf, OpenedBy, RecordedBy, FinishedBy, countsOf, FoundBy, blockOfFields, BlockGivenBy}
-use Rattle.layout.specs.Files.{bytesWritten, WrittenBy}
-use Rattle.cells.specs.Answers.{CellsReadBy, givenBy}
+use Rattle.layout.specs.Reads.{valuesOf, ReadBy}
+use Rattle.layout.specs.Relations.{openingOf, OpenedBy, RecordedBy, FinishedBy, FoundBy, BlockGivenBy}
+use Rattle.layout.specs.Files.{WrittenBy}
+use Rattle.cells.specs.Answers.{CellsReadBy}
 
 -- ── a list of refusals ──
 
@@ -59,53 +60,32 @@ finish-positive {t} told =
     let ill : WellFormedForFinish t → ⊥ = λ w. first-positive (finishRefusals (w .ledger)) tt refl (sym (told .formed w .0)) in
     not-2 (told .unformed ill .0)
 
+-- ── the reads: the ledger's answer, with other values ──
+
+values-refused : {A B : Type 0} (values : A → B) (x : Answer A) → refused 0 ≡ valuesOf values x → x ≡ refused 0
+values-refused values (accepted a) e = let z : _≡_ {A = ℕ} 0 1 = cc in absurd (omega arith)
+values-refused values (refused n) e = cc
+
+-- a read whose refusals are above 0 does not answer 0
+read-positive : {A B : Type 0} {t : Tables} {asked : Ledger → Answer A} {Handed : Answer A → Type 0} (values : A → B)
+    → ((x : Answer A) → Handed x → refused 0 ≡ valuesOf values x) → ((l : Ledger) → asked l ≡ refused 0 → ⊥) → ReadBy t asked Handed → ⊥
+read-positive values says never told =
+    not-2 (says (refused 2) (told .unformed (λ w. never (w .ledger) (values-refused values _ (says _ (told .formed (w .ledger) (w .encodes) (w .sound)))))))
+
 pub block-positive : {t : Tables} {k : ℕ} → BlockGivenBy t k (refused 0) → ⊥
-unfolding blockRefusals positive blockOfFields
-block-positive {t} {k} told =
-    let ill : WellFormed t → ⊥ = λ w. first-positive (blockRefusals (w .ledger) k) _ refl (sym (told .formed (w .ledger) (w .encodes) (w .sound))) in
-    not-2 (told .unformed ill)
-
--- ── find, read cells and write: as the ledger's answer, with other values ──
-
-counts-refused : (x : Answer Found) → refused 0 ≡ countsOf x → x ≡ refused 0
-unfolding countsOf
-counts-refused (accepted f) e = let z : _≡_ {A = ℕ} 0 1 = cc in absurd (omega arith)
-counts-refused (refused n) e = cc
-
-cells-refused : (x : Answer Cells) → refused 0 ≡ givenBy x → x ≡ refused 0
-unfolding givenBy
-cells-refused (accepted f) e = let z : _≡_ {A = ℕ} 0 1 = cc in absurd (omega arith)
-cells-refused (refused n) e = cc
-
-bytes-refused : (x : Answer (List ℕ)) → refused 0 ≡ bytesWritten x → x ≡ refused 0
-unfolding bytesWritten
-bytes-refused (accepted f) e = let z : _≡_ {A = ℕ} 0 1 = cc in absurd (omega arith)
-bytes-refused (refused n) e = cc
-
-module _ (l : Ledger) (tick start stop : ℕ) where
-  found-positive : (room : ℕ) → findAnswer l tick start stop room ≡ refused 0 → ⊥
-  unfolding windowRefusals positive
-  found-positive room e = first-positive (windowRefusals l tick start stop (ltb room (length (findBy l tick start stop .numbers)))) (findBy l tick start stop) refl e
-
-  shown-positive : (bytes held : ℕ) → cellsAnswer l tick start stop bytes held ≡ refused 0 → ⊥
-  unfolding windowRefusals positive
-  shown-positive bytes held e = first-positive (windowRefusals l tick start stop (ltb bytes (stop - start) || ltb held (stop - start))) (cellsBy l tick start stop) refl e
+unfolding blockRefusals positive
+block-positive {k = k} told = read-positive _ (λ x h. h .answered) (λ l. first-positive (blockRefusals l k) _ refl) (told .read)
 
 pub find-positive : {t : Tables} {tick start stop : ℕ} {out out′ : List ℕ} → FoundBy t tick start stop out out′ (refused 0) → ⊥
-find-positive {t} {tick} {start} {stop} {out} told =
-    let ill : WellFormed t → ⊥ = λ w.
-    found-positive (w .ledger) tick start stop (length out) (counts-refused _ (told .formed (w .ledger) (w .encodes) (w .sound) .0)) in
-    not-2 (told .unformed ill .0)
+unfolding windowRefusals positive
+find-positive {tick = tick} {start} {stop} told =
+    read-positive _ (λ x h. h .answered) (λ l. first-positive (windowRefusals l tick start stop _) (findBy l tick start stop) refl) (told .read)
 
 pub cells-positive : {t : Tables} {tick start stop : ℕ} {bytes bytes′ held held′ : List ℕ} → CellsReadBy t tick start stop bytes bytes′ held held′ (refused 0) → ⊥
-cells-positive {t} {tick} {start} {stop} {bytes} {bytes′} {held} told =
-    let ill : WellFormed t → ⊥ = λ w.
-    shown-positive (w .ledger) tick start stop (length bytes) (length held) (cells-refused _ (told .formed (w .ledger) (w .encodes) (w .sound) .answered)) in
-    not-2 (told .unformed ill .0)
+unfolding windowRefusals positive
+cells-positive {tick = tick} {start} {stop} told =
+    read-positive _ (λ x h. h .answered) (λ l. first-positive (windowRefusals l tick start stop _) (cellsBy l tick start stop) refl) (told .read)
 
 pub write-positive : {t : Tables} {out out′ : List ℕ} → WrittenBy t out out′ (refused 0) → ⊥
 unfolding writeRefusals positive
-write-positive {t} {out} told =
-    let ill : WellFormed t → ⊥ = λ w.
-    first-positive (writeRefusals (w .ledger) (length out) (length (fileBy (w .ledger)))) (fileBy (w .ledger)) refl (bytes-refused _ (told .formed (w .ledger) (w .encodes) (w .sound) .0)) in
-    not-2 (told .unformed ill .0)
+write-positive told = read-positive _ (λ x h. h .answered) (λ l. first-positive (writeRefusals l _ (length (fileBy l))) (fileBy l) refl) (told .read)

@@ -6,7 +6,7 @@ ghost use Rattle.index_record.specs.Calls.{operation, RecordedOpen};
 ghost use Rattle.segment_find.specs.Listing.{Finds};
 ghost use Rattle.servercape_inner.specs.Inner.{Told, Numbered, FinishedAs, WrittenAs, PartGiven, recordNumber, findNumber};
 use file_write::Written;
-use index::Finished;
+use index_finish::Finished;
 use index_record::Recorded;
 use index_test::State;
 use segment_find::Found;
@@ -63,7 +63,7 @@ pub extern "C" fn servercape_inner_finish(
     ensures { λ r. ⌜ FinishedAs (now (pieces .entry)) (now (blocks .entry)) (now (nodes .entry)) (now (entries .entry))
         (now (pieces .exit)) (now (blocks .exit)) (now (nodes .exit)) (now (entries .exit)) r ⌝ }
 {
-    let finished = index::finish_open(pieces, blocks, nodes, entries);
+    let finished = index_finish::finish_open(pieces, blocks, nodes, entries);
     match finished {
         Finished::Finished => 0,
         Finished::Refused(number) => number,

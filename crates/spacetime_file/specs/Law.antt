@@ -19,7 +19,8 @@ use Rattle.history.specs.File.{File, bytesOf, nodeBytes, nodesOf, newNumber, co
 use Rattle.layout.specs.Tables.{Tables, lengthsOf}
 use Rattle.layout.specs.Encodes.{Encodes}
 use Rattle.layout.specs.Formed.{WellFormed}
-use Rattle.layout.specs.Relations.{openingOf, OpenedBy, Counts, FoundBy, Fields, blockOfFields, BlockGivenBy}
+use Rattle.layout.specs.Reads.{valuesOf}
+use Rattle.layout.specs.Relations.{openingOf, OpenedBy, Counts, FoundBy, Fields, blockIn, BlockGivenBy}
 use Rattle.layout.specs.Files.{WrittenBy, LoadedBy, headed, zeroedTables}
 use Rattle.demand.specs.Theorem.{Run}
 use Rattle.cells.specs.Answers.{CellsReadBy}
@@ -57,7 +58,7 @@ numberIn l = newNumber (l .now .blocks) (treeIn l)
 pub record AnswersAlike (l : Ledger) (t u : Tables) : Type 0 where
   -- a block that has a life is block by its new number,
   pub blocks : (k : ℕ) → Lives l k → (old new : Answer Fields) → BlockGivenBy t k old → BlockGivenBy u (numberIn l k) new
-      → blockOfFields (u .store) new ≡ blockOfFields (t .store) old
+      → valuesOf (blockIn (u .store)) new ≡ valuesOf (blockIn (t .store)) old
   -- no others are left,
   pub no-others : (j : ℕ) (f : Fields) → BlockGivenBy u j (accepted f) → (k : ℕ) × Lives l k × (numberIn l k ≡ j)
   -- and they are in the same order;

@@ -1,6 +1,6 @@
 -- `servercape::servercape_block` meets its contract: each return is its answer's number. Assumes nothing.
 use borrow.Author.Needs.{needs}
-use Rattle.index.specs.Answers.{givenOf}
+use Rattle.index_read.specs.Answers.{givenOf}
 use Rattle.servercape.proofs.Answering.{answer-0, answer-n, numbers}
 use Rattle.servercape.proofs.servercape_block.Statement.{statement}
 use Rattle.servercape.proofs.servercape_block.Tie as tie

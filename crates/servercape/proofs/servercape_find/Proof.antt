@@ -1,6 +1,6 @@
 -- `servercape::servercape_find` meets its contract: each return is its answer's number. Assumes nothing.
 use borrow.Author.Needs.{needs}
-use Rattle.index.specs.Answers.{foundOf}
+use Rattle.index_read.specs.Answers.{foundOf}
 use Rattle.servercape.proofs.Answering.{answer-0, answer-n, numbers}
 use Rattle.servercape.proofs.servercape_find.Statement.{statement}
 use Rattle.servercape.proofs.servercape_find.Tie as tie

@@ -1,6 +1,6 @@
 -- `servercape::servercape_finish` meets its contract: each return is its answer's number. Assumes nothing.
 use borrow.Author.Needs.{needs}
-use Rattle.index.specs.Answers.{finishedOf}
+use Rattle.index_finish.specs.Answers.{finishedOf}
 use Rattle.servercape.proofs.Answering.{answer-0, answer-n, numbers}
 use Rattle.servercape.proofs.servercape_finish.Statement.{statement}
 use Rattle.servercape.proofs.servercape_finish.Tie as tie

@@ -1,6 +1,6 @@
 -- `servercape::servercape_read_cells` meets its contract: each return is its answer's number. Assumes nothing.
 use borrow.Author.Needs.{needs}
-use Rattle.cells.specs.Answers.{readOf}
+use Rattle.cells_read.specs.Answers.{readOf}
 use Rattle.servercape.proofs.Answering.{answer-0, answer-n, numbers}
 use Rattle.servercape.proofs.servercape_read_cells.Statement.{statement}
 use Rattle.servercape.proofs.servercape_read_cells.Tie as tie
