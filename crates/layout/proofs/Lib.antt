@@ -9,3 +9,4 @@ pub mod ExistsOrder
 pub mod ExistsTree
 pub mod ExistsBoard
 pub mod Exists
+pub mod Depths

@@ -3,3 +3,4 @@ pub mod Encodes
 pub mod Formed
 pub mod Relations
 pub mod Files
+pub mod Law
