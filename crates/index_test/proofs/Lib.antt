@@ -2,3 +2,4 @@ pub mod RowsTested
 pub mod BoardTested
 pub mod Ledgers
 pub mod Tested
+pub mod Deciding

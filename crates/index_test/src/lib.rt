@@ -3,10 +3,12 @@
 //   rows    the rows of the block table, one by one
 //   board   what any index has, open or closed
 //   specs/Board     what is decided
+//   specs/Law       so the test is exact (proofs/Deciding)
 //   proofs/Ledgers  tables that pass stand for a ledger, and those of a sound ledger pass
 ghost use mathlib.Core.Path.{_≡_};
 ghost use Rattle.layout.specs.Tables.{tables};
 ghost use Rattle.index_test.specs.Board.{Outcome, TestedClosed};
+ghost use Rattle.index_test.specs.Law.{TestDecides};
 
 mod board;
 mod rows;
@@ -63,3 +65,8 @@ pub fn test(pieces: &[u64], blocks: &[u64], store: &[u8], nodes: &[u64], entries
     }
     State::Bad
 }
+
+// The test decides exactly whether tables are well formed, and of which index.
+pub fn test_decides()
+    ensures { λ _. ⌜ TestDecides ⌝ }
+{}
