@@ -1,14 +1,14 @@
 // Read cells: for a tick and [start, end) the byte of each cell, and 1 where a live block holds it; 0 and 0 where none does. It goes from block to
 // block, each found by a search of the tree, and writes every cell of the range once.
 //
-//   specs/Answers   what the answer means, and the contract; specs/Law: the history is shown (proofs/History)
+//   specs/Answers   what the answer means, and the contract
+//   specs/Law       the history is shown (proofs/History): a theorem of crate demand, which links it to lists of calls
 //   run             specs/Runs    proofs/Seeing, Living, Runs   the cells that come next: free ones, then a block's
 //   show            specs/Shows   proofs/Filling, Showing       cells written run by run
 //   closed          proofs/Reading                              14, 15 and 16
 //   lib             proofs/Answering                            2 and 4
 ghost use Rattle.layout.specs.Tables.{tables};
 ghost use Rattle.cells.specs.Answers.{readOf, CellsReadBy};
-ghost use Rattle.cells.specs.Law.{CellsShowHistory};
 
 mod closed;
 mod run;
@@ -55,8 +55,3 @@ pub fn read_cells(
         ),
     }
 }
-
-// Over an index that any list of calls has reached and finished, read cells shows what the history has.
-pub fn shows_history()
-    ensures { λ _. ⌜ CellsShowHistory ⌝ }
-{}
