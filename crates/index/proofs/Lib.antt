@@ -4,4 +4,3 @@ pub mod Answering
 pub mod Bytes
 pub mod Finishing
 pub mod Recording
-pub mod Injective

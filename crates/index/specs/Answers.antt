@@ -1,4 +1,4 @@
--- What the answers of the calls mean: document 01's number and values for every case of each enum. Each definition is injective (proofs/Injective).
+-- What the answers of the calls mean: document 01's number and values for every case of each enum. Each is injective (crate promises, Meanings).
 use Rattle.history.specs.Refusals.{Answer, accepted, refused}
 use Rattle.layout.specs.Relations.{Counts, Fields}
 use Rattle.index.specs.declared.Opened.{Opened}
