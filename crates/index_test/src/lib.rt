@@ -1,6 +1,5 @@
 // Whether lent tables are well formed: the tests behind refusal 2, on any tables at all.
 //
-//   rows    the rows of the block table, one by one
 //   board   what any index has, open or closed
 //   specs/Board     what is decided
 //   specs/Law       so the test is exact (proofs/Deciding)
@@ -11,7 +10,6 @@ ghost use Rattle.index_test.specs.Board.{Outcome, TestedClosed};
 ghost use Rattle.index_test.specs.Law.{TestDecides};
 
 mod board;
-mod rows;
 
 use tables::block;
 use tables::piece;

@@ -6,9 +6,9 @@ use lib.ListN.{length}
 use borrow.Fn.Kinds.{PK, RK, In, Out, Dens, resT, endedOf}
 use contract.Lifetimes.{Lfts}
 use denote.Triple.Clauses.{AtExit}
-use denote.Ref.{now}
+use denote.Ref.{RefT, now}
 use Rattle.history.specs.Reads.{clockLabel}
-use Rattle.layout.specs.Tables.{tables}
+use Rattle.layout.specs.Tables.{Tables, tables}
 use Rattle.layout.specs.Relations.{OpenedBy, RecordedBy, FinishedBy, FoundBy, BlockGivenBy}
 use Rattle.layout.specs.Files.{WrittenBy, LoadedBy}
 use Rattle.index_record.specs.Calls.{operation, recordedOf}
@@ -47,43 +47,41 @@ pub record Says (n : ℕ) (ps : List (PK n)) (r : RK n) (Asked : In n ps) (Learn
   pub says : (κs : Lfts n) (a : Dens κs ps) (x : resT r κs .Denot) (e : AtExit (endedOf n ps r) κs) → Learnt κs a x e → Relation κs a x e
   pub whole : (κs : Lfts n) (a : Dens κs ps) (x : resT r κs .Denot) (e : AtExit (endedOf n ps r) κs) → Relation κs a x e → Learnt κs a x e
 
--- Arguments are `a`, in the order of the parameters; `x` is the answer; `e` has at an argument's place what a `&mut` leaves.
+-- ── arguments ──
+
+-- The five tables come first in every call: what they hold; and the arguments behind them.
+abbrev pub held : {X : Type 0} → RefT (List ℕ) × (RefT (List ℕ) × (RefT (List ℕ) × (RefT (List ℕ) × (RefT (List ℕ) × X)))) → Tables
+held a = tables (now (a .0)) (now (a .1 .0)) (now (a .1 .1 .0)) (now (a .1 .1 .1 .0)) (now (a .1 .1 .1 .1 .0))
+
+abbrev pub behind : {X : Type 0} → RefT (List ℕ) × (RefT (List ℕ) × (RefT (List ℕ) × (RefT (List ℕ) × (RefT (List ℕ) × X)))) → X
+behind a = a .1 .1 .1 .1 .1
+
+-- ── the calls ──
+
+-- `a` has the arguments at entry, `x` is the answer, `e` has what the arguments hold at exit. A table that a call does not change is lent as `&`: at exit
+-- it holds what it held at entry.
 pub record Contracts : Type 0 where
   pub opening : Says 5 open-kinds.ps open-kinds.r open-reads.Asked open-reads.Learnt
-      (λ κs a x e. OpenedBy (a .1 .1 .1 .1 .1 .0) (a .1 .1 .1 .1 .1 .1 .0)
-      (tables (now (a .0)) (now (a .1 .0)) (now (a .1 .1 .0)) (now (a .1 .1 .1 .0)) (now (a .1 .1 .1 .1 .0)))
-      (tables (now (e .0)) (now (e .1 .0)) (now (a .1 .1 .0)) (now (e .1 .1 .1 .0)) (now (e .1 .1 .1 .1 .0))) (openedOf x))
+      (λ κs a x e. OpenedBy (behind a .0) (behind a .1 .0) (held a)
+      (tables (held e .pieces) (held e .blocks) (held a .store) (held e .nodes) (held e .entries)) (openedOf x))
   pub record-op : Says 7 record-kinds.ps record-kinds.r record-reads.Asked record-reads.Learnt
-      (λ κs a x e. RecordedBy (length (now (a .1 .1 .1 .1 .1 .0)))
-      (operation (a .1 .1 .1 .1 .1 .1 .0) (a .1 .1 .1 .1 .1 .1 .1 .0) (now (a .1 .1 .1 .1 .1 .1 .1 .1 .0)))
-      (tables (now (a .0)) (now (a .1 .0)) (now (a .1 .1 .0)) (now (a .1 .1 .1 .0)) (now (a .1 .1 .1 .1 .0)))
-      (tables (now (e .0)) (now (e .1 .0)) (now (e .1 .1 .0)) (now (a .1 .1 .1 .0)) (now (a .1 .1 .1 .1 .0))) (recordedOf x))
+      (λ κs a x e. RecordedBy (length (now (behind a .0))) (operation (behind a .1 .0) (behind a .1 .1 .0) (now (behind a .1 .1 .1 .0))) (held a)
+      (tables (held e .pieces) (held e .blocks) (held e .store) (held a .nodes) (held a .entries)) (recordedOf x))
   pub finalize : Says 5 finish-kinds.ps finish-kinds.r finish-reads.Asked finish-reads.Learnt
-      (λ κs a x e. FinishedBy (tables (now (a .0)) (now (a .1 .0)) (now (a .1 .1 .0)) (now (a .1 .1 .1 .0)) (now (a .1 .1 .1 .1 .0)))
-      (tables (now (e .0)) (now (e .1 .0)) (now (a .1 .1 .0)) (now (e .1 .1 .1 .0)) (now (e .1 .1 .1 .1 .0))) (finishedOf x))
+      (λ κs a x e. FinishedBy (held a) (tables (held e .pieces) (held e .blocks) (held a .store) (held e .nodes) (held e .entries)) (finishedOf x))
   pub block : Says 5 block-kinds.ps block-kinds.r block-reads.Asked block-reads.Learnt
-      (λ κs a x e. BlockGivenBy (tables (now (a .0)) (now (a .1 .0)) (now (a .1 .1 .0)) (now (a .1 .1 .1 .0)) (now (a .1 .1 .1 .1 .0)))
-      (a .1 .1 .1 .1 .1 .0) (givenOf x))
+      (λ κs a x e. BlockGivenBy (held a) (behind a .0) (givenOf x))
   pub block-bytes : Says 5 bytes-kinds.ps bytes-kinds.r bytes-reads.Asked bytes-reads.Learnt
-      (λ κs a x e. BytesGivenBy (tables (now (a .0)) (now (a .1 .0)) (now (a .1 .1 .0)) (now (a .1 .1 .1 .0)) (now (a .1 .1 .1 .1 .0)))
-      (a .1 .1 .1 .1 .1 .0) (now x))
+      (λ κs a x e. BytesGivenBy (held a) (behind a .0) (now x))
   pub find : Says 6 find-kinds.ps find-kinds.r find-reads.Asked find-reads.Learnt
-      (λ κs a x e. FoundBy (tables (now (a .0)) (now (a .1 .0)) (now (a .1 .1 .0)) (now (a .1 .1 .1 .0)) (now (a .1 .1 .1 .1 .0)))
-      (a .1 .1 .1 .1 .1 .0) (a .1 .1 .1 .1 .1 .1 .0) (a .1 .1 .1 .1 .1 .1 .1 .0) (now (a .1 .1 .1 .1 .1 .1 .1 .1 .0))
-      (now (e .1 .1 .1 .1 .1 .1 .1 .1 .0)) (foundOf x))
+      (λ κs a x e. FoundBy (held a) (behind a .0) (behind a .1 .0) (behind a .1 .1 .0) (now (behind a .1 .1 .1 .0)) (now (behind e .1 .1 .1 .0)) (foundOf x))
   pub read-cells : Says 7 cells-kinds.ps cells-kinds.r cells-reads.Asked cells-reads.Learnt
-      (λ κs a x e. CellsReadBy (tables (now (a .0)) (now (a .1 .0)) (now (a .1 .1 .0)) (now (a .1 .1 .1 .0)) (now (a .1 .1 .1 .1 .0)))
-      (a .1 .1 .1 .1 .1 .0) (a .1 .1 .1 .1 .1 .1 .0) (a .1 .1 .1 .1 .1 .1 .1 .0)
-      (now (a .1 .1 .1 .1 .1 .1 .1 .1 .0)) (now (e .1 .1 .1 .1 .1 .1 .1 .1 .0))
-      (now (a .1 .1 .1 .1 .1 .1 .1 .1 .1 .0)) (now (e .1 .1 .1 .1 .1 .1 .1 .1 .1 .0)) (readOf x))
+      (λ κs a x e. CellsReadBy (held a) (behind a .0) (behind a .1 .0) (behind a .1 .1 .0) (now (behind a .1 .1 .1 .0)) (now (behind e .1 .1 .1 .0))
+      (now (behind a .1 .1 .1 .1 .0)) (now (behind e .1 .1 .1 .1 .0)) (readOf x))
   pub clock-label : Says 0 clock-kinds.ps clock-kinds.r clock-reads.Asked clock-reads.Learnt (λ κs a x e. x ≡ clockLabel (a .0))
   pub serialize-to : Says 6 write-kinds.ps write-kinds.r write-reads.Asked write-reads.Learnt
-      (λ κs a x e. WrittenBy (tables (now (a .0)) (now (a .1 .0)) (now (a .1 .1 .0)) (now (a .1 .1 .1 .0)) (now (a .1 .1 .1 .1 .0)))
-      (now (a .1 .1 .1 .1 .1 .0)) (now (e .1 .1 .1 .1 .1 .0)) (writtenOf x))
+      (λ κs a x e. WrittenBy (held a) (now (behind a .0)) (now (behind e .0)) (writtenOf x))
   pub deserialize : Says 6 load-kinds.ps load-kinds.r load-reads.Asked load-reads.Learnt
-      (λ κs a x e. LoadedBy (now (a .1 .1 .1 .1 .1 .0)) (a .1 .1 .1 .1 .1 .1 .0)
-      (tables (now (a .0)) (now (a .1 .0)) (now (a .1 .1 .0)) (now (a .1 .1 .1 .0)) (now (a .1 .1 .1 .1 .0)))
-      (tables (now (e .0)) (now (e .1 .0)) (now (e .1 .1 .0)) (now (e .1 .1 .1 .0)) (now (e .1 .1 .1 .1 .0))) (loadedOf x))
-  -- and of the program `board`, but for reading and writing
-  pub run : Says 2 run-kinds.ps run-kinds.r run-reads.Asked run-reads.Learnt
-      (λ κs a x e. PrintsBoard (now (a .0)) (now (a .1 .0)) (now (e .1 .0)) x)
+      (λ κs a x e. LoadedBy (now (behind a .0)) (behind a .1 .0) (held a) (held e) (loadedOf x))
+  -- and the program `board`, but for reading and writing
+  pub run : Says 2 run-kinds.ps run-kinds.r run-reads.Asked run-reads.Learnt (λ κs a x e. PrintsBoard (now (a .0)) (now (a .1 .0)) (now (e .1 .0)) x)

@@ -1,3 +1,4 @@
 pub mod Contracts
+pub mod Exported
 pub mod Meanings
 pub mod Promises

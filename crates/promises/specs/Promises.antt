@@ -8,8 +8,9 @@ use Rattle.demand.specs.Cells.{CellsShown}
 use Rattle.spacetime_file.specs.Law.{SavedAndLoaded, LoadedAndWritten, TakenAndNotRefused, EmptyFiles}
 use Rattle.board_text.specs.Walk.{LawOfInput}
 use Rattle.board_text.specs.Line.{LawOfLines}
-use Rattle.exports.specs.Lengths.{LengthsHold}
+use Rattle.lengths.specs.Lengths.{LengthsHold}
 use Rattle.promises.specs.Contracts.{Contracts}
+use Rattle.promises.specs.Exported.{Exported}
 use Rattle.promises.specs.Meanings.{Meanings}
 
 -- over every list of calls, by the contracts of the public calls
@@ -45,3 +46,4 @@ pub record OfPrograms : Type 0 where
   pub law-of-input : LawOfInput
   pub law-of-lines : LawOfLines
   pub lengths-hold : LengthsHold
+  pub exported-calls : Exported

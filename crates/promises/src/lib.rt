@@ -1,16 +1,23 @@
-// Every promise at once: the functions without work of all crates are called here, in the order in which README tells what is proved. None of them
-// can be left out, and none of their statements changed, without this crate.
+// Every promise at once: the functions without work of all crates are called here, in the order in which README tells what is proved, and their
+// statements are the contracts. So none of them can be left out or changed unseen.
 //
 //   specs/Promises    the statements, gathered
 //   specs/Contracts   the contracts of the public calls are the relations that the theorems speak of (proofs/Citing)
+//   specs/Exported    and so are those of the calls for Rust and C, at the number that they give
 //   specs/Meanings    no two answers of a call mean the same (proofs/Telling)
 ghost use Rattle.promises.specs.Contracts.{Contracts};
+ghost use Rattle.promises.specs.Exported.{Exported};
 ghost use Rattle.promises.specs.Meanings.{Meanings};
 ghost use Rattle.promises.specs.Promises.{OfCalls, OfTables, OfHistory, OfFiles, OfPrograms};
 
 // The contract of each public call is its relation, and asks nothing of the caller.
 pub fn contracts_are_relations()
     ensures { λ _. ⌜ Contracts ⌝ }
+{}
+
+// So is that of each call for Rust and C, at the answer that its number and values stand for.
+pub fn exported_calls()
+    ensures { λ _. ⌜ Exported ⌝ }
 {}
 
 // Each answer can be told from its meaning.
@@ -64,5 +71,6 @@ pub fn of_programs()
 {
     board_text::input::law_of_input();
     board_text::line::law_of_lines();
-    exports::lengths_hold();
+    lengths::lengths_hold();
+    exported_calls();
 }
