@@ -1,11 +1,11 @@
 // Read cells: for a tick and [start, end) the byte of each cell, and 1 where a live block holds it; 0 and 0 where none does.
 //
-//   specs/Answers   the contract; specs/Law: the history is shown (proofs/History)
+//   specs/Answers   the contract
+//   specs/Law       the history is shown (proofs/History): a theorem of crate demand, which links it to lists of calls
 //   lib             proofs/Answering   2 and 4; the rest stands in cells_read
 ghost use Rattle.layout.specs.Tables.{tables};
 ghost use Rattle.cells_read.specs.Answers.{readOf};
 ghost use Rattle.cells.specs.Answers.{CellsReadBy};
-ghost use Rattle.cells.specs.Law.{CellsShowHistory};
 pub use cells_read::Read;
 use index_test::State;
 
@@ -42,8 +42,3 @@ pub fn read_cells(
         ),
     }
 }
-
-// Over an index that any list of calls has reached and finished, read cells shows what the history has.
-pub fn shows_history()
-    ensures { λ _. ⌜ CellsShowHistory ⌝ }
-{}

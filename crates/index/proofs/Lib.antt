@@ -2,4 +2,3 @@ pub mod Opens
 pub mod Recording
 pub mod Finishing
 pub mod Answering
-pub mod Injective

@@ -1,4 +1,4 @@
--- What the answer of opening means, and what `block_bytes` gives. Definitions alone; each meaning is injective (proofs/Injective).
+-- What the answer of opening means, and what `block_bytes` gives. Definitions alone; each meaning is injective (crate promises, Meanings).
 use mathlib.Core.Path.{_≡_}
 use mathlib.Core.List.{List, []}
 use Prim.Native.Nat.{ℕ}

@@ -24,21 +24,14 @@ use Rattle.ordering.specs.Order.{InOrder}
 use Rattle.segment_table.specs.Closed.{firstCellIn, Closed}
 use Rattle.layout.specs.Tables.{Tables, treeTables}
 use Rattle.layout.specs.Encodes.{TreeIn, Encodes}
-use Rattle.layout.specs.Formed.{WellFormed, Blank, WellFormedForFinish}
 use Rattle.layout.specs.Relations.{Fields}
+use Rattle.layout.specs.Law.{Word, Lendable, Encoded, TablesExist}
 use Rattle.layout.proofs.Lengths.{Heads, heads-fit}
-use Rattle.layout.proofs.ExistsTable.{Word, word-at}
+use Rattle.layout.proofs.ExistsTable.{word-at}
 use Rattle.layout.proofs.ExistsBlocks.{noFields, blockTable, block-next, fields-at}
 use Rattle.layout.proofs.ExistsOrder.{nextIn, linksBy, sorted-order, sorted-words}
 use Rattle.layout.proofs.ExistsTree.{nodeTable, node-table-length, entryTable, entry-table-length, tree-closed, node-table-words, entry-table-words}
-use Rattle.layout.proofs.ExistsBoard.{Lendable, Fits, headOf, blockRowsOf, tablesBy, blocks-many, block-room, board-encodes, replicate-all, blocks-few, blocks-fit, board-fits}
-
--- There are tables that stand for the ledger; the node and entry tables of an open one are zeros.
-pub record Encoded (l : Ledger) : Type 0 where
-  pub tables : Tables
-  pub encodes : Encodes tables l
-  pub fits : Fits tables
-  pub blank : finished l ≡ false → Blank tables
+use Rattle.layout.proofs.ExistsBoard.{headOf, blockRowsOf, tablesBy, blocks-many, block-room, board-encodes, replicate-all, blocks-few, blocks-fit, board-fits}
 
 -- ── an open index ──
 
@@ -170,10 +163,9 @@ exists l s f = go (l .tree) refl (s .closed)
     go (some tree) is c = closed-exists l (s .board) f tree c is
 
 -- they are well formed, for every call but finish and for finish
-pub exists-formed : (l : Ledger) (s : Sound l) (f : Lendable l) → WellFormed (exists l s f .tables)
-exists-formed l s f = record { ledger = l; encodes = exists l s f .encodes; sound = s }
-
-pub exists-formed-for-finish : (l : Ledger) (s : SoundForFinish l) (f : Lendable l) → WellFormedForFinish (exists l (s .sound) f .tables)
-exists-formed-for-finish l s f =
-    let e = exists l (s .sound) f in
-    record { ledger = l; encodes = e .encodes; sound = s; blank = e .blank }
+pub tables-exist : TablesExist
+tables-exist = record {
+  standing = exists;
+  formed = λ l s f. record { ledger = l; encodes = exists l s f .encodes; sound = s };
+  for-finish = λ l s f. let e = exists l (s .sound) f in record { ledger = l; encodes = e .encodes; sound = s; blank = e .blank };
+}

@@ -14,7 +14,8 @@ use Rattle.tables.specs.Columns.{blockColumn, blockBase, blockFirst, blockLengt
 use Rattle.block_table.specs.Blocks.{blockOfRow, blocksOf, Stored}
 use Rattle.ordering.specs.Order.{nextAt}
 use Rattle.layout.specs.Relations.{Fields, blockIn}
-use Rattle.layout.proofs.ExistsTable.{tableBy, table-by-length, table-by-at, part-in, Word, all-get, table-by-words}
+use Rattle.layout.specs.Law.{Word}
+use Rattle.layout.proofs.ExistsTable.{tableBy, table-by-length, table-by-at, part-in, all-get, table-by-words}
 
 -- ── rows ──
 

@@ -21,33 +21,10 @@ use Rattle.piece_table.specs.Shown.{shown}
 use Rattle.layout.specs.Tables.{Tables, tables, lengthsOf, headAt}
 use Rattle.layout.specs.Encodes.{stateOf, TreeIn, Encodes}
 use Rattle.layout.specs.Relations.{Fields, blockIn}
+use Rattle.layout.specs.Law.{Word, Byte, Fits, Lendable}
 use Rattle.layout.proofs.Lengths.{lent-same, Heads, heads-fit}
-use Rattle.layout.proofs.ExistsTable.{Word}
 use Rattle.layout.proofs.ExistsPieces.{PieceRows, piece-rows, pieceTable, piece-table-length, piece-links, pieces-shown, pieces-inside, PieceWords, piece-table-words}
 use Rattle.layout.proofs.ExistsBlocks.{BlockRows, block-rows, Head, blockRow, blockTable, block-table-length, block-column, blocks-shown, blocks-inside, FieldsWords, HeadWords, block-table-words}
-
--- ── what can be lent ──
-
-abbrev pub Byte : ℕ → Type 0
-Byte n = n < 2 ^ 8
-
--- the heads are there, lengths are of 64 bits, and the store's used part has bytes
-pub record Lendable (l : Ledger) : Type 0 where
-  pub heads : tooShort (l .opening .lent) ≡ false
-  pub pieces : l .opening .lent .pieces < 2 ^ 64
-  pub blocks : l .opening .lent .blocks < 2 ^ 64
-  pub store : l .opening .lent .store < 2 ^ 64
-  pub nodes : l .opening .lent .nodes < 2 ^ 64
-  pub entries : l .opening .lent .entries < 2 ^ 64
-  pub bytes : All Byte (l .now .store)
-
--- tables of numbers of 64 bits, and a store of bytes
-pub record Fits (t : Tables) : Type 0 where
-  pub pieces : All Word (t .pieces)
-  pub blocks : All Word (t .blocks)
-  pub store : All Byte (t .store)
-  pub nodes : All Word (t .nodes)
-  pub entries : All Word (t .entries)
 
 -- ── the board ──
 

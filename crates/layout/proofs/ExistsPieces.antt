@@ -22,7 +22,8 @@ use Rattle.merge_set.proofs.Balance.{inserted-balanced}
 use Rattle.piece_table.specs.Piece.{PieceRow, pieceAt}
 use Rattle.piece_table.specs.Shown.{shown}
 use Rattle.layout.specs.Encodes.{Links}
-use Rattle.layout.proofs.ExistsTable.{count-from-all, count-from-ascending, tableBy, table-by-length, table-by-at, part-in, Word, all-get, table-by-words}
+use Rattle.layout.specs.Law.{Word}
+use Rattle.layout.proofs.ExistsTable.{count-from-all, count-from-ascending, tableBy, table-by-length, table-by-at, part-in, all-get, table-by-words}
 
 -- ── a balanced tree ──
 

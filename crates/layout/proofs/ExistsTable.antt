@@ -12,6 +12,7 @@ use Rattle.history.specs.Lent.{rowWidth}
 use Rattle.history.specs.Words.{Stretch, size}
 use Rattle.history.specs.Sound as sound
 use Rattle.tables.specs.Columns.{column}
+use Rattle.layout.specs.Law.{Word}
 
 -- ── numbers that follow one another ──
 
@@ -78,9 +79,6 @@ part-in store rest s h =
     (sym (h .bytes))
 
 -- ── numbers of 64 bits ──
-
-abbrev pub Word : ℕ → Type 0
-Word n = n < 2 ^ 64
 
 -- what holds of all elements and of the default holds of each place
 pub all-get : {A : Type 0} {P : A → Type 0} (d : A) → P d → {xs : List A} → All P xs → (i : ℕ) → P (getD xs i d)

@@ -11,3 +11,4 @@ pub mod ExistsTree
 pub mod ExistsBoard
 pub mod Exists
 pub mod Recording
+pub mod Depths

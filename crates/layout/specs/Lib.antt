@@ -5,3 +5,4 @@ pub mod Reads
 pub mod Relations
 pub mod Rows
 pub mod Files
+pub mod Law

@@ -24,7 +24,7 @@ use Rattle.layout.specs.Relations.{openingOf, OpenedBy, Counts, FoundBy, Fields
 use Rattle.layout.specs.Files.{WrittenBy, LoadedBy, headed, zeroedTables}
 use Rattle.demand.specs.Theorem.{Run}
 use Rattle.cells.specs.Answers.{CellsReadBy}
-use Rattle.cells.specs.Law.{HistoryShown}
+use Rattle.cells.specs.Law.{ShowsHistory}
 
 -- ── slices ──
 
@@ -91,13 +91,6 @@ pub record AsLong (t u : Tables) : Type 0 where
   pub store : length (t .store) ≤ length (u .store)
   pub nodes : length (t .nodes) ≤ length (u .nodes)
   pub entries : length (t .entries) ≤ length (u .entries)
-
--- a read of a tick below the end and of a range that the slices hold shows what the accepted calls leave at the tick
-abbrev pub ShowsHistory : (a : Opening) (ks : List Call) → Tables → Type 0
-ShowsHistory a ks u =
-    (tick start stop : ℕ) (bytes bytes′ held held′ : List ℕ) (answer : Answer Unit) → tick < afterAll (opened a) ks .opening .end → start ≤ stop
-    → stop - start ≤ length bytes → stop - start ≤ length held → CellsReadBy u tick start stop bytes bytes′ held held′ answer
-    → HistoryShown a ks tick start stop bytes bytes′ held held′ answer
 
 -- an index that calls have reached, loaded again: it answers alike, and read cells shows the history
 pub record LoadedAgain (a : Opening) (ks : List Call) (t u : Tables) : Type 0 where
