@@ -1,12 +1,12 @@
 #!/usr/bin/env python3
 """Inputs for the program `board`, and what it must print of each: the data of the program `board_try`.
 
-  boardcases.py make          writes crates/board_try/stdin
-  boardcases.py list          the cases by number, with how many bytes they have and how their output starts
-  boardcases.py run PROGRAM   runs a program on each input, and compares what it prints
-  boardcases.py --test        tries itself: the boards of document 01, and that crates/board_try/stdin is what `make` writes
+  printed.py make          writes crates/board_try/stdin
+  printed.py list          the cases by number, with how many bytes they have and how their output starts
+  printed.py run PROGRAM   runs a program on each input, and compares what it prints
+  printed.py --test        tries itself: the boards of document 01, and that crates/board_try/stdin is what `make` writes
 
-What must be printed is computed here from document 01's rules over plain lists of cells and blocks, by nothing that the program uses.
+What must be printed is what the model of document 01 (board_model.py) says, by nothing that the program uses.
 
 The data is a count of cases, then for each case the input's length, the input, the output's length and the output; counts and lengths have 4 bytes,
 little-endian.
@@ -15,11 +15,12 @@ import os
 import subprocess
 import sys
 
+from board_model import MOST_END, WORD, Model, hexed
+
 MARK = b"\xb7\x4f"
 MOST_INPUT = 65536
-PIECES, BLOCKS, STORE, NODES, ENTRIES = 512, 1024, 65536, 1024, 4096
-MAX_END = 1 << 63
-LARGEST = (1 << 64) - 1
+ROWS = (512, 512, 1024, 65536, 1024, 4096)  # what `board` lends: pieces, scratch, blocks, store, nodes, entries
+LARGEST = WORD - 1
 HEADER = "cell n from to clock bytes"
 DATA = os.path.join(os.path.dirname(os.path.abspath(__file__)), "..", "crates", "board_try", "stdin")
 
@@ -44,94 +45,25 @@ def records_of(data):
     return records, None
 
 
-class Board:
-    """Pieces are (first, bytes, written), ascending; blocks are (first, bytes, created, destroyed), in recorded order."""
-
-    def __init__(self, end):
-        self.end, self.last, self.used, self.pieces, self.blocks = end, 0, 0, [], []
-
-    def holds(self, cell):
-        return next((data[cell - first] for first, data, _ in self.pieces if first <= cell < first + len(data)), None)
-
-    def record(self, tick, first, data):
-        """The refusal's number, or none."""
-        end = first + len(data)
-        if not data:
-            return 5
-        if end > LARGEST:
-            return 6
-        if tick >= self.end:
-            return 7
-        if tick < self.last:
-            return 8
-        if all(self.holds(first + i) == byte for i, byte in enumerate(data)):
-            self.last = tick
-            return None
-        left, inside, right = [], [], []
-        for start, old, written in self.pieces:
-            cut = lambda a, b: (max(a, start), old[max(a, start) - start : max(0, b - start)], written)
-            left += [cut(0, first)] if start < first else []
-            inside += [cut(first, end)] if max(start, first) < min(start + len(old), end) else []
-            right += [cut(end, start + len(old))] if end < start + len(old) else []
-        pieces = left + [(first, data, tick)] + right
-        blocks = self.blocks + [(start, old, written, tick) for start, old, written in inside]
-        if len(pieces) > PIECES:
-            return 9
-        if len(blocks) + len(pieces) > BLOCKS:
-            return 10
-        if self.used + len(data) > STORE:
-            return 11
-        self.last, self.used, self.pieces, self.blocks = tick, self.used + len(data), pieces, blocks
-        return None
-
-    def tree(self, blocks):
-        """How many nodes and entries the tree of blocks has."""
-        nodes, entries = set(), 0
-        for _, _, created, destroyed in blocks:
-            todo = [(0, self.end)]
-            while todo:
-                low, high = todo.pop()
-                nodes.add((low, high))
-                middle = (low + high) // 2
-                if created <= low and high <= destroyed:
-                    entries += 1
-                elif high - low > 1:
-                    todo += [(low, middle)] if created < middle else []
-                    todo += [(middle, high)] if destroyed > middle else []
-        return len(nodes), entries
-
-    def finish(self):
-        """The refusal's number, or none."""
-        blocks = self.blocks + [(first, data, written, self.end) for first, data, written in self.pieces]
-        nodes, entries = self.tree(blocks)
-        if nodes > NODES:
-            return 12
-        if entries > ENTRIES:
-            return 13
-        self.blocks, self.pieces = blocks, []
-        return None
-
-
 def printed(data):
     """All that `board` prints of an input."""
     data = data[:MOST_INPUT]
     records, bad = records_of(data)
     if records is None:
         return f"bad record {bad}\n".encode()
-    end, kind = int.from_bytes(data[:8], "little"), data[8]
-    if not 1 <= end <= MAX_END or kind > 4:
-        return b"open refused 1\n"
-    board, lines = Board(end), [HEADER]
+    index, refused = Model(), lambda answer: answer.startswith("refused")
+    answer = index.answer(["open", int.from_bytes(data[:8], "little"), data[8], *ROWS])
+    if refused(answer):
+        return f"open {answer}\n".encode()
+    lines = [HEADER]
     for k, (tick, first, cells) in enumerate(records, 1):
-        number = board.record(tick, first, cells)
-        lines += [f"op {k} refused {number}"] if number else []
-    number = board.finish()
-    if number:
-        lines.append(f"finish refused {number}")
+        answer = index.answer(["record", tick, first, hexed(cells)])
+        lines += [f"op {k} {answer}"] if refused(answer) else []
+    answer = index.answer(["finish"])
+    if refused(answer):
+        lines.append(f"finish {answer}")
     else:
-        for first, cells, created, destroyed in board.blocks:
-            minute = first % (1 << 32) % 1440
-            lines.append(f"{first} {len(cells)} {created} {destroyed} {minute // 60:02}{minute % 60:02} {cells.hex()}")
+        lines += [f"{b.first} {len(b.data)} {b.created} {b.destroyed} {index.clock(b.first)[0]:04} {b.data.hex()}" for b in index.blocks]
     return "".join(line + "\n" for line in lines).encode()
 
 
@@ -166,7 +98,7 @@ def marked_boards():
 
 def openings():
     """Opening: E 0, 1, 2^63 and above, kinds 4, 5 and 255; no record at all."""
-    for end in (0, 1, 2, MAX_END, MAX_END + 1, LARGEST):
+    for end in (0, 1, 2, MOST_END, MOST_END + 1, LARGEST):
         yield board(end, 1)
         yield board(end, 4, (0, 5, b"\1\2"))
     for kind in (5, 255):
@@ -228,11 +160,11 @@ def tables_spent():
     yield board(2, 1, *[(0, 5, bytes([i % 2])) for i in range(1025)], (1, 6, b"\1"), (1, 5, b"\1"), (1, 5, b"\1\1"))
     yield board(513, 1, *cell(range(1, 513)))
     yield board(513, 1, *cell(range(513)))
-    yield board(MAX_END, 1, *[(i * (MAX_END // 21) + i * i, 5, bytes([i])) for i in range(1, 21)])
-    yield board(MAX_END, 1, *[(1, 2 * i, b"\7") for i in range(65)], (1, 1000, b"\1"), (1, 1000, b"\2"))
-    yield board(MAX_END, 1, (0, 999, b"\7"), *[(1, 2 * i, b"\7") for i in range(65)])
-    yield board(MAX_END, 1, (0, 999, b"\7"), (0, 1001, b"\7"), *[(1, 2 * i, b"\7") for i in range(65)])
-    yield board(MAX_END, 1, *[(1, 2 * i, b"\7") for i in range(66)])
+    yield board(MOST_END, 1, *[(i * (MOST_END // 21) + i * i, 5, bytes([i])) for i in range(1, 21)])
+    yield board(MOST_END, 1, *[(1, 2 * i, b"\7") for i in range(65)], (1, 1000, b"\1"), (1, 1000, b"\2"))
+    yield board(MOST_END, 1, (0, 999, b"\7"), *[(1, 2 * i, b"\7") for i in range(65)])
+    yield board(MOST_END, 1, (0, 999, b"\7"), (0, 1001, b"\7"), *[(1, 2 * i, b"\7") for i in range(65)])
+    yield board(MOST_END, 1, *[(1, 2 * i, b"\7") for i in range(66)])
 
 
 def cases():
@@ -257,8 +189,6 @@ def test():
     listing = b"cell n from to clock bytes\n102 1 1 3 0142 07\n103 1 3 6 0143 09\n100 2 1 8 0140 0707\n102 1 3 8 0142 09\n103 1 6 8 0143 04\n104 1 3 8 0144 09\n"
     assert printed(LISTING) == listing
     assert printed(board(8, 1, (0, 10, b"\5\5"), (1, 10, b"\5\5\5\5"))) == f"{HEADER}\n10 2 0 1 0010 0505\n10 4 1 8 0010 05050505\n".encode()
-    board_of = lambda *lives: Board(8).tree([(0, b"\1", *life) for life in lives])
-    assert board_of((1, 8)) == (6, 3) and board_of((0, 0)) == (4, 0) and board_of() == (0, 0)
     said = b"".join(printed(data) for _, data in cases())
     for words in ["bad record 0", "open refused 1", *[f"refused {n}\n" for n in (5, 6, 7, 8, 9, 10)], "finish refused 12", "finish refused 13"]:
         assert words.encode() in said, words
@@ -266,7 +196,7 @@ def test():
         assert f"refused {number}\n".encode() not in said
     with open(DATA, "rb") as file:
         assert file.read() == whole(), "crates/board_try/stdin is not what `make` writes"
-    print("boardcases: ok")
+    print("printed: ok")
 
 
 # ── the command ──

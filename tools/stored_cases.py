@@ -1,4 +1,4 @@
-"""Own cases for the stored list: files at the edges of refusals 17 to 24, files with one byte changed, timetables, and boards whose tables are just too small.
+"""Own cases for the stored list (stored.py): files at the edges of refusals 17 to 24, files with one byte changed, timetables, and boards whose tables are just too small.
 
 Each case is a name and a list of calls in words (board_model.py); what a call answers is left to the model. All of it is determined: the dice are a
 fixed sequence of numbers.
@@ -432,6 +432,45 @@ def over(dice, end, records):
     return calls + [["open", end, 2, *rows]] + records + [["finish"], ["block", 0]]
 
 
+# ── every damage of one file ──
+
+DAMAGED_AT, DAMAGED_END = 5, 40  # where the file stands among other bytes; its end tick
+
+
+def bookings():
+    """Ninety bookings of eight cells by three at a tick, so that some blocks have no life."""
+    seed, calls = 7, []
+    for i in range(90):
+        seed = (seed * 1103515245 + 12345) % (1 << 31)
+        calls.append(["record", i // 3, seed // 65536 % 60, hexed(bytes([i + 1]) * 8)])
+    return calls
+
+
+def all_reads(blocks, end, cells):
+    """Every block, and at every tick what is found and every cell."""
+    calls = [["block", n] for n in range(blocks + 1)]
+    for tick in range(end):
+        calls.append(["find", tick, 0, cells, 64])
+        calls += [["cells", tick, start, start + 64, 64, 64] for start in range(0, cells, 64)]
+    return calls
+
+
+def damaged():
+    """A board whose file is cut at every length and has every byte changed."""
+    rows, records = (64, 64, 230, 2000, 80, 400), bookings()
+    content = file_of(DAMAGED_END, 2, records)
+    front = b"\xaa" * DAMAGED_AT + content
+    whole, reads = front.ljust(16384, b"\xaa"), all_reads(214, DAMAGED_END, 256)
+    calls = [["open", DAMAGED_END, 2, *rows]] + records + [["finish"]] + reads + [["write", len(content)], ["write", len(content) - 1]]
+    yield "damaged-board", calls
+    yield "damaged-loaded", [load(whole, DAMAGED_AT, rows[2:])] + reads + [["write", len(content)]]
+    yield "damaged-no-row", [load(whole, DAMAGED_AT, (0, *rows[3:])), ["block", 0]]
+    yield "damaged-cut", [load(whole, DAMAGED_AT, rows[2:]), ["damaged", DAMAGED_AT, 0, 0, len(front), hexed(front)]]
+    for start in range(DAMAGED_AT, len(front), 3000):
+        changes = ["damaged", DAMAGED_AT, 1, start, min(start + 3000, len(front)), hexed(whole)]
+        yield f"damaged-from-{start}", [load(whole, DAMAGED_AT, rows[2:]), changes]
+
+
 def own_cases():
     dice = Dice(2026)
     cases = [file_case(f"{group.__name__}-{name}", dice, content) for group in GROUPS for name, content in group()]
@@ -451,4 +490,4 @@ def own_cases():
         cases += tight(dice, f"tight-{number}", end, number % 5, records[:9])
     cases += [(f"over-{number}", over(dice, end, records)) for number, (end, records) in enumerate(days[-4:])]
     cases.append(("clock", [["clock", m] for m in list(range(0, 1440, 37)) + [MINUTES - 1, MINUTES, 7 * MINUTES + 1439, WORD - 1]]))
-    return cases
+    return cases + list(damaged())
