@@ -214,7 +214,9 @@ def run(program):
 
 
 def main(arguments):
-    if arguments == ["--test"]:
+    if arguments == ["--help"]:
+        print(__doc__)
+    elif arguments == ["--test"]:
         test()
     elif arguments == ["make"]:
         with open(DATA, "wb") as file:

@@ -4,6 +4,7 @@
   stored.py make VECTORS FILE [ORACLE]   from the oracle's list, the boards of marked.txt and the cases of stored_cases.py
   stored.py show FILE [CASE]             the list, or one case of it, in words; cases count from 1
   stored.py spoil VECTORS FILE           the same cases, each up to a call whose answer is changed: replay must say that one of each differs
+  stored.py --test                       tries itself: the model gives every answer of marked.txt, and rows are read as they were written
 
 Before anything is written, the model of document 01 (board_model.py) must give every answer of the oracle's list and of marked.txt; the answers of the other
 cases are the model's. With the program ORACLE they are compared with the Rust too (board_oracle.py). The same VECTORS give the same bytes.
@@ -45,7 +46,7 @@ COLUMNS = {
 }
 
 # Numbers in front of the first row of each table (Lent of crate history), and in a row.
-PIECE_HEAD, BLOCK_HEAD, NODE_HEAD, ENTRY_HEAD = 8, 8, 8, 8
+PIECE_HEAD, BLOCK_HEAD, NODE_HEAD, ENTRY_HEAD = 8, 2048, 8, 8
 ROW, ENTRY_ROW = 8, 2
 
 # What the program has room for: rows of each table, bytes of store, places of an answer, cells, bytes of a file; and the bytes of a part.
@@ -395,13 +396,34 @@ def show(path, only=None):
                 print(f"{case}: {line(numbers, pool)}")
 
 
-if __name__ == "__main__":
+# ── tests ──
+
+
+def test():
+    """The model gives every answer of marked.txt, and rows are read as they were written."""
+    marked = vector_cases(MARKED)
+    check(marked)
+    for value in (0, 247, 248, 255, 256, 1 << 32, WORD - 1):
+        assert read_number(number(value), 0) == (value, len(number(value)))
+    stored = List()
+    for case in marked:
+        stored.add(OWN, case)
+    lines = [line(*r) for start in range(0, len(stored.bytes()), PART) for r in rows_of(stored.bytes()[start:start + PART])]
+    assert lines.count("own case") == len(marked) and len(lines) == len(marked) + sum(map(len, marked))
+    said = {n for case in marked for _, answer in case for n in answer[1:] if answer[0] == "refused"}
+    assert said == {str(n) for n in range(1, 25)}, "marked.txt has the edge of each refusal"
+    assert [run_of(word) for word in broken(Dice(1), ["17*5"])] != [(17, 5)]
+    print("stored: ok")
+
+
+def main(arguments):
     sys.setrecursionlimit(10000)
-    if sys.argv[1:2] == ["make"] and len(sys.argv) in (4, 5):
-        make(*sys.argv[2:])
-    elif sys.argv[1:2] == ["spoil"] and len(sys.argv) == 4:
-        spoil(*sys.argv[2:])
-    elif sys.argv[1:2] == ["show"] and len(sys.argv) in (3, 4):
-        show(*sys.argv[2:])
-    else:
+    commands = {"make": (make, (2, 3)), "spoil": (spoil, (2,)), "show": (show, (1, 2)), "--test": (test, (0,)), "--help": (lambda: print(__doc__), (0,))}
+    run, counts = commands.get(arguments[0] if arguments else "", (None, ()))
+    if len(arguments) - 1 not in counts:
         sys.exit(__doc__)
+    run(*arguments[1:])
+
+
+if __name__ == "__main__":
+    main(sys.argv[1:])
