@@ -19,9 +19,8 @@ use Rattle.history.specs.Sound.{Sound, SoundTree, SoundClosed}
 use Rattle.history.proofs.RulesLaws.{rule23-decides, numbered-decides}
 use Rattle.history.proofs.FindMet.{path-met}
 use Rattle.tables.specs.Columns.{blockColumn, headEnd, headKind, headCount}
-use Rattle.ordering.specs.Order.{firstCellAt}
-use Rattle.ordering.specs.Blocks.{blockOfRow, lengthAt, offsetAt}
-use Rattle.ordering.proofs.Blocks.{blocks-at, blocks-key, bytes-length}
+use Rattle.block_table.specs.Blocks.{firstCellAt, blockOfRow, lengthAt, offsetAt}
+use Rattle.block_table.proofs.Blocks.{blocks-at, blocks-key, bytes-length}
 use Rattle.segment_table.specs.Closed.{Closed, firstCellIn}
 use Rattle.segment_find.specs.declared.neighbour.Side.{Side}
 use Rattle.segment_find.specs.declared.neighbour.Neighbour.{Neighbour}

@@ -25,8 +25,8 @@ use Rattle.history.proofs.FileNumbers.{bytesOf-length}
 use Rattle.history.proofs.FileRenumbered.{mapTree-nodeCount, mapTree-entryCount}
 use Rattle.history.proofs.FileKept.{entries-written}
 use Rattle.tables.specs.Columns.{column, blockColumn, headKind, headEnd}
-use Rattle.ordering.specs.Blocks.{lengthAt, offsetAt, blockOfRow, Stored}
-use Rattle.ordering.proofs.Blocks.{blocks-at, bytes-length}
+use Rattle.block_table.specs.Blocks.{lengthAt, offsetAt, blockOfRow, Stored}
+use Rattle.block_table.proofs.Blocks.{blocks-at, bytes-length}
 use Rattle.segment_table.specs.Closed.{TreeAt, Closed}
 use Rattle.layout.specs.Tables.{tables}
 use Rattle.layout.specs.Encodes.{Encodes, TreeIn}

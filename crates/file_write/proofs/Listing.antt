@@ -16,7 +16,7 @@ use Rattle.lists.proofs.Counting.{has-decides, count-from-below, count-from-app
 use Rattle.history.specs.File.{bytesOf, numberOf, placeIn}
 use Rattle.history.proofs.FileNumbers.{bytesOf-length, numberOf-bytesOf}
 use Rattle.history.proofs.FilePlaces.{placeIn-countFrom}
-use Rattle.ordering.specs.Blocks.{lengthAt}
+use Rattle.block_table.specs.Blocks.{lengthAt}
 use Rattle.file_write.specs.Putting.{Put}
 use Rattle.file_write.specs.Living.{lives, living}
 use Rattle.file_write.specs.Sizes.{blocksSize, nodesAt}

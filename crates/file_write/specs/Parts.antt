@@ -7,7 +7,7 @@ use lib.ListN.{length}
 use Rattle.lists.specs.Lists.{All, has}
 use Rattle.history.specs.Tree.{Tree, mid, entriesIn}
 use Rattle.history.specs.File.{bytesOf, blockBytes, nodeBytes, nodesOf, mapTree, placeIn}
-use Rattle.ordering.specs.Blocks.{lengthAt, offsetAt, blockOfRow, Stored}
+use Rattle.block_table.specs.Blocks.{lengthAt, offsetAt, blockOfRow, Stored}
 use Rattle.segment_table.specs.Closed.{TreeAt, run, firstAt, countAt}
 use Rattle.file_write.specs.Putting.{Put, rowBytes}
 use Rattle.file_write.specs.Living.{livingBlocks}
