@@ -120,3 +120,25 @@ pub fn sum(pieces: &[u64], blocks: &[u64], store: &[u8], nodes: &[u64], entries:
     let up_to_nodes = sum_of(nodes, up_to_store);
     sum_of(entries, up_to_nodes)
 }
+
+// The last refusal that leaves the tables; after a later one they hold zeros.
+const LEAVES: u64 = 20;
+
+// Whether the tables are left as they must be after a call: as the sum before says where it was refused, zeros where a file was refused for its contents.
+pub fn is_left(
+    pieces: &[u64],
+    blocks: &[u64],
+    store: &[u8],
+    nodes: &[u64],
+    entries: &[u64],
+    before: u64,
+    refusal: u64,
+) -> bool {
+    if refusal == 0 {
+        return true;
+    }
+    if LEAVES < refusal {
+        return are_zero(pieces, blocks, store, nodes, entries);
+    }
+    sum(pieces, blocks, store, nodes, entries) == before
+}
