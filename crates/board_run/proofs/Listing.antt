@@ -31,8 +31,9 @@ use Rattle.index.specs.declared.Given.{Given}
 use Rattle.index.specs.declared.Given.the-variants.{Block as IsBlock, Refused}
 use Rattle.index.specs.declared.Finished.{Finished}
 use Rattle.index.specs.declared.Finished.the-variants.{Finished as IsFinished, Refused as FinishRefused}
-use Rattle.board_text.specs.Line.{Put, blockLineOf}
-use Rattle.board_text.proofs.Putting.{put-none, put-append}
+use Rattle.lists.specs.Puts.{Put}
+use Rattle.board_text.specs.Line.{blockLineOf}
+use Rattle.lists.proofs.Puts.{put-none, put-append}
 use Rattle.board_text.proofs.Lines.{law-of-lines}
 use Rattle.board_run.specs.Runs.{Standing, ListedOne, Listed, FinishPut}
 

@@ -6,24 +6,23 @@ use Prim.Native.Nat.{ℕ, _≤_, _<_}
 use native.Mathlib.Omega.{arith}
 use lib.ListN.{length, take, length-take}
 use lib.Seq.{take-all, length-take-le, length-sets}
-use Rattle.history.specs.Words.{Operation}
 use Rattle.history.specs.Lent.{Lent, tooShort}
 use Rattle.history.specs.Ledger.{Opening, opened}
 use Rattle.history.specs.Refusals.{Answer, accepted, refused, openAnswer}
-use Rattle.history.specs.Printed.{Records, bad, all, inputMost, boardLent, headerText, badRecordText, openText, newline, decimal, refusedLine, linesFrom, openLines, recordLines, printed}
+use Rattle.history.specs.Printed.{Records, bad, all, inputMost, boardLent, headerText, badRecordText, openText, newline, decimal, refusedLine, linesFrom, openLines, recordLines, printed, Booking}
 use Rattle.layout.specs.Tables.{Tables, tables}
 use Rattle.layout.specs.Relations.{openingOf, openedTables, leftBy, OpenedBy}
 use Rattle.index.specs.Answers.{openedOf}
 use Rattle.index.specs.declared.Opened.{Opened}
 use Rattle.index.specs.declared.Opened.the-variants.{Opened as IsOpened, Refused}
-use Rattle.board_text.specs.Input.{startOf, recordsOf, checkOf}
-use Rattle.board_text.specs.Line.{Put}
-use Rattle.board_text.specs.declared.input.Start.{Start}
-use Rattle.board_text.specs.declared.input.Start.the-variants.{Short, Open}
-use Rattle.board_text.specs.declared.input.Check.{Check}
-use Rattle.board_text.specs.declared.input.Check.the-variants.{Good, Bad}
-use Rattle.board_text.proofs.Putting.{put-append}
-use Rattle.board_text.proofs.Meeting.{law-of-input}
+use Rattle.board_input.specs.Input.{startOf, recordsOf, checkOf}
+use Rattle.lists.specs.Puts.{Put}
+use Rattle.board_input.specs.declared.Start.{Start}
+use Rattle.board_input.specs.declared.Start.the-variants.{Short, Open}
+use Rattle.board_input.specs.declared.Check.{Check}
+use Rattle.board_input.specs.declared.Check.the-variants.{Good, Bad}
+use Rattle.lists.proofs.Puts.{put-append}
+use Rattle.board_input.proofs.Meeting.{law-of-input}
 use Rattle.board_text.proofs.Lines.{law-of-lines}
 use Rattle.board_run.specs.Runs.{Standing, RecordedAll, FinishPut, OpenPut, PlayPut, LendPut, printedOf}
 use Rattle.board_run.specs.Room.{outputMost, PrintsBoard}
@@ -49,11 +48,11 @@ open-lines {nodes} {entries} {out} {out′} {next} header records last =
 abbrev boardOpening : (end kind : ℕ) → Opening
 boardOpening end kind = record { end = end; kind = kind; lent = boardLent }
 
-lines-refused : (end kind n : ℕ) (os : List Operation) → openAnswer (boardOpening end kind) ≡ refused n → recordLines end kind (all os) ≡ refusedLine openText n
+lines-refused : (end kind n : ℕ) (os : List Booking) → openAnswer (boardOpening end kind) ≡ refused n → recordLines end kind (all os) ≡ refusedLine openText n
 unfolding recordLines openLines
 lines-refused end kind n os e = rw e
 
-lines-taken : (end kind : ℕ) (os : List Operation) → openAnswer (boardOpening end kind) ≡ accepted tt
+lines-taken : (end kind : ℕ) (os : List Booking) → openAnswer (boardOpening end kind) ≡ accepted tt
     → recordLines end kind (all os) ≡ headerText ++ (newline ∷ linesFrom 1 (opened (boardOpening end kind)) os)
 unfolding recordLines openLines
 lines-taken end kind os e = rw e
@@ -104,7 +103,7 @@ found-bad : (x : Records) (k : ℕ) → checkOf x ≡ Bad k → x ≡ bad k
 found-bad (bad n) k e = let same : n ≡ k = cc in ap bad same
 found-bad (all os) k e = let z : _≡_ {A = ℕ} 0 1 = cc in absurd (omega arith)
 
-found-good : (x : Records) → checkOf x ≡ Good → (os : List Operation) × (x ≡ all os)
+found-good : (x : Records) → checkOf x ≡ Good → (os : List Booking) × (x ≡ all os)
 found-good (bad n) e = let z : _≡_ {A = ℕ} 0 1 = cc in absurd (omega arith)
 found-good (all os) e = (os, refl)
 

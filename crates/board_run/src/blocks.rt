@@ -1,7 +1,6 @@
 // Finish, and the blocks in recorded order, those of no life too.
 ghost use Rattle.layout.specs.Tables.{tables};
 ghost use Rattle.board_run.specs.Runs.{ListedOne, Listed, FinishPut};
-use board_text::line;
 use index::Finished;
 use index::Given;
 use index::reads;
@@ -22,7 +21,7 @@ fn list_one(blocks: &[u64], store: &[u8], number: u64, out: &mut [u8], at: usize
             offset,
         } => {
             let bytes = reads::part(store, offset, length);
-            line::block_line(out, at, first, created, destroyed, bytes)
+            board_text::block_line(out, at, first, created, destroyed, bytes)
         }
     }
 }
@@ -55,7 +54,7 @@ pub fn finish(
         (now (out .entry)) at (now (out .exit)) r ⌝ }
 {
     match index::finish_open(pieces, blocks, nodes, entries) {
-        Finished::Refused(number) => line::finish_refused(out, at, number),
+        Finished::Refused(number) => board_text::finish_refused(out, at, number),
         Finished::Finished => list(blocks, store, out, at),
     }
 }

@@ -3,8 +3,7 @@
 ghost use mathlib.Core.Path.{_≡_};
 ghost use Prim.Native.Nat.{min};
 ghost use Rattle.cells.specs.Runs.{PartOf, FirstRun, NextRun};
-use segment_find::neighbour;
-use segment_find::neighbour::Neighbour;
+use segment_near::Neighbour;
 use tables::block;
 
 // From the place asked for on, the cells below `until` are free; those from there to below `past` have the store's bytes from place `from` on.
@@ -83,7 +82,7 @@ pub fn first_run(
 {
     let kind = block::get(blocks, 0, block::KIND);
     let last = block::get(blocks, 0, block::END);
-    let before = neighbour::last_before(nodes, entries, kind, last, tick, start);
+    let before = segment_near::last_before(nodes, entries, kind, last, tick, start);
     match before {
         Neighbour::Block { number, first: _ } => part(blocks, store, number, start, end),
         Neighbour::Nothing => free(start),
@@ -104,7 +103,7 @@ pub fn next_run(
 {
     let kind = block::get(blocks, 0, block::KIND);
     let last = block::get(blocks, 0, block::END);
-    let next = neighbour::first_from(nodes, entries, kind, last, tick, place);
+    let next = segment_near::first_from(nodes, entries, kind, last, tick, place);
     let Neighbour::Block { number, first } = next else {
         return free(end);
     };

@@ -10,7 +10,7 @@ use lib.ListN.{length, length-append}
 use lib.Seq.{sets}
 use borrow.Author.Tests.{lt-ltb, le-ltb, le-leb, lt-leb}
 use Rattle.lists.proofs.Numbers.{le-or-lt}
-use Rattle.lists.proofs.Stores.{sets-append}
+use Rattle.lists.proofs.Stores.{sets-append, sets-comm, sets-over}
 use Rattle.history.specs.Lent.{tooShort}
 use Rattle.history.specs.Ledger.{Ledger, finished}
 use Rattle.history.specs.Refusals.{accepted, refused, firstOf, writeRefusals}
@@ -20,7 +20,7 @@ use Rattle.tables.specs.Columns.{column, blockColumn, headKind, headEnd}
 use Rattle.layout.specs.Tables.{tables}
 use Rattle.layout.specs.Encodes.{Encodes}
 use Rattle.layout.specs.Files.{bytesWritten, outLeft}
-use Rattle.file_write.specs.Putting.{Put}
+use Rattle.lists.specs.Puts.{Put}
 use Rattle.file_write.specs.Living.{living, livingBlocks}
 use Rattle.file_write.specs.Sizes.{blocksSize, blockCount, nodesAt, fileSize, planOf}
 use Rattle.file_write.specs.Numbering.{Listed}
@@ -28,8 +28,7 @@ use Rattle.file_write.specs.Parts.{PutBlocks, PutTree}
 use Rattle.file_write.specs.Answers.{FileWritten, WrittenClosed}
 use Rattle.file_write.specs.declared.plan.Plan.{Plan}
 use Rattle.file_write.specs.declared.plan.Plan.the-variants as plan
-use Rattle.file_write.proofs.Stores.{sets-comm, sets-over}
-use Rattle.file_write.proofs.Putting.{put-append}
+use Rattle.lists.proofs.Puts.{put-append}
 use Rattle.file_write.proofs.Listing.{numbers-length, list-shorter, numbering}
 use Rattle.file_write.proofs.Agreeing.{Agrees, agrees}
 

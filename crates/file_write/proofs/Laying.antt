@@ -11,10 +11,10 @@ use Rattle.history.specs.File.{bytesOf, blockBytes}
 use Rattle.ordering.specs.Order.{firstCellAt}
 use Rattle.ordering.specs.Blocks.{lengthAt, offsetAt, createdAt, destroyedAt, ownerAt, bytesAt, blockOfRow, Stored}
 use Rattle.ordering.proofs.Blocks.{bytes-length}
-use Rattle.file_write.specs.Putting.{Put, rowBytes}
+use Rattle.lists.specs.Puts.{Put}
 use Rattle.file_write.specs.Living.{lives, living}
-use Rattle.file_write.specs.Parts.{PutBlock, PutBlocks}
-use Rattle.file_write.proofs.Putting.{put-none, put-append, put-same}
+use Rattle.file_write.specs.Parts.{rowBytes, PutBlock, PutBlocks}
+use Rattle.lists.proofs.Puts.{put-none, put-append, put-same}
 
 -- ── lists ──
 

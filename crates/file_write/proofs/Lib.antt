@@ -1,5 +1,4 @@
 -- Laws that belong to no one function.
-pub mod Stores
 pub mod Putting
 pub mod Laying
 pub mod Planning

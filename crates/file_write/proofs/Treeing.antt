@@ -5,6 +5,7 @@ use mathlib.Core.List.{List, [], _∷_, _++_, map, flatMap, flatten, append-asso
 use Prim.Native.Nat.{ℕ, _+_, _*_, _-_, _/_, _≤_, _<_}
 use native.Mathlib.Omega.{arith}
 use lib.ListN.{length}
+use Rattle.lists.proofs.Parts.{part-sets}
 use Rattle.lists.specs.Lists.{All, has}
 use Rattle.lists.proofs.Lists.{all-mem}
 use Rattle.lists.proofs.Maps.{length-of-map, map-append}
@@ -13,11 +14,10 @@ use Rattle.history.specs.File.{bytesOf, nodeBytes, nodesOf, mapTree, placeIn}
 use Rattle.history.proofs.FileRenumbered.{entries-here, entries-left, entries-right}
 use Rattle.segment_table.specs.Closed.{Tables, NodeRow, TreeAt, run, blockIn, leftAt, rightAt, firstAt, countAt}
 use Rattle.segment_table.proofs.Closed.{run-length, run-append, run-mem}
-use Rattle.file_write.specs.Putting.{Put, rowBytes}
+use Rattle.lists.specs.Puts.{Put}
 use Rattle.file_write.specs.Numbering.{Numbering, NewNumber}
-use Rattle.file_write.specs.Parts.{entryBytes, PutEntries, PutNode, PutTree}
-use Rattle.file_write.proofs.Stores.{part-sets}
-use Rattle.file_write.proofs.Putting.{put-none, put-append, put-same, put-length, put-onward}
+use Rattle.file_write.specs.Parts.{rowBytes, entryBytes, PutEntries, PutNode, PutTree}
+use Rattle.lists.proofs.Puts.{put-none, put-append, put-same, put-length, put-onward}
 use Rattle.file_write.proofs.Laying.{flatMap-append, flatMap-one}
 
 -- what is put behind the list leaves it as it is

@@ -1,4 +1,3 @@
-pub mod Putting
 pub mod Living
 pub mod Sizes
 pub mod Numbering

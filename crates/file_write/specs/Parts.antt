@@ -5,13 +5,17 @@ use mathlib.Core.List.{List, map, flatMap, _++_}
 use Prim.Native.Nat.{ℕ, _+_, _≤_}
 use lib.ListN.{length}
 use Rattle.lists.specs.Lists.{All, has}
+use Rattle.lists.specs.Puts.{Put}
 use Rattle.history.specs.Tree.{Tree, mid, entriesIn}
 use Rattle.history.specs.File.{bytesOf, blockBytes, nodeBytes, nodesOf, mapTree, placeIn}
 use Rattle.ordering.specs.Blocks.{lengthAt, offsetAt, blockOfRow, Stored}
 use Rattle.segment_table.specs.Closed.{TreeAt, run, firstAt, countAt}
-use Rattle.file_write.specs.Putting.{Put, rowBytes}
 use Rattle.file_write.specs.Living.{livingBlocks}
 use Rattle.file_write.specs.Numbering.{Numbering}
+
+-- a block begins with its kind and a node with its presence, and four numbers follow
+abbrev pub rowBytes : (mark a b c d : ℕ) → List ℕ
+rowBytes mark a b c d = bytesOf 1 mark ++ (bytesOf 8 a ++ (bytesOf 8 b ++ (bytesOf 8 c ++ bytesOf 8 d)))
 
 -- ── blocks ──
 

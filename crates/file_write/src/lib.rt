@@ -6,7 +6,7 @@
 //
 //   lib        specs/Answers         proofs/Agreeing, Answering   the file in parts, as the ledger has it; 16
 //   plan       specs/Sizes           proofs/Planning              how long the file is
-//   put        specs/Putting         proofs/Putting, Stores       bytes put one part after the other, or over another
+//   put        specs/Parts           proofs/Putting               bytes put one part after the other, or over another
 //   blocks     specs/Living, Parts   proofs/Laying                the blocks that have a life
 //   numbers    specs/Numbering       proofs/Listing, Ranking      their new numbers
 //   nodes      specs/Parts           proofs/Treeing               the tree, root first

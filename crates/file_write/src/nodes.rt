@@ -2,7 +2,7 @@
 ghost use mathlib.Core.List.{_++_};
 ghost use Prim.Native.Nat.{_≤_};
 ghost use Rattle.history.specs.File.{bytesOf};
-ghost use Rattle.file_write.specs.Putting.{Put};
+ghost use Rattle.lists.specs.Puts.{Put};
 ghost use Rattle.file_write.specs.Parts.{PutEntries, PutNode, PutTree};
 use super::numbers;
 use super::put;

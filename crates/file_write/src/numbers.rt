@@ -2,7 +2,7 @@
 // blocks will be: 8 bytes for each, less than the block takes. Where all have one, numbers stay.
 ghost use mathlib.Core.List.{flatMap};
 ghost use Rattle.history.specs.File.{bytesOf};
-ghost use Rattle.file_write.specs.Putting.{Put};
+ghost use Rattle.lists.specs.Puts.{Put};
 ghost use Rattle.file_write.specs.Living.{living};
 ghost use Rattle.file_write.specs.Numbering.{NewNumber, Listed, Numbered};
 use super::plan::BLOCKS_AT;

@@ -2,7 +2,8 @@
 ghost use mathlib.Core.Path.{_≡_};
 ghost use lib.ListN.{length};
 ghost use Rattle.history.specs.File.{bytesOf};
-ghost use Rattle.file_write.specs.Putting.{behind, Put, rowBytes};
+ghost use Rattle.lists.specs.Puts.{behind, Put};
+ghost use Rattle.file_write.specs.Parts.{rowBytes};
 use fields::WIDTH;
 use fields::write;
 

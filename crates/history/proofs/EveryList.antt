@@ -18,6 +18,7 @@ use Rattle.history.specs.Refusals.{Answer, accepted, refused, openAnswer
 use Rattle.history.specs.Calls.{Call, recordCall, finishCall, answerTo, acceptedBy, leaves, after, afterAll, noted, history, valueAt}
 use Rattle.history.specs.Sound.{SoundBoard, SoundTree, Sound, SoundForFinish, isEmpty}
 use Rattle.history.specs.Law.{CoversBy, LastCall, LedgerLaw, Faithful, EveryList}
+use Rattle.history.proofs.ByKind.{rule-23-kind}
 use Rattle.history.proofs.Passing.{opens, Taken, taken, room, finishes}
 use Rattle.history.proofs.Cells.{Shown, shown-read, shown-updated}
 use Rattle.history.proofs.Steps.{opened-sound, read-sound, update-sound, new-blocks, settled-sound, shown-apart}
@@ -92,8 +93,9 @@ finish-sound l e s =
           rooted = rooted (l .opening .end) (settled (l .opening .end) (l .now));
           rule-21 = treeOf-halved (l .opening .end) (settled (l .opening .end) (l .now)) (b .end-most);
           rule-23 =
-              treeOf-rule23 (l .opening .end) (settled (l .opening .end) (l .now)) (omega (arith, b .some-tick)) (b .end-most) (s .apart)
-              (all-map (λ x g. g .stretch .some-cell) all) (all-map (λ x g. g .by-end) all);
+              rule-23-kind (l .opening .kind) (l .opening .end) (l .now .store) (treeOf (l .opening .end) (settled (l .opening .end) (l .now))) all
+              (treeOf-rule23 (l .opening .end) (settled (l .opening .end) (l .now)) (omega (arith, b .some-tick)) (b .end-most) (s .apart)
+              (all-map (λ x g. g .stretch .some-cell) all) (all-map (λ x g. g .by-end) all));
           rule-24 = s .apart;
           nodes-fit = k .nodes;
           entries-fit = k .entries;

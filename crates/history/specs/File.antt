@@ -108,10 +108,10 @@ nodesOf lo hi (node es l r) = present lo hi (mid lo hi) es (nodesOf lo (mid lo h
 unfoldable pub contents : (kind end : ℕ) → List Block → Tree → File
 contents kind e bs tree = record { kind = kind; blocks = writtenBlocks bs tree; nodes = nodesOf 0 e (renumbered bs tree) }
 
--- An index without blocks writes no bytes.
+-- An index without blocks has no node, and writes no bytes.
 unfoldable pub fileOf : (kind end : ℕ) → List Block → Tree → List ℕ
-fileOf kind e [] tree = []
-fileOf kind e (b ∷ bs) tree = fileBytes (contents kind e (b ∷ bs) tree)
+fileOf kind e bs hole = []
+fileOf kind e bs (node es l r) = fileBytes (contents kind e bs (node es l r))
 
 -- the file of a ledger
 abbrev pub fileBy : Ledger → List ℕ
@@ -251,7 +251,7 @@ rule21 t = (ltb 0 (endOf t) && leb (endOf t) (2 ^ 63)) && (placedIn 0 (endOf t) 
 
 -- unless 22: no block, or one with length 0, an end above 2^64 − 1, created ≥ destroyed, or destroyed > E
 unfoldable pub rule22 : (end : ℕ) → List Block → Bool
-rule22 e bs = ltb 0 (length bs) && every (λ b. filled (b .stretch) && lived e b) bs
+rule22 e bs = ltb 0 (length bs) && every (λ b. filled b && lived e b) bs
 
 -- a loaded index
 pub record Loaded : Type 0 where

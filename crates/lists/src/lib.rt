@@ -2,6 +2,7 @@
 //
 //   specs/Lists      all elements, all pairs, membership, no repetition, ascending, counting
 //   specs/Tests      what it means that a test decides
+//   specs/Puts       bytes put into a lent slice one part after the other
 //   proofs/Numbers   order as a sum, tests of numbers
 //   proofs/Lists     laws of All, Pairs, Mem, Distinct
 //   proofs/Maps      laws of map and filterMap

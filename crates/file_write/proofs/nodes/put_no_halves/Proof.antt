@@ -1,6 +1,6 @@
 -- `file_write::nodes::put_no_halves` meets its contract. Assumes nothing.
 use borrow.Author.Needs.{needs}
-use Rattle.file_write.proofs.Putting.{put-append}
+use Rattle.lists.proofs.Puts.{put-append}
 use Rattle.file_write.proofs.nodes.put_no_halves.Statement.{statement}
 use Rattle.file_write.proofs.nodes.put_no_halves.Tie as tie
 

@@ -1,6 +1,6 @@
 -- `file_write::put::row` meets its contract: five fields, one after the other. Assumes nothing.
 use borrow.Author.Needs.{needs}
-use Rattle.file_write.proofs.Putting.{put-append}
+use Rattle.lists.proofs.Puts.{put-append}
 use Rattle.file_write.proofs.put.row.Statement.{statement}
 use Rattle.file_write.proofs.put.row.Tie as tie
 
