@@ -20,9 +20,8 @@ use Rattle.history.proofs.RulesLaws.{rule23-decides, numbered-decides}
 use Rattle.history.proofs.FindMet.{path-met}
 use Rattle.history.proofs.ByKind.{closed-rule-23}
 use Rattle.tables.specs.Columns.{blockColumn, headEnd, headKind, headCount}
-use Rattle.ordering.specs.Order.{firstCellAt}
-use Rattle.ordering.specs.Blocks.{blockOfRow, lengthAt, offsetAt}
-use Rattle.ordering.proofs.Blocks.{blocks-at, blocks-key, bytes-length}
+use Rattle.block_table.specs.Blocks.{firstCellAt, blockOfRow, lengthAt, offsetAt}
+use Rattle.block_table.proofs.Blocks.{blocks-at, blocks-key, bytes-length}
 use Rattle.segment_table.specs.Closed.{Closed, firstCellIn}
 use Rattle.segment_near.specs.declared.Side.{Side}
 use Rattle.segment_near.specs.declared.Neighbour.{Neighbour}

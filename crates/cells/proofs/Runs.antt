@@ -13,8 +13,7 @@ use Rattle.history.specs.Words.{Block, ends, live}
 use Rattle.history.specs.Tree.{blockAt, keyIn}
 use Rattle.history.specs.Ledger.{Ledger}
 use Rattle.tables.specs.Columns.{blockColumn, headEnd, headKind, headCount, blockFirst, blockLength, blockOffset}
-use Rattle.ordering.specs.Order.{firstCellAt}
-use Rattle.ordering.specs.Blocks.{lengthAt, offsetAt}
+use Rattle.block_table.specs.Blocks.{firstCellAt, lengthAt, offsetAt}
 use Rattle.segment_near.specs.declared.Side.the-variants.{From, Before}
 use Rattle.segment_near.specs.declared.Neighbour.{Neighbour}
 use Rattle.segment_near.specs.declared.Neighbour.the-variants.{Block as Next, Nothing}

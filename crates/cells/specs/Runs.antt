@@ -10,8 +10,7 @@ use Rattle.history.specs.Ledger.{Ledger, finished}
 use Rattle.history.specs.Reads.{seen}
 use Rattle.history.specs.Sound.{Sound}
 use Rattle.tables.specs.Columns.{blockColumn, headCount}
-use Rattle.ordering.specs.Order.{firstCellAt}
-use Rattle.ordering.specs.Blocks.{lengthAt, offsetAt}
+use Rattle.block_table.specs.Blocks.{firstCellAt, lengthAt, offsetAt}
 use Rattle.layout.specs.Tables.{tables}
 use Rattle.layout.specs.Encodes.{Encodes}
 use Rattle.cells.specs.declared.run.Run.{Run}

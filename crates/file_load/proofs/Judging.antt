@@ -22,11 +22,11 @@ use Rattle.history.proofs.FileLists.{not-empty}
 use Rattle.history.proofs.RulesLaws.{every-decides, apart-decides}
 use Rattle.history.proofs.FileRules.{rule22-decides, LivingBlock}
 use Rattle.tables.specs.Columns.{blockColumn, blockFirst, blockLength, blockCreated, blockDestroyed}
+use Rattle.block_table.specs.Blocks.{lengthAt, blockOfRow, blocksOf, Stored}
+use Rattle.block_table.proofs.Blocks.{blocks-length, blocks-at, blocks-key, bytes-length}
 use Rattle.segment_table.specs.Closed as closed
 use Rattle.segment_test.specs.Test.{BlockRows, ClosedTree}
 use Rattle.segment_test.proofs.ClosedTree.{tested-rule-23}
-use Rattle.ordering.specs.Blocks.{lengthAt, blockOfRow, blocksOf, Stored}
-use Rattle.ordering.proofs.Blocks.{blocks-length, blocks-at, blocks-key, bytes-length}
 use Rattle.segment_apart.specs.Apart.{Bounded, AllBounded, ClosedApart}
 use Rattle.segment_apart.proofs.Agreeing.{closed-decides}
 use Rattle.file_load.specs.Load.{roomFor, livesAt, TestedLives, judgement, Ready, Judged}

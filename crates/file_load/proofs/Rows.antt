@@ -10,7 +10,7 @@ use Rattle.lists.proofs.Numbers.{eq-or-ne}
 use Rattle.history.specs.Lent.{rowWidth}
 use Rattle.history.specs.Words.{Block, size}
 use Rattle.tables.specs.Columns.{blockColumn, blockBase, blockFirst, blockLength, blockCreated, blockDestroyed, blockOffset, blockOwner}
-use Rattle.ordering.specs.Blocks.{lengthAt, offsetAt, blockOfRow, blocksOf, Stored}
+use Rattle.block_table.specs.Blocks.{lengthAt, offsetAt, blockOfRow, blocksOf, Stored}
 use Rattle.file_scan.specs.Counts.{bytesIn}
 use Rattle.file_fill.specs.Fill.{blockNumbers, blocksNumbers, bytesOfAll}
 use Rattle.file_load.proofs.Holding.{HoldsAt, holds-left, holds-right, holds-moved, holds-part}

@@ -20,12 +20,11 @@ use Rattle.history.proofs.TreeCounts.{entry-count-in}
 use Rattle.history.proofs.FileRules.{Rule21, Rule22, rule22-decides}
 use Rattle.history.proofs.FileContents.{Entered, rules-enter}
 use Rattle.tables.specs.Columns.{blockColumn, blockBase, blockFirst, blockNext, headState, headEnd, headKind, headCount, headUsed, headLast}
+use Rattle.block_table.specs.Blocks.{Room, blocksOf, Stored}
 use Rattle.segment_table.specs.Closed.{firstCellIn, Closed}
 use Rattle.segment_test.specs.Test.{lent}
-use Rattle.ordering.specs.Order.{Room, InOrder, Ordered, Sorted}
-use Rattle.ordering.specs.Blocks.{blocksOf, Stored}
-use Rattle.ordering.proofs.Keeping.{order-column, stored-order}
-use Rattle.ordering.proofs.Blocks.{blocks-order}
+use Rattle.ordering.specs.Order.{InOrder, Ordered, Sorted}
+use Rattle.ordering.proofs.Keeping.{order-column, stored-order, blocks-order}
 use Rattle.file_scan.specs.Counts.{bytesIn}
 use Rattle.file_fill.specs.Fill.{blocksNumbers, bytesOfAll, firstCellOf, entryNumbers, nodeNumbers, nodeHeadNumbers, entryHeadNumbers, NodesLeft}
 use Rattle.file_fill.proofs.Storing.{sets-before}

@@ -12,10 +12,10 @@ use Rattle.history.specs.Rules.{rule23, apart, isHole}
 use Rattle.history.specs.Refusals.{Answer, accepted, refused}
 use Rattle.history.specs.File.{File, got, many, readBlock, readRoot, loadedFrom, endOf, treeFrom, rule20, rule21, rule22}
 use Rattle.tables.specs.Columns.{blockColumn, blockFirst, blockLength, blockCreated, blockDestroyed}
+use Rattle.block_table.specs.Blocks.{Room, blocksOf, Stored}
 use Rattle.segment_table.specs.Closed as closed
 use Rattle.segment_table.specs.Closed.{Closed}
-use Rattle.ordering.specs.Order.{Room, InOrder}
-use Rattle.ordering.specs.Blocks.{blocksOf, Stored}
+use Rattle.ordering.specs.Order.{InOrder}
 use Rattle.file_scan.specs.Counts.{bytesIn}
 use Rattle.layout.specs.Tables.{Tables, tables, lengthsOf}
 use Rattle.layout.specs.Relations.{zeros}

@@ -27,8 +27,8 @@ use Rattle.history.proofs.FileLoad.{file-some, file-none}
 use Rattle.history.proofs.ByKind.{closed-rule-23}
 use Rattle.history.proofs.FileLists.{not-empty, none-empty}
 use Rattle.tables.specs.Columns.{column, blockColumn, headKind, headEnd}
-use Rattle.ordering.specs.Blocks.{lengthAt, offsetAt, blockOfRow, Stored}
-use Rattle.ordering.proofs.Blocks.{blocks-at, bytes-length}
+use Rattle.block_table.specs.Blocks.{lengthAt, offsetAt, blockOfRow, Stored}
+use Rattle.block_table.proofs.Blocks.{blocks-at, bytes-length}
 use Rattle.segment_table.specs.Closed.{TreeAt, Closed}
 use Rattle.layout.specs.Tables.{tables}
 use Rattle.layout.specs.Encodes.{Encodes, TreeIn}

@@ -8,9 +8,8 @@ use native.Mathlib.Omega.{arith}
 use lib.Dec.{ltb}
 use lib.ListN.{length, take, drop}
 use Rattle.history.specs.File.{bytesOf, blockBytes}
-use Rattle.ordering.specs.Order.{firstCellAt}
-use Rattle.ordering.specs.Blocks.{lengthAt, offsetAt, createdAt, destroyedAt, ownerAt, bytesAt, blockOfRow, Stored}
-use Rattle.ordering.proofs.Blocks.{bytes-length}
+use Rattle.block_table.specs.Blocks.{firstCellAt, lengthAt, offsetAt, createdAt, destroyedAt, ownerAt, bytesAt, blockOfRow, Stored}
+use Rattle.block_table.proofs.Blocks.{bytes-length}
 use Rattle.lists.specs.Puts.{Put}
 use Rattle.file_write.specs.Living.{lives, living}
 use Rattle.file_write.specs.Parts.{rowBytes, PutBlock, PutBlocks}

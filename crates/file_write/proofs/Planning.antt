@@ -10,7 +10,7 @@ use lib.Dec.{ltb}
 use lib.ListN.{length, length-append}
 use borrow.Author.Tests.{le-leb, lt-leb}
 use Rattle.lists.proofs.Numbers.{le-or-lt}
-use Rattle.ordering.specs.Blocks.{lengthAt, createdAt, destroyedAt}
+use Rattle.block_table.specs.Blocks.{lengthAt, createdAt, destroyedAt}
 use Rattle.segment_table.specs.Closed.{nodesUsed, entriesUsed}
 use Rattle.file_write.specs.Living.{living}
 use Rattle.file_write.specs.Sizes.{blocksSize, nodesSize, blockCount, nodesAt, fileSize, shareOf, planOf}

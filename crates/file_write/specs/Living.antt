@@ -5,7 +5,7 @@ use mathlib.Core.List.{List, [], _∷_, _++_, map}
 use Prim.Native.Nat.{ℕ, zero, suc}
 use lib.Dec.{ltb}
 use Rattle.history.specs.Words.{Block}
-use Rattle.ordering.specs.Blocks.{createdAt, destroyedAt, blockOfRow}
+use Rattle.block_table.specs.Blocks.{createdAt, destroyedAt, blockOfRow}
 
 -- block k, whose link is k + 1, has a life
 abbrev pub lives : (blocks : List ℕ) (k : ℕ) → Bool

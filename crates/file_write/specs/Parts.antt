@@ -8,7 +8,7 @@ use Rattle.lists.specs.Lists.{All, has}
 use Rattle.lists.specs.Puts.{Put}
 use Rattle.history.specs.Tree.{Tree, mid, entriesIn}
 use Rattle.history.specs.File.{bytesOf, blockBytes, nodeBytes, nodesOf, mapTree, placeIn}
-use Rattle.ordering.specs.Blocks.{lengthAt, offsetAt, blockOfRow, Stored}
+use Rattle.block_table.specs.Blocks.{lengthAt, offsetAt, blockOfRow, Stored}
 use Rattle.segment_table.specs.Closed.{TreeAt, run, firstAt, countAt}
 use Rattle.file_write.specs.Living.{livingBlocks}
 use Rattle.file_write.specs.Numbering.{Numbering}

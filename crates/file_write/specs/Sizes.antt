@@ -5,7 +5,7 @@ use Prim.Native.Nat.{ℕ, zero, suc, _+_, _*_}
 use lib.Dec.{leb}
 use lib.ListN.{length}
 use Rattle.tables.specs.Columns.{blockColumn, headCount}
-use Rattle.ordering.specs.Blocks.{lengthAt}
+use Rattle.block_table.specs.Blocks.{lengthAt}
 use Rattle.segment_table.specs.Closed.{nodesUsed, entriesUsed}
 use Rattle.file_write.specs.Living.{lives, living}
 use Rattle.file_write.specs.declared.plan.Share.{Share}

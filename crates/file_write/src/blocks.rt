@@ -1,7 +1,7 @@
 // The blocks of the file, in recorded order: those that have a life.
 ghost use mathlib.Core.Path.{_≡_};
 ghost use lib.Dec.{ltb};
-ghost use Rattle.ordering.specs.Blocks.{createdAt, destroyedAt};
+ghost use Rattle.block_table.specs.Blocks.{createdAt, destroyedAt};
 ghost use Rattle.file_write.specs.Parts.{PutBlock, PutBlocks};
 use super::put;
 use tables::block;

@@ -25,9 +25,8 @@ use Rattle.history.specs.Sound.{Sound, SoundTree, SoundClosed}
 use Rattle.history.proofs.RulesLaws.{rule23-decides, numbered-decides}
 use Rattle.history.proofs.ByKind.{closed-rule-23}
 use Rattle.tables.specs.Columns.{blockColumn, headEnd, headKind, headCount}
-use Rattle.ordering.specs.Blocks.{blockOfRow, lengthAt, createdAt, destroyedAt, offsetAt, ownerAt}
-use Rattle.ordering.specs.Order.{firstCellAt}
-use Rattle.ordering.proofs.Blocks.{blocks-at, blocks-key}
+use Rattle.block_table.specs.Blocks.{blockOfRow, lengthAt, createdAt, destroyedAt, offsetAt, ownerAt, firstCellAt}
+use Rattle.block_table.proofs.Blocks.{blocks-at, blocks-key}
 use Rattle.segment_table.specs.Closed.{Closed, firstCellIn}
 use Rattle.segment_find.specs.Listing.{Fills, Finds}
 use Rattle.segment_find.proofs.Agreeing.{find-model}

@@ -10,8 +10,7 @@ use Rattle.lists.specs.Lists.{All, all-cons}
 use Rattle.lists.proofs.Lists.{all-append, all-map, all-both, all-right, all-any}
 use Rattle.lists.proofs.Numbers.{confirm, refute, decides-iff, eq-or-ne}
 use Rattle.tables.specs.Columns.{column, pieceFirst, pieceLength, pieceWritten}
-use Rattle.ordering.specs.Order.{firstCellAt}
-use Rattle.ordering.specs.Blocks.{lengthAt, createdAt, destroyedAt}
+use Rattle.block_table.specs.Blocks.{firstCellAt, lengthAt, createdAt, destroyedAt}
 use Rattle.segment_tree.specs.Count.{plusUpTo}
 use Rattle.piece_table.specs.Piece.{PieceRow, rowEnd, pieceAt, Follow}
 use Rattle.piece_table.specs.Rep.{Rep}

@@ -20,11 +20,11 @@ use Rattle.history.proofs.TreePlaced.{treeOf-none, treeOf-some, treeOf-halved}
 use Rattle.history.proofs.TreeSorted.{treeOf-rule23}
 use Rattle.segment_table.specs.Closed.{Closed}
 use Rattle.history.specs.Ledger.{Ledger}
+use Rattle.block_table.specs.Blocks.{blockOfRow, blocksOf, Filled}
+use Rattle.block_table.proofs.Blocks.{blocks-length, blocks-at, bytes-length}
 use Rattle.ordering.specs.Order.{numbersOf, Ordered}
-use Rattle.ordering.specs.Blocks.{blockOfRow, blocksOf, Filled}
 use Rattle.ordering.specs.Apart.{Unshared, TestedApart}
 use Rattle.ordering.proofs.Agreeing.{unshared-apart}
-use Rattle.ordering.proofs.Blocks.{blocks-length, blocks-at, bytes-length}
 use Rattle.segment_tree.specs.Count.{rowsIn}
 use Rattle.segment_tree.specs.Lives.{entryRowsIn, roomFor, rowsToCount, Countable, CountedAs, CountedTree}
 use Rattle.segment_tree.specs.Fill as fill

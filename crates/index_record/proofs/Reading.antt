@@ -11,13 +11,14 @@ use Rattle.history.specs.Words.{Operation}
 use Rattle.history.specs.Tree as segment
 use Rattle.history.specs.Ledger.{Ledger, withNow, isSome, finished, isRead, readBy, updateBy, recordBy}
 use Rattle.tables.specs.Columns.{blockBase, headState, headEnd, headKind, headCount, headUsed, headLast, blockNext}
+use Rattle.block_table.specs.Blocks.{SameRows, headPlace}
+use Rattle.block_table.proofs.Blocks.{blocks-kept}
+use Rattle.block_table.proofs.Keeping.{stored-kept}
 use Rattle.ordering.specs.Order.{Unordered}
-use Rattle.ordering.specs.Blocks.{SameRows}
-use Rattle.ordering.proofs.Blocks.{blocks-kept}
-use Rattle.ordering.proofs.Keeping.{stored-kept, unordered-kept}
+use Rattle.ordering.proofs.Keeping.{unordered-kept}
 use Rattle.layout.specs.Tables.{Tables, lengthsOf, headAt}
 use Rattle.layout.specs.Encodes.{Encodes, TreeIn}
-use Rattle.layout.specs.Relations.{headPlace, readTables}
+use Rattle.layout.specs.Relations.{readTables}
 use Rattle.layout.proofs.Lengths.{lent-same, heads-fit}
 
 -- ── an open ledger ──

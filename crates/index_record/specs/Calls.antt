@@ -10,9 +10,10 @@ use Rattle.history.specs.Ledger.{Ledger, finished, isRead, recordBy}
 use Rattle.history.specs.Refusals.{Answer, accepted, refused, recordAnswer}
 use Rattle.history.specs.Sound.{Sound}
 use Rattle.tables.specs.Columns.{headLast}
+use Rattle.block_table.specs.Blocks.{headPlace}
 use Rattle.layout.specs.Tables.{tables}
 use Rattle.layout.specs.Encodes.{Encodes}
-use Rattle.layout.specs.Relations.{headPlace, UpdatedTables, RecordLeaves}
+use Rattle.layout.specs.Relations.{UpdatedTables, RecordLeaves}
 use Rattle.index_record.specs.declared.Verdict.{Verdict}
 use Rattle.index_record.specs.declared.Verdict.the-variants.{Refused, Read, Update}
 use Rattle.index_record.specs.declared.Recorded.{Recorded}

@@ -15,16 +15,16 @@ use Rattle.history.specs.Tree.{noBlock}
 use Rattle.history.specs.Ledger.{Ledger}
 use Rattle.history.specs.Sound.{SoundBlock, SoundBoard, InOrder}
 use Rattle.tables.specs.Columns.{column, piecesCount, headState, headEnd, headKind, headCount, headUsed, headLast}
+use Rattle.block_table.specs.Blocks.{blocksOf, blockOfRow, lengthAt, offsetAt}
+use Rattle.block_table.proofs.Blocks.{blocks-length, blocks-at}
+use Rattle.block_table.specs.Rows.{Bounds, RowSound}
 use Rattle.piece_table.specs.Piece.{pieceAt, Filled}
 use Rattle.piece_table.specs.Shown.{shown}
 use Rattle.piece_table.specs.Test as piece
 use Rattle.piece_table.proofs.Order.{follow-filled}
-use Rattle.ordering.specs.Blocks.{blocksOf, blockOfRow, lengthAt, offsetAt}
-use Rattle.ordering.proofs.Blocks.{blocks-length, blocks-at}
 use Rattle.layout.specs.Tables.{Tables, lengthsOf, headAt}
 use Rattle.layout.specs.Encodes.{Encodes, TreeIn, stateOf}
 use Rattle.layout.proofs.Pieces.{used-fits, pieces-formed, rep-links, shown-sound, follow-order, part-front}
-use Rattle.index_test.specs.Rows.{Bounds, RowSound}
 use Rattle.index_test.specs.Board.{boundsOf, BoardFormed}
 
 -- ── rows and blocks ──

@@ -1,4 +1,3 @@
-pub mod RowsTested
 pub mod BoardTested
 pub mod Ledgers
 pub mod Tested

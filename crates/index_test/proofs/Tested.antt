@@ -17,11 +17,11 @@ use Rattle.history.specs.Ledger.{Ledger}
 use Rattle.history.specs.Sound.{Sound, SoundTree, SoundClosed, SoundBoard}
 use Rattle.history.proofs.ByKind.{closed-rule-23, rule-23-kind}
 use Rattle.tables.specs.Columns.{column, piecesCount, headState, headEnd, headKind, headCount}
+use Rattle.block_table.specs.Blocks.{blocksOf, blockOfRow, Stored}
+use Rattle.block_table.proofs.Blocks.{blocks-length, blocks-at}
 use Rattle.piece_table.specs.Piece.{pieceAt}
 use Rattle.piece_table.specs.Shown.{shown}
 use Rattle.ordering.specs.Order.{InOrder, Unordered}
-use Rattle.ordering.specs.Blocks.{blocksOf, blockOfRow, Stored}
-use Rattle.ordering.proofs.Blocks.{blocks-length, blocks-at}
 use Rattle.segment_test.specs.Test.{BlockRows, ClosedTree}
 use Rattle.segment_apart.specs.Apart.{AllBounded, ClosedApart}
 use Rattle.segment_apart.proofs.Agreeing.{closed-decides}

@@ -7,7 +7,6 @@ ghost use Rattle.lists.specs.Tests.{Decides};
 ghost use Rattle.history.specs.Lent.{tooShort, rowWidth, blockHead};
 ghost use Rattle.layout.specs.Tables.{tables, lengthsOf};
 ghost use Rattle.index_test.specs.Board.{Numbers, BoardFormed};
-use super::rows;
 use tables::block;
 use tables::entry;
 use tables::node;
@@ -37,21 +36,11 @@ fn test_heads(pieces: &[u64], blocks: &[u64], store: &[u8], nodes: &[u64], entri
     true
 }
 
-// How many block rows there are.
-fn block_rows(blocks: &[u64]) -> u64
-    ensures { λ r. ⌜ r ≡ (length (now (blocks .entry)) - blockHead) / rowWidth ⌝ }
-{
-    if blocks.len() < block::HEAD {
-        return 0;
-    }
-    ((blocks.len() - block::HEAD) / tables::ROW) as u64
-}
-
 // Whether there are block rows for so many blocks and pieces. It subtracts, as the sum may pass 2^64.
 fn rows_fit(blocks: &[u64], count: u64, pieces: u64) -> bool
     ensures { λ r. ⌜ Decides r (count + pieces ≤ (length (now (blocks .entry)) - blockHead) / rowWidth) ⌝ }
 {
-    let rows = block_rows(blocks);
+    let rows = block_table::row_count(blocks);
     if rows < count {
         return false;
     }
@@ -118,7 +107,7 @@ pub fn test_board(
     let used = block::get(blocks, 0, block::USED);
     let last = block::get(blocks, 0, block::LAST);
     let count = block::get(blocks, 0, block::COUNT);
-    if !rows::test_rows(blocks, count, kind, end, used) {
+    if !block_table::rows::test_rows(blocks, count, kind, end, used) {
         return false;
     }
     if piece_table::test_pieces(pieces, kind, used, last) {

@@ -1,6 +1,5 @@
 // Whether lent tables are well formed: the tests behind refusal 2, on any tables at all.
 //
-//   rows    the rows of the block table, one by one
 //   board   what any index has, open or closed
 //   specs/Board     what is decided
 //   proofs/Ledgers  tables that pass stand for a ledger, and those of a sound ledger pass
@@ -9,7 +8,6 @@ ghost use Rattle.layout.specs.Tables.{tables};
 ghost use Rattle.index_test.specs.Board.{Outcome, TestedClosed};
 
 mod board;
-mod rows;
 
 use tables::block;
 use tables::piece;

@@ -11,8 +11,8 @@ use Rattle.history.specs.Lent.{rowWidth, blockHead}
 use Rattle.history.specs.Words.{Block, size, firstCell}
 use Rattle.history.specs.Sound as sound
 use Rattle.tables.specs.Columns.{blockColumn, blockBase, blockFirst, blockLength, blockCreated, blockDestroyed, blockOffset, blockOwner, blockNext}
+use Rattle.block_table.specs.Blocks.{blockOfRow, blocksOf, Stored}
 use Rattle.ordering.specs.Order.{nextAt}
-use Rattle.ordering.specs.Blocks.{blockOfRow, blocksOf, Stored}
 use Rattle.layout.specs.Relations.{Fields, blockIn}
 use Rattle.layout.proofs.ExistsTable.{tableBy, table-by-length, table-by-at, part-in, Word, all-get, table-by-words}
 

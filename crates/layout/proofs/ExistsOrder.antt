@@ -12,7 +12,8 @@ use Rattle.lists.proofs.Lists.{all-map, all-mem, all-of-map, count-from-length,
 use Rattle.lists.proofs.Maps.{length-of-map}
 use Rattle.history.specs.Tree.{insert}
 use Rattle.history.proofs.TreeInserting.{insert-length}
-use Rattle.ordering.specs.Order.{firstCellAt, nextAt, rankOf, rank, Trail, end, link, InOrder, Ranked, orderOf}
+use Rattle.block_table.specs.Blocks.{firstCellAt}
+use Rattle.ordering.specs.Order.{nextAt, rankOf, rank, Trail, end, link, InOrder, Ranked, orderOf}
 use Rattle.ordering.proofs.Rank.{rank-some}
 use Rattle.ordering.proofs.Numbering.{ranked-all}
 

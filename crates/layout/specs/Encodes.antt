@@ -10,12 +10,12 @@ use Rattle.history.specs.Lent.{rowWidth, tooShort}
 use Rattle.history.specs.Tree as segment
 use Rattle.history.specs.Ledger.{Ledger}
 use Rattle.tables.specs.Columns.{column, piecesRoot, piecesCount, headState, headEnd, headKind, headCount, headUsed, headLast}
+use Rattle.block_table.specs.Blocks.{blocksOf, Stored}
 use Rattle.merge_set.specs.Tree.{Tree, rows, Balanced}
 use Rattle.merge_set.specs.Table.{Shape}
 use Rattle.piece_table.specs.Piece.{pieceAt}
 use Rattle.piece_table.specs.Shown.{shown}
 use Rattle.ordering.specs.Order.{InOrder, Unordered}
-use Rattle.ordering.specs.Blocks.{blocksOf, Stored}
 use Rattle.segment_table.specs.Closed.{Closed}
 use Rattle.layout.specs.Tables.{Tables, lengthsOf, headAt, treeTables}
 

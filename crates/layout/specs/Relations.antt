@@ -12,7 +12,9 @@ use Rattle.history.specs.Ledger.{Opening, Ledger, isRead, recordBy, finishBy}
 use Rattle.history.specs.Reads.{Found}
 use Rattle.history.specs.Refusals.{Answer, accepted, refused, openAnswer, recordAnswer, finishAnswer, findAnswer, blockAnswer}
 use Rattle.history.specs.Sound.{Sound}
-use Rattle.tables.specs.Columns.{blockBase, headLast, headUsed, headCount, blockNext, blockColumn}
+use Rattle.tables.specs.Columns.{blockBase, headLast, blockNext, blockColumn}
+use Rattle.block_table.specs.Blocks.{headPlace}
+use Rattle.block_table.specs.Appended.{Appended}
 use Rattle.layout.specs.Tables.{Tables, tables, lengthsOf}
 use Rattle.layout.specs.Encodes.{Encodes, openState}
 use Rattle.layout.specs.Formed.{WellFormed, WellFormedForFinish}
@@ -41,21 +43,9 @@ pub record OpenedBy (end kind : ℕ) (t t′ : Tables) (answer : Answer Unit) : 
 
 -- ── record ──
 
--- the place of a column of the head
-abbrev pub headPlace : (c : ℕ) → ℕ
-headPlace c = blockBase + c
-
 -- a read: blocks with the last tick set; all else as it was
 abbrev pub readTables : (tick : ℕ) → Tables → Tables
 readTables tick t = tables (t .pieces) (set (t .blocks) (headPlace headLast) tick) (t .store) (t .nodes) (t .entries)
-
--- The rows appended behind the first n, and the head's columns count, used and last: all else of the block table is as it was.
-pub record Appended (blocks blocks′ : List ℕ) (n m : ℕ) : Type 0 where
-  pub len : length blocks′ ≡ length blocks
-  pub head : (i : ℕ) → i < blockBase + rowWidth → (i ≡ headPlace headCount → ⊥) → (i ≡ headPlace headUsed → ⊥) → (i ≡ headPlace headLast → ⊥)
-      → getD blocks′ i 0 ≡ getD blocks i 0
-  pub rows : (i : ℕ) → blockBase + rowWidth ≤ i → i < blockBase + rowWidth * suc n → getD blocks′ i 0 ≡ getD blocks i 0
-  pub rest : (i : ℕ) → blockBase + rowWidth * suc m ≤ i → getD blocks′ i 0 ≡ getD blocks i 0
 
 -- an update: the bytes written at the store use; block rows appended and the head set; nodes and entries as they were; the pieces stand for the ledger's
 pub record UpdatedTables (l : Ledger) (o : Operation) (t t′ : Tables) : Type 0 where

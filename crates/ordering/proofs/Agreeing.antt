@@ -13,10 +13,10 @@ use Rattle.history.specs.Words.{Holds}
 use Rattle.history.specs.Tree.{noBlock}
 use Rattle.history.specs.Rules.{apart, Apart}
 use Rattle.history.proofs.RulesLaws.{apart-decides}
+use Rattle.block_table.specs.Blocks.{lengthAt, offsetAt, blockOfRow, blocksOf, Filled, Stored}
+use Rattle.block_table.proofs.Blocks.{bytes-length, blocks-length, blocks-at}
 use Rattle.ordering.specs.Order.{InOrder}
-use Rattle.ordering.specs.Blocks.{lengthAt, offsetAt, blockOfRow, blocksOf, Filled, Stored}
 use Rattle.ordering.specs.Apart.{HoldsAt, Clash, Unshared, TestedApart}
-use Rattle.ordering.proofs.Blocks.{bytes-length, blocks-length, blocks-at}
 use Rattle.ordering.proofs.Parting.{clash-turned}
 
 -- ── a row and its block ──

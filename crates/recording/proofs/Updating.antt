@@ -12,6 +12,7 @@ use Rattle.lists.proofs.Lists.{all-append, all-map}
 use Rattle.lists.proofs.Maps.{map-append}
 use Rattle.history.specs.Lent.{rowWidth}
 use Rattle.tables.specs.Columns.{column, pieceFirst, pieceLength, pieceWritten, pieceOffset, pieceOwner}
+use Rattle.block_table.specs.Appended.{Countable}
 use Rattle.merge_set.specs.Table.{firstAt}
 use Rattle.piece_table.specs.Piece.{PieceRow, rowEnd, pieceAt, part, rowsBelow, rowsInside, rowsAbove, Filled, Follow, placed}
 use Rattle.piece_table.specs.Rep.{Linked, Rep, Becomes}
@@ -19,9 +20,9 @@ use Rattle.piece_table.specs.Calls.{endAt, EndsAfter, Sought, TrimmedBack, Inse
 use Rattle.piece_table.proofs.Order.{follow-filled, follow-right, follow-from, follow-between, placed-between}
 use Rattle.piece_table.proofs.Parts.{Left, Right, below-within, above-within, back-below, back-above, middle-cut, inside-left, inside-right, inside-skip}
 use Rattle.piece_table.proofs.Seeing.{rep-follow, Seen, seen-none, seen-some, becomes-same, becomes-eq, becomes-then, left-alone}
-use Rattle.recording.specs.Blocks.{appended, Countable}
+use Rattle.recording.specs.Recorded.{recorded}
 use Rattle.recording.specs.Calls.{innerPart, RecordedPart, Uncrossed, Clear, Given, Cleared, SplitPiece, RemovedOverlapping, Updated, AppliedUpdate}
-use Rattle.recording.proofs.Blocks.{appended-append, countable-more}
+use Rattle.recording.proofs.Recorded.{recorded-append, recorded-more}
 use Rattle.recording.proofs.Clearing.{nothing-inside, inside-seen, recorded-seen}
 
 -- ── `split` ──
@@ -124,7 +125,7 @@ module _ {t b : List ℕ} {tick f e link was : ℕ} (s : Sought t f link) (nz : 
             let none : rowsInside f e B ≡ [] = inside-right f e (follow-right e (rowEnd p) B (omega arith) (v .after)) in
             record {
               becomes = becomes-eq (cut .done (v .xs) (v .ys) (v .linked) (omega arith) h over room) is;
-              blocks = recorded-seen s nz ew rec g (omega arith) ∙ ap (λ (l : List PieceRow). appended tick l b) (sym (inside-seen e v h (omega arith) ∙ ap (λ (l : List PieceRow). innerPart t link f e ∷ l) none));
+              blocks = recorded-seen s nz ew rec g (omega arith) ∙ ap (λ (l : List PieceRow). recorded tick l b) (sym (inside-seen e v h (omega arith) ∙ ap (λ (l : List PieceRow). innerPart t link f e ∷ l) none));
             }
 
     pub remove-overlapping-back : {t₂ b₂ : List ℕ} → q ≡ false → TrimmedBack t t₁ link f → Cleared t₁ t₂ b₁ b₂ tick f e → RemovedOverlapping t t₂ b b₂ tick f e
@@ -145,17 +146,17 @@ module _ {t b : List ℕ} {tick f e link was : ℕ} (s : Sought t f link) (nz : 
             let u : Uncrossed f (A ++ p₁ ∷ B) = all-append (all-map (λ q l. inl l) (v .left)) (all-cons {x = p₁} (inl (omega arith)) (all-map (λ q l. inr l) (follow-right f (rowEnd p) B (omega arith) (v .after)))) in
             let rest : rowsInside f e (A ++ p₁ ∷ B) ≡ rowsInside f e B = ap (rowsInside f e) (sym (append-assoc A (p₁ ∷ []) B)) ∙ inside-skip f e (A ++ p₁ ∷ []) B left in
             let whole : rowsInside f e ps ≡ (innerPart t link f e ∷ []) ++ rowsInside f e B = inside-seen e v h (omega arith) in
-            let rec₁ : b₁ ≡ appended tick (innerPart t link f e ∷ []) b = recorded-seen s nz ew rec g (omega arith) in
+            let rec₁ : b₁ ≡ recorded tick (innerPart t link f e ∷ []) b = recorded-seen s nz ew rec g (omega arith) in
             let g₁ : Given t₁ b₁ f e (A ++ p₁ ∷ B) = record {
               rep = one .rep;
               some = h;
-              space = rw (rec₁, rest) (countable-more tick (innerPart t link f e ∷ []) (rowsInside f e B) b (rw whole at (g .space)));
+              space = rw (rec₁, rest) (recorded-more tick (innerPart t link f e ∷ []) (rowsInside f e B) b (rw whole at (g .space)));
             } in
             let two : Clear t₁ t₂ b₁ b₂ tick f e (A ++ p₁ ∷ B) = clear .done (A ++ p₁ ∷ B) g₁ u in
             record {
               becomes = becomes-then one (becomes-eq (two .becomes)
                   (ap₂ (λ (x y : List PieceRow). x ++ y) (ap (rowsBelow f) (v .is) ∙ sym (back-below f e h A p B (omega arith) (omega arith))) (ap (rowsAbove e) (v .is) ∙ sym (back-above f e h A p B (omega arith) under))));
-              blocks = two .blocks ∙ ap₂ (appended tick) rest rec₁ ∙ appended-append tick (innerPart t link f e ∷ []) (rowsInside f e B) b (g .space .head) ∙ ap (λ (l : List PieceRow). appended tick l b) (sym whole);
+              blocks = two .blocks ∙ ap₂ (recorded tick) rest rec₁ ∙ recorded-append tick (innerPart t link f e ∷ []) (rowsInside f e B) b (g .space .head) ∙ ap (λ (l : List PieceRow). recorded tick l b) (sym whole);
             }
 
 -- ── `apply_update` ──
