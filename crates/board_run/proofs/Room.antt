@@ -15,7 +15,7 @@ use Rattle.history.specs.Refusals.{Answer, accepted, refused, openAnswer}
 use Rattle.history.specs.Calls.{Call, recordCall, finishCall, answerTo, acceptedBy, leaves, after, afterAll, history, noted}
 use Rattle.history.specs.Law.{LedgerLaw}
 use Rattle.history.specs.File.{Read, got, fault}
-use Rattle.history.specs.Printed.{Records, bad, all, readRecord, boardLent, boardScratch, badRecordText, openText, opText, finishText, refusedText, newline, decimal, hexBytes, blockLine, refusedLine, opLine, lastLines, linesFrom, openLines, recordLines, Booking, operationOf}
+use Rattle.history.specs.Printed.{Records, bad, all, readRecord, boardLent, boardScratch, badRecordText, openText, opText, finishText, refusedText, newline, decimal, hexBytes, blockLine, refusedLine, opLine, lastLines, linesFrom, openLines, recordLines, Booking, operationOf, boardOpening}
 use Rattle.history.proofs.EveryList.{the-law, law-after, opening-kept}
 use Rattle.board_input.specs.Input.{itemFrom, itemAt, inputFrom, recordsOf, firstRecord}
 use Rattle.board_input.specs.Walk.{Walk, walk-end, walk-on}
@@ -68,15 +68,15 @@ record Roomy (l : Ledger) : Type 0 where
   lent : l .opening .lent ≡ boardLent
   held : Held (l .now)
 
-roomy-opened : (end kind : ℕ) → openAnswer (record { end = end; kind = kind; lent = boardLent }) ≡ accepted tt
-    → Roomy (opened (record { end = end; kind = kind; lent = boardLent }))
+roomy-opened : (end kind : ℕ) → openAnswer (boardOpening end kind) ≡ accepted tt
+    → Roomy (opened (boardOpening end kind))
 unfolding opened afterAll history
 roomy-opened end kind taken =
     record {
       calls = [];
-      law = the-law (record { end = end; kind = kind; lent = boardLent }) taken [];
+      law = the-law (boardOpening end kind) taken [];
       lent = refl;
-      held = held-opened (record { end = end; kind = kind; lent = boardLent });
+      held = held-opened (boardOpening end kind);
     }
 
 same-opening : (l : Ledger) (k : Call) → after l k .opening ≡ l .opening
@@ -169,7 +169,7 @@ unfolding recordLines openLines
 all-length end kind bs few = go (openAnswer a) refl
   where
     a : Opening
-    a = record { end = end; kind = kind; lent = boardLent }
+    a = boardOpening end kind
 
     go : (x : Answer Unit) → openAnswer a ≡ x → length (openLines a bs x) ≤ outputMost
     go (accepted u) e = omega (arith, lines-length bs 1 (opened a) (roomy-opened end kind e))

@@ -7,9 +7,9 @@ use native.Mathlib.Omega.{arith}
 use lib.ListN.{length, take, length-take}
 use lib.Seq.{take-all, length-take-le, length-sets}
 use Rattle.history.specs.Lent.{Lent, tooShort}
-use Rattle.history.specs.Ledger.{Opening, opened}
+use Rattle.history.specs.Ledger.{Opening, opened, openingFor}
 use Rattle.history.specs.Refusals.{Answer, accepted, refused, openAnswer}
-use Rattle.history.specs.Printed.{Records, bad, all, inputMost, boardLent, headerText, badRecordText, openText, newline, decimal, refusedLine, linesFrom, openLines, recordLines, printed, Booking}
+use Rattle.history.specs.Printed.{Records, bad, all, inputMost, boardLent, headerText, badRecordText, openText, newline, decimal, refusedLine, linesFrom, openLines, recordLines, printed, Booking, boardOpening}
 use Rattle.layout.specs.Tables.{Tables, tables}
 use Rattle.layout.specs.Relations.{openingOf, openedTables, leftBy, OpenedBy}
 use Rattle.index.specs.Answers.{openedOf}
@@ -44,10 +44,6 @@ open-lines {nodes} {entries} {out} {out′} {next} header records last =
 
 -- ── `play` ──
 
--- what the program opens with
-abbrev boardOpening : (end kind : ℕ) → Opening
-boardOpening end kind = record { end = end; kind = kind; lent = boardLent }
-
 lines-refused : (end kind n : ℕ) (os : List Booking) → openAnswer (boardOpening end kind) ≡ refused n → recordLines end kind (all os) ≡ refusedLine openText n
 unfolding recordLines openLines
 lines-refused end kind n os e = rw e
@@ -67,7 +63,7 @@ module _ {end kind : ℕ} {t t′ : Tables} {r : Opened} (d : OpenedBy end kind 
       record {
         lines = λ lent os w.
             let answer : openAnswer (boardOpening end kind) ≡ refused n =
-            ap (λ (x : Lent). openAnswer (record { end = end; kind = kind; lent = x })) (sym lent) ∙ sym (d .answered) ∙ ap openedOf e in
+            ap (λ (x : Lent). openAnswer (openingFor end kind x)) (sym lent) ∙ sym (d .answered) ∙ ap openedOf e in
             rw (lines-refused end kind n os answer) put;
       }
 
@@ -77,7 +73,7 @@ module _ {end kind : ℕ} {t t′ : Tables} {r : Opened} (d : OpenedBy end kind 
       record {
         lines = λ lent os w.
             let taken : openAnswer (openingOf end kind t) ≡ accepted tt = sym (d .answered) ∙ ap openedOf e in
-            let same : openingOf end kind t ≡ boardOpening end kind = ap (λ (x : Lent). record { end = end; kind = kind; lent = x }) lent in
+            let same : openingOf end kind t ≡ boardOpening end kind = ap (openingFor end kind) lent in
             let left : t′ ≡ openedTables end kind t = d .left ∙ ap (λ (x : Answer Unit). leftBy x t (openedTables end kind t)) (ap openedOf e) in
             let stands : Standing t′ (opened (openingOf end kind t)) =
             subst (λ (x : Tables). Standing x (opened (openingOf end kind t))) (sym left) (opened-stands end kind t (ap tooShort lent ∙ board-fits) taken) in

@@ -11,7 +11,7 @@ use Rattle.history.specs.Words.{Block, size, firstCell}
 use Rattle.history.specs.Lent.{Lent, blockRows, nodeRows, entryRows}
 use Rattle.history.specs.Tree.{Tree, hole, node, mid, blockAt, nodeCount, entryCount, entriesIn}
 use Rattle.history.specs.Rules.{every, halved, filled, lived, rule23, apart}
-use Rattle.history.specs.Ledger.{Ledger, empty, withBlocks, withStore, withNow, withTree}
+use Rattle.history.specs.Ledger.{Ledger, empty, withBlocks, withStore, withNow, withTree, openingFor}
 use Rattle.history.specs.Reads.{treeIn}
 use Rattle.history.specs.Refusals.{Answer, firstOf, writeRefusals}
 
@@ -267,7 +267,7 @@ loadedFrom f = record { end = endOf (f .nodes); kind = f .kind; blocks = f .bloc
 -- the ledger of a loaded index: no pieces, the last accepted tick 0, the blocks' bytes one after the other
 abbrev pub loadedLedger : Lent → Loaded → Ledger
 loadedLedger n x =
-    let fresh = empty (record { end = x .end; kind = x .kind; lent = n }) in
+    let fresh = empty (openingFor (x .end) (x .kind) n) in
     let bytes = flatMap (λ b. b .stretch .bytes) (x .blocks) in
     withTree (some (x .tree)) (withNow (withBlocks (x .blocks) (withStore bytes (fresh .now))) fresh)
 

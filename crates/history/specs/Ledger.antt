@@ -17,6 +17,10 @@ pub record Opening : Type 0 where
   pub kind : ℕ
   pub lent : Lent
 
+-- an opening, and no more than this: the record is written out here alone
+abbrev pub openingFor : (end kind : ℕ) → Lent → Opening
+openingFor e kind n = record { end = e; kind = kind; lent = n }
+
 -- A board at a moment: pieces ascending, blocks in recorded order, the last accepted tick, and the bytes of all accepted updates one after the other,
 -- whose number is the store use.
 pub record Moment : Type 0 where
@@ -41,7 +45,7 @@ finished l = isSome (l .tree)
 
 -- ── one field replaced ──
 
--- The records are written out here and in `empty` alone: what a call does not name stays, and so does a field that comes.
+-- The two records are written out here and in `empty` alone: what a call does not name stays, and so will a field that comes.
 abbrev pub withPieces : List Piece → Moment → Moment
 withPieces ps m = record { pieces = ps; blocks = m .blocks; last = m .last; store = m .store }
 
@@ -66,6 +70,7 @@ withTree t l = record { opening = l .opening; now = l .now; tree = t }
 abbrev pub empty : Opening → Ledger
 empty a = record { opening = a; now = record { pieces = []; blocks = []; last = 0; store = [] }; tree = none }
 
+-- what opening leaves
 unfoldable pub opened : Opening → Ledger
 opened a = empty a
 

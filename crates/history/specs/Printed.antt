@@ -6,7 +6,7 @@ use lib.Dec.{leb, ltb, eqb}
 use lib.ListN.{length, take}
 use Rattle.history.specs.Words.{Operation, Block, firstCell, size}
 use Rattle.history.specs.Lent.{Lent, rowWidth, entryWidth, pieceHead, blockHead, nodeHead, entryHead}
-use Rattle.history.specs.Ledger.{Opening, Ledger, opened}
+use Rattle.history.specs.Ledger.{Opening, Ledger, opened, openingFor}
 use Rattle.history.specs.Reads.{clockLabel}
 use Rattle.history.specs.Refusals.{Answer, accepted, refused, openAnswer}
 use Rattle.history.specs.Calls.{recordCall, finishCall, answerTo, after}
@@ -90,6 +90,10 @@ boardLent =
 
 abbrev pub boardScratch : ℕ
 boardScratch = rowWidth * 512
+
+-- what it opens with
+abbrev pub boardOpening : (end kind : ℕ) → Opening
+boardOpening e kind = openingFor e kind boardLent
 
 -- ── texts ──
 
@@ -183,7 +187,7 @@ openLines a bs (refused n) = refusedLine openText n
 unfoldable pub recordLines : (end kind : ℕ) → Records → List ℕ
 recordLines e kind (bad k) = badRecordText ++ decimal k (newline ∷ [])
 recordLines e kind (all bs) =
-    let a : Opening = record { end = e; kind = kind; lent = boardLent } in
+    let a = boardOpening e kind in
     openLines a bs (openAnswer a)
 
 -- all that it prints
