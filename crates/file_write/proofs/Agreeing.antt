@@ -33,10 +33,10 @@ use Rattle.segment_table.specs.Closed.{TreeAt, Closed}
 use Rattle.layout.specs.Tables.{tables}
 use Rattle.layout.specs.Encodes.{Encodes, TreeIn}
 use Rattle.layout.proofs.Pieces.{used-fits}
-use Rattle.file_write.specs.Living.{lives, living, livingBlocks}
+use Rattle.file_put.specs.Living.{lives, living, livingBlocks}
 use Rattle.file_write.specs.Sizes.{blocksSize, nodesSize, blockCount}
-use Rattle.file_write.proofs.Laying.{flatMap-append, flatMap-map, flatMap-one, block-parts, stored-fewer}
-use Rattle.file_write.proofs.Listing.{living-below, numbers-length}
+use Rattle.file_put.proofs.Laying.{flatMap-append, flatMap-map, flatMap-one, block-parts, stored-fewer}
+use Rattle.file_nodes.proofs.Listing.{living-below, numbers-length}
 
 -- ── which blocks are written ──
 

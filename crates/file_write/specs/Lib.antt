@@ -1,5 +1,2 @@
-pub mod Living
 pub mod Sizes
-pub mod Numbering
-pub mod Parts
 pub mod Answers
