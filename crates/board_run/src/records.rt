@@ -5,7 +5,7 @@ use board_input::Item;
 use index_record::Recorded;
 
 // The length of the scratch: as many rows as there are pieces. Nothing is written to a scratch, so none is made.
-const SCRATCH: u64 = 8 * 512;
+const SCRATCH: u64 = tables::ROW as u64 * 512;
 
 // Records an operation; a refused one is record k, and its line is put.
 fn record_one(

@@ -103,7 +103,7 @@ module _ {file : List ℕ} {kind count at : ℕ} {blocks₀ store₀ blocks stor
         (omega (arith, o .few, p .place), omega (arith, o .low, p .place, said .cells-are), omega (arith, p .place, said .place-is), p .inside)
 
     module _ {blocks₁ store₁ : List ℕ}
-        (put : blocks₁ ≡ sets blocks (rowWidth * (rows + 1) + 0) (a ∷ b ∷ c ∷ d ∷ used ∷ kind ∷ 0 ∷ 0 ∷ []))
+        (put : blocks₁ ≡ sets blocks (rowWidth * (rows + 1) + blockBase) (a ∷ b ∷ c ∷ d ∷ used ∷ kind ∷ 0 ∷ 0 ∷ []))
         (copied : store₁ ≡ sets store used (take (n - q) (drop q file))) where
       put-is : blocks₁ ≡ sets blocks (rowWidth * (rows + 1) + blockBase) (blockNumbers used (said .block))
       unfolding blockNumbers

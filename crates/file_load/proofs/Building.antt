@@ -14,6 +14,7 @@ use Rattle.history.specs.Tree.{Tree}
 use Rattle.history.specs.Rules.{rule23, apart}
 use Rattle.history.specs.File.{File, treeFrom, endOf, rule20, rule21, rule22}
 use Rattle.history.proofs.FileRules.{Rule20, rule20-decides, rule21-decides, rule22-decides}
+use Rattle.tables.specs.Columns.{blockBase}
 use Rattle.segment_test.specs.Test.{lent}
 use Rattle.ordering.specs.Order.{Sorted}
 use Rattle.file_fill.specs.Fill.{FilledBlocks, FilledNodes}
@@ -87,7 +88,7 @@ module _ (file : List ℕ) (kind n used start root : ℕ) {blocks store nodes en
           (λ y. verdict-21 f y) (bool-cases (rule21 (f .nodes)))
 
   module _ (some-end : e ≡ 0 → ⊥) {b₂ b₃ : List ℕ}
-      (head : b₂ ≡ sets b₁ (rowWidth * 0 + 0) (closedState ∷ e ∷ kind ∷ n ∷ used ∷ 0 ∷ 0 ∷ 0 ∷ []))
+      (head : b₂ ≡ sets b₁ (rowWidth * 0 + blockBase) (closedState ∷ e ∷ kind ∷ n ∷ used ∷ 0 ∷ 0 ∷ 0 ∷ []))
       (sorted : Sorted b₂ b₃ n) {r : ℕ} (judged : Judged (lent b₃ nodes′ entries′) kind e n r) where
     keeps-21 : (f : File) → PartsAt file kind n used start root f → rule21 (f .nodes) ≡ true
     keeps-21 f q = ⊎-elim (λ y. y) (λ y. absurd (some-end (filled-nodes .wrong (f .nodes) (q .nodes-end) (q .nodes) y))) (bool-cases (rule21 (f .nodes)))

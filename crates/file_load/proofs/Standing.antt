@@ -65,7 +65,7 @@ pub record Filled (f : File) (kind n used e : ℕ) (blocks store nodes entries r
   pub rows-are : rows ≡ sets blocks (rowWidth * 1 + blockBase) (blocksNumbers 0 (f .blocks))
   pub bytes-are : store′ ≡ sets store 0 (bytesOfAll (f .blocks))
   pub tree-is : NodesLeft rows kind (f .nodes) nodes entries nodes′ entries′ e
-  pub head-is : headed-rows ≡ sets rows (rowWidth * 0 + 0) (headNumbers e kind n used)
+  pub head-is : headed-rows ≡ sets rows blockBase (headNumbers e kind n used)
   pub sorted : Sorted headed-rows ordered n
   pub count : n ≡ length (f .blocks)
   pub bytes : used ≡ bytesIn (f .blocks)
@@ -138,21 +138,23 @@ module _ {f : File} {kind n used e : ℕ} {blocks store nodes entries b₁ b₂ 
   abbrev blockList : List ℕ
   blockList = headNumbers e kind n used ++ blocksNumbers 0 bs
 
-  whole : b₂ ≡ sets blocks 0 blockList
-  whole = F .head-is ∙ ap (λ (u : List ℕ). sets u 0 (headNumbers e kind n used)) (F .rows-are) ∙ sets-before blocks 0 (headNumbers e kind n used) (blocksNumbers 0 bs)
+  -- the last row of the head and the rows behind it were written as one list
+  whole : b₂ ≡ sets blocks blockBase blockList
+  whole =
+      F .head-is ∙ ap (λ (u : List ℕ). sets u blockBase (headNumbers e kind n used)) (F .rows-are) ∙ sets-before blocks blockBase (headNumbers e kind n used) (blocksNumbers 0 bs)
 
-  block-list-long : length blockList ≡ blockHead + rowWidth * n
+  block-list-long : length blockList ≡ rowWidth + rowWidth * n
   block-list-long = length-append (headNumbers e kind n used) (blocksNumbers 0 bs) ∙ omega (arith, numbers-length 0 bs, F .count)
 
   head-long : length b₂ ≡ length blocks
-  head-long = ap length whole ∙ length-sets blocks 0 blockList
+  head-long = ap length whole ∙ length-sets blocks blockBase blockList
 
   module _ (some : 0 < n) where
     block-fits : blockHead + rowWidth * n ≤ length blocks
     block-fits = omega (arith, F .block-room, F .count)
 
-    rows-hold : HoldsAt b₂ 0 blockList
-    rows-hold = subst (λ (s : List ℕ). HoldsAt s 0 blockList) (sym whole) (written-holds blocks 0 blockList (omega (arith, block-list-long, block-fits)))
+    rows-hold : HoldsAt b₂ blockBase blockList
+    rows-hold = subst (λ (s : List ℕ). HoldsAt s blockBase blockList) (sym whole) (written-holds blocks blockBase blockList (omega (arith, block-list-long, block-fits)))
 
     rows-room : Room b₂ n
     rows-room = omega (arith, head-long, block-fits)
@@ -166,7 +168,7 @@ module _ {f : File} {kind n used e : ℕ} {blocks store nodes entries b₁ b₂ 
     -- the head's columns, but for the first in order
     head-column : (c : ℕ) → c < rowWidth → (c ≡ blockNext → ⊥) → blockColumn b₃ 0 c ≡ getD (headNumbers e kind n used) c 0
     head-column c h ne =
-        let z : rowWidth * 0 + (blockBase + c) ≡ 0 + c = omega arith in
+        let z : rowWidth * 0 + (blockBase + c) ≡ blockBase + c = omega arith in
         order-column (order .only) 0 c h ne ∙ rw z (holds-left (headNumbers e kind n used) (blocksNumbers 0 bs) rows-hold .says c h)
 
     row-list : HoldsAt b₂ (rowWidth * 1 + blockBase) (blocksNumbers 0 bs)
@@ -191,7 +193,7 @@ module _ {f : File} {kind n used e : ℕ} {blocks store nodes entries b₁ b₂ 
         sym
         (order-column (order .only) (suc k) blockFirst (omega arith) (λ z. omega arith)
         ∙ ap (λ (u : List ℕ). getD u i 0) (F .head-is)
-        ∙ getD-sets-out (headNumbers e kind n used) b₁ (rowWidth * 0 + 0) i (inr (omega arith)))
+        ∙ getD-sets-out (headNumbers e kind n used) b₁ blockBase i (inr (omega arith)))
 
     closed : entryHead ≤ length entries → Closed (lent b₃ nodes′ entries′) kind (endOf (f .nodes)) T
     closed h =
@@ -302,7 +304,7 @@ module _ {f : File} {kind n used e : ℕ} {blocks store nodes entries b₁ b₂ 
         blocks-rest = λ i h.
             order .only .same i (λ k p z. omega (arith, F .count))
             ∙ ap (λ (u : List ℕ). getD u i 0) whole
-            ∙ getD-sets-out blockList blocks 0 i (inr (omega (arith, block-list-long, F .count)));
+            ∙ getD-sets-out blockList blocks blockBase i (inr (omega (arith, block-list-long, F .count)));
         nodes-rest = λ i h.
             ap (λ (u : List ℕ). getD u i 0) (F .tree-is .node-rows) ∙ getD-sets-out nodeList nodes 0 i (inr (omega (arith, node-list-long)));
         entries-rest = λ i h.

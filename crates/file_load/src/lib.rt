@@ -87,7 +87,7 @@ fn build(
     }
     rows::put_row(
         blocks,
-        blocks::BASE,
+        block::BASE,
         0,
         block::CLOSED,
         end,
