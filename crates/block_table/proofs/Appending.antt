@@ -5,9 +5,9 @@ use mathlib.Core.List.{List, [], _∷_, _++_, map}
 use Prim.Native.Nat.{ℕ, zero, suc, _+_, _*_, _≤_, _<_}
 use native.Mathlib.Omega.{arith}
 use lib.ListN.{length, getD, set, length-set, length-append, List·getD-append}
-use lib.Seq.{sets, length-sets, set-set, set-comm, set-getD, getD-set-same, getD-set-other, getD-append-add}
+use lib.Seq.{sets, length-sets, set-set, set-getD, getD-set-same, getD-set-other, getD-append-add}
 use Rattle.lists.specs.Lists.{countFrom}
-use Rattle.lists.proofs.Stores.{sets-append, getD-sets-in, getD-sets-out}
+use Rattle.lists.proofs.Stores.{sets-append, getD-sets-in, getD-sets-out, set-sets}
 use Rattle.history.specs.Lent.{rowWidth, blockHead}
 use Rattle.history.specs.Words.{Block}
 use Rattle.tables.specs.Columns.{blockColumn, blockBase, headCount, blockFirst, blockLength, blockCreated, blockDestroyed, blockOffset, blockOwner, blockNext, blockSpare}
@@ -26,11 +26,6 @@ pub block-rows-append : (ps qs : List BlockRow) → blockRows (ps ++ qs) ≡ blo
 unfolding blockRows
 block-rows-append [] qs = refl
 block-rows-append (p ∷ ps) qs = rw (block-rows-append ps qs)
-
--- a number written in front of the rows is written before or after them
-sets-set : (vs l : List ℕ) (i h v : ℕ) → h < i → sets (set l h v) i vs ≡ set (sets l i vs) h v
-sets-set [] l i h v lt = refl
-sets-set (w ∷ vs) l i h v lt = ap (λ (m : List ℕ). sets m (suc i) vs) (set-comm l h i v w (λ e. omega arith)) ∙ sets-set vs (set l i w) (suc i) h v (omega arith)
 
 -- ── appending ──
 
@@ -65,7 +60,7 @@ appended-append ps qs b h =
     = ap (λ (i : ℕ). sets first i (blockRows qs)) at ∙ sym (sets-append b (blockAt (n + 1)) (blockRows ps) (blockRows qs)) ∙ ap (sets b (blockAt (n + 1))) (sym (block-rows-append ps qs)) in
     appended-at qs (appended ps b) m (appended-count ps b h)
     ∙ ap (λ (l : List ℕ). set (sets l (blockAt (m + 1)) (blockRows qs)) c (m + length qs)) (appended-at ps b n refl)
-    ∙ ap (λ (l : List ℕ). set l c (m + length qs)) (sets-set (blockRows qs) first (blockAt (m + 1)) c m (omega arith))
+    ∙ ap (λ (l : List ℕ). set l c (m + length qs)) (set-sets first c m (blockAt (m + 1)) (blockRows qs) (omega arith))
     ∙ set-set (sets first (blockAt (m + 1)) (blockRows qs)) c m (m + length qs)
     ∙ ap₂ (λ (l : List ℕ) (v : ℕ). set l c v) rows many
     ∙ sym (appended-at (ps ++ qs) b n refl)

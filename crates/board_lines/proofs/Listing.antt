@@ -32,8 +32,9 @@ use Rattle.index_read.proofs.Giving.{part-whole}
 use Rattle.index_finish.specs.Answers.{finishedOf, FinishesOpen}
 use Rattle.index_finish.specs.declared.Finished.{Finished}
 use Rattle.index_finish.specs.declared.Finished.the-variants.{Finished as IsFinished, Refused as FinishRefused}
-use Rattle.board_text.specs.Line.{Put, blockLineOf}
-use Rattle.board_text.proofs.Putting.{put-none, put-append}
+use Rattle.lists.specs.Puts.{Put}
+use Rattle.board_text.specs.Line.{blockLineOf}
+use Rattle.lists.proofs.Puts.{put-none, put-append}
 use Rattle.board_text.proofs.Lines.{law-of-lines}
 use Rattle.board_lines.specs.Lines.{Standing, ListedOne, Listed, FinishPut}
 

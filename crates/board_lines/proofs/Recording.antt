@@ -9,19 +9,19 @@ use Rattle.history.specs.Words.{Operation}
 use Rattle.history.specs.Ledger.{Ledger}
 use Rattle.history.specs.Refusals.{recordAnswer}
 use Rattle.history.specs.Calls.{recordCall, answerTo, after}
-use Rattle.history.specs.Printed.{boardScratch, opLine, linesFrom, refusedLine, opText, decimal}
+use Rattle.history.specs.Printed.{boardScratch, opLine, linesFrom, refusedLine, opText, decimal, Booking, operationOf}
 use Rattle.layout.specs.Tables.{tables}
 use Rattle.layout.specs.Relations.{RecordLeaves}
 use Rattle.index_record.specs.Calls.{recordedOf, RecordedOpen}
 use Rattle.index_record.specs.declared.Recorded.{Recorded}
 use Rattle.index_record.specs.declared.Recorded.the-variants.{Accepted, Refused}
-use Rattle.board_text.specs.Input.{itemAt, firstRecord}
-use Rattle.board_text.specs.Walk.{Walk, walk-end, walk-on}
-use Rattle.board_text.specs.Line.{Put}
-use Rattle.board_text.specs.declared.input.Item.{Item}
-use Rattle.board_text.specs.declared.input.Item.the-variants.{End, Bad, Record}
-use Rattle.board_text.proofs.Walking.{OneMore, records-on}
-use Rattle.board_text.proofs.Putting.{put-none, put-append}
+use Rattle.board_input.specs.Input.{itemAt, firstRecord}
+use Rattle.board_input.specs.Walk.{Walk, walk-end, walk-on}
+use Rattle.lists.specs.Puts.{Put}
+use Rattle.board_input.specs.declared.Item.{Item}
+use Rattle.board_input.specs.declared.Item.the-variants.{End, Bad, Record}
+use Rattle.board_input.proofs.Walking.{OneMore, records-on}
+use Rattle.lists.proofs.Puts.{put-none, put-append}
 use Rattle.board_lines.specs.Lines.{Standing, RecordedOne, Midway, RecordedAll}
 use Rattle.board_lines.proofs.Standing.{record-stands}
 
@@ -58,8 +58,8 @@ pub ruleset recordingOne = (one-accepted, one-refused)
 -- from the record at a position on, counted k, what is to be printed of all follows what is put
 pub record Turning (input pieces₀ blocks₀ store₀ out₀ : List ℕ) (from : ℕ) (pieces blocks store out : List ℕ) (position k at : ℕ) : Type 0 where
   pub counted : k ≤ position
-  pub turned : (nodes entries : List ℕ) (l : Ledger) (os : List Operation) → Standing (tables pieces₀ blocks₀ store₀ nodes entries) l → Walk input firstRecord os
-      → (rest : List Operation) × Walk input position rest × Midway (linesFrom 1 l os) k rest (tables pieces blocks store nodes entries) out₀ from out at
+  pub turned : (nodes entries : List ℕ) (l : Ledger) (os : List Booking) → Standing (tables pieces₀ blocks₀ store₀ nodes entries) l → Walk input firstRecord os
+      → (rest : List Booking) × Walk input position rest × Midway (linesFrom 1 l os) k rest (tables pieces blocks store nodes entries) out₀ from out at
 
 pub turn-first : (input pieces blocks store out : List ℕ) (from : ℕ) → Turning input pieces blocks store out from pieces blocks store out firstRecord 1 from
 turn-first input pieces blocks store out from = record {
@@ -70,7 +70,7 @@ turn-first input pieces blocks store out from = record {
 -- two answers that are the same record
 same-record : {tick first start cells next tick′ first′ start′ cells′ next′ : ℕ} (input : List ℕ)
     → Record tick first start cells next ≡ Record tick′ first′ start′ cells′ next′
-    → _≡_ {A = Operation} (record { tick = tick; first = first; bytes = take cells (drop start input) }) (record { tick = tick′; first = first′; bytes = take cells′ (drop start′ input) })
+    → _≡_ {A = Booking} (record { tick = tick; first = first; bytes = take cells (drop start input) }) (record { tick = tick′; first = first′; bytes = take cells′ (drop start′ input) })
     × (next ≡ next′)
 same-record input e = ((cc), (cc))
 
@@ -84,19 +84,20 @@ bad-record : {tick first start cells next : ℕ} → Bad ≡ Record tick first s
 bad-record e = let z : _≡_ {A = ℕ} 0 1 = cc in omega arith
 
 -- one record further: its line is put behind the others
-midway-on : {lines pieces blocks store pieces′ blocks′ store′ nodes entries out₀ out out′ : List ℕ} {k from at next : ℕ} (o : Operation) {os : List Operation}
-    → RecordedOne pieces blocks store pieces′ blocks′ store′ o k out at out′ next
-    → Midway lines k (o ∷ os) (tables pieces blocks store nodes entries) out₀ from out at
-    → Midway lines (suc k) os (tables pieces′ blocks′ store′ nodes entries) out₀ from out′ next
+midway-on : {lines pieces blocks store pieces′ blocks′ store′ nodes entries out₀ out out′ : List ℕ} {k from at next : ℕ} (b : Booking) {bs : List Booking}
+    → RecordedOne pieces blocks store pieces′ blocks′ store′ (operationOf b) k out at out′ next
+    → Midway lines k (b ∷ bs) (tables pieces blocks store nodes entries) out₀ from out at
+    → Midway lines (suc k) bs (tables pieces′ blocks′ store′ nodes entries) out₀ from out′ next
 unfolding linesFrom
-midway-on {nodes} {entries} {k} o d m =
+midway-on {nodes} {entries} {k} b d m =
     let l = m .ledger in
+    let call = recordCall boardScratch (operationOf b) in
     record {
-      ledger = after l (recordCall boardScratch o);
+      ledger = after l call;
       standing = d .left nodes entries l (m .standing);
-      text = m .text ++ opLine k (answerTo l (recordCall boardScratch o));
+      text = m .text ++ opLine k (answerTo l call);
       put = put-append (m .put) (d .line nodes entries l (m .standing));
-      rest = m .rest ∙ sym (append-assoc (m .text) (opLine k (answerTo l (recordCall boardScratch o))) _);
+      rest = m .rest ∙ sym (append-assoc (m .text) (opLine k (answerTo l call)) _);
     }
 
 module _ {input pieces₀ blocks₀ store₀ out₀ pieces blocks store out : List ℕ} {from position k at : ℕ} {r : Item}
@@ -134,19 +135,19 @@ module _ {input pieces₀ blocks₀ store₀ out₀ pieces blocks store out : Li
         })
       where
         go : {lines : List ℕ} → RecordedOne pieces blocks store pieces′ blocks′ store′ (record { tick = tick; first = first; bytes = take cells (drop start input) }) k out at out′ at′
-            → (nodes entries : List ℕ) → (rest : List Operation) × Walk input position rest × Midway lines k rest (tables pieces blocks store nodes entries) out₀ from out at
-            → (rest : List Operation) × Walk input next rest × Midway lines (suc k) rest (tables pieces′ blocks′ store′ nodes entries) out₀ from out′ at′
+            → (nodes entries : List ℕ) → (rest : List Booking) × Walk input position rest × Midway lines k rest (tables pieces blocks store nodes entries) out₀ from out at
+            → (rest : List Booking) × Walk input next rest × Midway lines (suc k) rest (tables pieces′ blocks′ store′ nodes entries) out₀ from out′ at′
         go one nodes entries (rest, walk-end h, m) = absurd (end-record (h ∙ sym stands ∙ e))
         go one nodes entries (rest, walk-on {tick = t} {first = f} {start = s} {cells = c} {next = n} {os = os} h w, m) =
             let same = same-record input (h ∙ sym stands ∙ e) in
-            (os, rw (same .1) at w, midway-on _ one (rw (same .0) at m))
+            (os, rw (same .1) at w, midway-on (record { tick = tick; first = first; bytes = take cells (drop start input) }) one (rw (same .0) at m))
 
   -- at the end, which no bad record can be
   pub turn-end : r ≡ End → RecordedAll input pieces₀ blocks₀ store₀ pieces blocks store out₀ from out at
   unfolding linesFrom
   turn-end e = record { recorded = λ nodes entries l os s w. go (turn .turned nodes entries l os s w) }
     where
-      go : {lines : List ℕ} {nodes entries : List ℕ} → (rest : List Operation) × Walk input position rest × Midway lines k rest (tables pieces blocks store nodes entries) out₀ from out at
+      go : {lines : List ℕ} {nodes entries : List ℕ} → (rest : List Booking) × Walk input position rest × Midway lines k rest (tables pieces blocks store nodes entries) out₀ from out at
           → Midway lines 0 [] (tables pieces blocks store nodes entries) out₀ from out at
       go (rest, walk-end h, m) = record { ledger = m .ledger; standing = m .standing; text = m .text; put = m .put; rest = m .rest }
       go (rest, walk-on h w, m) = absurd (end-record (sym e ∙ stands ∙ sym h))
@@ -155,7 +156,7 @@ module _ {input pieces₀ blocks₀ store₀ out₀ pieces blocks store out : Li
   pub turn-bad : r ≡ Bad → RecordedAll input pieces₀ blocks₀ store₀ pieces blocks store out₀ from out at
   turn-bad e = record { recorded = λ nodes entries l os s w. go (turn .turned nodes entries l os s w) }
     where
-      go : {lines : List ℕ} {nodes entries : List ℕ} → (rest : List Operation) × Walk input position rest × Midway lines k rest (tables pieces blocks store nodes entries) out₀ from out at
+      go : {lines : List ℕ} {nodes entries : List ℕ} → (rest : List Booking) × Walk input position rest × Midway lines k rest (tables pieces blocks store nodes entries) out₀ from out at
           → Midway lines 0 [] (tables pieces blocks store nodes entries) out₀ from out at
       go (rest, walk-end h, m) = absurd (bad-end (sym e ∙ stands ∙ sym h))
       go (rest, walk-on h w, m) = absurd (bad-record (sym e ∙ stands ∙ sym h))

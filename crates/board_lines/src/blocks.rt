@@ -1,7 +1,6 @@
 // Finish, and the blocks in recorded order, those of no life too.
 ghost use Rattle.layout.specs.Tables.{tables};
 ghost use Rattle.board_lines.specs.Lines.{ListedOne, Listed, FinishPut};
-use board_text::line;
 use index_finish::Finished;
 use index_read::Given;
 
@@ -20,7 +19,7 @@ fn list_one(blocks: &[u64], store: &[u8], number: u64, out: &mut [u8], at: usize
             offset,
         } => {
             let bytes = index_read::part(store, offset, length);
-            line::block_line(out, at, first, created, destroyed, bytes)
+            board_text::block_line(out, at, first, created, destroyed, bytes)
         }
     }
 }
@@ -53,7 +52,7 @@ pub fn finish(
         (now (out .entry)) at (now (out .exit)) r ⌝ }
 {
     match index_finish::finish_open(pieces, blocks, nodes, entries) {
-        Finished::Refused(number) => line::finish_refused(out, at, number),
+        Finished::Refused(number) => board_text::finish_refused(out, at, number),
         Finished::Finished => list(blocks, store, out, at),
     }
 }

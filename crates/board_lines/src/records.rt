@@ -1,9 +1,7 @@
 // The records of the input, one after the other.
 ghost use Rattle.index_record.specs.Calls.{operation};
 ghost use Rattle.board_lines.specs.Lines.{RecordedOne, RecordedAll};
-use board_text::input;
-use board_text::input::Item;
-use board_text::line;
+use board_input::Item;
 use index_record::Recorded;
 
 // The length of the scratch: as many rows as there are pieces. Nothing is written to a scratch, so none is made.
@@ -26,7 +24,7 @@ fn record_one(
 {
     match index_record::record_open(pieces, blocks, store, SCRATCH, tick, first, bytes) {
         Recorded::Accepted => at,
-        Recorded::Refused(number) => line::op_refused(out, at, k, number),
+        Recorded::Refused(number) => board_text::op_refused(out, at, k, number),
     }
 }
 
@@ -42,11 +40,11 @@ pub fn record_all(
     ensures { λ r. ⌜ RecordedAll (now (input .entry)) (now (pieces .entry)) (now (blocks .entry)) (now (store .entry)) (now (pieces .exit)) (now (blocks .exit)) (now (store .exit))
         (now (out .entry)) from (now (out .exit)) r ⌝ }
 {
-    let mut position = input::RECORDS;
+    let mut position = board_input::RECORDS;
     let mut k: u64 = 1;
     let mut at = from;
     loop {
-        match input::record_at(input, position) {
+        match board_input::record_at(input, position) {
             Item::End => {
                 return at;
             }

@@ -42,21 +42,6 @@ head-put t kind count p q r s u w = rw (← p, ← q, ← r, ← s, ← u) w
 
 pub ruleset putting = (half-put, row-put, entry-put, head-put)
 
--- ── in front of others ──
-
-set-before : (l : List ℕ) (i x j : ℕ) (ys : List ℕ) → i < j → set (sets l j ys) i x ≡ sets (set l i x) j ys
-set-before l i x j [] h = refl
-set-before l i x j (y ∷ ys) h =
-    set-before (set l j y) i x (suc j) ys (omega arith) ∙ ap (λ (m : List ℕ). sets m (suc j) ys) (set-comm l j i y x (λ e. omega arith))
-
--- numbers written in front of others that were written before are one list
-pub sets-before : (l : List ℕ) (i : ℕ) (xs ys : List ℕ) → sets (sets l (i + length xs) ys) i xs ≡ sets l i (xs ++ ys)
-sets-before l i [] ys = let z : i + 0 ≡ i = omega arith in rw z
-sets-before l i (x ∷ xs) ys =
-    let z : i + suc (length xs) ≡ suc i + length xs = omega arith in
-    ap (λ (m : List ℕ). sets m (suc i) xs) (set-before l i x (i + suc (length xs)) ys (omega arith))
-    ∙ rw z (sets-before (set l i x) (suc i) xs ys)
-
 -- ── zeros ──
 
 -- one zero more

@@ -2,7 +2,7 @@
 use mathlib.Core.Path.{_≡_, refl, sym, _∙_, ap}
 use mathlib.Core.Logic.{_⊎_, inl, inr, ⊎-elim}
 use mathlib.Core.Bool.{Bool, true, false, _&&_, not, true≢false}
-use mathlib.Core.List.{List, [], _∷_}
+use mathlib.Core.List.{List, []}
 use Prim.Native.Nat.{ℕ, zero, suc, _+_, _*_, _-_, _/_, _^_, _≤_, _<_}
 use native.Mathlib.Omega.{arith}
 use lib.Dec.{leb, ltb}
@@ -18,6 +18,7 @@ use Rattle.history.specs.Tree.{Tree, noBlock}
 use Rattle.history.specs.Rules.{every, filled, lived, rule23, apart}
 use Rattle.history.specs.File.{rule22}
 use Rattle.history.specs.Sound.{isEmpty}
+use Rattle.history.proofs.FileLists.{not-empty}
 use Rattle.history.proofs.RulesLaws.{every-decides, apart-decides}
 use Rattle.history.proofs.FileRules.{rule22-decides, LivingBlock}
 use Rattle.tables.specs.Columns.{blockColumn, blockFirst, blockLength, blockCreated, blockDestroyed}
@@ -105,7 +106,7 @@ pub ruleset living = (lives-empty, lives-wraps, lives-never, lives-by)
 -- ── rule 22 over rows ──
 
 abbrev test : (end : ℕ) → Block → Bool
-test end b = filled (b .stretch) && lived end b
+test end b = filled b && lived end b
 
 module _ (store blocks : List ℕ) (n end : ℕ) (stored : Stored (length store) blocks n) where
   -- a row's test is its block's
@@ -202,10 +203,6 @@ module _ (t : closed.Tables) (kind end n : ℕ) {live : Bool} (lives : TestedLiv
 
     some : (store : List ℕ) → Stored (length store) (t .blocks) n → isEmpty (bs store) ≡ false
     some store q = not-empty (bs store) (rule22-decides end (bs store) .yes (rule store q) .some-block)
-      where
-        not-empty : (xs : List Block) → 0 < length xs → isEmpty xs ≡ false
-        not-empty [] h = absurd (omega arith)
-        not-empty (x ∷ xs) h = refl
 
     rows : (store : List ℕ) → BlockRows (t .blocks) n (bs store)
     unfolding blockOfRow

@@ -10,25 +10,26 @@ use lib.ListN.{length, length-append}
 use lib.Seq.{sets}
 use borrow.Author.Tests.{le-leb, lt-leb}
 use Rattle.lists.proofs.Numbers.{le-or-lt}
-use Rattle.lists.proofs.Stores.{sets-append}
+use Rattle.lists.proofs.Stores.{sets-append, sets-comm, sets-over}
 use Rattle.history.specs.Ledger.{Ledger}
 use Rattle.history.specs.Refusals.{accepted, refused}
 use Rattle.history.specs.File.{bytesOf, blockBytes, nodeBytes, nodesOf, mapTree, placeIn, fileBy}
 use Rattle.history.proofs.FileNumbers.{bytesOf-length}
 use Rattle.tables.specs.Columns.{column, blockColumn, headKind, headEnd}
 use Rattle.layout.proofs.ReadLaws.{write-fits, write-16, into-refused}
-use Rattle.file_write.specs.Putting.{Put}
-use Rattle.file_write.specs.Living.{living, livingBlocks}
+use Rattle.lists.specs.Puts.{Put}
+use Rattle.file_put.specs.Living.{living, livingBlocks}
 use Rattle.file_write.specs.Sizes.{blocksSize, blockCount, nodesAt, fileSize, planOf}
-use Rattle.file_write.specs.Numbering.{Listed}
-use Rattle.file_write.specs.Parts.{PutBlocks, PutTree}
+use Rattle.file_nodes.specs.Numbering.{Listed}
+use Rattle.file_put.specs.Parts.{PutBlocks}
+use Rattle.file_nodes.specs.Nodes.{PutTree}
 use Rattle.file_write.specs.Answers.{FileWritten, WrittenClosed}
 use Rattle.file_write.specs.declared.plan.Plan.{Plan}
 use Rattle.file_write.specs.declared.plan.Plan.the-variants as plan
-use Rattle.file_write.proofs.Stores.{sets-comm, sets-over}
-use Rattle.file_write.proofs.Putting.{put-append}
-use Rattle.file_write.proofs.Listing.{numbers-length, list-shorter, numbering}
+use Rattle.lists.proofs.Puts.{put-append}
+use Rattle.file_nodes.proofs.Listing.{numbers-length, numbering}
 use Rattle.file_write.proofs.Agreeing.{Agrees, agrees}
+use Rattle.file_write.proofs.Planning.{list-shorter}
 
 -- ── part over part ──
 
@@ -67,7 +68,7 @@ file-written blocks store nodes entries many place count kind end root listed p�
         let nodes′ = nodeBytes (nodesOf 0 (blockColumn blocks 0 headEnd) (mapTree (placeIn (living blocks (blockCount blocks))) (a .tree))) in
         let head′ = bytesOf 1 (blockColumn blocks 0 headKind) ++ bytesOf 8 (length (living blocks (blockCount blocks))) in
         let tree′ : PutTree nodes entries (column nodes 0 (blockColumn blocks 0 headKind)) 0 (blockColumn blocks 0 headEnd) listed o₁ place o₂ p₂ = rw (r, k, e) at tree in
-        let second = tree′ .put ks blocks (blockColumn blocks 0 headKind) (a .tree) (numbering list′ m (omega arith) room) (a .stands) (a .known) in
+        let second = tree′ .put ks blocks (blockColumn blocks 0 headKind) (a .tree) (numbering list′ m (omega (arith, list-shorter blocks (blockCount blocks))) room) (a .stands) (a .known) in
         let third : Put o₂ 9 blocks′ o₃ p₃ = (rw c at put) .put (a .stored) in
         let last : Put o₃ 0 head′ o₅ p₅ = rw (k, m) at (put-append mark number) in
         let nine : length head′ ≡ 9 = length-append (bytesOf 1 (blockColumn blocks 0 headKind)) (bytesOf 8 (length ks)) ∙ omega (arith, bytesOf-length 1 (blockColumn blocks 0 headKind), bytesOf-length 8 (length ks)) in

@@ -12,7 +12,7 @@ use Rattle.history.specs.Sound.{Sound}
 use Rattle.layout.specs.Tables.{tables}
 use Rattle.layout.specs.Encodes.{Encodes}
 use Rattle.layout.specs.Reads.{HandedInto, ClosedBy}
-use Rattle.file_write.specs.Living.{living}
+use Rattle.file_put.specs.Living.{living}
 use Rattle.file_write.specs.Sizes.{blockCount, nodesAt}
 use Rattle.file_write.specs.declared.Written.{Written}
 use Rattle.file_write.specs.declared.Written.the-variants.{Bytes, Refused}

@@ -12,7 +12,7 @@ use Rattle.lists.specs.Lists.{All, count, countFrom}
 use Rattle.lists.specs.Tests.{Decides}
 use Rattle.lists.proofs.Lists.{all-of-at}
 use Rattle.lists.proofs.Numbers.{confirm}
-use Rattle.history.specs.Words.{Block, size}
+use Rattle.history.specs.Words.{Block, size, firstCell}
 use Rattle.history.specs.Tree.{Tree, noBlock, treeOf, nodeCount, entryCount}
 use Rattle.history.specs.Rules.{isHole, Apart}
 use Rattle.history.specs.Sound.{isEmpty}
@@ -74,7 +74,7 @@ module _ {store blocks nodes entries : List ℕ} {kind e n : ℕ} (t : Tryable s
   unfolding blockOfRow
   block-rows = record {
     many = blocks-length store blocks n;
-    first = λ k h. ap (λ (b : Block). b .stretch .first) (blocks-at store blocks n k noBlock h);
+    first = λ k h. ap firstCell (blocks-at store blocks n k noBlock h);
     created = λ k h. ap (λ (b : Block). b .created) (blocks-at store blocks n k noBlock h);
     destroyed = λ k h. ap (λ (b : Block). b .destroyed) (blocks-at store blocks n k noBlock h);
   }

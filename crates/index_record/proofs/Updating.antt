@@ -14,7 +14,7 @@ use Rattle.lists.proofs.Numbers.{le-or-lt}
 use Rattle.history.specs.Lent.{rowWidth, blockHead}
 use Rattle.history.specs.Words.{Operation, Piece, Block, stretchOf, pieceOf, blockOf}
 use Rattle.history.specs.Tree as segment
-use Rattle.history.specs.Ledger.{Ledger, Moment, finished, isRead, updateBy, recordBy}
+use Rattle.history.specs.Ledger.{Ledger, withNow, Moment, finished, isRead, updateBy, recordBy}
 use Rattle.history.specs.Refusals.{accepted, recordAnswer}
 use Rattle.history.specs.Sound.{Sound}
 use Rattle.history.proofs.Passing.{Taken, taken, Room, room}
@@ -281,7 +281,7 @@ module _ (t : Tables) (l : Ledger) (o : Operation) (scratch : ℕ) (e : Encodes 
     next-last = refl
 
     abbrev l′ : Ledger
-    l′ = record { opening = l .opening; now = next; tree = l .tree }
+    l′ = withNow next l
 
     pub update-encodes : Encodes t′ (recordBy l o)
     update-encodes =

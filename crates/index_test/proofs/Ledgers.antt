@@ -12,7 +12,7 @@ use Rattle.lists.proofs.Maps.{length-of-map, map-map}
 use Rattle.history.specs.Words.{Block, size}
 use Rattle.history.specs.Tree as segment
 use Rattle.history.specs.Tree.{noBlock}
-use Rattle.history.specs.Ledger.{Ledger}
+use Rattle.history.specs.Ledger.{Ledger, openingFor}
 use Rattle.history.specs.Sound.{SoundBlock, SoundBoard, InOrder}
 use Rattle.tables.specs.Columns.{column, piecesCount, headState, headEnd, headKind, headCount, headUsed, headLast}
 use Rattle.block_table.specs.Blocks.{blocksOf, blockOfRow, lengthAt, offsetAt}
@@ -73,7 +73,7 @@ block-row b part store blocks link fits inside s =
 unfoldable pub ledgerOf : (t : Tables) (links : List ℕ) → Option segment.Tree → Ledger
 ledgerOf t links tree =
     record {
-      opening = record { end = headAt t headEnd; kind = headAt t headKind; lent = lengthsOf t };
+      opening = openingFor (headAt t headEnd) (headAt t headKind) (lengthsOf t);
       now = record {
         pieces = map (λ link. shown (t .store) (pieceAt (t .pieces) link)) links;
         blocks = blocksOf (t .store) (t .blocks) (headAt t headCount);

@@ -19,6 +19,7 @@ use Rattle.history.specs.Rules.{numbered, rule23}
 use Rattle.history.specs.Sound.{SoundBoard, SoundClosed, SoundTree, Sound, SoundForFinish}
 use Rattle.history.proofs.RulesLaws.{numbered-decides}
 use Rattle.history.proofs.TreeCounts.{entry-count-in}
+use Rattle.history.proofs.ByKind.{closed-rule-23}
 use Rattle.tables.specs.Columns.{blockBase, blockFirst}
 use Rattle.ordering.specs.Order.{InOrder}
 use Rattle.segment_table.specs.Closed.{firstCellIn, Closed}
@@ -145,7 +146,7 @@ module _ (l : Ledger) (s : SoundBoard l) (f : Lendable l) where
 
       numbered-words : All Word (entriesIn tree)
       numbered-words =
-          all-map (λ k p. omega (arith, blocks-many l s, blocks-few l s f)) (numbered-blocks (l .opening .end) (l .now .blocks) tree (c .rule-23))
+          all-map (λ k p. omega (arith, blocks-many l s, blocks-few l s f)) (numbered-blocks (l .opening .end) (l .now .blocks) tree (closed-rule-23 l tree s c))
 
       entry-words : All Word entries
       entry-words =

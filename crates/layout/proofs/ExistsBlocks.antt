@@ -8,7 +8,7 @@ use Rattle.lists.specs.Lists.{All, all-nil, all-cons}
 use Rattle.lists.proofs.Lists.{all-at}
 use Rattle.lists.proofs.Counting.{map-from-at}
 use Rattle.history.specs.Lent.{rowWidth, blockHead}
-use Rattle.history.specs.Words.{Block, size}
+use Rattle.history.specs.Words.{Block, size, firstCell}
 use Rattle.history.specs.Sound as sound
 use Rattle.tables.specs.Columns.{blockColumn, blockBase, blockFirst, blockLength, blockCreated, blockDestroyed, blockOffset, blockOwner, blockNext}
 use Rattle.block_table.specs.Blocks.{blockOfRow, blocksOf, Stored}
@@ -32,7 +32,7 @@ block-rows kind end store rest (b ∷ bs) (all-cons h hs) =
     let stored = h .stretch .stored in
     let more = block-rows kind end store rest bs hs in
     let row : Fields =
-    record { kind = b .kind; first = b .stretch .first; length = size (b .stretch); created = b .created; destroyed = b .destroyed; offset = stored .offset } in
+    record { kind = b .kind; first = firstCell b; length = size (b .stretch); created = b .created; destroyed = b .destroyed; offset = stored .offset } in
     let is : blockIn (store ++ rest) row ≡ b =
     λ i. record {
       kind = b .kind;

@@ -5,12 +5,13 @@ use Prim.Native.Nat.{ℕ, _+_, _-_, _^_, _≤_, _<_}
 use native.Mathlib.Omega.{arith}
 use lib.ListN.{length, take, drop, length-drop, length-take}
 use lib.Seq.{length-take-le}
+use Rattle.lists.proofs.Maps.{map-map}
+use Rattle.lists.proofs.Parts.{part-part}
 use Rattle.lists.specs.Lists.{All, all-cons, pairs-nil, pairs-cons}
 use Rattle.lists.proofs.Lists.{all-map, all-both, all-of-map, all-un-map, all-any}
 use Rattle.history.specs.Words.{Piece, size, ends}
 use Rattle.history.specs.Ledger.{Ledger}
 use Rattle.history.specs.Sound.{SoundPiece, InOrder, SoundBoard}
-use Rattle.history.proofs.Storing.{part-part}
 use Rattle.tables.specs.Columns.{headKind, headUsed, headLast}
 use Rattle.piece_table.specs.Piece.{PieceRow, rowEnd, pieceAt, Filled, Follow}
 use Rattle.piece_table.specs.Shown.{shown}
@@ -97,10 +98,6 @@ module _ (t : Tables) (l : Ledger) (e : Encodes t l) (s : SoundBoard l) where
 -- the ledger's pieces are those that the rows show
 pub pieces-shown : (t : Tables) (l : Ledger) (e : Encodes t l) → l .now .pieces ≡ map (shown (t .store)) (map (pieceAt (t .pieces)) (e .links))
 pieces-shown t l e = e .pieces ∙ sym (map-map (shown (t .store)) (pieceAt (t .pieces)) (e .links))
-  where
-    map-map : {A B C : Type 0} (f : B → C) (g : A → B) (xs : List A) → map f (map g xs) ≡ map (λ x. f (g x)) xs
-    map-map f g [] = refl
-    map-map {A} {B} {C} f g (x ∷ xs) = ap (λ (r : List C). f (g x) ∷ r) (map-map f g xs)
 
 -- ── from the table to the ledger ──
 

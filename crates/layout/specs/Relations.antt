@@ -9,7 +9,7 @@ use lib.Seq.{sets}
 use Rattle.history.specs.Words.{Operation, Block, size}
 use Rattle.history.specs.Lent.{rowWidth}
 use Rattle.history.specs.Tree.{treeOf}
-use Rattle.history.specs.Ledger.{Opening, Ledger, isRead, recordBy, finishBy}
+use Rattle.history.specs.Ledger.{Opening, Ledger, isRead, recordBy, finishBy, openingFor}
 use Rattle.history.specs.Reads.{Found}
 use Rattle.history.specs.Refusals.{Answer, accepted, refused, openAnswer, recordAnswer, finishAnswer, findAnswer, blockAnswer}
 use Rattle.history.specs.Sound.{Sound}
@@ -26,7 +26,7 @@ use Rattle.layout.specs.Reads.{valuesOf, HandedInto, ReadBy}
 
 -- what opening is fed
 abbrev pub openingOf : (end kind : ℕ) → Tables → Opening
-openingOf e kind t = record { end = e; kind = kind; lent = lengthsOf t }
+openingOf e kind t = openingFor e kind (lengthsOf t)
 
 abbrev pub zeros : List ℕ → List ℕ
 zeros l = replicate (length l) 0

@@ -5,6 +5,7 @@ use Prim.Native.Nat.{ℕ, _+_, _-_, _*_, _≤_, _<_}
 use native.Mathlib.Omega.{arith}
 use lib.ListN.{length, set, length-set, length-append}
 use lib.Seq.{getD-set-same, getD-set-other}
+use Rattle.lists.proofs.Lists.{ascending-distinct}
 use Rattle.lists.proofs.Maps.{map-append}
 use Rattle.lists.specs.Lists.{Mem, here, there, Distinct, Ascending}
 use Rattle.lists.proofs.Counting.{dense}
@@ -14,7 +15,7 @@ use Rattle.merge_set.proofs.Balance.{Shrunk, removed-balanced, AsHigh, relinked
 use Rattle.merge_set.proofs.Frame.{stays}
 use Rattle.merge_set.proofs.Heights.{height-92}
 use Rattle.merge_set.proofs.Links.{Put, put-at, mem-put, mem-unput, distinct-put, Exchanged}
-use Rattle.merge_set.proofs.Order.{ascending-distinct, removed-put, relinked-finds}
+use Rattle.merge_set.proofs.Order.{removed-put, relinked-finds}
 use Rattle.merge_set.proofs.Removing.{valid-in}
 use Rattle.merge_set.specs.Table.{Good, Valid, Shape, Result, Removed, CopyOf, CopiedRow, Relinked}
 use Rattle.merge_set.specs.Tree.{Tree, rows, height, Balanced, removed, relinked}
@@ -47,7 +48,7 @@ module _ {t : List ℕ} {xs : List ℕ} (r : Linked t xs) where
   linked-ascending = follow-ascending (pieceAt t) 0 xs (r .order)
 
   pub linked-good : Good xs
-  linked-good = record { distinct = ascending-distinct (λ j. column t j pieceFirst) xs linked-ascending; few = omega (arith, r .count, r .room, r .few) }
+  linked-good = record { distinct = ascending-distinct (λ j. column t j pieceFirst) linked-ascending; few = omega (arith, r .count, r .room, r .few) }
 
   pub linked-depth : height (r .tree) ≤ 92
   linked-depth = height-92 (r .tree) (r .balanced) (rw (r .is) (linked-good .few))

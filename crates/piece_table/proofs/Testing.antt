@@ -7,12 +7,12 @@ use Prim.Native.Nat.{ℕ, suc, _+_, _-_, _*_, _/_, _≤_, _<_, _^_}
 use native.Mathlib.Omega.{arith}
 use lib.ListN.{length, length-append}
 use lib.Dec.{eqb}
-use borrow.Author.Tests.{eqb-true, eqb-false, not-true, not-false}
+use borrow.Author.Tests.{not-true, not-false}
 use Rattle.lists.specs.Lists.{Mem, here, there, All, all-nil, all-cons}
 use Rattle.lists.specs.Tests.{Decides}
-use Rattle.lists.proofs.Lists.{mem-left, mem-right, mem-split, all-left, all-right, all-append}
+use Rattle.lists.proofs.Lists.{mem-left, mem-right, mem-split, all-left, all-right, all-append, all-head, all-tail}
 use Rattle.lists.proofs.Maps.{map-append}
-use Rattle.lists.proofs.Numbers.{refute}
+use Rattle.lists.proofs.Numbers.{refute, decides-iff, decides-eqb}
 use Rattle.history.specs.Lent.{rowWidth}
 use Rattle.tables.specs.Columns.{column, pieceLength, pieceWritten, pieceOffset, pieceLeft, pieceRight, pieceDepth, pieceOwner, piecesRoot, piecesCount}
 use Rattle.merge_set.specs.Tree.{Tree, leaf, node, height, rows, Balanced}
@@ -25,10 +25,6 @@ use Rattle.piece_table.specs.declared.Limits.{Limits}
 use Rattle.piece_table.specs.declared.Walk.{Walk}
 use Rattle.piece_table.specs.declared.Walk.the-variants.{Bad, Fine}
 use Rattle.piece_table.proofs.Removing.{linked-depth}
-
--- a test of two numbers, for what holds exactly when they are equal
-decides-eqb : {P : Type 0} (a b : ℕ) → (a ≡ b → P) → (P → a ≡ b) → Decides (eqb a b) P
-decides-eqb a b f g = record { yes = λ e. f (eqb-true a b e); not = λ e p. eqb-false a b e (g p) }
 
 -- ── `row_stands` ──
 
@@ -53,15 +49,17 @@ module _ {t : List ℕ} {count link fuel : ℕ} where
       module _ (within : link ≤ count) (some : own ≡ 0 → ⊥) (high : own ≤ fuel) where
         pub row-stands-right : d < e → e - d ≤ 1 → Decides (eqb (own - 1) e) (RowStands t count link fuel)
         row-stands-right h k =
-            decides-eqb (own - 1) e
+            decides-iff (eqb (own - 1) e)
             (λ z. record { within = within; high = omega arith; deep = omega (arith, ed ∙ ap (deepAt t) el, ee ∙ ap (deepAt t) er); left = omega (arith, ed ∙ ap (deepAt t) el, ee ∙ ap (deepAt t) er); right = omega (arith, ed ∙ ap (deepAt t) el, ee ∙ ap (deepAt t) er) })
             (λ s. omega (arith, s .deep, ed ∙ ap (deepAt t) el, ee ∙ ap (deepAt t) er))
+            (decides-eqb (own - 1) e)
 
         pub row-stands-left : e ≤ d → d - e ≤ 1 → Decides (eqb (own - 1) d) (RowStands t count link fuel)
         row-stands-left h k =
-            decides-eqb (own - 1) d
+            decides-iff (eqb (own - 1) d)
             (λ z. record { within = within; high = omega arith; deep = omega (arith, ed ∙ ap (deepAt t) el, ee ∙ ap (deepAt t) er); left = omega (arith, ed ∙ ap (deepAt t) el, ee ∙ ap (deepAt t) er); right = omega (arith, ed ∙ ap (deepAt t) el, ee ∙ ap (deepAt t) er) })
             (λ s. omega (arith, s .deep, ed ∙ ap (deepAt t) el, ee ∙ ap (deepAt t) er))
+            (decides-eqb (own - 1) d)
 
 -- ── `row_fits` ──
 
@@ -89,13 +87,14 @@ module _ {t : List ℕ} {link low kind used last first size : ℕ} (ef : first �
       pub row-fits-rest : {owner : ℕ} → owner ≡ column t link pieceOwner → low ≤ first → (size ≡ 0 → ⊥) → size ≤ 18446744073709551615 - first
           → size ≤ used → offset ≤ used - size → used < 2 ^ 64 → written ≤ last → Decides (eqb owner kind) (RowFits t link low kind used last)
       row-fits-rest {owner} en lo some near small inside far known =
-          decides-eqb owner kind
+          decides-iff (eqb owner kind)
           (λ z. record {
             from = omega arith;
             filled = record { some = omega arith; near = omega arith; stored = omega arith };
             allowed = record { inside = omega arith; known = omega arith; owned = sym en ∙ z };
           })
           (λ s. en ∙ s .allowed .owned)
+          (decides-eqb owner kind)
 
 -- ── pieces that follow one another ──
 
@@ -182,12 +181,6 @@ module _ {t : List ℕ} {limits : Limits} {link low seen fuel x : ℕ} (A B : Tr
 
   stands-few : seen + length (rows A) < limits .count
   stands-few = omega (arith, s .few, many)
-
-  all-head : {P : PieceRow → Type 0} {p : PieceRow} {ps : List PieceRow} → All P (p ∷ ps) → P p
-  all-head (all-cons h a) = h
-
-  all-tail : {P : PieceRow → Type 0} {p : PieceRow} {ps : List PieceRow} → All P (p ∷ ps) → All P ps
-  all-tail (all-cons h a) = a
 
   stands-fits : RowFits t link (lastEnd low (map (pieceAt t) (rows A))) (limits .kind) (limits .used) (limits .last)
   stands-fits =
@@ -386,7 +379,7 @@ module _ {t : List ℕ} {kind used last count : ℕ} (ec : count ≡ column t 0 
         none f = f
 
     pub test-fine : {n z : ℕ} → length t < 2 ^ 64 → w ≡ Fine n z → Decides (eqb n count) (WellFormed t kind used last)
-    test-fine {n} {z} small e = decides-eqb n count yes no
+    test-fine {n} {z} small e = decides-iff (eqb n count) yes no (decides-eqb n count)
       where
         f : Found t (limitsOf count kind used last) root 0 0 92 n z
         f = subst (Outcome t (limitsOf count kind used last) root 0 0 92) e (walked .is fits)

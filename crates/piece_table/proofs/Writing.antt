@@ -7,6 +7,7 @@ use native.Mathlib.Omega.{arith}
 use lib.Dec.{ltb}
 use lib.ListN.{length, set, length-set, length-map}
 use lib.Seq.{getD-set-same, getD-set-other}
+use Rattle.lists.proofs.Lists.{mem-left, mem-right}
 use Rattle.lists.proofs.Maps.{map-append}
 use Rattle.lists.specs.Lists.{Mem, here, there, Distinct, Ascending}
 use Rattle.history.specs.Lent.{rowWidth}
@@ -71,8 +72,8 @@ rewritten {t} {t′} {k} {q} xs ys r w f =
     let root : column t′ 0 piecesRoot ≡ column t 0 piecesRoot = head 0 (omega arith) in
     let count : column t′ 0 piecesCount ≡ column t 0 piecesCount = head 1 (omega arith) in
     let kept : (j : ℕ) → (j ≡ k → ⊥) → pieceAt t′ j ≡ pieceAt t j = λ j n. piece-same t t′ j j (λ c h m. w .rest j c h (λ z. absurd (n z))) in
-    let onL : map (pieceAt t′) xs ≡ map (pieceAt t) xs = map-same (pieceAt t′) (pieceAt t) xs (λ j m. kept j (λ z. dk .0 (rw z at (mem-first xs ys m)))) in
-    let onR : map (pieceAt t′) ys ≡ map (pieceAt t) ys = map-same (pieceAt t′) (pieceAt t) ys (λ j m. kept j (λ z. dk .0 (rw z at (mem-second xs ys m)))) in
+    let onL : map (pieceAt t′) xs ≡ map (pieceAt t) xs = map-same (pieceAt t′) (pieceAt t) xs (λ j m. kept j (λ z. dk .0 (rw z at (mem-left xs ys m)))) in
+    let onR : map (pieceAt t′) ys ≡ map (pieceAt t) ys = map-same (pieceAt t′) (pieceAt t) ys (λ j m. kept j (λ z. dk .0 (rw z at (mem-right xs ys m)))) in
     let pieces : map (pieceAt t′) (xs ++ k ∷ ys) ≡ map (pieceAt t) xs ++ q ∷ map (pieceAt t) ys = map-append (pieceAt t′) xs (k ∷ ys) ∙ ap₂ _++_ onL (ap₂ _∷_ (w .there vk) onR) in
     let rep : Rep t′ (map (pieceAt t) xs ++ q ∷ map (pieceAt t) ys) = record {
       links = xs ++ k ∷ ys;
@@ -90,14 +91,6 @@ rewritten {t} {t′} {k} {q} xs ys r w f =
       pieces = pieces;
     } in
     record { rep = rep; len = w .len }
-  where
-    mem-first : {j : ℕ} (xs ys : List ℕ) → Mem j xs → Mem j (xs ++ ys)
-    mem-first (x ∷ xs) ys (here e) = here e
-    mem-first (x ∷ xs) ys (there m) = there (mem-first xs ys m)
-
-    mem-second : {j : ℕ} (xs ys : List ℕ) → Mem j ys → Mem j (xs ++ ys)
-    mem-second [] ys m = m
-    mem-second (x ∷ xs) ys m = there (mem-second xs ys m)
 
 -- ── `trim_back`, `trim_front` ──
 

@@ -7,8 +7,8 @@ use Prim.Native.Nat.{ℕ, _+_, _-_, _≤_, _<_, min, max}
 use native.Mathlib.Omega.{arith}
 use lib.ListN.{length, length-append}
 use borrow.Author.Tests.{ltb-true, ltb-false, not-true, not-false}
-use Rattle.lists.specs.Lists.{All, all-nil, all-cons}
-use Rattle.lists.proofs.Lists.{all-append, all-left, all-right}
+use Rattle.lists.specs.Lists.{all-nil, all-cons}
+use Rattle.lists.proofs.Lists.{all-append, all-left, all-right, all-tail}
 use Rattle.lists.proofs.Maps.{map-append}
 use Rattle.tables.specs.Columns.{column, pieceLength, pieceWritten, pieceOffset, pieceOwner, piecesCount}
 use Rattle.block_table.specs.Appended.{AppendedRow}
@@ -70,9 +70,6 @@ uncrossed-here {t} {f} {link} {ps} v u = go (all-right (map (pieceAt t) (v .xs))
     go : Uncrossed f (pieceAt t link ∷ map (pieceAt t) (v .ys)) → f ≤ firstAt t link
     go (all-cons (inl a) r) = absurd (omega (arith, v .past))
     go (all-cons (inr a) r) = a
-
-all-tail : {P : PieceRow → Type 0} {p : PieceRow} {ps : List PieceRow} → All P (p ∷ ps) → All P ps
-all-tail (all-cons h a) = a
 
 -- what of the pieces lies inside is what of the link's lies there, and what of those behind it
 pub inside-seen : {t : List ℕ} {f link : ℕ} {ps : List PieceRow} (e : ℕ) (v : Seen t f link ps) → f < e → firstAt t link < e

@@ -10,7 +10,7 @@ use lib.Seq.{getD-take, getD-drop}
 use Rattle.lists.specs.Lists.{All, Mem, count}
 use Rattle.lists.proofs.Lists.{all-map}
 use Rattle.lists.proofs.Counting.{mem-count, count-mem}
-use Rattle.history.specs.Words.{Block, ends, live, size}
+use Rattle.history.specs.Words.{Block, ends, live, size, firstCell}
 use Rattle.history.specs.Tree.{Tree, noBlock, blockAt, keyIn, entriesIn}
 use Rattle.history.specs.Find.{path}
 use Rattle.history.specs.Rules.{Apart}
@@ -18,14 +18,15 @@ use Rattle.history.specs.Ledger.{Ledger, finished, isSome}
 use Rattle.history.specs.Sound.{Sound, SoundTree, SoundClosed}
 use Rattle.history.proofs.RulesLaws.{rule23-decides, numbered-decides}
 use Rattle.history.proofs.FindMet.{path-met}
+use Rattle.history.proofs.ByKind.{closed-rule-23}
 use Rattle.tables.specs.Columns.{blockColumn, headEnd, headCount}
 use Rattle.block_table.specs.Blocks.{firstCellAt, blockOfRow, lengthAt, offsetAt}
 use Rattle.block_table.proofs.Blocks.{blocks-at, blocks-key, bytes-length}
 use Rattle.segment_table.specs.Closed.{Closed, firstCellIn}
-use Rattle.segment_find.specs.declared.neighbour.Side.{Side}
-use Rattle.segment_find.specs.declared.neighbour.Neighbour.{Neighbour}
-use Rattle.segment_find.specs.Neighbours.{Neighbours, NearestLive}
-use Rattle.segment_find.proofs.Agreeing.{nearest-model}
+use Rattle.segment_near.specs.declared.Side.{Side}
+use Rattle.segment_near.specs.declared.Neighbour.{Neighbour}
+use Rattle.segment_near.specs.Neighbours.{Neighbours, NearestLive}
+use Rattle.segment_near.proofs.Agreeing.{nearest-model}
 use Rattle.layout.specs.Tables.{Tables, tables, headAt, treeTables}
 use Rattle.layout.specs.Encodes.{Encodes, TreeIn}
 use Rattle.layout.proofs.Pieces.{used-fits}
@@ -51,7 +52,7 @@ row-known t l e k h =
     omega (arith, e .blocks-stored .inside (suc k) (omega arith) (omega arith), used-fits t l e) in
     record {
       known = at;
-      first = sym (ap (λ (b : Block). b .stretch .first) is);
+      first = sym (ap firstCell is);
       ended = sym (ap (λ (b : Block). ends (b .stretch)) is ∙ ap (λ n. firstCellAt (t .blocks) (suc k) + n) (bytes-length (t .store) (t .blocks) (suc k) fits));
       inside = fits;
       byte = λ j b.
@@ -86,9 +87,10 @@ module _ (t : Tables) (l : Ledger) (e : Encodes t l) (s : Sound l) (tick : ℕ) 
       → Living (t .blocks) (t .store) (t .nodes) (t .entries) (l .opening .kind) tick (l .now .blocks)
   tree-living tree closed sound =
       let bs = l .now .blocks in
-      let rule = rule23-decides (l .opening .end) bs tree .yes (sound .rule-23) in
+      let rule-23 = closed-rule-23 l tree (s .board) sound in
+      let rule = rule23-decides (l .opening .end) bs tree .yes rule-23 in
       let meets : (k : ℕ) → count k (path tick 0 (l .opening .end) tree) ≡ cond (live tick (blockAt (l .now .blocks) k)) 1 0 =
-      λ k. path-met (l .opening .end) bs tree (sound .rule-21) (sound .rule-23) (all-map (λ b x. x .by-end) (s .board .blocks)) tick k before in
+      λ k. path-met (l .opening .end) bs tree (sound .rule-21) rule-23 (all-map (λ b x. x .by-end) (s .board .blocks)) tick k before in
       let keys : All (λ j. keyIn (l .now .blocks) j ≡ firstCellIn (t .blocks) j) (entriesIn tree) =
       all-map (λ j h. rw (e .blocks) (blocks-key (t .store) (t .blocks) (headAt t headCount) j (omega (arith, e .count)))) (numbered-decides (length bs) tree .yes (rule .numbers)) in
       record {

@@ -14,10 +14,10 @@ use Rattle.history.specs.Tree.{blockAt, keyIn}
 use Rattle.history.specs.Ledger.{Ledger}
 use Rattle.tables.specs.Columns.{blockColumn, headEnd, headCount, blockFirst, blockLength, blockOffset}
 use Rattle.block_table.specs.Blocks.{firstCellAt, lengthAt, offsetAt}
-use Rattle.segment_find.specs.declared.neighbour.Side.the-variants.{From, Before}
-use Rattle.segment_find.specs.declared.neighbour.Neighbour.{Neighbour}
-use Rattle.segment_find.specs.declared.neighbour.Neighbour.the-variants.{Block as Next, Nothing}
-use Rattle.segment_find.specs.Neighbours.{NearestLive}
+use Rattle.segment_near.specs.declared.Side.the-variants.{From, Before}
+use Rattle.segment_near.specs.declared.Neighbour.{Neighbour}
+use Rattle.segment_near.specs.declared.Neighbour.the-variants.{Block as Next, Nothing}
+use Rattle.segment_near.specs.Neighbours.{NearestLive}
 use Rattle.runs.specs.declared.Run.{Run}
 use Rattle.runs.specs.Runs.{ClosedAt, Laid, Passed, RunShown, PartOf, FirstRun, NextRun}
 use Rattle.runs.proofs.Seeing.{passed-behind, passed-last, passed-first, free-between, held-by, live-number, some-cell}

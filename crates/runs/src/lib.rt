@@ -8,8 +8,7 @@
 ghost use mathlib.Core.Path.{_≡_};
 ghost use Prim.Native.Nat.{min};
 ghost use Rattle.runs.specs.Runs.{PartOf, FirstRun, NextRun};
-use segment_find::neighbour;
-use segment_find::neighbour::Neighbour;
+use segment_near::Neighbour;
 use tables::block;
 
 // From the place asked for on, the cells below `until` are free; those from there to below `past` have the store's bytes from place `from` on.
@@ -88,7 +87,7 @@ pub fn first_run(
     ensures { λ r. ⌜ FirstRun (now (blocks .entry)) (now (store .entry)) (now (nodes .entry)) (now (entries .entry)) kind tick start end r ⌝ }
 {
     let last = block_table::end(blocks);
-    let before = neighbour::last_before(nodes, entries, kind, last, tick, start);
+    let before = segment_near::last_before(nodes, entries, kind, last, tick, start);
     match before {
         Neighbour::Block { number, first: _ } => part(blocks, store, number, start, end),
         Neighbour::Nothing => free(start),
@@ -109,7 +108,7 @@ pub fn next_run(
     ensures { λ r. ⌜ NextRun (now (blocks .entry)) (now (store .entry)) (now (nodes .entry)) (now (entries .entry)) kind tick place end r ⌝ }
 {
     let last = block_table::end(blocks);
-    let next = neighbour::first_from(nodes, entries, kind, last, tick, place);
+    let next = segment_near::first_from(nodes, entries, kind, last, tick, place);
     let Neighbour::Block { number, first } = next else {
         return free(end);
     };

@@ -2,7 +2,7 @@
 use mathlib.Core.Path.{_≡_, refl, ap, _∙_}
 use mathlib.Core.Bool.{true, false, false≢true}
 use mathlib.Core.Option.{Option, none, some}
-use mathlib.Core.List.{List, [], _∷_, flatten}
+use mathlib.Core.List.{List, flatten}
 use Prim.Native.Nat.{ℕ, _+_, _≤_, _<_}
 use native.Mathlib.Omega.{arith}
 use lib.ListN.{length, take, drop}
@@ -15,8 +15,10 @@ use Rattle.history.specs.Reads.{treeOrHole, treeIn}
 use Rattle.history.specs.Refusals.{Answer, accepted, refused}
 use Rattle.history.specs.Sound.{SoundTree, SoundClosed}
 use Rattle.history.specs.File.{fileBytes, fileOf, contents, bytesOf, fileBy}
+use Rattle.history.specs.Rules.{isHole}
 use Rattle.history.proofs.FileKept.{Writable}
 use Rattle.history.proofs.FileSound.{sound-writable}
+use Rattle.history.proofs.FileLoad.{file-some}
 use Rattle.layout.specs.Tables.{Tables}
 use Rattle.layout.specs.Files.{WrittenBy}
 use Rattle.layout.proofs.ReadLaws.{heads-held, write-fits, write-16, into-gives, into-refuses}
@@ -65,14 +67,7 @@ module _ {t : Tables} {l : Ledger} (c : ClosedIn t l) where
 pub take-sets : (xs out : List ℕ) → length xs ≤ length out → take (length xs) (sets out 0 xs) ≡ xs
 take-sets xs out h = ap (take (length xs)) (sets-eq xs out 0 (omega arith)) ∙ take-append-seam xs (drop (0 + length xs) out)
 
--- with blocks the file has bytes
-pub file-bytes : (kind e : ℕ) (bs : List Block) (tree : Tree) → 0 < length bs → 0 < length (fileOf kind e bs tree)
-unfolding fileOf fileBytes flatten bytesOf
-file-bytes kind e [] tree h = absurd (omega arith)
-file-bytes kind e (b ∷ bs) tree h = omega arith
-
--- they are those of what it says
-pub file-some : (kind e : ℕ) (bs : List Block) (tree : Tree) → 0 < length bs → fileOf kind e bs tree ≡ fileBytes (contents kind e bs tree)
-unfolding fileOf
-file-some kind e [] tree h = absurd (omega arith)
-file-some kind e (b ∷ bs) tree h = refl
+-- with a node the file has bytes
+pub file-bytes : (kind e : ℕ) (bs : List Block) (tree : Tree) → isHole tree ≡ false → 0 < length (fileOf kind e bs tree)
+unfolding fileBytes flatten bytesOf
+file-bytes kind e bs tree root = rw (file-some kind e bs tree root) (omega arith)

@@ -7,7 +7,7 @@ use Prim.Native.Nat.{ℕ, _+_, _-_, _*_, _≤_, _<_, _^_, min}
 use native.Mathlib.Omega.{arith}
 use lib.ListN.{length, getD, drop}
 use Rattle.lists.specs.Lists.{All, all-cons}
-use Rattle.lists.proofs.Lists.{all-left, all-right, all-map, all-append, all-any}
+use Rattle.lists.proofs.Lists.{all-left, all-right, all-map, all-append, all-any, all-head, all-tail}
 use Rattle.lists.proofs.Maps.{map-append}
 use Rattle.lists.proofs.Numbers.{lt-or-le}
 use Rattle.history.specs.Words.{Piece, heldAt}
@@ -94,12 +94,6 @@ module _ {t : List ℕ} (link : ℕ) (xs ys : List ℕ) (r : Linked t (xs ++ lin
 
   misses-right : (cell : ℕ) → cell < endAt t link → All (Misses cell) (map (pieceAt t) ys)
   misses-right cell h = all-map (λ p k. inr (omega arith)) (follow-right (endAt t link) (endAt t link) (map (pieceAt t) ys) (omega arith) after)
-
-all-head : {P : PieceRow → Type 0} {p : PieceRow} {ps : List PieceRow} → All P (p ∷ ps) → P p
-all-head (all-cons h a) = h
-
-all-tail : {P : PieceRow → Type 0} {p : PieceRow} {ps : List PieceRow} → All P (p ∷ ps) → All P ps
-all-tail (all-cons h a) = a
 
 module _ {t store bytes : List ℕ} {link first place same was size offset : ℕ} (ew : was ≡ firstAt t link) (es : size ≡ column t link pieceLength) (eo : offset ≡ column t link pieceOffset) where
   -- the cell is held by no piece
