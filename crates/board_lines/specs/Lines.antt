@@ -11,13 +11,13 @@ use Rattle.history.specs.Reads.{blockBy}
 use Rattle.history.specs.Calls.{recordCall, finishCall, answerTo, after}
 use Rattle.history.specs.Sound.{Sound}
 use Rattle.history.specs.Law.{LedgerLaw}
-use Rattle.history.specs.Printed.{boardScratch, blockLine, opLine, lastLines, linesFrom}
+use Rattle.history.specs.Printed.{boardScratch, blockLine, opLine, lastLines, linesFrom, Booking}
 use Rattle.layout.specs.Tables.{Tables, tables}
 use Rattle.layout.specs.Encodes.{Encodes}
 use Rattle.layout.specs.Formed.{Blank}
-use Rattle.board_text.specs.Input.{firstRecord}
-use Rattle.board_text.specs.Walk.{Walk}
-use Rattle.board_text.specs.Line.{Put}
+use Rattle.board_input.specs.Input.{firstRecord}
+use Rattle.board_input.specs.Walk.{Walk}
+use Rattle.lists.specs.Puts.{Put}
 
 -- ── the tables between calls ──
 
@@ -39,7 +39,7 @@ pub record RecordedOne (pieces blocks store pieces′ blocks′ store′ : List 
       → Standing (tables pieces′ blocks′ store′ nodes entries) (after l (recordCall boardScratch o))
 
 -- of all these lines the first are put, and those from record k on follow
-pub record Midway (lines : List ℕ) (k : ℕ) (os : List Operation) (t : Tables) (out : List ℕ) (from : ℕ) (out′ : List ℕ) (next : ℕ) : Type 0 where
+pub record Midway (lines : List ℕ) (k : ℕ) (os : List Booking) (t : Tables) (out : List ℕ) (from : ℕ) (out′ : List ℕ) (next : ℕ) : Type 0 where
   pub ledger : Ledger
   pub standing : Standing t ledger
   pub text : List ℕ
@@ -48,7 +48,7 @@ pub record Midway (lines : List ℕ) (k : ℕ) (os : List Operation) (t : Tables
 
 -- `record_all`: the lines of the records are put, and those of finish follow
 pub record RecordedAll (input pieces blocks store pieces′ blocks′ store′ out : List ℕ) (from : ℕ) (out′ : List ℕ) (next : ℕ) : Type 0 where
-  pub recorded : (nodes entries : List ℕ) (l : Ledger) (os : List Operation) → Standing (tables pieces blocks store nodes entries) l → Walk input firstRecord os
+  pub recorded : (nodes entries : List ℕ) (l : Ledger) (os : List Booking) → Standing (tables pieces blocks store nodes entries) l → Walk input firstRecord os
       → Midway (linesFrom 1 l os) 0 [] (tables pieces′ blocks′ store′ nodes entries) out from out′ next
 
 -- ── finish and the blocks ──

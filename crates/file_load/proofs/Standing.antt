@@ -10,7 +10,7 @@ use lib.Seq.{sets, length-sets}
 use Rattle.lists.specs.Lists.{All, all-nil, all-cons, has, countFrom}
 use Rattle.lists.proofs.Lists.{all-at, all-map, count-from-length}
 use Rattle.lists.proofs.Numbers.{bool-cases, lt-or-le}
-use Rattle.lists.proofs.Stores.{getD-sets-out}
+use Rattle.lists.proofs.Stores.{getD-sets-out, sets-before}
 use Rattle.history.specs.Lent.{rowWidth, entryWidth, blockHead, nodeHead, entryHead, pieceHead}
 use Rattle.history.specs.Words.{Block}
 use Rattle.history.specs.Tree.{Tree, hole, node, nodeCount, entryCount, entriesIn, keyIn}
@@ -31,7 +31,6 @@ use Rattle.ordering.proofs.Explicit.{ordered-is}
 use Rattle.file_scan.specs.Counts.{bytesIn}
 use Rattle.layout.specs.Rows.{headNumbers, blocksNumbers, nodeHeadNumbers, nodeNumbers, treeNumbers, entryHeadNumbers, entryNumbers, runNumbers}
 use Rattle.file_fill.specs.Fill.{bytesOfAll, firstCellOf, NodesLeft}
-use Rattle.file_fill.proofs.Storing.{sets-before}
 use Rattle.file_fill.proofs.FillingTrees.{node-numbers-length, entry-numbers-length}
 use Rattle.layout.specs.Tables.{Tables, tables, lengthsOf, headAt}
 use Rattle.layout.specs.Encodes.{closedState, Encodes}

@@ -26,7 +26,7 @@ use Rattle.layout.specs.Tables.{Tables}
 use Rattle.layout.proofs.Pieces.{shown-size}
 use Rattle.index_finish.specs.Finish.{StandsOpen, allBlocks}
 use Rattle.index_finish.specs.Apart.{Crosses, NoneShared}
-use Rattle.index_finish.proofs.Lists.{pairs-of-map}
+use Rattle.lists.proofs.Maps.{pairs-of-map}
 use Rattle.index_finish.proofs.Standing.{are-blocks, stored, filled, no-wrap, by-end, pieceRows, are-pieces, pieces-stored, pieces-some}
 
 -- ── a block and a piece ──

@@ -18,6 +18,7 @@ use Rattle.history.specs.Reads.{Found, findBy}
 use Rattle.history.specs.Refusals.{Answer, accepted, refused}
 use Rattle.history.specs.Sound.{Sound, SoundTree, SoundClosed}
 use Rattle.history.proofs.RulesLaws.{rule23-decides, numbered-decides}
+use Rattle.history.proofs.ByKind.{closed-rule-23}
 use Rattle.tables.specs.Columns.{blockColumn, headEnd, headKind, headCount}
 use Rattle.block_table.proofs.Blocks.{blocks-key}
 use Rattle.segment_table.specs.Closed.{Closed, firstCellIn}
@@ -49,10 +50,10 @@ tree-known t l e s done = go (l .tree) refl done (e .tree) (s .closed)
     go (some tree) p q a b = record { tree = tree; is = p; closed = a .1; sound = b }
 
 -- first cells of the blocks that a tree lists stand in the block table
-keys-known : (t : Tables) (l : Ledger) → Encodes t l → (k : TreeKnown t l) → All (λ j. keyIn (l .now .blocks) j ≡ firstCellIn (t .blocks) j) (entriesIn (k .tree))
-keys-known t l e k =
+keys-known : (t : Tables) (l : Ledger) → Encodes t l → Sound l → (k : TreeKnown t l) → All (λ j. keyIn (l .now .blocks) j ≡ firstCellIn (t .blocks) j) (entriesIn (k .tree))
+keys-known t l e s k =
     all-map (λ j h. rw (e .blocks) (blocks-key (t .store) (t .blocks) (headAt t headCount) j (omega (arith, e .count))))
-    (numbered-decides (length (l .now .blocks)) (k .tree) .yes (rule23-decides (l .opening .end) (l .now .blocks) (k .tree) .yes (k .sound .rule-23) .numbers))
+    (numbered-decides (length (l .now .blocks)) (k .tree) .yes (rule23-decides (l .opening .end) (l .now .blocks) (k .tree) .yes (closed-rule-23 l (k .tree) (s .board) (k .sound)) .numbers))
 
 -- what the search gives is what the ledger lists
 fills-found : (t : Tables) (l : Ledger) → Encodes t l → Sound l → finished l ≡ true → (tick start stop : ℕ) {out out′ : List ℕ} {r : listing.Found}
@@ -61,9 +62,9 @@ fills-found : (t : Tables) (l : Ledger) → Encodes t l → Sound l → finished
 unfolding findBy
 fills-found t l e s done tick start stop f =
     let k = tree-known t l e s done in
-    let sorted-keys = rule23-decides (l .opening .end) (l .now .blocks) (k .tree) .yes (k .sound .rule-23) .order in
+    let sorted-keys = rule23-decides (l .opening .end) (l .now .blocks) (k .tree) .yes (closed-rule-23 l (k .tree) (s .board) (k .sound)) .order in
     rw (k .is)
-    (find-model (treeTables t) (l .opening .kind) (l .opening .end) (l .now .blocks) (k .tree) (k .closed) (omega (arith, s .board .some-tick)) sorted-keys (keys-known t l e k)
+    (find-model (treeTables t) (l .opening .kind) (l .opening .end) (l .now .blocks) (k .tree) (k .closed) (omega (arith, s .board .some-tick)) sorted-keys (keys-known t l e s k)
     tick start stop (rw (e .kind, e .end) at f))
 
 -- ── the answers ──

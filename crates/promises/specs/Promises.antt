@@ -6,7 +6,7 @@ use Rattle.index_test.specs.Law.{TestDecides}
 use Rattle.demand.specs.Theorem.{Demand3}
 use Rattle.demand.specs.Cells.{CellsShown}
 use Rattle.spacetime_file.specs.Law.{SavedAndLoaded, LoadedAndWritten, TakenAndNotRefused, EmptyFiles}
-use Rattle.board_text.specs.Walk.{LawOfInput}
+use Rattle.board_input.specs.Walk.{LawOfInput}
 use Rattle.board_text.specs.Line.{LawOfLines}
 use Rattle.lengths.specs.Lengths.{LengthsHold}
 use Rattle.promises.specs.Contracts.{Contracts}
