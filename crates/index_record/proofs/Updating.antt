@@ -322,7 +322,7 @@ module _ (t : Tables) (l : Ledger) (o : Operation) (scratch : ℕ) (e : Encodes 
       entries = refl;
     }
 
--- ── `apply_update` ──
+-- ── `enter_update` ──
 
 module _ {p b s bytes : List ℕ} {tick first used : ℕ} (eu : used ≡ blockColumn b 0 headUsed) (few : length p < 2 ^ 64) (fewer : length b < 2 ^ 64) (fits : length s < 2 ^ 64) where
   -- an accepted update has room in the store

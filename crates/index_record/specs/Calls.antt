@@ -36,11 +36,11 @@ pub record Judged (pieces blocks store : List ℕ) (scratch : ℕ) (o : Operatio
 
 -- ── what an accepted operation does ──
 
--- `apply_read`
+-- `enter_read`
 pub record ReadApplied (blocks blocks′ : List ℕ) (tick : ℕ) : Type 0 where
   pub is : blocks′ ≡ set blocks (headPlace headLast) tick
 
--- `apply_update`
+-- `enter_update`
 pub record UpdateApplied (pieces blocks store pieces′ blocks′ store′ : List ℕ) (o : Operation) : Type 0 where
   pub done : (nodes entries : List ℕ) (l : Ledger) (scratch : ℕ) → Encodes (tables pieces blocks store nodes entries) l → Sound l
       → recordAnswer l scratch o ≡ accepted tt → isRead (l .now) o ≡ false

@@ -142,14 +142,14 @@ pub fn refusal(
 // ── what an accepted operation does ──
 
 // A read: nothing changes but the last accepted tick.
-pub fn apply_read(blocks: &mut [u64], tick: u64)
+pub fn enter_read(blocks: &mut [u64], tick: u64)
     ensures { λ _. ⌜ ReadApplied (now (blocks .entry)) (now (blocks .exit)) tick ⌝ }
 {
     block::put(blocks, 0, block::LAST, tick);
 }
 
 // An update: its bytes enter the store behind the used part, pieces are cut and recorded as blocks, and the operation becomes a piece.
-pub fn apply_update(
+pub fn enter_update(
     pieces: &mut [u64],
     blocks: &mut [u64],
     store: &mut [u8],
@@ -189,11 +189,11 @@ pub fn record_open(
     match verdict {
         Verdict::Refused(number) => Recorded::Refused(number),
         Verdict::Read => {
-            apply_read(blocks, tick);
+            enter_read(blocks, tick);
             Recorded::Accepted
         }
         Verdict::Update => {
-            apply_update(pieces, blocks, store, tick, first, bytes);
+            enter_update(pieces, blocks, store, tick, first, bytes);
             Recorded::Accepted
         }
     }

@@ -4,11 +4,13 @@
 //   specs/Tables    the five lent tables, and their lengths
 //   specs/Encodes   tables stand for a ledger: the layout alone
 //   specs/Formed    well formed: some sound ledger is encoded; for finish more
-//   specs/Relations what each call does to them: the public contracts
+//   specs/Reads     a read: what is asked of the ledger in the tables, and what is handed out for its answer
+//   specs/Relations, Files   what each call does to them: the public contracts
 //   specs/Law       what is proved of all this
 //   proofs/Opening  a freshly opened index
 //   proofs/Pieces   the pieces of a table and of its ledger
 //   proofs/Unique   one ledger for each set of tables
+//   proofs/ReadLaws what the ledger of a closed index answers, and what is handed out
 //   proofs/Exists*  every sound ledger that fits the lent lengths has tables
 //   proofs/Depths   the tree of pieces is not deep
 ghost use Rattle.layout.specs.Law.{OneLedger, TablesExist, ShallowTrees};

@@ -1,9 +1,9 @@
--- `index_record::apply_update` meets its contract: the returns are the steps of `updating`. Assumes nothing.
+-- `index_record::enter_update` meets its contract: the returns are the steps of `updating`. Assumes nothing.
 use native.Mathlib.Omega.{arith}
 use borrow.Author.Needs.{needs}
 use Rattle.index_record.proofs.Updating.{updating, update-done}
-use Rattle.index_record.proofs.apply_update.Statement.{statement}
-use Rattle.index_record.proofs.apply_update.Tie as tie
+use Rattle.index_record.proofs.enter_update.Statement.{statement}
+use Rattle.index_record.proofs.enter_update.Tie as tie
 
 returns-2 : tie.Need-returns-2
 returns-2 c =
@@ -16,6 +16,6 @@ returns-2 c =
     let start = used .before .before .before .before .before .before in
     update-done (used .get .ensures) (start .good .0 .0) (start .good .1 .0 .0) (start .good .1 .1 .0 .0) (read .get2 .ensures) (copied .copy-in .ensures) (recorded .apply-update .ensures) (first .put .ensures) (second .put2 .ensures)
 
-pub apply-update-spec : {M : Type 1} → statement M
-apply-update-spec =
+pub enter-update-spec : {M : Type 1} → statement M
+enter-update-spec =
     tie.close (tie.spec (λ c κs. search needs) (λ c κs. search needs) (λ c. search needs) (λ c. search needs) (λ c. search (updating, arith)) (λ c κs. search needs) (λ c κs. search needs) (λ c. search needs) (λ c κs. search needs) (λ c κs. search needs) (λ c. search needs) (λ c. search needs) (λ c. search needs) returns-2)
