@@ -81,15 +81,9 @@ pub fn are_zero(
     is_zero_store(store)
 }
 
-// A prime of 32 bits, and one of 16.
-const PRIME: u64 = 4294967291;
-
-const STEP: u64 = 65521;
-
-// One number into a sum in which each place counts.
+// One number into a sum in which each place counts: nine times the sum so far, and the number.
 fn mixed(sum: u64, number: u64) -> u64 {
-    let upper = number / PRIME % PRIME;
-    (sum % PRIME * STEP + upper + number % PRIME) % PRIME
+    std::num::wrapping_add_u64(sum, sum << 3) ^ number
 }
 
 fn sum_of(table: &[u64], from: u64) -> u64 {
