@@ -12,9 +12,6 @@ use tables::entry;
 use tables::node;
 use tables::piece;
 
-// The largest end tick.
-const MOST_END: u64 = 1 << 63;
-
 const MOST_KIND: u64 = 4;
 
 // Whether each table holds its head.
@@ -40,7 +37,7 @@ fn test_heads(pieces: &[u64], blocks: &[u64], store: &[u8], nodes: &[u64], entri
 fn rows_fit(blocks: &[u64], count: u64, pieces: u64) -> bool
     ensures { λ r. ⌜ Decides r (count + pieces ≤ (length (now (blocks .entry)) - blockHead) / rowWidth) ⌝ }
 {
-    let rows = block_table::row_count(blocks);
+    let rows = tables::rows(blocks.len(), block::HEAD);
     if rows < count {
         return false;
     }
@@ -60,25 +57,25 @@ fn test_numbers(
 ) -> bool
     ensures { λ r. ⌜ Decides r (Numbers (tables (now (pieces .entry)) (now (blocks .entry)) (now (store .entry)) (now (nodes .entry)) (now (entries .entry)))) ⌝ }
 {
-    let end = block::get(blocks, 0, block::END);
+    let end = block_table::end(blocks);
     if end == 0 {
         return false;
     }
-    if MOST_END < end {
+    if block::MAX_END_TICK < end {
         return false;
     }
-    if MOST_KIND < block::get(blocks, 0, block::KIND) {
+    if MOST_KIND < block_table::kind(blocks) {
         return false;
     }
-    if end <= block::get(blocks, 0, block::LAST) {
+    if end <= block_table::last(blocks) {
         return false;
     }
-    if store.len() < block::get(blocks, 0, block::USED) as usize {
+    if store.len() < block_table::used(blocks) as usize {
         return false;
     }
     if rows_fit(
         blocks,
-        block::get(blocks, 0, block::COUNT),
+        block_table::count(blocks),
         tables::get(pieces, 0, piece::COUNT),
     ) {
         return true;
@@ -102,11 +99,11 @@ pub fn test_board(
     if !test_numbers(pieces, blocks, store, nodes, entries) {
         return false;
     }
-    let kind = block::get(blocks, 0, block::KIND);
-    let end = block::get(blocks, 0, block::END);
-    let used = block::get(blocks, 0, block::USED);
-    let last = block::get(blocks, 0, block::LAST);
-    let count = block::get(blocks, 0, block::COUNT);
+    let kind = block_table::kind(blocks);
+    let end = block_table::end(blocks);
+    let used = block_table::used(blocks);
+    let last = block_table::last(blocks);
+    let count = block_table::count(blocks);
     if !block_table::rows::test_rows(blocks, count, kind, end, used) {
         return false;
     }

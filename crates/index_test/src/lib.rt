@@ -27,12 +27,12 @@ fn test_closed(pieces: &[u64], blocks: &[u64], store: &[u8], nodes: &[u64], entr
     if tables::get(pieces, 0, piece::COUNT) != 0 {
         return false;
     }
-    let count = block::get(blocks, 0, block::COUNT);
+    let count = block_table::count(blocks);
     if !ordering::in_order(blocks, count) {
         return false;
     }
-    let kind = block::get(blocks, 0, block::KIND);
-    let end = block::get(blocks, 0, block::END);
+    let kind = block_table::kind(blocks);
+    let end = block_table::end(blocks);
     if !segment_test::test_tree(blocks, nodes, entries, kind, end, count) {
         return false;
     }
@@ -46,9 +46,9 @@ pub fn test(pieces: &[u64], blocks: &[u64], store: &[u8], nodes: &[u64], entries
     if !board::test_board(pieces, blocks, store, nodes, entries) {
         return State::Bad;
     }
-    let state = block::get(blocks, 0, block::STATE);
+    let state = block_table::state(blocks);
     if state == block::OPEN {
-        if ordering::unordered(blocks, block::get(blocks, 0, block::COUNT)) {
+        if ordering::unordered(blocks, block_table::count(blocks)) {
             return State::Open;
         }
         return State::Bad;

@@ -8,8 +8,8 @@ use lib.ListN.{length, set, length-append}
 use borrow.Author.Tests.{ltb-false, not-true}
 use Rattle.lists.proofs.Stores.{sets-append}
 use Rattle.history.specs.Tree.{Tree, hole, node, mid, halves}
+use Rattle.tables.specs.Sums.{plusUpTo}
 use Rattle.segment_table.specs.Closed.{Tables, TreeAt, leftAt, rightAt}
-use Rattle.segment_tree.specs.Count.{plusUpTo}
 use Rattle.segment_tree.specs.Listing.{fileOrder, ListedAt, Listed}
 use Rattle.segment_tree.proofs.Adding.{middle, wide-of}
 

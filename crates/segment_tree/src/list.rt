@@ -21,15 +21,15 @@ pub fn list_nodes(nodes: &[u64], link: u64, min: u64, max: u64, out: &mut [u64],
     ensures { λ r. ⌜ Listed (now (nodes .entry)) link min max (now (out .entry)) at (now (out .exit)) r ⌝ }
 {
     put_at(out, at, link);
-    let next = crate::plus(at, 1);
+    let next = tables::plus(at, 1);
     if link == 0 {
         return next;
     }
     if !crate::has_halves(min, max) {
         put_at(out, next, 0);
-        let last = crate::plus(next, 1);
+        let last = tables::plus(next, 1);
         put_at(out, last, 0);
-        return crate::plus(last, 1);
+        return tables::plus(last, 1);
     }
     let mid = min + (max - min) / 2;
     let left = tables::get(nodes, link, node::LEFT);

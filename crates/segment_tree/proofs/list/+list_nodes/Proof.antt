@@ -11,7 +11,7 @@ use Rattle.segment_tree.proofs.list.list_nodes.Kinds as list-nodes-kind
 use Rattle.segment_tree.proofs.list.+list_nodes.Lts-list_nodes as list-nodes-lts
 use Rattle.segment_tree.proofs.has_halves.Reads as has-halves-reads
 use Rattle.segment_tree.proofs.list.put_at.Reads as put-at-reads
-use Rattle.segment_tree.proofs.plus.Reads as plus-reads
+use Rattle.tables.proofs.plus.Reads as plus-reads
 use Rattle.tables.proofs.get.Reads as get-reads
 use Rattle.segment_tree.proofs.list.+list_nodes.{statement}
 use Rattle.segment_tree.proofs.list.+list_nodes.Tie.{close}
