@@ -2,19 +2,15 @@
 use mathlib.Core.Path.{_≡_, refl, sym, _∙_, ap}
 use mathlib.Core.Logic.{_⊎_, ⊎-elim}
 use mathlib.Core.List.{List, [], _∷_, _++_}
-use Prim.Native.Nat.{ℕ, suc, _+_, _≤_, _<_, min, max}
+use Prim.Native.Nat.{ℕ, _+_, _≤_, _<_, min, max}
 use native.Mathlib.Numerals.{add-one}
 use native.Mathlib.Omega.{arith}
 use lib.ListN.{length, getD, set, take, drop, length-append}
 use lib.Seq.{sets, length-sets, set-out, sets-eq, take-suc, take-all, take-at, length-take-le}
 use Rattle.lists.proofs.Numbers.{le-or-lt}
 use Rattle.lists.proofs.Stores.{sets-append}
+use Rattle.tables.proofs.Past.{sets-past}
 use Rattle.board_text.specs.Line.{Put}
-
--- a list written past the end changes nothing
-sets-past : (vs l : List ℕ) (at : ℕ) → length l ≤ at → sets l at vs ≡ l
-sets-past [] l at h = refl
-sets-past (v ∷ vs) l at h = rw (set-out l at v h) (sets-past vs l (suc at) (omega arith))
 
 -- ── numbers ──
 
