@@ -81,17 +81,24 @@ pub struct Index {
     room: Room,
 }
 
-/// The five tables as pointers and lengths, in the order that every call has, and what comes after them.
-macro_rules! reads {
-    ($call:ident, $index:expr $(, $rest:expr)* $(,)?) => {
+/// A call with the five tables in front: which of them it may write to, then what comes after them.
+macro_rules! call {
+    ($call:ident, $index:expr, $pieces:ident $blocks:ident $store:ident $nodes:ident $entries:ident $(, $rest:expr)*) => {
         raw::$call(
-            $index.pieces.as_ptr(), $index.pieces.len(),
-            $index.blocks.as_ptr(), $index.blocks.len(),
-            $index.store.as_ptr(), $index.store.len(),
-            $index.nodes.as_ptr(), $index.nodes.len(),
-            $index.entries.as_ptr(), $index.entries.len(),
+            $index.pieces.$pieces(), $index.pieces.len(),
+            $index.blocks.$blocks(), $index.blocks.len(),
+            $index.store.$store(), $index.store.len(),
+            $index.nodes.$nodes(), $index.nodes.len(),
+            $index.entries.$entries(), $index.entries.len(),
             $($rest),*
         )
+    };
+}
+
+/// A call that writes to none of them.
+macro_rules! reads {
+    ($call:ident, $index:expr $(, $rest:expr)*) => {
+        call!($call, $index, as_ptr as_ptr as_ptr as_ptr as_ptr $(, $rest)*)
     };
 }
 
@@ -125,14 +132,7 @@ impl Index {
     /// Opens an index anew in the same tables. Refusal 1.
     pub fn reopen(&mut self, end_tick: u64, kind: Kind) -> Result<(), Refusal> {
         Refusal::unless_zero(unsafe {
-            raw::servercape_open(
-                self.pieces.as_mut_ptr(), self.pieces.len(),
-                self.blocks.as_mut_ptr(), self.blocks.len(),
-                self.store.as_ptr(), self.store.len(),
-                self.nodes.as_mut_ptr(), self.nodes.len(),
-                self.entries.as_mut_ptr(), self.entries.len(),
-                end_tick, kind as u8,
-            )
+            call!(servercape_open, self, as_mut_ptr as_mut_ptr as_ptr as_mut_ptr as_mut_ptr, end_tick, kind as u8)
         })
     }
 
@@ -147,14 +147,7 @@ impl Index {
     pub fn reload(&mut self, file: &[u8], at: usize) -> Result<usize, Refusal> {
         let mut next = 0;
         Refusal::unless_zero(unsafe {
-            raw::servercape_load(
-                self.pieces.as_mut_ptr(), self.pieces.len(),
-                self.blocks.as_mut_ptr(), self.blocks.len(),
-                self.store.as_mut_ptr(), self.store.len(),
-                self.nodes.as_mut_ptr(), self.nodes.len(),
-                self.entries.as_mut_ptr(), self.entries.len(),
-                file.as_ptr(), file.len(), at as u64, &mut next,
-            )
+            call!(servercape_load, self, as_mut_ptr as_mut_ptr as_mut_ptr as_mut_ptr as_mut_ptr, file.as_ptr(), file.len(), at as u64, &mut next)
         })?;
         Ok(next as usize)
     }
@@ -162,28 +155,15 @@ impl Index {
     /// Records the bytes of the cells from `first` on, at a tick. Refusals 3, 5 to 11.
     pub fn record(&mut self, tick: u64, first: u64, bytes: &[u8]) -> Result<(), Refusal> {
         Refusal::unless_zero(unsafe {
-            raw::servercape_record(
-                self.pieces.as_mut_ptr(), self.pieces.len(),
-                self.blocks.as_mut_ptr(), self.blocks.len(),
-                self.store.as_mut_ptr(), self.store.len(),
-                self.nodes.as_ptr(), self.nodes.len(),
-                self.entries.as_ptr(), self.entries.len(),
-                self.scratch.as_ptr(), self.scratch.len(),
-                tick, first, bytes.as_ptr(), bytes.len(),
-            )
+            call!(servercape_record, self, as_mut_ptr as_mut_ptr as_mut_ptr as_ptr as_ptr,
+                self.scratch.as_ptr(), self.scratch.len(), tick, first, bytes.as_ptr(), bytes.len())
         })
     }
 
     /// Finishes the index: it can be read from now on, and takes no more operations. Refusals 3, 12, 13.
     pub fn finish(&mut self) -> Result<(), Refusal> {
         Refusal::unless_zero(unsafe {
-            raw::servercape_finish(
-                self.pieces.as_mut_ptr(), self.pieces.len(),
-                self.blocks.as_mut_ptr(), self.blocks.len(),
-                self.store.as_ptr(), self.store.len(),
-                self.nodes.as_mut_ptr(), self.nodes.len(),
-                self.entries.as_mut_ptr(), self.entries.len(),
-            )
+            call!(servercape_finish, self, as_mut_ptr as_mut_ptr as_ptr as_mut_ptr as_mut_ptr)
         })
     }
 

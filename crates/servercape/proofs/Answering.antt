@@ -22,5 +22,6 @@ module _ {A E : Type 0} (of : E → Answer A) {R : Answer A → Type 0} {before 
       let some : n ≡ 0 → ⊥ = λ z. never (subst (λ (k : ℕ). R (refused k)) z here) in
       record { answered = rw (ne-eqb n 0 some) here; kept = λ _. refl }
 
-pub ruleset positive =
+-- what is left to find: what y means, and that no refusal of the call is 0
+pub ruleset numbers =
     (refl, open-positive, record-positive, finish-positive, block-positive, find-positive, cells-positive, write-positive, load-positive)

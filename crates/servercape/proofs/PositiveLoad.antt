@@ -9,7 +9,7 @@ use lib.ListN.{length, take, drop}
 use borrow.Author.Tests.{ltb-true}
 use Rattle.history.specs.Lent.{Lent}
 use Rattle.history.specs.Refusals.{refused}
-use Rattle.history.specs.File.{Read, got, fault, Reader, onward, _>>=_, give, refuse_unless_, field, number, many, readBlock, Nodes, readNode, readNodes, readRoot, readFile, Loaded, load}
+use Rattle.history.specs.File.{Read, got, fault, Reader, onward, _>>=_, give, refuse_unless_, field, number, many, readBlock, Nodes, absent, readNode, readNodes, readRoot, readFile, Loaded, load}
 use Rattle.layout.specs.Tables.{Tables, lengthsOf}
 use Rattle.layout.specs.Files.{positionOf, LoadedBy}
 
@@ -19,11 +19,10 @@ record Numbered {A : Type 0} (r : Reader A) : Type 0 where
 
 -- ── what readers are made of ──
 
-no-fault : {A : Type 0} {x : A} {next : ℕ} → got x next ≡ fault 0 → ⊥
-no-fault e = let z : _≡_ {A = ℕ} 0 1 = cc in omega arith
-
-other-fault : {A : Type 0} {n : ℕ} → 0 < n → _≡_ {A = Read A} (fault n) (fault 0) → ⊥
-other-fault {n = n} h e = let z : n ≡ 0 = cc in omega arith
+-- a value, or a fault whose number is above 0
+chosen : {A : Type 0} (b : Bool) (x : A) (next n : ℕ) → ltb 0 n ≡ true → cond b (got x next) (fault n) ≡ fault 0 → ⊥
+chosen true x next n h e = let z : _≡_ {A = ℕ} 0 1 = cc in omega arith
+chosen false x next n h e = let z : n ≡ 0 = cc in omega (arith, ltb-true 0 n h)
 
 bind-numbered : {A B : Type 0} {r : Reader A} {k : A → Reader B} → Numbered r → ((x : A) → Numbered (k x)) → Numbered (r >>= k)
 unfolding _>>=_ onward
@@ -37,12 +36,11 @@ bind-numbered {A} {B} {r} {k} first then-on = record { never = λ file at e. go 
 
 give-numbered : {A : Type 0} (x : A) → Numbered (give x)
 unfolding give
-give-numbered x = record { never = λ file at e. no-fault e }
+give-numbered x = record { never = λ file at. chosen true x at 1 refl }
 
 refuse-numbered : (n : ℕ) (t : Bool) → ltb 0 n ≡ true → Numbered (refuse n unless t)
 unfolding refuse_unless_
-refuse-numbered n true h = record { never = λ file at e. no-fault e }
-refuse-numbered n false h = record { never = λ file at e. other-fault (ltb-true 0 n h) e }
+refuse-numbered n t h = record { never = λ file at. chosen t tt at n h }
 
 cond-numbered : {A : Type 0} (b : Bool) (r s : Reader A) → Numbered r → Numbered s → Numbered (cond b r s)
 cond-numbered true r s h k = h
@@ -50,11 +48,7 @@ cond-numbered false r s h k = k
 
 field-numbered : (width : ℕ) → Numbered (field width)
 unfolding field
-field-numbered width = record { never = λ file at e. go (take width (drop at file)) (at + width) (leb (at + width) (length file)) e }
-  where
-    go : (bytes : List ℕ) (next : ℕ) (b : Bool) → cond b (got bytes next) (fault 17) ≡ fault 0 → ⊥
-    go bytes next true e = no-fault e
-    go bytes next false e = other-fault (omega arith) e
+field-numbered width = record { never = λ file at. chosen (leb (at + width) (length file)) (take width (drop at file)) (at + width) 17 refl }
 
 number-numbered : (width : ℕ) → Numbered (number width)
 unfolding number
@@ -78,7 +72,7 @@ node-numbered {child} h = search numbered depth 16
 
 nodes-numbered : (fuel : ℕ) → Numbered (readNodes fuel)
 unfolding readNodes
-nodes-numbered zero = record { never = λ file at e. other-fault (omega arith) e }
+nodes-numbered zero = record { never = λ file at. chosen false absent at 17 refl }
 nodes-numbered (suc fuel) = node-numbered (nodes-numbered fuel)
 
 root-numbered : Numbered readRoot
