@@ -11,7 +11,7 @@ use Rattle.lists.proofs.Stores.{sets-append, getD-sets-in, getD-sets-out, set-s
 use Rattle.history.specs.Lent.{rowWidth, blockHead}
 use Rattle.history.specs.Words.{Block}
 use Rattle.tables.specs.Columns.{blockColumn, blockBase, headCount, blockFirst, blockLength, blockCreated, blockDestroyed, blockOffset, blockOwner, blockNext, blockSpare}
-use Rattle.block_table.specs.Blocks.{BlockRow, shownBlock, blockOfRow, blocksOf, SameRows, blockAt, headPlace, blockCount}
+use Rattle.block_table.specs.Blocks.{BlockRow, noRow, shownBlock, blockOfRow, blocksOf, SameRows, blockAt, headPlace, blockCount}
 use Rattle.block_table.specs.Appended.{blockRow, blockRows, appended, Countable, WroteRow, AppendedRow}
 use Rattle.block_table.proofs.Blocks.{blocks-append}
 
@@ -153,13 +153,10 @@ pub appended-blocks : (store : List ℕ) (rs : List BlockRow) (b : List ℕ) →
 appended-blocks store rs b room =
     blocks-append store (length rs) (appended-kept rs b)
     ∙ ap (λ (l : List Block). blocksOf store b (blockCount b) ++ l)
-    (rows-of (blockOfRow store (appended rs b)) (shownBlock store) none rs (suc (blockCount b)) (λ i h.
+    (rows-of (blockOfRow store (appended rs b)) (shownBlock store) noRow rs (suc (blockCount b)) (λ i h.
     let e : suc (blockCount b) + i ≡ blockCount b + 1 + i = omega arith in
     ap (blockOfRow store (appended rs b)) e
-    ∙ row-shown store (appended rs b) (blockCount b + 1 + i) (getD rs i none) (λ c k. appended-row rs none b i c room h k)))
-  where
-    none : BlockRow
-    none = record { first = 0; size = 0; created = 0; destroyed = 0; offset = 0; owner = 0 }
+    ∙ row-shown store (appended rs b) (blockCount b + 1 + i) (getD rs i noRow) (λ c k. appended-row rs noRow b i c room h k)))
 
 -- ── `write_row`, `append` ──
 

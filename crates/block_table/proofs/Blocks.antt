@@ -3,17 +3,37 @@ use mathlib.Core.Path.{_≡_, refl, sym, ap, _∙_}
 use mathlib.Core.List.{List, [], _∷_, _++_, map}
 use Prim.Native.Nat.{ℕ, zero, suc, _+_, _≤_, _<_}
 use native.Mathlib.Omega.{arith}
+use borrow.Author.Tests.{ltb-true, ltb-false}
+use lib.Dec.{ltb}
 use lib.ListN.{length, getD, take, drop, length-drop}
 use lib.Seq.{length-take-le, take-take}
 use Rattle.lists.specs.Lists.{countFrom}
+use Rattle.lists.specs.Tests.{Decides}
 use Rattle.lists.proofs.Lists.{count-from-length, count-from-at}
 use Rattle.lists.proofs.Counting.{all-count-from, count-from-append}
 use Rattle.lists.proofs.Maps.{map-append, length-of-map, getD-of-map, map-all}
 use Rattle.history.specs.Words.{Block, firstCell}
 use Rattle.history.specs.Tree.{noBlock, keyIn}
 use Rattle.tables.specs.Columns.{blockColumn, blockFirst, blockLength, blockCreated, blockDestroyed, blockOffset, blockOwner, blockNext}
-use Rattle.block_table.specs.Blocks.{firstCellAt, lengthAt, offsetAt, bytesAt, blockOfRow, blocksOf, SameRows, Stored}
+use Rattle.block_table.specs.Blocks.{firstCellAt, StartsBefore, lengthAt, offsetAt, BlockRow, shownBlock, bytesAt, blockOfRow, blocksOf, SameRows, Stored}
 use Rattle.block_table.proofs.Keeping.{kept-column}
+
+-- ── the return of `starts_before` ──
+
+pub starts-first : {t : List ℕ} {one other f g : ℕ} → f ≡ firstCellAt t one → g ≡ firstCellAt t other → Decides (ltb f g) (StartsBefore t one other)
+starts-first {t} {one} {other} {f} {g} ef eg =
+    record {
+      yes = λ e. record { is = omega (arith, ltb-true f g e) };
+      not = λ e s. omega (arith, ltb-false f g e, s .is);
+    }
+
+-- ── one row ──
+
+-- a row that says what a block has stands for it
+pub shown-is : (store : List ℕ) (r : BlockRow) (b : Block) → r .owner ≡ b .kind → r .first ≡ firstCell b
+    → take (r .size) (drop (r .offset) store) ≡ b .stretch .bytes → r .created ≡ b .created → r .destroyed ≡ b .destroyed → shownBlock store r ≡ b
+shown-is store r b own first bytes born died =
+    λ i. record { kind = own i; stretch = record { first = first i; bytes = bytes i }; created = born i; destroyed = died i }
 
 -- ── how many, and which ──
 

@@ -28,6 +28,10 @@ offsetAt blocks link = blockColumn blocks link blockOffset
 abbrev pub ownerAt : (blocks : List ℕ) (link : ℕ) → ℕ
 ownerAt blocks link = blockColumn blocks link blockOwner
 
+-- the block of `one` starts before that of `other`
+pub record StartsBefore (blocks : List ℕ) (one other : ℕ) : Type 0 where
+  pub is : firstCellAt blocks one < firstCellAt blocks other
+
 -- ── places ──
 
 -- where the row of a link starts
@@ -56,6 +60,9 @@ pub record BlockRow : Type 0 where
   pub destroyed : ℕ
   pub offset : ℕ
   pub owner : ℕ
+
+abbrev pub noRow : BlockRow
+noRow = record { first = 0; size = 0; created = 0; destroyed = 0; offset = 0; owner = 0 }
 
 -- the block that it stands for
 abbrev pub shownBlock : (store : List ℕ) → BlockRow → Block

@@ -8,19 +8,15 @@
 //   proofs/Keeping    what leaves the rows as they were
 //   proofs/Appending  laws of appending
 ghost use mathlib.Core.Path.{_≡_};
-ghost use Prim.Native.Nat.{_-_, _/_};
-ghost use lib.ListN.{length, set};
-ghost use Rattle.history.specs.Lent.{rowWidth, blockHead};
-ghost use Rattle.tables.specs.Columns.{blockColumn, headState, headEnd, headKind, headCount, headUsed, headLast};
-ghost use Rattle.block_table.specs.Blocks.{headPlace};
+ghost use lib.ListN.{set};
+ghost use Rattle.lists.specs.Tests.{Decides};
+ghost use Rattle.tables.specs.Columns.{blockColumn, headState, headEnd, headKind, headCount, headUsed, headLast, blockNext};
+ghost use Rattle.block_table.specs.Blocks.{headPlace, StartsBefore};
 ghost use Rattle.block_table.specs.Appended.{WroteRow, AppendedRow};
 
 pub mod rows;
 
 use tables::block;
-
-// The largest number.
-const LARGEST: u64 = 18446744073709551615;
 
 // ── the head ──
 
@@ -66,6 +62,13 @@ pub fn last(blocks: &[u64]) -> u64
     block::get(blocks, 0, block::LAST)
 }
 
+// The link of the first block in order.
+pub fn first(blocks: &[u64]) -> u64
+    ensures { λ r. ⌜ r ≡ blockColumn (now (blocks .entry)) 0 blockNext ⌝ }
+{
+    block::get(blocks, 0, block::NEXT)
+}
+
 pub fn set_state(blocks: &mut [u64], value: u64)
     ensures { λ _. ⌜ now (blocks .exit) ≡ set (now (blocks .entry)) (headPlace headState) value ⌝ }
 {
@@ -104,14 +107,11 @@ pub fn set_last(blocks: &mut [u64], value: u64)
 
 // ── rows ──
 
-// How many rows the table has.
-pub fn row_count(blocks: &[u64]) -> u64
-    ensures { λ r. ⌜ r ≡ (length (now (blocks .entry)) - blockHead) / rowWidth ⌝ }
+// Whether the block of `one` starts before that of `other`. No other function compares the places of blocks.
+pub fn starts_before(blocks: &[u64], one: u64, other: u64) -> bool
+    ensures { λ r. ⌜ Decides r (StartsBefore (now (blocks .entry)) one other) ⌝ }
 {
-    if blocks.len() < block::HEAD {
-        return 0;
-    }
-    ((blocks.len() - block::HEAD) / tables::ROW) as u64
+    block::get(blocks, one, block::FIRST) < block::get(blocks, other, block::FIRST)
 }
 
 // Writes the row of a link. It is in no order yet.
@@ -152,7 +152,7 @@ pub fn append(
         (record { first = first; size = length; created = created; destroyed = destroyed; offset = offset; owner = owner }) ⌝ }
 {
     let many = count(blocks);
-    if many == LARGEST {
+    if many == u64::MAX {
         return;
     }
     write_row(

@@ -3,9 +3,6 @@ ghost use Rattle.lists.specs.Tests.{Decides};
 ghost use Rattle.block_table.specs.Rows.{RowSound, RowsSound};
 use tables::block;
 
-// The largest number of 64 bits.
-const MOST: u64 = 18446744073709551615;
-
 // Whether a row is sound. It subtracts and does not add: in tables that nobody has tested a sum may pass 2^64.
 fn test_row(blocks: &[u64], link: u64, kind: u64, end: u64, used: u64) -> bool
     ensures { λ r. ⌜ Decides r (RowSound (now (blocks .entry)) (record { kind = kind; end = end; used = used }) link) ⌝ }
@@ -15,7 +12,7 @@ fn test_row(blocks: &[u64], link: u64, kind: u64, end: u64, used: u64) -> bool
     if length == 0 {
         return false;
     }
-    if MOST - first < length {
+    if u64::MAX - first < length {
         return false;
     }
     if used < length {

@@ -17,9 +17,6 @@ use file_scan::rows::NodeRow;
 use tables::block;
 use tables::entry;
 
-// The largest end tick.
-const LAST: u64 = 1 << 63;
-
 // What stands at a position where the node of an interval is awaited: that node, no node, or anything else.
 pub enum Half {
     Present {
@@ -215,7 +212,7 @@ fn root_end(file: &[u8], at: usize) -> u64
         NodeRow::Fault { .. } => 0,
         NodeRow::Absent { .. } => 0,
         NodeRow::Present { max, .. } => {
-            if LAST < max {
+            if block::MAX_END_TICK < max {
                 return 0;
             }
             max

@@ -40,9 +40,9 @@ fn write_file(
 )
     ensures { λ _. ⌜ FileWritten (now (blocks .entry)) (now (store .entry)) (now (nodes .entry)) (now (entries .entry)) living place (now (out .entry)) (now (out .exit)) ⌝ }
 {
-    let count = block::get(blocks, 0, block::COUNT);
-    let kind = block::get(blocks, 0, block::KIND);
-    let end = block::get(blocks, 0, block::END);
+    let count = block_table::count(blocks);
+    let kind = block_table::kind(blocks);
+    let end = block_table::end(blocks);
     let root = tables::get(nodes, 0, kind as usize);
     let listed = numbers::list(blocks, count, living, out);
     nodes::put_tree(nodes, entries, root, 0, end, listed, out, place);
@@ -61,7 +61,7 @@ pub fn write_closed(
 ) -> Written
     ensures { λ r. ⌜ WrittenClosed (now (blocks .entry)) (now (store .entry)) (now (nodes .entry)) (now (entries .entry)) (now (out .entry)) (now (out .exit)) (writtenOf r) ⌝ }
 {
-    if block::get(blocks, 0, block::COUNT) == 0 {
+    if block_table::count(blocks) == 0 {
         return Written::Bytes(0);
     }
     match plan::measure(blocks, nodes, entries, out.len()) {

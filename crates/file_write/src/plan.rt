@@ -61,7 +61,7 @@ fn measure_blocks(blocks: &[u64], count: u64, room: usize) -> Share
 pub fn measure(blocks: &[u64], nodes: &[u64], entries: &[u64], room: usize) -> Plan
     ensures { λ r. ⌜ r ≡ planOf (now (blocks .entry)) (now (nodes .entry)) (now (entries .entry)) room ⌝ }
 {
-    let count = block::get(blocks, 0, block::COUNT);
+    let count = block_table::count(blocks);
     let Share::Fits { living, next } = measure_blocks(blocks, count, room) else {
         return Plan::TooLong;
     };

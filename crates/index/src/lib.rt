@@ -31,7 +31,7 @@ pub enum Opened {
 
 impl Index {
     // The largest end tick.
-    pub const MAX_END_TICK: u64 = 1 << 63;
+    pub const MAX_END_TICK: u64 = tables::block::MAX_END_TICK;
 
     // Opens an index of a kind with an end tick in the lent tables.
     pub fn open(

@@ -68,9 +68,9 @@ fn count_all(pieces: &[u64], blocks: &[u64], nodes: &mut [u64], entries: &mut [u
     ensures { λ r. ⌜ CountedAll (now (pieces .entry)) (now (blocks .entry)) (now (nodes .entry)) (now (entries .entry))
         (now (nodes .exit)) (now (entries .exit)) r ⌝ }
 {
-    let n = block::get(blocks, 0, block::COUNT);
-    let end = block::get(blocks, 0, block::END);
-    let kind = block::get(blocks, 0, block::KIND);
+    let n = block_table::count(blocks);
+    let end = block_table::end(blocks);
+    let kind = block_table::kind(blocks);
     if !rule::all_apart(pieces, blocks, nodes, entries, kind, end, n) {
         return UNFORMED;
     }
@@ -86,7 +86,7 @@ fn prepare(pieces: &[u64], blocks: &mut [u64], nodes: &mut [u64], entries: &mut 
     if !blank(nodes, entries) {
         return UNFORMED;
     }
-    let n = block::get(blocks, 0, block::COUNT);
+    let n = block_table::count(blocks);
     ordering::sort(blocks, n);
     let told = count_all(pieces, blocks, nodes, entries);
     if told != DONE {
@@ -101,12 +101,12 @@ fn settle(pieces: &mut [u64], blocks: &mut [u64], nodes: &mut [u64], entries: &m
     ensures { λ _. ⌜ SettledTables (now (pieces .entry)) (now (blocks .entry)) (now (nodes .entry)) (now (entries .entry))
         (now (pieces .exit)) (now (blocks .exit)) (now (nodes .exit)) (now (entries .exit)) ⌝ }
 {
-    let end = block::get(blocks, 0, block::END);
-    let kind = block::get(blocks, 0, block::KIND);
-    let recorded = block::get(blocks, 0, block::COUNT);
+    let end = block_table::end(blocks);
+    let kind = block_table::kind(blocks);
+    let recorded = block_table::count(blocks);
     recording::extract_members(pieces, blocks, end);
-    block::put(blocks, 0, block::STATE, block::CLOSED);
-    let all = block::get(blocks, 0, block::COUNT);
+    block_table::set_state(blocks, block::CLOSED);
+    let all = block_table::count(blocks);
     ordering::sort_more(blocks, recorded, all);
     segment_tree::close::close_tree(nodes, entries, blocks, all, end, kind);
     tables::zero(pieces);

@@ -12,9 +12,6 @@ use tables::entry;
 use tables::node;
 use tables::piece;
 
-// The largest end tick.
-const MOST_END: u64 = 1 << 63;
-
 const MOST_KIND: u64 = 4;
 
 // Whether each table holds its head.
@@ -40,7 +37,7 @@ fn test_heads(pieces: &[u64], blocks: &[u64], store: &[u8], nodes: &[u64], entri
 fn rows_fit(blocks: &[u64], count: u64, pieces: u64) -> bool
     ensures { λ r. ⌜ Decides r (count + pieces ≤ (length (now (blocks .entry)) - blockHead) / rowWidth) ⌝ }
 {
-    let rows = block_table::row_count(blocks);
+    let rows = tables::rows(blocks.len(), block::HEAD);
     if rows < count {
         return false;
     }
@@ -64,7 +61,7 @@ fn test_numbers(
     if end == 0 {
         return false;
     }
-    if MOST_END < end {
+    if block::MAX_END_TICK < end {
         return false;
     }
     if MOST_KIND < block_table::kind(blocks) {

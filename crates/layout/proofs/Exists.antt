@@ -21,15 +21,15 @@ use Rattle.history.proofs.RulesLaws.{numbered-decides}
 use Rattle.history.proofs.TreeCounts.{entry-count-in}
 use Rattle.history.proofs.ByKind.{closed-rule-23}
 use Rattle.tables.specs.Columns.{blockBase, blockFirst}
+use Rattle.block_table.specs.Blocks.{BlockRow, noRow}
 use Rattle.ordering.specs.Order.{InOrder}
 use Rattle.segment_table.specs.Closed.{firstCellIn, Closed}
 use Rattle.layout.specs.Tables.{Tables, treeTables}
 use Rattle.layout.specs.Encodes.{TreeIn, Encodes}
-use Rattle.layout.specs.Relations.{Fields}
 use Rattle.layout.specs.Law.{Word, Lendable, Encoded, TablesExist}
 use Rattle.layout.proofs.Lengths.{Heads, heads-fit}
 use Rattle.layout.proofs.ExistsTable.{word-at}
-use Rattle.layout.proofs.ExistsBlocks.{noFields, blockTable, block-next, fields-at}
+use Rattle.layout.proofs.ExistsBlocks.{blockTable, block-next, row-at}
 use Rattle.layout.proofs.ExistsOrder.{nextIn, linksBy, sorted-order, sorted-words}
 use Rattle.layout.proofs.ExistsTree.{nodeTable, node-table-length, entryTable, entry-table-length, tree-closed, node-table-words, entry-table-words}
 use Rattle.layout.proofs.ExistsBoard.{headOf, blockRowsOf, tablesBy, blocks-many, block-room, board-encodes, replicate-all, blocks-few, blocks-fit, board-fits}
@@ -81,12 +81,12 @@ unfolding rule23
 numbered-blocks e bs tree h = numbered-decides (length bs) tree .yes (and-left (numbered (length bs) tree) _ h)
 
 -- the key by which the blocks are ordered
-abbrev keyOf : (fs : List Fields) (k : ℕ) → ℕ
-keyOf fs k = getD fs k noFields .first
+abbrev keyOf : (fs : List BlockRow) (k : ℕ) → ℕ
+keyOf fs k = getD fs k noRow .first
 
 module _ (l : Ledger) (s : SoundBoard l) (f : Lendable l) where
   -- the rows of the blocks
-  abbrev rowsOf : List Fields
+  abbrev rowsOf : List BlockRow
   rowsOf = blockRowsOf l s .rows
 
   -- the next links in order
@@ -100,7 +100,7 @@ module _ (l : Ledger) (s : SoundBoard l) (f : Lendable l) where
   blocks-sorted : InOrder sortedBlocks (length rowsOf)
   blocks-sorted =
       sorted-order sortedBlocks (length rowsOf) (blocks-few l s f) (keyOf rowsOf)
-      (λ k h. ap (λ (b : Fields). b .first) (fields-at (l .opening .lent .blocks) (headOf l) sortedNext rowsOf (block-room l s (f .heads)) k h))
+      (λ k h. ap (λ (b : BlockRow). b .first) (row-at (l .opening .lent .blocks) (headOf l) sortedNext rowsOf (block-room l s (f .heads)) k h))
       (block-next (l .opening .lent .blocks) (headOf l) sortedNext rowsOf (block-room l s (f .heads)))
 
   -- the order column is sorted, and the tree stands in nodes and entries

@@ -6,8 +6,8 @@ use mathlib.Core.List.{List, [], _∷_, _++_, map}
 use Prim.Native.Nat.{ℕ, suc, _+_, _-_, _*_, _/_, _≤_, _<_, _^_}
 use native.Mathlib.Omega.{arith}
 use lib.ListN.{length, length-append}
-use lib.Dec.{eqb}
-use borrow.Author.Tests.{not-true, not-false}
+use lib.Dec.{eqb, ltb}
+use borrow.Author.Tests.{eqb-true, eqb-false, ltb-true, ltb-false, not-true, not-false}
 use Rattle.lists.specs.Lists.{Mem, here, there, All, all-nil, all-cons}
 use Rattle.lists.specs.Tests.{Decides}
 use Rattle.lists.proofs.Lists.{mem-left, mem-right, mem-split, all-left, all-right, all-append, all-head, all-tail}
@@ -16,7 +16,7 @@ use Rattle.lists.proofs.Numbers.{refute, decides-iff, decides-eqb}
 use Rattle.history.specs.Lent.{rowWidth}
 use Rattle.tables.specs.Columns.{column, pieceLength, pieceWritten, pieceOffset, pieceLeft, pieceRight, pieceDepth, pieceOwner, piecesRoot, piecesCount}
 use Rattle.merge_set.specs.Tree.{Tree, leaf, node, height, rows, Balanced}
-use Rattle.merge_set.specs.Table.{firstAt, deepAt, Shape}
+use Rattle.merge_set.specs.Table.{firstAt, StartsBelow, deepAt, Shape}
 use Rattle.merge_set.proofs.Frame.{deep-at}
 use Rattle.piece_table.specs.Piece.{PieceRow, rowEnd, pieceAt, Follow}
 use Rattle.piece_table.specs.Rep.{Linked}
@@ -64,8 +64,8 @@ module _ {t : List ℕ} {count link fuel : ℕ} where
 -- ── `row_fits` ──
 
 module _ {t : List ℕ} {link low kind used last first size : ℕ} (ef : first ≡ firstAt t link) (es : size ≡ column t link pieceLength) where
-  pub row-fits-low : first < low → Decides false (RowFits t link low kind used last)
-  row-fits-low h = refute (λ s. omega (arith, s .from))
+  pub row-fits-low : {starts : Bool} → StartsBelow t link low starts → starts ≡ true → Decides false (RowFits t link low kind used last)
+  row-fits-low tested h = refute (λ s. omega (arith, s .from, ltb-true (firstAt t link) low (sym (tested .is) ∙ h)))
 
   pub row-fits-empty : size ≡ 0 → Decides false (RowFits t link low kind used last)
   row-fits-empty h = refute (λ s. omega (arith, s .filled .some))
@@ -84,12 +84,12 @@ module _ {t : List ℕ} {link low kind used last first size : ℕ} (ef : first �
       pub row-fits-late : last < written → Decides false (RowFits t link low kind used last)
       row-fits-late h = refute (λ s. omega (arith, s .allowed .known))
 
-      pub row-fits-rest : {owner : ℕ} → owner ≡ column t link pieceOwner → low ≤ first → (size ≡ 0 → ⊥) → size ≤ 18446744073709551615 - first
+      pub row-fits-rest : {owner : ℕ} {starts : Bool} → owner ≡ column t link pieceOwner → StartsBelow t link low starts → starts ≡ false → (size ≡ 0 → ⊥) → size ≤ 18446744073709551615 - first
           → size ≤ used → offset ≤ used - size → used < 2 ^ 64 → written ≤ last → Decides (eqb owner kind) (RowFits t link low kind used last)
-      row-fits-rest {owner} en lo some near small inside far known =
+      row-fits-rest {owner} en tested high some near small inside far known =
           decides-iff (eqb owner kind)
           (λ z. record {
-            from = omega arith;
+            from = ltb-false (firstAt t link) low (sym (tested .is) ∙ high);
             filled = record { some = omega arith; near = omega arith; stored = omega arith };
             allowed = record { inside = omega arith; known = omega arith; owned = sym en ∙ z };
           })

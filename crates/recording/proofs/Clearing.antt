@@ -13,7 +13,7 @@ use Rattle.lists.proofs.Maps.{map-append}
 use Rattle.tables.specs.Columns.{column, pieceLength, pieceWritten, pieceOffset, pieceOwner, piecesCount}
 use Rattle.block_table.specs.Appended.{AppendedRow}
 use Rattle.block_table.proofs.Appending.{appended-none, countable-less}
-use Rattle.merge_set.specs.Table.{firstAt}
+use Rattle.merge_set.specs.Table.{firstAt, StartsBelow}
 use Rattle.piece_table.specs.Piece.{PieceRow, rowEnd, pieceAt, part, rowsBelow, rowsInside, rowsAbove}
 use Rattle.piece_table.specs.Calls.{endAt, EndsAfter, Sought, RemovedPiece, TrimmedFront}
 use Rattle.piece_table.proofs.Order.{follow-filled, follow-right}
@@ -83,8 +83,8 @@ clear-one-none {t} {b} {tick} {f} {e} {link} s z =
     record { becomes = becomes-same (g .rep) (left-alone f e (g .some) l (rep-follow (g .rep))); blocks = nothing-inside tick (inside-left f e l) })
 
 module _ {t b : List ℕ} {tick f e link was : ℕ} (s : Sought t f link) (nz : link ≡ 0 → ⊥) (ew : was ≡ firstAt t link) where
-  pub clear-one-right : e ≤ was → ClearedOne t t b b tick f e false
-  clear-one-right le =
+  right-of : e ≤ was → ClearedOne t t b b tick f e false
+  right-of le =
       stops (λ ps g u.
       let v : Seen t f link ps = seen-some s (g .rep) nz in
       let p : PieceRow = pieceAt t link in
@@ -105,8 +105,8 @@ module _ {t b : List ℕ} {tick f e link was : ℕ} (s : Sought t f link) (nz : 
       rec .done (v .whole) (g .some) lt (v .past) (countable-less (omega (arith, ap length (inside-seen e v (g .some) lt))) (g .space))
 
   module _ {q : Bool} {t₁ b₁ : List ℕ} (lt : was < e) (rec : RecordedPart t b b₁ link tick f e) (eq : EndsAfter t link e q) where
-    pub clear-one-front : q ≡ true → TrimmedFront t t₁ link e → ClearedOne t t₁ b b₁ tick f e false
-    clear-one-front y trim =
+    front-met : q ≡ true → TrimmedFront t t₁ link e → ClearedOne t t₁ b b₁ tick f e false
+    front-met y trim =
         stops (λ ps g u.
         let v : Seen t f link ps = seen-some s (g .rep) nz in
         let p : PieceRow = pieceAt t link in
@@ -122,8 +122,8 @@ module _ {t b : List ℕ} {tick f e link was : ℕ} (s : Sought t f link) (nz : 
           blocks = recorded-seen rec g (omega arith) ∙ ap (λ (l : List PieceRow). recorded tick l b) (sym (inside-seen e v (g .some) (omega arith) ∙ ap (λ (l : List PieceRow). innerPart t link f e ∷ l) none));
         })
 
-    pub clear-one-more : q ≡ false → RemovedPiece t t₁ link → ClearedOne t t₁ b b₁ tick f e true
-    clear-one-more n gone = record { step = λ _. go; stop = λ z. absurd (true≢false z) }
+    whole-met : q ≡ false → RemovedPiece t t₁ link → ClearedOne t t₁ b b₁ tick f e true
+    whole-met n gone = record { step = λ _. go; stop = λ z. absurd (true≢false z) }
       where
         go : (ps : List PieceRow) → Given t b f e ps → Uncrossed f ps → Clearing t t₁ b b₁ tick f e (length ps - 1) ps
         go ps g u =
@@ -144,6 +144,18 @@ module _ {t b : List ℕ} {tick f e link was : ℕ} (s : Sought t f link) (nz : 
               uncrossed = all-append (all-left A (p ∷ B) u′) (all-tail (all-right A (p ∷ B) u′));
               few = omega (arith, ap length (v .is), length-append A B, length-append A (p ∷ B));
             }
+
+-- by the test whether the piece starts before the end
+module _ {t b : List ℕ} {tick f e link : ℕ} {starts : Bool} (s : Sought t f link) (nz : link ≡ 0 → ⊥) (tested : StartsBelow t link e starts) where
+  pub clear-one-right : starts ≡ false → ClearedOne t t b b tick f e false
+  clear-one-right h = right-of s nz refl (ltb-false (firstAt t link) e (sym (tested .is) ∙ h))
+
+  module _ {q : Bool} {t₁ b₁ : List ℕ} (h : starts ≡ true) (rec : RecordedPart t b b₁ link tick f e) (eq : EndsAfter t link e q) where
+    pub clear-one-front : q ≡ true → TrimmedFront t t₁ link e → ClearedOne t t₁ b b₁ tick f e false
+    clear-one-front = front-met s nz refl (ltb-true (firstAt t link) e (sym (tested .is) ∙ h)) rec eq
+
+    pub clear-one-more : q ≡ false → RemovedPiece t t₁ link → ClearedOne t t₁ b b₁ tick f e true
+    clear-one-more = whole-met s nz refl (ltb-true (firstAt t link) e (sym (tested .is) ∙ h)) rec eq
 
 -- ── `clear` ──
 

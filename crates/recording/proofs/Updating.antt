@@ -1,19 +1,19 @@
 -- `split`, `remove_overlapping` and `apply_update`: one step for each return. Assumes nothing.
-use mathlib.Core.Path.{_≡_, sym, ap, ap₂, subst, _∙_}
+use mathlib.Core.Path.{_≡_, refl, sym, ap, ap₂, subst, _∙_}
 use mathlib.Core.Logic.{inl, inr}
 use mathlib.Core.Bool.{Bool, true, false}
 use mathlib.Core.List.{List, [], _∷_, _++_, map, append-assoc}
 use Prim.Native.Nat.{ℕ, suc, _+_, _-_, _*_, _≤_, _<_}
 use native.Mathlib.Omega.{arith}
 use lib.ListN.{length, length-append, length-map}
-use borrow.Author.Tests.{ltb-true, ltb-false}
+use borrow.Author.Tests.{ltb-true, ltb-false, not-true, not-false}
 use Rattle.lists.specs.Lists.{all-nil, all-cons}
 use Rattle.lists.proofs.Lists.{all-append, all-map}
 use Rattle.lists.proofs.Maps.{map-append}
 use Rattle.history.specs.Lent.{rowWidth}
 use Rattle.tables.specs.Columns.{column, pieceFirst, pieceLength, pieceWritten, pieceOffset, pieceOwner}
 use Rattle.block_table.specs.Appended.{Countable}
-use Rattle.merge_set.specs.Table.{firstAt}
+use Rattle.merge_set.specs.Table.{firstAt, StartsBelow}
 use Rattle.piece_table.specs.Piece.{PieceRow, rowEnd, pieceAt, part, rowsBelow, rowsInside, rowsAbove, Filled, Follow, placed}
 use Rattle.piece_table.specs.Rep.{Linked, Rep, Becomes}
 use Rattle.piece_table.specs.Calls.{endAt, EndsAfter, Sought, TrimmedBack, InsertedPiece}
@@ -91,8 +91,8 @@ remove-overlapping-none {t} {b} {tick} {f} {e} {link} s z = record { done = go }
         record { becomes = becomes-same (g .rep) (left-alone f e (g .some) l (rep-follow (g .rep))); blocks = nothing-inside tick (inside-left f e l) }
 
 module _ {t b : List ℕ} {tick f e link was : ℕ} (s : Sought t f link) (nz : link ≡ 0 → ⊥) (ew : was ≡ firstAt t link) where
-  pub remove-overlapping-clear : {t₁ b₁ : List ℕ} → f ≤ was → Cleared t t₁ b b₁ tick f e → RemovedOverlapping t t₁ b b₁ tick f e
-  remove-overlapping-clear {t₁} {b₁} le clear = record { done = go }
+  uncut-first : {t₁ b₁ : List ℕ} → f ≤ was → Cleared t t₁ b b₁ tick f e → RemovedOverlapping t t₁ b b₁ tick f e
+  uncut-first {t₁} {b₁} le clear = record { done = go }
     where
       go : (ps : List PieceRow) → Given t b f e ps → rowWidth * length (rowsBelow f ps ++ rowsAbove e ps) + rowWidth ≤ length t → Clear t t₁ b b₁ tick f e ps
       go ps g space =
@@ -104,8 +104,8 @@ module _ {t b : List ℕ} {tick f e link was : ℕ} (s : Sought t f link) (nz : 
           clear .done ps g (subst (Uncrossed f) (sym (v .is)) u)
 
   module _ {q : Bool} {t₁ b₁ : List ℕ} (lt : was < f) (rec : RecordedPart t b b₁ link tick f e) (eq : EndsAfter t link e q) where
-    pub remove-overlapping-middle : q ≡ true → SplitPiece t t₁ link f e → RemovedOverlapping t t₁ b b₁ tick f e
-    remove-overlapping-middle y cut = record { done = go }
+    cut-middle : q ≡ true → SplitPiece t t₁ link f e → RemovedOverlapping t t₁ b b₁ tick f e
+    cut-middle y cut = record { done = go }
       where
         go : (ps : List PieceRow) → Given t b f e ps → rowWidth * length (rowsBelow f ps ++ rowsAbove e ps) + rowWidth ≤ length t → Clear t t₁ b b₁ tick f e ps
         go ps g space =
@@ -128,8 +128,8 @@ module _ {t b : List ℕ} {tick f e link was : ℕ} (s : Sought t f link) (nz : 
               blocks = recorded-seen s nz ew rec g (omega arith) ∙ ap (λ (l : List PieceRow). recorded tick l b) (sym (inside-seen e v h (omega arith) ∙ ap (λ (l : List PieceRow). innerPart t link f e ∷ l) none));
             }
 
-    pub remove-overlapping-back : {t₂ b₂ : List ℕ} → q ≡ false → TrimmedBack t t₁ link f → Cleared t₁ t₂ b₁ b₂ tick f e → RemovedOverlapping t t₂ b b₂ tick f e
-    remove-overlapping-back {t₂} {b₂} n trim clear = record { done = go }
+    cut-back : {t₂ b₂ : List ℕ} → q ≡ false → TrimmedBack t t₁ link f → Cleared t₁ t₂ b₁ b₂ tick f e → RemovedOverlapping t t₂ b b₂ tick f e
+    cut-back {t₂} {b₂} n trim clear = record { done = go }
       where
         go : (ps : List PieceRow) → Given t b f e ps → rowWidth * length (rowsBelow f ps ++ rowsAbove e ps) + rowWidth ≤ length t → Clear t t₂ b b₂ tick f e ps
         go ps g space =
@@ -159,6 +159,18 @@ module _ {t b : List ℕ} {tick f e link was : ℕ} (s : Sought t f link) (nz : 
               blocks = two .blocks ∙ ap₂ (recorded tick) rest rec₁ ∙ recorded-append tick (innerPart t link f e ∷ []) (rowsInside f e B) b (g .space .head) ∙ ap (λ (l : List PieceRow). recorded tick l b) (sym whole);
             }
 
+-- by the test whether the piece starts before the first cell
+module _ {t b : List ℕ} {tick f e link : ℕ} {starts : Bool} (s : Sought t f link) (nz : link ≡ 0 → ⊥) (tested : StartsBelow t link f starts) where
+  pub remove-overlapping-clear : {t₁ b₁ : List ℕ} → starts ≡ false → Cleared t t₁ b b₁ tick f e → RemovedOverlapping t t₁ b b₁ tick f e
+  remove-overlapping-clear h = uncut-first s nz refl (ltb-false (firstAt t link) f (sym (tested .is) ∙ h))
+
+  module _ {q : Bool} {t₁ b₁ : List ℕ} (h : starts ≡ true) (rec : RecordedPart t b b₁ link tick f e) (eq : EndsAfter t link e q) where
+    pub remove-overlapping-middle : q ≡ true → SplitPiece t t₁ link f e → RemovedOverlapping t t₁ b b₁ tick f e
+    remove-overlapping-middle = cut-middle s nz refl (ltb-true (firstAt t link) f (sym (tested .is) ∙ h)) rec eq
+
+    pub remove-overlapping-back : {t₂ b₂ : List ℕ} → q ≡ false → TrimmedBack t t₁ link f → Cleared t₁ t₂ b₁ b₂ tick f e → RemovedOverlapping t t₂ b b₂ tick f e
+    remove-overlapping-back = cut-back s nz refl (ltb-true (firstAt t link) f (sym (tested .is) ∙ h)) rec eq
+
 -- ── `apply_update` ──
 
 pub apply-update-far : {t b : List ℕ} (p : PieceRow) → 18446744073709551615 - p .first < p .size → AppliedUpdate t t b b p
@@ -180,4 +192,4 @@ apply-update-done {t} {t₁} {t₂} {b} {b₁} p gone ins = record { done = go }
         record { becomes = becomes-then one (becomes-eq (ins .done (A ++ B) (one .rep) (omega (arith, n, space, one .len)) (rw order f)) (sym order)); blocks = z .blocks }
 
 -- the steps, for `search` at a return
-pub ruleset updating = (split-low, split-high, split-far, split-done, remove-overlapping-none, remove-overlapping-clear, remove-overlapping-middle, remove-overlapping-back, apply-update-far, apply-update-done)
+pub ruleset updating = (not-true, not-false, split-low, split-high, split-far, split-done, remove-overlapping-none, remove-overlapping-clear, remove-overlapping-middle, remove-overlapping-back, apply-update-far, apply-update-done)

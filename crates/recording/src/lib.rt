@@ -12,9 +12,6 @@ ghost use Prim.Native.Nat.{_+_, min, max};
 ghost use Rattle.recording.specs.Calls.{RecordedPart, Extracted, ExtractedMembers, ClearedOne, Cleared, SplitPiece, RemovedOverlapping, AppliedUpdate};
 use tables::piece;
 
-// The largest number.
-const LARGEST: u64 = 18446744073709551615;
-
 fn larger(a: u64, b: u64) -> u64
     ensures { λ r. ⌜ r ≡ max a b ⌝ }
 {
@@ -43,14 +40,14 @@ fn record_part(pieces: &[u64], blocks: &mut [u64], link: u64, tick: u64, first: 
     let offset = tables::get(pieces, link, piece::OFFSET);
     let owner = tables::get(pieces, link, piece::OWNER);
     let from = larger(first, was);
-    if LARGEST - was < length {
+    if u64::MAX - was < length {
         return;
     }
     let to = smaller(end, was + length);
     if to < from {
         return;
     }
-    if LARGEST - offset < from - was {
+    if u64::MAX - offset < from - was {
         return;
     }
     block_table::append(
@@ -80,7 +77,7 @@ fn split(pieces: &mut [u64], link: u64, from: u64, to: u64)
     if length < cut {
         return;
     }
-    if LARGEST - offset < cut {
+    if u64::MAX - offset < cut {
         return;
     }
     piece_table::trim_back(pieces, link, from);
@@ -96,8 +93,7 @@ fn clear_one(pieces: &mut [u64], blocks: &mut [u64], tick: u64, first: u64, end:
     if link == 0 {
         return false;
     }
-    let was = tables::get(pieces, link, piece::FIRST);
-    if end <= was {
+    if !merge_set::starts_below(pieces, link, end) {
         return false;
     }
     record_part(pieces, blocks, link, tick, first, end);
@@ -131,8 +127,7 @@ pub fn remove_overlapping(pieces: &mut [u64], blocks: &mut [u64], tick: u64, fir
     if link == 0 {
         return;
     }
-    let was = tables::get(pieces, link, piece::FIRST);
-    if first <= was {
+    if !merge_set::starts_below(pieces, link, first) {
         clear(pieces, blocks, tick, first, end);
         return;
     }
@@ -158,7 +153,7 @@ pub fn apply_update(
     ensures { λ _. ⌜ AppliedUpdate (now (pieces .entry)) (now (pieces .exit)) (now (blocks .entry)) (now (blocks .exit))
         (record { first = first; size = length; written = tick; offset = offset; owner = owner }) ⌝ }
 {
-    if LARGEST - first < length {
+    if u64::MAX - first < length {
         return;
     }
     remove_overlapping(pieces, blocks, tick, first, first + length);

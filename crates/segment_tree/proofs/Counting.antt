@@ -15,8 +15,9 @@ use Rattle.history.specs.Lent.{rowWidth}
 use Rattle.history.specs.Words.{Block}
 use Rattle.history.specs.Tree.{Tree, hole, treeOf, nodeCount, entryCount}
 use Rattle.tables.specs.Columns.{column, nodesCount}
+use Rattle.tables.specs.Sums.{most}
 use Rattle.segment_table.specs.Closed.{nodesUsed, firstAt}
-use Rattle.segment_tree.specs.Count.{most, rowsIn, fullest, entriesTo, allEntries, CountAt, Life, Standing, Grown}
+use Rattle.segment_tree.specs.Count.{rowsIn, fullest, entriesTo, allEntries, CountAt, Life, Standing, Grown}
 use Rattle.segment_tree.specs.Runs.{upTo, withRuns, AssignedRuns}
 use Rattle.segment_tree.specs.Lives.{lifeOf, blockLife, pieceLife, shape, addLife, addLives, rootSpot, AddedRows, entryRowsIn, roomFor, rowsToCount, Countable, CountedAs, CountedTree}
 use Rattle.segment_tree.proofs.NodeRows.{count-like, entries-most}

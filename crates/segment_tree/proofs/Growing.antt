@@ -9,8 +9,9 @@ use Rattle.lists.proofs.Numbers.{eq-or-ne, le-or-lt}
 use Rattle.history.specs.Lent.{rowWidth}
 use Rattle.history.specs.Tree.{Tree, hole, node, mid, nodeCount, entryCount}
 use Rattle.tables.specs.Columns.{column, nodeMin, nodeMax, nodeLeft, nodeRight, nodeEntries, nodeKind, nodesCount}
+use Rattle.tables.specs.Sums.{most, plusUpTo}
 use Rattle.segment_table.specs.Closed.{nodesUsed, leftAt, rightAt, countAt}
-use Rattle.segment_tree.specs.Count.{most, plusUpTo, rowsIn, minAt, maxAt, kindAt, entriesTo, CountRow, CountAt, Spot, spot, linkAt, Outside, other-kind, starts-before, ends-after, Standing, Kept, Grown, withNode}
+use Rattle.segment_tree.specs.Count.{rowsIn, minAt, maxAt, kindAt, entriesTo, CountRow, CountAt, Spot, spot, linkAt, Outside, other-kind, starts-before, ends-after, Standing, Kept, Grown, withNode}
 use Rattle.segment_tree.proofs.NodeRows.{column-same, column-other, row-inside, tree-stays, hole-stays, entries-same, entries-more, entries-one}
 
 -- ── rows outside ──

@@ -13,9 +13,10 @@ use Rattle.history.specs.Tree.{Tree, hole, node, mid, insert}
 use Rattle.history.proofs.TreeInserting.{insert-nil, insert-on}
 use Rattle.history.proofs.TreeAdding.{listed}
 use Rattle.tables.specs.Columns.{entryColumn, nodeFirst, entryBlock, entryKey}
+use Rattle.tables.specs.Sums.{plusUpTo}
 use Rattle.segment_table.specs.Closed.{nodesUsed, leftAt, rightAt, firstAt, countAt, firstCellIn, blockIn, run}
 use Rattle.segment_table.proofs.Closed.{run-append}
-use Rattle.segment_tree.specs.Count.{plusUpTo, minAt, maxAt, kindAt, entriesTo, allEntries, CountRow, Spot, spot, Outside, starts-before, ends-after}
+use Rattle.segment_tree.specs.Count.{minAt, maxAt, kindAt, entriesTo, allEntries, CountRow, Spot, spot, Outside, starts-before, ends-after}
 use Rattle.segment_tree.specs.Runs.{LikeButRuns}
 use Rattle.segment_tree.specs.Fill.{startAt, Fillable, FillRow, FillAt, Untouched, Beyond, Filled, WroteEntry}
 use Rattle.segment_tree.proofs.NodeRows.{column-same, column-other, row-inside, entries-more, entries-most}

@@ -15,8 +15,9 @@ use Rattle.history.proofs.TreeInserting.{insert-length}
 use Rattle.history.proofs.TreeAdding.{add-here, add-narrow}
 use Rattle.history.proofs.TreeCounts.{newNodes}
 use Rattle.tables.specs.Columns.{nodeLeft, nodeRight, nodeFirst, entryBlock, entryKey}
+use Rattle.tables.specs.Sums.{plusUpTo}
 use Rattle.segment_table.specs.Closed.{leftAt, rightAt, firstAt, firstCellIn}
-use Rattle.segment_tree.specs.Count.{plusUpTo, Life, spot, Outside}
+use Rattle.segment_tree.specs.Count.{Life, spot, Outside}
 use Rattle.segment_tree.specs.Runs.{LikeButRuns}
 use Rattle.segment_tree.specs.Fill.{Fillable, FillAt, Roomy, FindsNodes, Filled, Written, WroteEntry}
 use Rattle.segment_tree.proofs.Adding.{middle, wide-of, Deeper, deeper-of}

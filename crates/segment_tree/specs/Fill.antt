@@ -11,9 +11,10 @@ use Rattle.history.specs.Words.{Block, size}
 use Rattle.history.specs.Tree.{Tree, hole, node, mid, addLocation, keyIn, nodeCount, entryCount, treeOf}
 use Rattle.history.specs.Rules.{Apart}
 use Rattle.tables.specs.Columns.{blockColumn, entryColumn, nodeFirst, blockNext, entryBlock, entryKey}
+use Rattle.tables.specs.Sums.{most, plusUpTo}
 use Rattle.segment_table.specs.Closed.{Tables, Closed, nodesUsed, leftAt, rightAt, firstAt, countAt, firstCellIn, run, Keyed}
 use Rattle.segment_table.specs.Alone.{TreeAlone}
-use Rattle.segment_tree.specs.Count.{most, plusUpTo, rowsIn, entriesTo, allEntries, CountRow, Life, spot, Outside}
+use Rattle.segment_tree.specs.Count.{rowsIn, entriesTo, allEntries, CountRow, Life, spot, Outside}
 use Rattle.segment_tree.specs.Runs.{LikeButRuns}
 use Rattle.segment_tree.specs.Lives.{lifeOf, blockLife, Counted, entryRowsIn}
 

@@ -10,8 +10,9 @@ use Rattle.history.specs.Lent.{rowWidth, entryWidth, entryHead}
 use Rattle.history.specs.Words.{Block}
 use Rattle.history.specs.Tree.{Tree, hole, node, addLocation, nodeCount, entryCount, treeOf}
 use Rattle.tables.specs.Columns.{column, blockColumn, blockCreated, blockDestroyed, pieceWritten, nodeKind, nodesCount}
+use Rattle.tables.specs.Sums.{most}
 use Rattle.segment_table.specs.Closed.{nodesUsed, firstAt}
-use Rattle.segment_tree.specs.Count.{most, rowsIn, fullest, entriesTo, allEntries, Life, aLife, Spot, spot, Standing, Outcome}
+use Rattle.segment_tree.specs.Count.{rowsIn, fullest, entriesTo, allEntries, Life, aLife, Spot, spot, Standing, Outcome}
 
 -- ── lives ──
 

@@ -33,6 +33,9 @@ pub const USED: usize = 4;
 
 pub const LAST: usize = 5;
 
+// The largest number in the head's column END.
+pub const MAX_END_TICK: u64 = 1 << 63;
+
 // What stands in the head's column STATE.
 pub const OPEN: u64 = 1;
 

@@ -14,7 +14,7 @@ returns-2 c =
     let read = copied .before .before .before in
     let used = read .before .before in
     let start = used .before .before .before .before .before .before in
-    update-done (used .get .ensures) (start .good .0 .0) (start .good .1 .0 .0) (start .good .1 .1 .0 .0) (read .get2 .ensures) (copied .copy-in .ensures) (recorded .apply-update .ensures) (first .put .ensures) (second .put2 .ensures)
+    update-done (used .used .ensures) (start .good .0 .0) (start .good .1 .0 .0) (start .good .1 .1 .0 .0) (read .kind .ensures) (copied .copy-in .ensures) (recorded .apply-update .ensures) (first .set-used .ensures) (second .set-last .ensures)
 
 pub enter-update-spec : {M : Type 1} → statement M
 enter-update-spec =
