@@ -9,7 +9,7 @@ add-exceeds : tie.Need-add-exceeds
 add-exceeds c =
     let counted = c .before .before in
     let start = counted .before .before .before .before .before .before .before .before in
-    omega (arith, sum-fits (counted .before .rows2 .result) (counted .get .result) (start .args .made) (c .before .exceeds .ensures) (c .if3 .left))
+    omega (arith, sum-fits (counted .before .rows2 .result) (counted .count .result) (start .args .made) (c .before .exceeds .ensures) (c .if3 .left))
 
 pub space-refusal-spec : {M : Type 1} → statement M
 space-refusal-spec =
