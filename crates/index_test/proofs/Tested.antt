@@ -5,7 +5,7 @@ use mathlib.Core.Option.{Option, none, some}
 use mathlib.Core.List.{List, [], _∷_, map}
 use Prim.Native.Nat.{ℕ, _^_, _<_}
 use native.Mathlib.Omega.{arith}
-use lib.ListN.{length}
+use lib.ListN.{length, take}
 use borrow.Author.Tests.{not-true, not-false}
 use Rattle.lists.specs.Tests.{Decides}
 use Rattle.lists.proofs.Numbers.{refute, decides-iff}
