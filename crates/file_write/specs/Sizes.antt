@@ -7,7 +7,7 @@ use lib.ListN.{length}
 use Rattle.tables.specs.Columns.{blockColumn, headCount}
 use Rattle.block_table.specs.Blocks.{lengthAt}
 use Rattle.segment_table.specs.Closed.{nodesUsed, entriesUsed}
-use Rattle.file_put.specs.Living.{lives, living}
+use Rattle.file_put.specs.Living.{blocksAt, lives, living}
 use Rattle.file_write.specs.declared.plan.Share.{Share}
 use Rattle.file_write.specs.declared.plan.Share.the-variants as share
 use Rattle.file_write.specs.declared.plan.Plan.{Plan}

@@ -16,7 +16,7 @@ use Rattle.history.specs.Rules.{Apart}
 use Rattle.history.specs.Ledger.{Ledger}
 use Rattle.history.specs.Sound.{Sound, SoundTree, SoundClosed, SoundBoard}
 use Rattle.history.proofs.ByKind.{closed-rule-23, rule-23-kind}
-use Rattle.tables.specs.Columns.{column, piecesCount, headState, headEnd, headKind, headCount}
+use Rattle.tables.specs.Columns.{column, piecesCount, headState, headEnd, headKind, headCount, headUsed}
 use Rattle.block_table.specs.Blocks.{blocksOf, blockOfRow, Stored}
 use Rattle.block_table.proofs.Blocks.{blocks-length, blocks-at}
 use Rattle.piece_table.specs.Piece.{pieceAt}
