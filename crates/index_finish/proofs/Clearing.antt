@@ -36,9 +36,9 @@ right-clear : (place e d : ℕ) {ps : List PieceRow} → All (λ (p : PieceRow).
 right-clear place e d l = all-map (λ p h m. omega (arith, m .before)) l
 
 -- where the sought piece ends: the sum does not pass the largest number
-sought-ends : {t : List ℕ} {place link start length next : ℕ} {ps : List PieceRow} → Seen t place link ps → start ≡ column t link pieceFirst → length ≡ column t link pieceLength
-    → next ≡ plusUpTo start length → next ≡ rowEnd (pieceAt t link)
-sought-ends n at le ne = omega (arith, n .whole .near)
+sought-ends : {t : List ℕ} {place link next : ℕ} {ps : List PieceRow} → Seen t place link ps → next ≡ plusUpTo (column t link pieceFirst) (column t link pieceLength)
+    → next ≡ rowEnd (pieceAt t link)
+sought-ends n ne = omega (arith, n .whole .near)
 
 module _ {t : List ℕ} {place e d : ℕ} where
   -- no piece ends behind the largest number
@@ -74,10 +74,10 @@ module _ {t : List ℕ} {place e d : ℕ} where
     pub clear-met : {written : ℕ} → starts ≡ true → written ≡ column t link pieceWritten → written < d → PiecesClear t place e d false
     clear-met h = met-of s nz refl (ltb-true (firstAt t link) e (sym (tested .is) ∙ h))
 
-  module _ {link start : ℕ} (s : Sought t place link) (nz : link ≡ 0 → ⊥) (at : start ≡ column t link pieceFirst) where
-    module _ {written length next : ℕ} (w : written ≡ column t link pieceWritten) (le : length ≡ column t link pieceLength) (ne : next ≡ plusUpTo start length) where
+  module _ {link : ℕ} (s : Sought t place link) (nz : link ≡ 0 → ⊥) where
+    module _ {written next : ℕ} (w : written ≡ column t link pieceWritten) (ne : next ≡ plusUpTo (column t link pieceFirst) (column t link pieceLength)) where
       pub clear-stuck : next ≤ place → PiecesClear t place e d true
-      clear-stuck h = record { decides = λ ps r. absurd (let n : Seen t place link ps = seen-some s r nz in omega (arith, n .past, sought-ends n at le ne)) }
+      clear-stuck h = record { decides = λ ps r. absurd (let n : Seen t place link ps = seen-some s r nz in omega (arith, n .past, sought-ends n ne)) }
 
       -- past a piece that does not meet, those behind it are left
       pub clear-more : {r : Bool} → d ≤ written → PiecesClear t next e d r → PiecesClear t place e d r
@@ -94,14 +94,14 @@ module _ {t : List ℕ} {place e d : ℕ} where
 
               after : All (λ (q : PieceRow). next < rowEnd q) (map (pieceAt t) (n .ys))
               after =
-                  all-both (λ q low fill. omega (arith, sought-ends n at le ne, fill .some)) (follow-right x x (map (pieceAt t) (n .ys)) (omega arith) (n .after))
+                  all-both (λ q low fill. omega (arith, sought-ends n ne, fill .some)) (follow-right x x (map (pieceAt t) (n .ys)) (omega arith) (n .after))
                   (follow-filled x (map (pieceAt t) (n .ys)) (n .after))
 
               behind : Clear place e d (map (pieceAt t) (n .ys))
               behind = all-both (λ q a c m. c (record { after = a; before = m .before; early = m .early })) after (later (all-right (map (pieceAt t) (n .xs)) (pieceAt t link ∷ map (pieceAt t) (n .ys)) (subst (Clear next e d) (n .is) c)))
 
           on : (ps : List PieceRow) → Seen t place link ps → Clear place e d ps → Clear next e d ps
-          on ps n c = all-map (λ p h m. h (record { after = omega (arith, m .after, n .past, sought-ends n at le ne); before = m .before; early = m .early })) c
+          on ps n c = all-map (λ p h m. h (record { after = omega (arith, m .after, n .past, sought-ends n ne); before = m .before; early = m .early })) c
 
 -- ── the loop of `pieces_clear` ──
 
@@ -112,10 +112,9 @@ pub record ClearAhead (t : List ℕ) (first e d place : ℕ) : Type 0 where
 pub ahead-start : {t : List ℕ} {first e d : ℕ} → ClearAhead t first e d first
 ahead-start = record { whole = λ r a. a }
 
-pub ahead-turn : {t : List ℕ} {first e d place link start written length next : ℕ} → ClearAhead t first e d place → Sought t place link → (link ≡ 0 → ⊥)
-    → start ≡ column t link pieceFirst → written ≡ column t link pieceWritten → length ≡ column t link pieceLength → next ≡ plusUpTo start length
-    → d ≤ written → ClearAhead t first e d next
-ahead-turn a s nz at w le ne l = record { whole = λ r rest. a .whole r (clear-more s nz at w le ne l rest) }
+pub ahead-turn : {t : List ℕ} {first e d place link written next : ℕ} → ClearAhead t first e d place → Sought t place link → (link ≡ 0 → ⊥)
+    → written ≡ column t link pieceWritten → next ≡ plusUpTo (column t link pieceFirst) (column t link pieceLength) → d ≤ written → ClearAhead t first e d next
+ahead-turn a s nz w ne l = record { whole = λ r rest. a .whole r (clear-more s nz w ne l rest) }
 
 pub ahead-end : {t : List ℕ} {first e d place : ℕ} {r : Bool} → ClearAhead t first e d place → PiecesClear t place e d r → PiecesClear t first e d r
 ahead-end {r = r} a b = a .whole r b

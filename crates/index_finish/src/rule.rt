@@ -1,7 +1,20 @@
 // Rule 24 for finish: no two blocks share a cell at a tick, each piece counted as live up to the end.
+ghost use mathlib.Core.Path.{_≡_};
+ghost use Rattle.tables.specs.Columns.{column, pieceFirst, pieceLength};
+ghost use Rattle.tables.specs.Sums.{plusUpTo};
 ghost use Rattle.index_finish.specs.Apart.{PiecesClear, BlockClear, BlocksClear, AllApart};
 use tables::block;
 use tables::piece;
+
+// The cell behind the piece of `link`, or the largest number where that is passed.
+fn end_of(pieces: &[u64], link: u64) -> u64
+    ensures { λ r. ⌜ r ≡ plusUpTo (column (now (pieces .entry)) link pieceFirst) (column (now (pieces .entry)) link pieceLength) ⌝ }
+{
+    tables::plus(
+        tables::get(pieces, link, piece::FIRST),
+        tables::get(pieces, link, piece::LENGTH),
+    )
+}
 
 // Whether no piece that ends after `first` and starts before `end` was written before the tick `destroyed`. A seek for the first of them, and one
 // for each that follows.
@@ -21,9 +34,7 @@ fn pieces_clear(pieces: &[u64], first: u64, end: u64, destroyed: u64) -> bool
         if written < destroyed {
             return false;
         }
-        let start = tables::get(pieces, link, piece::FIRST);
-        let length = tables::get(pieces, link, piece::LENGTH);
-        let next = tables::plus(start, length);
+        let next = end_of(pieces, link);
         // a piece that is sought ends after the place
         if next <= place {
             return true;
