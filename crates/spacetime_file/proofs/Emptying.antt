@@ -18,6 +18,8 @@ use Rattle.history.specs.Ledger.{Ledger}
 use Rattle.history.specs.Reads.{treeIn, blockBy}
 use Rattle.history.specs.Refusals.{Answer, accepted, refused}
 use Rattle.history.specs.File.{Read, got, fault, onward, readFile, File, Loaded, load, bytesOf, nodeBytes, nodesOf, fileBytes, fileBy, contents, thoseWith, written, mapTree, placeIn, rule20, rule22, _>>=_}
+use Rattle.history.specs.Rules.{isHole}
+use Rattle.history.specs.Sound.{isEmpty}
 use Rattle.history.proofs.RulesLaws.{numbered-decides, rule23-decides}
 use Rattle.history.proofs.TreeCounts.{entry-count-in}
 use Rattle.history.proofs.FileReads.{number-cut}
@@ -46,7 +48,7 @@ fault-answered {t} {t′} n e d = (d .answered ∙ ap positionOf e, subst (λ (r
 nothing-written : (t : Tables) (l : Ledger) → ClosedIn t l → l .now .blocks ≡ [] → (out out′ : List ℕ) (wrote : Answer ℕ) → WrittenBy t out out′ wrote
     → (wrote ≡ accepted 0) × (out′ ≡ out)
 nothing-written t l c none out out′ wrote w =
-    let no-node = tree-sound c .rooted ∙ rw none refl in
+    let no-node : isHole (treeIn l) ≡ true = tree-sound c .rooted ∙ ap isEmpty none in
     let no-bytes : fileBy l ≡ [] = file-none (l .opening .kind) (l .opening .end) (l .now .blocks) (treeIn l) no-node in
     let f = file-written c w (rw no-bytes (omega arith)) in
     (f .0 ∙ (rw no-bytes refl), f .1 ∙ (rw no-bytes refl))
