@@ -69,8 +69,8 @@ pub fn of_files()
 pub fn of_programs()
     ensures { λ _. ⌜ OfPrograms ⌝ }
 {
-    board_text::input::law_of_input();
-    board_text::line::law_of_lines();
+    board_input::law_of_input();
+    board_text::law_of_lines();
     lengths::lengths_hold();
     exported_calls();
 }
