@@ -30,6 +30,7 @@ use Rattle.ordering.proofs.Rank.{rank-first}
 use Rattle.ordering.proofs.Keeping.{order-column, order-kept, stored-order, blocks-order}
 use Rattle.ordering.proofs.Numbering.{order-counts, order-blocks}
 use Rattle.piece_table.specs.Piece.{PieceRow, pieceAt}
+use Rattle.piece_table.specs.Rep.{Links}
 use Rattle.piece_table.specs.Shown.{shown}
 use Rattle.block_table.specs.Appended as appending
 use Rattle.recording.specs.Calls.{ExtractedMembers}
@@ -38,7 +39,7 @@ use Rattle.recording.proofs.Recorded.{recorded-out, recorded-blocks, recorded-c
 use Rattle.segment_tree.specs.Lives.{Counted, entryRowsIn}
 use Rattle.segment_tree.specs.Fill.{Met, met-end, met-next, lentTables, Closable, ClosedTree}
 use Rattle.layout.specs.Tables.{Tables, tables, lengthsOf, headAt}
-use Rattle.layout.specs.Encodes.{Links, Encodes, closedState}
+use Rattle.layout.specs.Encodes.{Encodes, closedState}
 use Rattle.layout.specs.Relations.{AppendedInOrder, SameBytes}
 use Rattle.layout.proofs.Lengths.{lent-same}
 use Rattle.layout.proofs.Unique.{links-one}

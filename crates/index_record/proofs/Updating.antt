@@ -37,7 +37,7 @@ use Rattle.layout.specs.Tables.{Tables, tables, lengthsOf, headAt}
 use Rattle.layout.specs.Encodes.{Encodes, TreeIn}
 use Rattle.layout.specs.Relations.{UpdatedTables}
 use Rattle.layout.proofs.Lengths.{lent-same, Heads, heads-fit}
-use Rattle.layout.proofs.Pieces.{pieces-rep, pieces-shown, rep-links}
+use Rattle.layout.proofs.Pieces.{pieces-rep, pieces-shown}
 use Rattle.index_record.specs.Calls.{operation, UpdateApplied}
 use Rattle.index_record.proofs.Storing.{sets-front, sets-part, sets-grow, Within, below-stored, inside-stored, above-stored}
 use Rattle.index_record.proofs.Reading.{still-none, open-unordered, record-update}
@@ -302,7 +302,7 @@ module _ (t : Tables) (l : Ledger) (o : Operation) (scratch : ℕ) (e : Encodes 
           blocks-stored = rw (count-left, used-after)
               (left-stored (o .tick) (used + size) gone (t .blocks) (there .blocks) blocks-fit used (omega arith) (e .blocks-stored) (inside-stored used stored-before (row .first) (rowEnd row)));
           links = rep .links;
-          linked = rep-links pieces′ left rep;
+          linked = rep .linked .dense;
           pieces = pieces-after ∙ ap (map (shown store′)) (sym linked) ∙ map-map (shown store′) (pieceAt pieces′) (rep .links);
           pieces-stored = rw used-after (all-un-map (pieceAt pieces′) (rep .links) inside);
           tree = subst (λ (x : Option segment.Tree). TreeIn t′ l′ x) (sym (still-none (l .tree) still))

@@ -24,7 +24,7 @@ use Rattle.piece_table.specs.Test as piece
 use Rattle.piece_table.proofs.Order.{follow-filled}
 use Rattle.layout.specs.Tables.{Tables, lengthsOf, headAt}
 use Rattle.layout.specs.Encodes.{Encodes, TreeIn, stateOf}
-use Rattle.layout.proofs.Pieces.{used-fits, pieces-formed, rep-links, shown-sound, follow-order, part-front}
+use Rattle.layout.proofs.Pieces.{used-fits, pieces-formed, shown-sound, follow-order, part-front}
 use Rattle.index_test.specs.Board.{boundsOf, BoardFormed}
 
 -- ── rows and blocks ──
@@ -111,7 +111,7 @@ module _ (t : Tables) (b : BoardFormed t) where
     blocks = refl;
     blocks-stored = record { inside = λ link p q. b .rows .rows link p q .stored };
     links = b .pieces .rep .links;
-    linked = rep-links (t .pieces) (b .pieces .pieces) (b .pieces .rep);
+    linked = b .pieces .rep .linked .dense;
     pieces = refl;
     pieces-stored = all-map (λ link x. x .inside) links-allowed;
     tree = in-tree;
@@ -122,7 +122,7 @@ module _ (t : Tables) (b : BoardFormed t) where
   board-sound tree =
       let n = b .numbers in
       let fits = n .used-fits in
-      let counted : length (b .pieces .rep .links) ≡ column (t .pieces) 0 piecesCount = b .pieces .rep .linked .count in
+      let counted : length (b .pieces .rep .links) ≡ column (t .pieces) 0 piecesCount = b .pieces .rep .linked .dense .count in
       record {
         some-tick = n .some-tick;
         end-most = n .end-most;
@@ -140,7 +140,7 @@ module _ (t : Tables) (b : BoardFormed t) where
             (λ k h. let z = blocks-length (t .store) (t .blocks) (headAt t headCount) in
             rw (blocks-at (t .store) (t .blocks) (headAt t headCount) k noBlock (omega arith))
             (row-block (boundsOf t) (t .store) (t .blocks) (suc k) fits (b .rows .rows (suc k) (omega arith) (omega arith))));
-        pieces-fit = omega (arith, length-of-map (λ link. shown (t .store) (pieceAt (t .pieces) link)) (b .pieces .rep .links), b .pieces .rep .linked .room);
+        pieces-fit = omega (arith, length-of-map (λ link. shown (t .store) (pieceAt (t .pieces) link)) (b .pieces .rep .links), b .pieces .rep .linked .dense .room);
         blocks-fit = omega (arith, length-of-map (λ link. shown (t .store) (pieceAt (t .pieces) link)) (b .pieces .rep .links), blocks-length (t .store) (t .blocks) (headAt t headCount), n .rows-fit);
         store-fits = omega (arith, length-take (headAt t headUsed) (t .store));
       }

@@ -20,8 +20,8 @@ use Rattle.merge_set.specs.Table.{Valid, Shape}
 use Rattle.merge_set.proofs.Order.{ascending-left, ascending-right, ascending-tail, ascending-across, ascending-head, inserted-rows}
 use Rattle.merge_set.proofs.Balance.{inserted-balanced}
 use Rattle.piece_table.specs.Piece.{PieceRow, pieceAt}
+use Rattle.piece_table.specs.Rep.{Links}
 use Rattle.piece_table.specs.Shown.{shown}
-use Rattle.layout.specs.Encodes.{Links}
 use Rattle.layout.specs.Law.{Word}
 use Rattle.layout.proofs.ExistsTable.{count-from-ascending, tableBy, table-by-length, table-by-at, part-in, all-get, table-by-words}
 

@@ -19,8 +19,9 @@ use Rattle.tables.specs.Columns.{column, blockBase, headState, headEnd, headKin
 use Rattle.block_table.specs.Blocks.{blocksOf}
 use Rattle.merge_set.specs.Tree.{leaf, rows, Balanced}
 use Rattle.merge_set.specs.Table.{Shape}
+use Rattle.piece_table.specs.Rep.{Links}
 use Rattle.layout.specs.Tables.{Tables, lengthsOf, headAt}
-use Rattle.layout.specs.Encodes.{Links, openState, Encodes}
+use Rattle.layout.specs.Encodes.{openState, Encodes}
 use Rattle.layout.specs.Formed.{Blank}
 use Rattle.layout.specs.Relations.{openingOf, openedTables}
 use Rattle.layout.proofs.Lengths.{lent-same, Heads, heads-fit}

@@ -18,9 +18,8 @@ use Rattle.piece_table.specs.Shown.{shown}
 use Rattle.piece_table.specs.Rep.{Linked, Rep}
 use Rattle.piece_table.specs.Test as piece
 use Rattle.piece_table.proofs.Order.{follow-right}
-use Rattle.piece_table.proofs.Removing.{linked-good}
 use Rattle.layout.specs.Tables.{Tables, headAt}
-use Rattle.layout.specs.Encodes.{Links, Encodes}
+use Rattle.layout.specs.Encodes.{Encodes}
 
 -- ── a piece shown ──
 
@@ -73,15 +72,8 @@ module _ (t : Tables) (l : Ledger) (e : Encodes t l) (s : SoundBoard l) where
 
   pub pieces-linked : length (t .pieces) < 2 ^ 64 → length (t .store) < 2 ^ 64 → Linked (t .pieces) (e .links)
   pieces-linked few fits =
-      let k = e .linked in
       record {
-        tree = k .tree;
-        is = k .is;
-        shape = k .shape;
-        balanced = k .balanced;
-        count = k .count;
-        within = k .within;
-        room = k .room;
+        dense = e .linked;
         few = few;
         order =
             follows row (t .store) 0 (e .links) (all-any (e .links) (λ link. omega arith))
@@ -100,21 +92,6 @@ pub pieces-shown : (t : Tables) (l : Ledger) (e : Encodes t l) → l .now .piece
 pieces-shown t l e = e .pieces ∙ sym (map-map (shown (t .store)) (pieceAt (t .pieces)) (e .links))
 
 -- ── from the table to the ledger ──
-
--- the links of a table that stands for pieces
-pub rep-links : (pieces : List ℕ) (rows : List PieceRow) (r : Rep pieces rows) → Links pieces (r .links)
-rep-links pieces rows r =
-    let k = r .linked in
-    record {
-      tree = k .tree;
-      is = k .is;
-      shape = k .shape;
-      balanced = k .balanced;
-      count = k .count;
-      within = k .within;
-      once = linked-good k .distinct;
-      room = k .room;
-    }
 
 -- a row that is allowed shows a sound piece
 pub shown-sound : (kind : ℕ) (store : List ℕ) (used : ℕ) (l : Ledger) (p : PieceRow) → used ≤ length store → l .now .store ≡ take used store

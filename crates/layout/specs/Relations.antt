@@ -16,9 +16,10 @@ use Rattle.history.specs.Sound.{Sound}
 use Rattle.tables.specs.Columns.{column, blockBase, blockColumn, blockOffset, blockNext, blockSpare, headState, headCount, headLast, pieceOffset}
 use Rattle.block_table.specs.Blocks.{headPlace}
 use Rattle.block_table.specs.Appended.{Appended}
+use Rattle.piece_table.specs.Rep.{Links}
 use Rattle.segment_table.specs.Alone.{TreeAlone}
 use Rattle.layout.specs.Tables.{Tables, tables, lengthsOf}
-use Rattle.layout.specs.Encodes.{Links, Encodes, openState}
+use Rattle.layout.specs.Encodes.{Encodes, openState}
 use Rattle.layout.specs.Formed.{WellFormed, WellFormedForFinish}
 use Rattle.layout.specs.Reads.{valuesOf, HandedInto, ReadBy}
 

@@ -4,7 +4,7 @@ use mathlib.Core.Path.{_≡_, refl, ap, ap₂}
 use Prim.Native.Nat.{ℕ, _≤_, _<_}
 use native.Mathlib.Omega.{arith}
 use borrow.Author.Tests.{lt-ltb, le-ltb}
-use Rattle.lists.proofs.Lists.{mem-right, all-mem, all-of-mem}
+use Rattle.lists.proofs.Lists.{mem-right, all-mem, all-of-mem, ascending-distinct}
 use Rattle.lists.specs.Lists.{Mem, here, there, Distinct, Ascending, All, all-nil, all-cons, pairs-nil, pairs-cons}
 use Rattle.piece_table.specs.Piece.{PieceRow, rowEnd, Filled, Follow, placed}
 
@@ -62,6 +62,10 @@ pub follow-ascending : (at : ℕ → PieceRow) (low : ℕ) (xs : List ℕ) → F
 follow-ascending at low [] s = pairs-nil
 follow-ascending at low (x ∷ xs) s =
     pairs-cons {x = x} (all-of-mem xs (λ k m. omega (arith, follow-above at (rowEnd (at x)) xs k (s .2) m, s .1 .some))) (follow-ascending at (rowEnd (at x)) xs (s .2))
+
+-- so no link of theirs stands twice
+pub follow-distinct : (at : ℕ → PieceRow) (low : ℕ) (xs : List ℕ) → Follow low (map at xs) → Distinct xs
+follow-distinct at low xs s = ascending-distinct (λ k. at k .first) (follow-ascending at low xs s)
 
 -- every piece of them is filled, and starts at low or past it
 pub follow-filled : (low : ℕ) (ps : List PieceRow) → Follow low ps → All Filled ps

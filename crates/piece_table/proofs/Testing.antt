@@ -24,6 +24,7 @@ use Rattle.piece_table.specs.Test.{Allowed, WellFormed, RowStands, RowFi
 use Rattle.piece_table.specs.declared.Limits.{Limits}
 use Rattle.piece_table.specs.declared.Walk.{Walk}
 use Rattle.piece_table.specs.declared.Walk.the-variants.{Bad, Fine}
+use Rattle.piece_table.proofs.Order.{follow-distinct}
 use Rattle.piece_table.proofs.Removing.{linked-depth}
 
 -- ── `row_stands` ──
@@ -350,7 +351,7 @@ limitsOf count kind used last = record { count = count; kind = kind; used = used
 
 module _ {t : List ℕ} {kind used last count : ℕ} (ec : count ≡ column t 0 piecesCount) where
   pub test-small : length t / rowWidth ≤ count → Decides false (WellFormed t kind used last)
-  test-small h = refute (λ w. omega (arith, w .rep .linked .room))
+  test-small h = refute (λ w. omega (arith, w .rep .linked .dense .room))
 
   module _ {root : ℕ} {w : Walk} (room : count < length t / rowWidth) (er : root ≡ column t 0 piecesRoot)
       (walked : Walked t (limitsOf count kind used last) root 0 0 92 w) where
@@ -358,22 +359,22 @@ module _ {t : List ℕ} {kind used last count : ℕ} (ec : count ≡ column t 0 
     fits = omega arith
 
     -- the tree of a well-formed table stands at its root
-    stands-whole : (r : WellFormed t kind used last) → Stands t (limitsOf count kind used last) root 0 0 92 (r .rep .linked .tree)
+    stands-whole : (r : WellFormed t kind used last) → Stands t (limitsOf count kind used last) root 0 0 92 (r .rep .linked .dense .tree)
     stands-whole r =
         let l : Linked t (r .rep .links) = r .rep .linked in
-        let is : map (pieceAt t) (rows (l .tree)) ≡ r .pieces = ap (map (pieceAt t)) (l .is) ∙ r .rep .pieces in
+        let is : map (pieceAt t) (rows (l .dense .tree)) ≡ r .pieces = ap (map (pieceAt t)) (l .dense .is) ∙ r .rep .pieces in
         record {
-          shape = rw er (l .shape);
-          balanced = l .balanced;
+          shape = rw er (l .dense .shape);
+          balanced = l .dense .balanced;
           high = linked-depth l;
-          within = λ j m. omega (arith, l .within j (rw (l .is) at m));
-          few = omega (arith, ap length (l .is), l .count);
-          order = rw (l .is) (l .order);
+          within = λ j m. omega (arith, l .dense .within j (rw (l .dense .is) at m));
+          few = omega (arith, ap length (l .dense .is), l .dense .count);
+          order = rw (l .dense .is) (l .order);
           allowed = rw is (r .allowed);
         }
 
     pub test-bad : w ≡ Bad → Decides false (WellFormed t kind used last)
-    test-bad e = refute (λ r. none (subst (Outcome t (limitsOf count kind used last) root 0 0 92) e (walked .is fits)) (r .rep .linked .tree) (stands-whole r))
+    test-bad e = refute (λ r. none (subst (Outcome t (limitsOf count kind used last) root 0 0 92) e (walked .is fits)) (r .rep .linked .dense .tree) (stands-whole r))
       where
         none : Outcome t (limitsOf count kind used last) root 0 0 92 Bad → (T : Tree) → Stands t (limitsOf count kind used last) root 0 0 92 T → ⊥
         none f = f
@@ -394,13 +395,16 @@ module _ {t : List ℕ} {kind used last count : ℕ} (ec : count ≡ column t 0 
               rep = record {
                 links = rows (f .tree);
                 linked = record {
-                  tree = f .tree;
-                  is = refl;
-                  shape = rw (← er) (s .shape);
-                  balanced = s .balanced;
-                  count = omega (arith, f .many);
-                  within = λ j m. omega (arith, s .within j m);
-                  room = omega (arith, fits);
+                  dense = record {
+                    tree = f .tree;
+                    is = refl;
+                    shape = rw (← er) (s .shape);
+                    balanced = s .balanced;
+                    count = omega (arith, f .many);
+                    within = λ j m. omega (arith, s .within j m);
+                    once = follow-distinct (pieceAt t) 0 (rows (f .tree)) (s .order);
+                    room = omega (arith, fits);
+                  };
                   few = small;
                   order = s .order;
                 };
@@ -411,8 +415,8 @@ module _ {t : List ℕ} {kind used last count : ℕ} (ec : count ≡ column t 0 
 
         no : WellFormed t kind used last → n ≡ count
         no r =
-            let one : r .rep .linked .tree ≡ f .tree = shape-one t root (r .rep .linked .tree) (f .tree) (stands-whole r .shape) (s .shape) in
-            omega (arith, f .many, ap (λ (T : Tree). length (rows T)) one, ap length (r .rep .linked .is), r .rep .linked .count)
+            let one : r .rep .linked .dense .tree ≡ f .tree = shape-one t root (r .rep .linked .dense .tree) (f .tree) (stands-whole r .shape) (s .shape) in
+            omega (arith, f .many, ap (λ (T : Tree). length (rows T)) one, ap length (r .rep .linked .dense .is), r .rep .linked .dense .count)
 
 -- the steps, for `search` at a return
 pub ruleset testing = (not-true, not-false, row-stands-past, row-stands-zero, row-stands-high, row-stands-right-heavy, row-stands-left-heavy, row-stands-right, row-stands-left, row-fits-low, row-fits-empty, row-fits-wraps, row-fits-long, row-fits-past, row-fits-late, walk-leaf, walk-stop, walk-misplaced, walk-left-bad, walk-full, walk-misfit, walk-right, test-small, test-bad)

@@ -78,10 +78,10 @@ extract-members-done {t} {b} {b′} {root} {end} er one = record { done = go }
   where
     go : (ps : List PieceRow) → Rep t ps → Countable b (length ps) → b′ ≡ recorded end ps b
     go ps r c =
-        let T : Tree = r .linked .tree in
-        let is : map (pieceAt t) (rows T) ≡ ps = ap (map (pieceAt t)) (r .linked .is) ∙ r .pieces in
+        let T : Tree = r .linked .dense .tree in
+        let is : map (pieceAt t) (rows T) ≡ ps = ap (map (pieceAt t)) (r .linked .dense .is) ∙ r .pieces in
         let n : length (rows T) ≡ length ps = sym (length-map (rows T) (pieceAt t)) ∙ ap length is in
-        one .done T (rw er (r .linked .shape)) (linked-depth (r .linked)) (rw n c) ∙ ap (λ (l : List PieceRow). recorded end l b) is
+        one .done T (rw er (r .linked .dense .shape)) (linked-depth (r .linked)) (rw n c) ∙ ap (λ (l : List PieceRow). recorded end l b) is
 
 -- the steps, for `search` at a return
 pub ruleset extracting = (extract-leaf, extract-stop, extract-node, extract-members-done)

@@ -228,7 +228,7 @@ survey-start {t} {store} {first} {bytes} =
 
 -- pieces are few enough to count
 few : {t : List ℕ} {ps : List PieceRow} → Rep t ps → 2 * length ps + length ps < 2 ^ 63
-few r = omega (arith, rep-count r, r .linked .room, r .linked .few)
+few r = omega (arith, rep-count r, r .linked .dense .room, r .linked .few)
 
 -- where nothing more weighs, and the place is no held cell, the numbers are told
 pub survey-tells : {t store bytes : List ℕ} {first count place m r same : ℕ} {s : Report} → count ≡ column t 0 piecesCount → Turning t store first bytes place m r same → Made count m r same s
