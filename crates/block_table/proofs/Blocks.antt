@@ -1,7 +1,7 @@
 -- Laws of the blocks that the rows of a block table stand for: how many, which, and what of table and store they depend on. Assumes nothing.
-use mathlib.Core.Path.{_≡_, refl, sym, ap, _∙_}
+use mathlib.Core.Path.{_≡_, sym, ap, _∙_}
 use mathlib.Core.List.{List, [], _∷_, _++_, map}
-use Prim.Native.Nat.{ℕ, zero, suc, _+_, _≤_, _<_}
+use Prim.Native.Nat.{ℕ, suc, _+_, _-_, _≤_, _<_}
 use native.Mathlib.Omega.{arith}
 use borrow.Author.Tests.{ltb-true, ltb-false}
 use lib.Dec.{ltb}
@@ -12,6 +12,7 @@ use Rattle.lists.specs.Tests.{Decides}
 use Rattle.lists.proofs.Lists.{count-from-length, count-from-at}
 use Rattle.lists.proofs.Counting.{all-count-from, count-from-append}
 use Rattle.lists.proofs.Maps.{map-append, length-of-map, getD-of-map, map-all}
+use Rattle.lists.proofs.Parts.{drop-take}
 use Rattle.history.specs.Words.{Block, firstCell}
 use Rattle.history.specs.Tree.{noBlock, keyIn}
 use Rattle.tables.specs.Columns.{blockColumn, blockFirst, blockLength, blockCreated, blockDestroyed, blockOffset, blockOwner, blockNext}
@@ -92,12 +93,12 @@ blocks-append store {t} {t′} {n} m s =
 
 -- ── what of the store they depend on ──
 
--- a part of the first bytes
-pub part-of-take : (from many used : ℕ) (s : List ℕ) → from + many ≤ used → take many (drop from (take used s)) ≡ take many (drop from s)
-part-of-take zero many used s h = take-take many used s (omega arith)
-part-of-take (suc from) many zero s h = absurd (omega arith)
-part-of-take (suc from) many (suc used) [] h = refl
-part-of-take (suc from) many (suc used) (x ∷ s) h = part-of-take from many used s (omega arith)
+-- a part of the first bytes stays where these do
+pub part-kept : (from many used : ℕ) (s s′ : List ℕ) → take used s′ ≡ take used s → from + many ≤ used → take many (drop from s′) ≡ take many (drop from s)
+part-kept from many used s s′ same h = sym (front s′) ∙ ap (λ (l : List ℕ). take many (drop from l)) same ∙ front s
+  where
+    front : (l : List ℕ) → take many (drop from (take used l)) ≡ take many (drop from l)
+    front l = ap (λ (r : List ℕ). take many r) (drop-take from used l) ∙ take-take many (used - from) (drop from l) (omega arith)
 
 pub bytes-length : (store t : List ℕ) (link : ℕ) → offsetAt t link + lengthAt t link ≤ length store → length (bytesAt store t link) ≡ lengthAt t link
 bytes-length store t link h =
@@ -113,8 +114,5 @@ blocks-store store store′ t n used inside same =
     row : (link : ℕ) → 0 < link → link ≤ n → blockOfRow store′ t link ≡ blockOfRow store t link
     row link a b =
         let h : offsetAt t link + lengthAt t link ≤ used = inside .inside link a b in
-        let p : bytesAt store′ t link ≡ bytesAt store t link =
-        sym (part-of-take (offsetAt t link) (lengthAt t link) used store′ h)
-        ∙ ap (λ (s : List ℕ). take (lengthAt t link) (drop (offsetAt t link) s)) same
-        ∙ part-of-take (offsetAt t link) (lengthAt t link) used store h in
+        let p : bytesAt store′ t link ≡ bytesAt store t link = part-kept (offsetAt t link) (lengthAt t link) used store store′ same h in
         rw p

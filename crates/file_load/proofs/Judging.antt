@@ -34,18 +34,18 @@ use Rattle.file_load.specs.Load.{roomFor, livesAt, TestedLives, judgemen
 -- ── the returns of `room` ──
 
 module _ (blocks store nodes entries n bytes rows runs : ℕ) where
-  pub room-blocks : {p : ℕ} → p ≡ blocks - blockHead → p / 8 < n → false ≡ roomFor blocks store nodes entries n bytes rows runs
+  pub room-blocks : {p : ℕ} → p ≡ (blocks - blockHead) / rowWidth → p < n → false ≡ roomFor blocks store nodes entries n bytes rows runs
   unfolding roomFor
   room-blocks e h = rw (lt-leb n ((blocks - blockHead) / rowWidth) (omega arith)) refl
 
-  module _ {p : ℕ} (e : p ≡ blocks - blockHead) (fits : n ≤ p / 8) where
-    pub room-nodes : {q : ℕ} → q ≡ nodes - nodeHead → q / 8 < rows → false ≡ roomFor blocks store nodes entries n bytes rows runs
+  module _ {p : ℕ} (e : p ≡ (blocks - blockHead) / rowWidth) (fits : n ≤ p) where
+    pub room-nodes : {q : ℕ} → q ≡ (nodes - nodeHead) / rowWidth → q < rows → false ≡ roomFor blocks store nodes entries n bytes rows runs
     unfolding roomFor
     room-nodes u h =
         rw (le-leb n ((blocks - blockHead) / rowWidth) (omega arith), lt-leb rows ((nodes - nodeHead) / rowWidth) (omega arith)) refl
 
-    module _ {q : ℕ} (u : q ≡ nodes - nodeHead) (fits₂ : rows ≤ q / 8) where
-      pub room-entries : {s : ℕ} → s ≡ entries - entryHead → s / 2 < runs → false ≡ roomFor blocks store nodes entries n bytes rows runs
+    module _ {q : ℕ} (u : q ≡ (nodes - nodeHead) / rowWidth) (fits₂ : rows ≤ q) where
+      pub room-entries : {s : ℕ} → s ≡ (entries - entryHead) / entryWidth → s < runs → false ≡ roomFor blocks store nodes entries n bytes rows runs
       unfolding roomFor
       room-entries w h =
           rw (
@@ -54,7 +54,7 @@ module _ (blocks store nodes entries n bytes rows runs : ℕ) where
             lt-leb runs ((entries - entryHead) / entryWidth) (omega arith),
           ) refl
 
-      pub room-bytes : {s : ℕ} → s ≡ entries - entryHead → runs ≤ s / 2 → leb bytes store ≡ roomFor blocks store nodes entries n bytes rows runs
+      pub room-bytes : {s : ℕ} → s ≡ (entries - entryHead) / entryWidth → runs ≤ s → leb bytes store ≡ roomFor blocks store nodes entries n bytes rows runs
       unfolding roomFor
       room-bytes w h =
           rw (

@@ -11,6 +11,7 @@ use lib.Seq.{sets, length-sets, getD-set-same, getD-set-other}
 use Rattle.lists.specs.Lists.{All, all-cons}
 use Rattle.lists.proofs.Lists.{all-map, all-append, all-of-map, all-un-map, all-at}
 use Rattle.lists.proofs.Numbers.{le-or-lt}
+use Rattle.lists.proofs.Parts.{part-sets}
 use Rattle.history.specs.Lent.{rowWidth, blockHead}
 use Rattle.history.specs.Words.{Operation, Piece, Block, stretchOf, pieceOf, blockOf}
 use Rattle.history.specs.Tree as segment
@@ -39,7 +40,7 @@ use Rattle.layout.specs.Relations.{UpdatedTables}
 use Rattle.layout.proofs.Lengths.{lent-same, Heads, heads-fit}
 use Rattle.layout.proofs.Pieces.{pieces-rep, pieces-shown}
 use Rattle.index_record.specs.Calls.{operation, UpdateApplied}
-use Rattle.index_record.proofs.Storing.{sets-front, sets-part, sets-grow, Within, below-stored, inside-stored, above-stored}
+use Rattle.index_record.proofs.Storing.{sets-part, sets-grow, Within, below-stored, inside-stored, above-stored}
 use Rattle.index_record.proofs.Reading.{still-none, open-unordered, record-update}
 
 -- ── the block table ──
@@ -183,7 +184,7 @@ module _ (t : Tables) (l : Ledger) (o : Operation) (scratch : ℕ) (e : Encodes 
   stored-after = all-map (λ p h. record { has = omega (arith, length-sets (t .store) used (o .bytes), bytes-fit) }) stored-before
 
   same-front : take used store′ ≡ take used (t .store)
-  same-front = sets-front used used (t .store) (o .bytes) (omega arith)
+  same-front = part-sets used 0 (t .store) used (o .bytes) (omega arith)
 
   shown-after : l .now .pieces ≡ map (shown store′) ps
   shown-after = pieces-shown t l e ∙ sym (shown-kept (t .store) store′ used same-front stored-before)

@@ -76,7 +76,7 @@ fn space_refusal(
     if tables::rows(pieces.len(), piece::HEAD) < left {
         return 9;
     }
-    if scratch / (tables::ROW as u64) < left {
+    if tables::rows(scratch as usize, 0) < left {
         return 9;
     }
     let space = tables::rows(blocks.len(), block::HEAD);

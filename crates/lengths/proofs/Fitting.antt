@@ -1,9 +1,8 @@
 -- Lengths that fit into a 64-bit number, and those that do not; the returns of `length_for`. Assumes nothing.
-use mathlib.Core.Path.{_≡_, refl}
-use mathlib.Core.List.{List, [], _∷_}
-use Prim.Native.Nat.{ℕ, zero, suc, _+_, _*_, _^_, _<_, _≤_}
+use mathlib.Core.Path.{_≡_}
+use Prim.Native.Nat.{ℕ, _+_, _*_, _^_, _<_, _≤_}
 use native.Mathlib.Omega.{arith}
-use lib.ListN.{length, getD}
+use lib.ListN.{getD, List·getD-eq-default}
 use borrow.Author.Tests.{lt-ltb, le-ltb}
 use Rattle.lengths.specs.Lengths.{heads, widths, whole, lengthFor}
 
@@ -16,12 +15,6 @@ unfolding whole
 fits-not n h = rw (le-ltb n (2 ^ 64) h)
 
 -- ── the tables ──
-
--- past the end of a list there is 0
-getD-past : (l : List ℕ) (i : ℕ) → length l ≤ i → getD l i 0 ≡ 0
-getD-past [] i h = refl
-getD-past (x ∷ l) zero h = absurd (omega arith)
-getD-past (x ∷ l) (suc i) h = getD-past l i (omega arith)
 
 module _ (table rows : ℕ) where
   -- a head and rows behind it: pieces, blocks, nodes, entries, scratch
@@ -37,6 +30,6 @@ module _ (table rows : ℕ) where
   unfolding lengthFor
   for-none n₀ n₁ n₂ n₃ n₄ n₅ =
       let past : 6 ≤ table = omega arith in
-      rw (getD-past heads table past, getD-past widths table past) (fits (0 + 0 * rows) 0 (omega arith) (omega arith))
+      rw (List·getD-eq-default heads 0 {n = table} past, List·getD-eq-default widths 0 {n = table} past) (fits (0 + 0 * rows) 0 (omega arith) (omega arith))
 
 pub ruleset measuring = (for-none, for-rows, for-store)

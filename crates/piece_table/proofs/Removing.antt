@@ -5,7 +5,8 @@ use Prim.Native.Nat.{ℕ, _+_, _-_, _*_, _≤_, _<_}
 use native.Mathlib.Omega.{arith}
 use lib.ListN.{length, set, length-set, length-append}
 use lib.Seq.{getD-set-same, getD-set-other}
-use Rattle.lists.proofs.Maps.{map-append}
+use Rattle.lists.proofs.Lists.{all-of-mem}
+use Rattle.lists.proofs.Maps.{map-append, map-all}
 use Rattle.lists.specs.Lists.{Mem, here, there, Distinct, Ascending}
 use Rattle.lists.proofs.Counting.{dense}
 use Rattle.history.specs.Lent.{rowWidth}
@@ -18,7 +19,7 @@ use Rattle.merge_set.proofs.Order.{removed-put, relinked-finds}
 use Rattle.merge_set.proofs.Removing.{valid-in}
 use Rattle.merge_set.specs.Table.{Good, Valid, Shape, Result, Removed, CopyOf, CopiedRow, Relinked}
 use Rattle.merge_set.specs.Tree.{Tree, rows, height, Balanced, removed, relinked}
-use Rattle.piece_table.proofs.Order.{map-same, map-exchange, ascending-same, split-once, follow-without, follow-ascending, follow-distinct}
+use Rattle.piece_table.proofs.Order.{map-exchange, ascending-same, split-once, follow-without, follow-ascending, follow-distinct}
 use Rattle.piece_table.specs.Calls.{HeadSet, RemovedPiece}
 use Rattle.piece_table.specs.Piece.{pieceAt, Follow}
 use Rattle.piece_table.specs.Rep.{Linked, Rep, Becomes}
@@ -108,7 +109,7 @@ module _ {t t₁ : List ℕ} {root count x top : ℕ} (er : root ≡ column t 0 
             let some : (j : ℕ) → Mem j (xs ++ ys) → 0 < j = λ j m. linked-valid r (old j m) .some in
             let big : 8 ≤ length t₁ = omega (arith, r .dense .room, l .len) in
             let pieces : map (pieceAt t₂) (xs ++ ys) ≡ map (pieceAt t) (xs ++ ys)
-            = map-same (pieceAt t₂) (pieceAt t) (xs ++ ys) (λ j m. piece-same t t₂ j j (λ c h n. head .rest j c (some j m) ∙ l .same j c h n)) in
+            = map-all (pieceAt t₂) (pieceAt t) (all-of-mem (xs ++ ys) (λ j m. piece-same t t₂ j j (λ c h n. head .rest j c (some j m) ∙ l .same j c h n))) in
             let rep : Rep t₂ (map (pieceAt t) (xs ++ ys)) = record {
               links = xs ++ ys;
               linked = record {

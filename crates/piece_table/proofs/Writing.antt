@@ -7,8 +7,8 @@ use native.Mathlib.Omega.{arith}
 use lib.Dec.{ltb}
 use lib.ListN.{length, set, length-set, length-map}
 use lib.Seq.{getD-set-same, getD-set-other}
-use Rattle.lists.proofs.Lists.{mem-left, mem-right}
-use Rattle.lists.proofs.Maps.{map-append}
+use Rattle.lists.proofs.Lists.{all-of-mem, mem-left, mem-right}
+use Rattle.lists.proofs.Maps.{map-append, map-all}
 use Rattle.lists.specs.Lists.{Mem, here, there, Distinct, Ascending}
 use Rattle.history.specs.Lent.{rowWidth}
 use Rattle.tables.specs.Columns.{column, pieceOffset, pieceLength, pieceFirst, piecesCount, piecesRoot, pieceDepth, pieceLeft}
@@ -18,7 +18,7 @@ use Rattle.merge_set.proofs.Links.{Put, put-at, mem-put, mem-unput, distinct-pu
 use Rattle.merge_set.proofs.Order.{inserted-put, inserted-rows}
 use Rattle.merge_set.specs.Table.{Good, Valid, Shape, Result, Inserted}
 use Rattle.merge_set.specs.Tree.{Tree, rows, inserted, inOrder}
-use Rattle.piece_table.proofs.Order.{map-same, ascending-same, follow-part, follow-from, follow-distinct}
+use Rattle.piece_table.proofs.Order.{ascending-same, follow-part, follow-from, follow-distinct}
 use Rattle.piece_table.proofs.Removing.{piece-same, linked-ascending, linked-depth, linked-valid}
 use Rattle.piece_table.specs.Calls.{HeadSet, WroteRow, InsertedPiece, TrimmedBack, TrimmedFront, endAt}
 use Rattle.piece_table.specs.Piece.{PieceRow, pieceAt, part, Filled, Follow, placed}
@@ -72,8 +72,8 @@ rewritten {t} {t′} {k} {q} xs ys r w f =
     let root : column t′ 0 piecesRoot ≡ column t 0 piecesRoot = head 0 (omega arith) in
     let count : column t′ 0 piecesCount ≡ column t 0 piecesCount = head 1 (omega arith) in
     let kept : (j : ℕ) → (j ≡ k → ⊥) → pieceAt t′ j ≡ pieceAt t j = λ j n. piece-same t t′ j j (λ c h m. w .rest j c h (λ z. absurd (n z))) in
-    let onL : map (pieceAt t′) xs ≡ map (pieceAt t) xs = map-same (pieceAt t′) (pieceAt t) xs (λ j m. kept j (λ z. dk .0 (rw z at (mem-left xs ys m)))) in
-    let onR : map (pieceAt t′) ys ≡ map (pieceAt t) ys = map-same (pieceAt t′) (pieceAt t) ys (λ j m. kept j (λ z. dk .0 (rw z at (mem-right xs ys m)))) in
+    let onL : map (pieceAt t′) xs ≡ map (pieceAt t) xs = map-all (pieceAt t′) (pieceAt t) (all-of-mem xs (λ j m. kept j (λ z. dk .0 (rw z at (mem-left xs ys m))))) in
+    let onR : map (pieceAt t′) ys ≡ map (pieceAt t) ys = map-all (pieceAt t′) (pieceAt t) (all-of-mem ys (λ j m. kept j (λ z. dk .0 (rw z at (mem-right xs ys m))))) in
     let pieces : map (pieceAt t′) (xs ++ k ∷ ys) ≡ map (pieceAt t) xs ++ q ∷ map (pieceAt t) ys = map-append (pieceAt t′) xs (k ∷ ys) ∙ ap₂ _++_ onL (ap₂ _∷_ (w .there vk) onR) in
     let rep : Rep t′ (map (pieceAt t) xs ++ q ∷ map (pieceAt t) ys) = record {
       links = xs ++ k ∷ ys;
@@ -243,7 +243,7 @@ module _ {t t₁ t₂ t₃ : List ℕ} {root count top : ℕ} {p : PieceRow} (er
           let new : pieceAt t₃ x ≡ p = piece-same t₁ t₃ x x (λ c h l. value x c (omega arith) h l) ∙ w .there vx in
           let asc : Ascending key (rows T) = rw (r .dense .is) (ascending-same (λ j. column t j pieceFirst) key xs (λ j m. w .rest j 0 (omega arith) (λ z. absurd (old j m z))) (linked-ascending r)) in
           let order : rows T′ ≡ inOrder key x xs = inserted-rows key x T asc ∙ ap (inOrder key x) (r .dense .is) in
-          let same : map (pieceAt t₃) xs ≡ ps = map-same (pieceAt t₃) (pieceAt t) xs kept ∙ rep .pieces in
+          let same : map (pieceAt t₃) xs ≡ ps = map-all (pieceAt t₃) (pieceAt t) (all-of-mem xs kept) ∙ rep .pieces in
           let pieces : map (pieceAt t₃) (rows T′) ≡ placed p ps
           = ap (map (pieceAt t₃)) order ∙ map-inOrder key (pieceAt t₃) x xs (λ j m. sym (value j 0 (some j m) (omega arith) (λ lo hi. omega arith))) ∙ ap₂ placed new same in
           let bound : (j : ℕ) → Mem j (x ∷ xs) → j ≤ count + 1 = λ j. among (λ z. omega arith) (λ m. omega (arith, r .dense .within j m, ec)) in

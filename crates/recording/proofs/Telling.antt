@@ -2,13 +2,13 @@
 use mathlib.Core.Path.{_≡_, sym, ap, ap₂, _∙_}
 use mathlib.Core.List.{List, _∷_, _++_, map, map-map}
 use Prim.Native.Nat.{ℕ, _+_, _≤_}
-use lib.ListN.{length, take, drop}
+use lib.ListN.{length, take}
 use Rattle.lists.specs.Lists.{All}
 use Rattle.lists.proofs.Lists.{all-map}
 use Rattle.lists.proofs.Maps.{map-append, map-all}
 use Rattle.history.specs.Words.{Piece, Block, Operation, stretchOf, pieceOf, blockOf}
 use Rattle.history.specs.Ledger.{Moment, updateBy, settled}
-use Rattle.block_table.proofs.Blocks.{part-of-take}
+use Rattle.block_table.proofs.Blocks.{part-kept}
 use Rattle.piece_table.specs.Piece.{PieceRow, rowEnd, rowsBelow, rowsInside, rowsAbove}
 use Rattle.piece_table.specs.Shown.{shown, Stored}
 use Rattle.piece_table.proofs.Showing.{shown-below, shown-inside, shown-above}
@@ -23,7 +23,7 @@ shown-kept store store′ used same inside = map-all (shown store′) (shown sto
     one : (p : PieceRow) → p .offset + p .size ≤ used → shown store′ p ≡ shown store p
     one p h =
         ap {B = Piece} (λ (bs : List ℕ). record { kind = p .owner; stretch = record { first = p .first; bytes = bs }; written = p .written })
-        (sym (part-of-take (p .offset) (p .size) used store′ h) ∙ ap (λ (s : List ℕ). take (p .size) (drop (p .offset) s)) same ∙ part-of-take (p .offset) (p .size) used store h)
+        (part-kept (p .offset) (p .size) used store store′ same h)
 
 module _ (store : List ℕ) (ps : List PieceRow) (stored : All (Stored store) ps) (kind : ℕ) (m : Moment) (o : Operation) (p : PieceRow) (now : m .pieces ≡ map (shown store) ps) where
   -- the pieces that `apply_update` leaves are the ledger's, where the operation's bytes stand in the store

@@ -44,7 +44,7 @@ fn extend_from_self(entries: &[u64], rows: Rows, answer: &mut [u64], at: usize)
     if to < from {
         return;
     }
-    if rows::table_rows(entries) < to {
+    if tables::entry::rows(entries) < to as u64 {
         return;
     }
     let count = to - from;

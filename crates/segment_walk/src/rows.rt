@@ -1,21 +1,11 @@
 // The rows of a node's entries, which ascend by key, and the first of them from a key on.
 ghost use mathlib.Core.Path.{_≡_};
-ghost use Rattle.segment_walk.specs.Rowing.{tableRows, rowsAt, Lower};
+ghost use Rattle.segment_walk.specs.Rowing.{rowsAt, Lower};
 
 // Rows of the entry table, [from, to).
 pub struct Rows {
     pub from: usize,
     pub to: usize,
-}
-
-// How many rows the entry table has.
-pub fn table_rows(entries: &[u64]) -> usize
-    ensures { λ r. ⌜ r ≡ tableRows (now (entries .entry)) ⌝ }
-{
-    if entries.len() < tables::entry::HEAD {
-        return 0;
-    }
-    (entries.len() - tables::entry::HEAD) / tables::entry::WIDTH
 }
 
 // The rows of a node's run. Of a run that does not stand in the table, which no closed index has, none.
@@ -24,7 +14,7 @@ pub fn rows_of(nodes: &[u64], entries: &[u64], link: u64) -> Rows
 {
     let from = tables::get(nodes, link, tables::node::FIRST) as usize;
     let count = tables::get(nodes, link, tables::node::ENTRIES) as usize;
-    let room = table_rows(entries);
+    let room = tables::entry::rows(entries) as usize;
     if count <= room {
         if from <= room - count {
             return Rows {
@@ -43,7 +33,7 @@ pub fn lower(entries: &[u64], rows: Rows, key: u64) -> usize
 {
     let mut lo = rows.from;
     let mut hi = rows.to;
-    if table_rows(entries) < hi {
+    if tables::entry::rows(entries) < hi as u64 {
         return lo;
     }
     while lo < hi {
