@@ -1,7 +1,7 @@
-/* The board's history, for C. Link target/staticlib/libexports.a, which `rt staticlib exports` writes.
+/* The board's history, for C. Link target/staticlib/libservercape.a, which `rt staticlib servercape` writes.
 
    Every call is proved to give its answer for all slices of any length and content. It returns 0, or the number of the refusal; then nothing
-   has changed, the values handed out included (but see index_load).
+   has changed, the values handed out included (but see servercape_load).
 
    A slice is a pointer and how many elements it has. The proof takes for granted what it takes of every caller in Rust: a pointer is not null and
    aligned, even where the length is 0; the elements are there; what a call may write to overlaps nothing else that it is lent.
@@ -18,22 +18,25 @@
 extern "C" {
 #endif
 
-/* What `index_length` counts. */
-enum index_table {
-    INDEX_PIECES = 0,
-    INDEX_BLOCKS = 1,
-    INDEX_STORE = 2,
-    INDEX_NODES = 3,
-    INDEX_ENTRIES = 4,
-    INDEX_SCRATCH = 5
+/* What `servercape_length` counts. */
+enum servercape_table {
+    SERVERCAPE_PIECES = 0,
+    SERVERCAPE_BLOCKS = 1,
+    SERVERCAPE_STORE = 2,
+    SERVERCAPE_NODES = 3,
+    SERVERCAPE_ENTRIES = 4,
+    SERVERCAPE_SCRATCH = 5
 };
 
 /* How many numbers (of the store: bytes) to lend for so many rows. 0 where that is no 64-bit number, and for any other table. */
-uint64_t index_length(uint64_t table, uint64_t rows);
+uint64_t servercape_length(uint64_t table, uint64_t rows);
 
-/* Opens an index: the end tick is from 1 to 2^63, the kind 0 Constant, 1 Memory, 2 Register, 3 Unique, 4 Other.
+/* The largest end tick. */
+#define SERVERCAPE_MAX_END_TICK (UINT64_C(1) << 63)
+
+/* Opens an index: the end tick is from 1 to SERVERCAPE_MAX_END_TICK, the kind 0 Constant, 1 Memory, 2 Register, 3 Unique, 4 Other.
    Refusal 1. */
-uint64_t index_open(
+uint64_t servercape_open(
     uint64_t *pieces, size_t pieces_length,
     uint64_t *blocks, size_t blocks_length,
     const uint8_t *store, size_t store_length,
@@ -43,7 +46,7 @@ uint64_t index_open(
 
 /* Records an operation: the bytes of the cells from `first` on, at a tick. Of the scratch only the length counts.
    Refusals 2, 3, 5 to 11. */
-uint64_t index_record(
+uint64_t servercape_record(
     uint64_t *pieces, size_t pieces_length,
     uint64_t *blocks, size_t blocks_length,
     uint8_t *store, size_t store_length,
@@ -55,7 +58,7 @@ uint64_t index_record(
 
 /* Finishes an index: its blocks can be read, and it takes no more operations.
    Refusals 2, 3, 12, 13. */
-uint64_t index_finish(
+uint64_t servercape_finish(
     uint64_t *pieces, size_t pieces_length,
     uint64_t *blocks, size_t blocks_length,
     const uint8_t *store, size_t store_length,
@@ -65,7 +68,7 @@ uint64_t index_finish(
 /* The block of a number, from 0 in recorded order. Its bytes are store[offset] to store[offset + length - 1]. It is live from tick `created`
    up to, and not including, `destroyed`.
    Refusals 2, 4, 15. */
-uint64_t index_block(
+uint64_t servercape_block(
     const uint64_t *pieces, size_t pieces_length,
     const uint64_t *blocks, size_t blocks_length,
     const uint8_t *store, size_t store_length,
@@ -77,7 +80,7 @@ uint64_t index_block(
 /* The blocks that are live at a tick and whose first cell is in [start, end): their numbers go into the answer. `count` says how many, `visited` how
    many nodes were looked at.
    Refusals 2, 4, 14 to 16. */
-uint64_t index_find(
+uint64_t servercape_find(
     const uint64_t *pieces, size_t pieces_length,
     const uint64_t *blocks, size_t blocks_length,
     const uint8_t *store, size_t store_length,
@@ -89,7 +92,7 @@ uint64_t index_find(
 
 /* For each cell of [start, end) at a tick: its byte, and 1 where a live block holds it; 0 and 0 where none does.
    Refusals 2, 4, 14 to 16. */
-uint64_t index_read_cells(
+uint64_t servercape_read_cells(
     const uint64_t *pieces, size_t pieces_length,
     const uint64_t *blocks, size_t blocks_length,
     const uint8_t *store, size_t store_length,
@@ -101,7 +104,7 @@ uint64_t index_read_cells(
 
 /* Writes the file of an index from the start of `out` on; `written` says how many bytes.
    Refusals 2, 4, 16. */
-uint64_t index_write(
+uint64_t servercape_write(
     const uint64_t *pieces, size_t pieces_length,
     const uint64_t *blocks, size_t blocks_length,
     const uint8_t *store, size_t store_length,
@@ -113,7 +116,7 @@ uint64_t index_write(
 /* Loads a finished index from a file, from position `at` on; `next` is the position after it. The tables need not be opened. After refusals 21 to 24
    the tables hold zeros.
    Refusals 17 to 24. */
-uint64_t index_load(
+uint64_t servercape_load(
     uint64_t *pieces, size_t pieces_length,
     uint64_t *blocks, size_t blocks_length,
     uint8_t *store, size_t store_length,
@@ -123,7 +126,7 @@ uint64_t index_load(
     uint64_t at, uint64_t *next);
 
 /* The clock label of a cell: hours times 100 plus minutes. */
-uint64_t index_clock(uint64_t cell);
+uint64_t servercape_clock(uint64_t cell);
 
 #ifdef __cplusplus
 }

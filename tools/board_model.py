@@ -3,6 +3,11 @@
 Nothing is shared with the crates. Pieces and blocks are lists, the tree is made of Python objects, and the loader reads fields from bytes. A call is a list of
 words and its answer a text, as in the list of the oracle: `open E KIND PIECES SCRATCH BLOCKS STORE NODES ENTRIES`, `record TICK FIRST HEX`, `finish`,
 `load AT BLOCKS STORE NODES ENTRIES HEX`, `block NUMBER`, `find TICK START END ROOM`, `cells TICK START END BYTEROOM HELDROOM`, `write ROOM`, `clock CELL`.
+What is lent is counted in rows; a table of -1 rows cannot hold its head.
+
+Two more are our own. `scratch ROWS` lends another scratch from there on. `damaged AT BY FROM TO HEX` loads a file into the tables of the load before, once
+for each place from FROM up to TO: cut at that place where BY is 0, else with the byte there raised by BY. Its answer is `NUMBER*MANY` for each run of files
+that come out alike, refused with that number, or 0 for those that are taken.
 """
 import struct
 
@@ -205,18 +210,29 @@ def refuse_rules(end, blocks, root):
         refuse(22, not block.data or block.end > WORD - 1)
         refuse(22, block.created >= block.destroyed or block.destroyed > end)
     refuse_entries(root, None, blocks)
-    for number, block in enumerate(blocks):
-        width = sum(n.high - n.low for n in nodes_of(root) if number in n.entries)
+    widths = [0] * len(blocks)
+    for node in nodes_of(root):
+        for number in node.entries:
+            widths[number] += node.high - node.low
+    for block, width in zip(blocks, widths):
         refuse(23, width != block.destroyed - block.created)
     for i, block in enumerate(blocks):
         refuse(24, any(share(block, other) for other in blocks[:i]))
 
 
+def damaged_at(file, place, by):
+    """A file cut at a place, or with the byte there raised."""
+    return file[:place] + bytes([(file[place] + by) % 256]) + file[place + 1:] if by else file[:place]
+
+
 # ── the index ──
+
+# The calls whose last word is bytes.
+BYTES_LAST = ("record", "load", "damaged")
 
 
 class Model:
-    """One index. `state` is None where there is none: then each call but open, load and clock is refused 2."""
+    """One index. `state` is None where there is none, or no room for its heads: then each call but open, load and clock is refused 2."""
 
     def __init__(self):
         self.state = None
@@ -224,7 +240,7 @@ class Model:
 
     def answer(self, words):
         call, *numbers = words
-        tail = [numbers.pop()] if call in ("record", "load") else []
+        tail = [numbers.pop()] if call in BYTES_LAST else []
         try:
             return " ".join(map(str, getattr(self, call)(*map(int, numbers), *tail)))
         except Refused as no:
@@ -232,11 +248,18 @@ class Model:
 
     def open(self, end, kind, pieces, scratch, blocks, store, nodes, entries):
         refuse(1, not 1 <= end <= MOST_END or kind > 4)
-        self.rows = {"pieces": min(pieces, scratch), "blocks": blocks, "store": store, "nodes": nodes, "entries": entries}
-        self.end, self.kind, self.state = end, kind, "open"
+        self.rows = {"pieces": pieces, "scratch": scratch, "blocks": blocks, "store": store, "nodes": nodes, "entries": entries}
+        self.end, self.kind, self.state = end, kind, self.headed("open")
         self.pieces, self.blocks, self.root = [], [], None
         self.last, self.used = 0, 0
         return ["ok"]
+
+    def headed(self, state):
+        return None if min(self.rows.values()) < 0 else state
+
+    def scratch(self, rows):
+        self.rows["scratch"] = rows
+        return ["lent"]
 
     def is_read(self, first, data):
         known = {}
@@ -274,7 +297,7 @@ class Model:
             self.last = tick
             return ["read"]
         pieces, blocks = self.updated(tick, first, data)
-        refuse(9, len(pieces) > self.rows["pieces"])
+        refuse(9, len(pieces) > min(self.rows["pieces"], self.rows["scratch"]))
         refuse(10, len(self.blocks) + len(blocks) + len(pieces) > self.rows["blocks"])
         refuse(11, self.used + len(data) > self.rows["store"])
         self.pieces, self.last, self.used = pieces, tick, self.used + len(data)
@@ -298,16 +321,37 @@ class Model:
         if self.rows is None or self.rows | rows != self.rows:
             self.state = None
         self.rows = (self.rows or {}) | rows
-        fields = Fields(unhexed(word), at)
+        return self.take(unhexed(word), at)
+
+    def take(self, file, at):
+        """Loads a file into the tables that are lent."""
+        fields = Fields(file, at)
         kind, found, root = fields.file_of()
-        refuse(20, len(found) > blocks or sum(len(b.data) for b in found) > store)
-        refuse(20, len(nodes_of(root)) > nodes or entry_count(root) > entries)
+        refuse(20, len(found) > self.rows["blocks"] or sum(len(b.data) for b in found) > self.rows["store"])
+        refuse(20, len(nodes_of(root)) > self.rows["nodes"] or entry_count(root) > self.rows["entries"])
         self.state = None
         end = root.high if root else 0
         refuse_rules(end, found, root)
-        self.end, self.kind, self.state = end, kind, "loaded"
+        self.end, self.kind, self.state = end, kind, self.headed("loaded")
         self.pieces, self.blocks, self.root = [], found, root
         return [fields.at, end, kind, len(found)]
+
+    def damaged(self, at, by, start, end, word):
+        file, runs = unhexed(word), []
+        for place in range(start, end):
+            number = self.refusal(damaged_at(file, place, by), at)
+            if not runs or runs[-1][0] != number:
+                runs.append([number, 0])
+            runs[-1][1] += 1
+        return [f"{number}*{many}" for number, many in runs]
+
+    def refusal(self, file, at):
+        """The number of what comes of a file, 0 where it is taken."""
+        try:
+            self.take(file, at)
+        except Refused as no:
+            return no.number
+        return 0
 
     def refuse_open(self):
         refuse(2, self.state is None)

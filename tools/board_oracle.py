@@ -129,6 +129,8 @@ def lists_of(calls):
     """The lists of a case that are finished: end tick, kind, the accepted records up to D1 or D2."""
     model, head, records, cut = Model(), None, [], False
     for call in calls:
+        if call[0] == "damaged":
+            continue
         meets = call[0] == "record" and model.state == "open" and differs(model, int(call[2]), unhexed(call[3]))
         answer = model.answer(call)
         if answer.startswith("refused"):

@@ -297,6 +297,8 @@ def store(name, data):
 
 
 def main(arguments):
+    if arguments == ["--help"]:
+        return print(__doc__)
     if arguments == ["--test"]:
         return test()
     if len(arguments) not in (2, 3) or arguments[0] not in ("make", "show"):

@@ -1,91 +1,50 @@
 #!/usr/bin/env python3
 """Makes the stored list that the program `replay` plays: calls with their answers, as its standard input.
 
-  stored.py make VECTORS FILE [ORACLE]   from the oracle's list and the cases of board_cases.py
+  stored.py make VECTORS FILE [ORACLE]   from the oracle's list, the boards of marked.txt and the cases of stored_cases.py
   stored.py show FILE [CASE]             the list, or one case of it, in words; cases count from 1
   stored.py spoil VECTORS FILE           the same cases, each up to a call whose answer is changed: replay must say that one of each differs
+  stored.py --test                       tries itself: the model gives every answer of marked.txt, and rows are read as they were written
 
-Before anything is written, the model of document 01 (board_model.py) must give every answer of the oracle's list; the answers of the own cases are the
-model's. With the program ORACLE they are compared with the Rust too (board_oracle.py). The same VECTORS give the same bytes.
-
-The file is parts of 65,536 bytes, the last one shorter. A part is a number P, a pool of P bytes, then rows up to one of no numbers, then zeros. A number
-below 248 is one byte; else a byte 247 + k stands before its k bytes, the highest first. A row is how many numbers it has, then those; the columns that it
-leaves out are 0. Column 0 says what it is, column 1 is the number of the refusal, 0 where the call is taken. Bytes stand in the pool of the part, and a row
-says where they start. A case stands in one part.
+Before anything is written, the model of document 01 (board_model.py) must give every answer of the oracle's list and of marked.txt; the answers of the other
+cases are the model's. With the program ORACLE they are compared with the Rust too (board_oracle.py). The same VECTORS give the same bytes.
 """
 import collections
+import os
 import sys
 
-from board_cases import Dice, own_cases
-from board_model import WORD, Model, hexed, unhexed
+from board_model import BYTES_LAST, WORD, Model, hexed, unhexed
 from board_oracle import compare
+from stored_cases import Dice, own_cases
+from stored_rows import (
+    BLOCK, CASE, CELLS, CLOCK, DAMAGED, FIND, FINISH, LOAD, OPEN, OWN, PART, RECORD, SCRATCH, WRITE, Part, line, number, read_number, row, rows_of
+)
 
-CASE, OWN, OPEN, RECORD, FINISH, BLOCK, FIND, CELLS, WRITE, LOAD, CLOCK = range(1, 12)
+MARKED = os.path.join(os.path.dirname(os.path.abspath(__file__)), "marked.txt")
 
-# The columns from 2 on; crates/replay/src names them too. `@` is where bytes start.
-LENT = ["pieces", "scratch", "blocks", "store", "nodes", "entries"]
-COLUMNS = {
-    CASE: ["case"],
-    OWN: ["own case"],
-    OPEN: ["open", "end", "kind"] + [""] * 6 + LENT,
-    RECORD: ["record", "tick", "first", "@bytes", "length", "growth"],
-    FINISH: ["finish", "blocks", "nodes", "entries"],
-    BLOCK: ["block", "number", "kind", "first", "length", "created", "destroyed", "@bytes"],
-    FIND: ["find", "tick", "start", "end", "room", "length", "visited", "@numbers"],
-    CELLS: ["cells", "tick", "start", "end", "byte room", "held room", "@bytes", "@held"],
-    WRITE: ["write", "room", "@file", "length"],
-    LOAD: ["load", "at", "@file", "length", "next", "end", "kind", "count", ""] + LENT,
-    CLOCK: ["clock", "cell", "label"],
-}
+# Numbers in front of the first row of each table (Lent of crate history), and in a row.
+PIECE_HEAD, BLOCK_HEAD, NODE_HEAD, ENTRY_HEAD = 8, 2048, 8, 8
+ROW, ENTRY_ROW = 8, 2
 
-# What the program has room for: numbers of each table, bytes of store, places of an answer, cells, bytes of a file; and the bytes of a part.
-PIECES, SCRATCH, BLOCKS, STORE, NODES, ENTRIES = 527, 519, 2063, 4103, 32783, 16399
-ANSWER, WINDOW, FILE, PART = 64, 64, 16384, 65536
+# What the program has room for: rows of each table, bytes of store, places of an answer, cells, bytes of a file.
+PIECES, BLOCKS, STORE, NODES, ENTRIES = 64, 256, 4103, 4096, 8195
+ANSWER, WINDOW, FILE = 64, 64, 16384
 
 
 class LeftOut(Exception):
     """The program cannot make this call: a number of 65 bits, or more than it has room for."""
 
 
-# ── numbers, rows, parts ──
-
-
-def number(value):
-    assert 0 <= value < WORD
-    if value < 248:
-        return bytes([value])
-    width = (value.bit_length() + 7) // 8
-    return bytes([247 + width]) + value.to_bytes(width, "big")
-
-
-def row(numbers):
-    while numbers and numbers[-1] == 0:
-        numbers = numbers[:-1]
-    return number(len(numbers)) + b"".join(map(number, numbers))
-
-
-class Part:
-    """Rows, and a pool in which each stretch of bytes is kept once."""
-
-    def __init__(self):
-        self.pool, self.rows = bytearray(), b""
-
-    def place(self, data):
-        at = self.pool.find(data)
-        if at < 0:
-            at = len(self.pool)
-            self.pool += data
-        return at
-
-    def bytes(self):
-        return number(len(self.pool)) + bytes(self.pool) + self.rows + b"\0"
-
-
 # ── a case as rows ──
 
 
+def run_of(word):
+    """A run of damaged files: the number of what comes, and how many they are."""
+    return tuple(map(int, word.split("*")))
+
+
 def fits(value, most):
-    if not 0 <= value <= most:
+    if not -1 <= value <= most:
         raise LeftOut
     return value
 
@@ -97,28 +56,44 @@ class Case:
         self.part, self.slack, self.pieces = part, place % 8, 8 + place % 8
 
     def table(self, head, width, rows, most):
-        return fits(head + width * int(rows) + self.slack % width, most)
+        """The length of a table; with -1 rows it cannot hold its head."""
+        fits(int(rows), most)
+        return head + width * int(rows) + self.slack % width
 
     def lent(self, blocks, store, nodes, entries):
-        return [self.table(8, 8, blocks, BLOCKS), fits(int(store), STORE), self.table(8, 8, nodes, NODES), self.table(8, 2, entries, ENTRIES)]
+        tables = [self.table(BLOCK_HEAD, ROW, blocks, BLOCKS), self.table(NODE_HEAD, ROW, nodes, NODES), self.table(ENTRY_HEAD, ENTRY_ROW, entries, ENTRIES)]
+        return tables[:1] + [fits(int(store), STORE)] + tables[1:]
 
     def bytes(self, word):
         data = unhexed(word)
         return [self.part.place(data), len(data)]
 
-    def row(self, call, answer):
-        """The numbers of a call and its answer."""
+    def rows(self, call, answer):
+        """The rows of a call and its answer, each as numbers."""
         refusal = int(answer[1]) if answer[0] == "refused" else 0
         words = call[1:]
-        for word in words[:-1] if call[0] in ("record", "load") else words:
+        for word in words[:-1] if call[0] in BYTES_LAST else words:
             fits(int(word), WORD - 1)
+        if call[0] == "damaged":
+            return self.damaged(words, answer)
         code, numbers = getattr(self, call[0])(words, [] if refusal else answer)
-        return [code, refusal] + numbers
+        return [[code, refusal] + numbers]
+
+    def damaged(self, words, answer):
+        """A row for each run of places."""
+        at, by, place = map(int, words[:3])
+        rows, file = [], self.bytes(words[-1])
+        for number, many in map(run_of, answer):
+            rows.append([DAMAGED, number, at] + file + [by, place, many])
+            place += many
+        return rows
 
     def open(self, words, answer):
-        pieces, scratch = self.table(8, 8, words[2], PIECES), self.table(0, 8, words[3], SCRATCH)
-        self.pieces = pieces
-        return OPEN, [int(words[0]), int(words[1])] + [0] * 6 + [pieces, scratch] + self.lent(*words[4:])
+        self.pieces, scratch = self.table(PIECE_HEAD, ROW, words[2], PIECES), self.table(0, ROW, words[3], PIECES)
+        return OPEN, [int(words[0]), int(words[1])] + [0] * 6 + [self.pieces, scratch] + self.lent(*words[4:])
+
+    def scratch(self, words, answer):
+        return SCRATCH, [0] * 9 + [self.table(0, ROW, words[0], PIECES)]
 
     def record(self, words, answer):
         start, length = self.bytes(words[2])
@@ -174,7 +149,15 @@ class List:
             assert len(self.parts[-1].bytes()) <= PART
         self.left_out += len(calls) - len(kept)
         for call, answer in kept:
-            self.count[call[0], answer[1] if answer[0] == "refused" else ""] += 1
+            self.tell(call[0], answer)
+
+    def tell(self, call, answer):
+        """Counts an answer, or those of each run. A scratch that is lent is none."""
+        if call == "damaged":
+            for number, many in map(run_of, answer):
+                self.count[call, str(number or "")] += many
+        elif call != "scratch":
+            self.count[call, answer[1] if answer[0] == "refused" else ""] += 1
 
     def put(self, part, code, calls):
         """Puts the rows of a case into a part; gives the calls that the program can make."""
@@ -182,7 +165,7 @@ class List:
         part.rows += row([code])
         for call, answer in calls:
             try:
-                part.rows += row(case.row(call, answer))
+                part.rows += b"".join(map(row, case.rows(call, answer)))
             except LeftOut:
                 assert call[0] in ("block", "find", "cells", "write"), call
                 continue
@@ -250,12 +233,13 @@ def put_out(vectors, own, out):
 
 
 def make(path, out, oracle=None):
-    vectors, own = vector_cases(path), own_lists()
+    vectors, marked, own = vector_cases(path), vector_cases(MARKED), own_lists()
     check(vectors)
+    check(marked)
     if oracle:
         lists, files, differ = compare(oracle, own)
         print(f"{lists} lists and {files} files compared with the Rust, {len(differ)} differ", *differ)
-    put_out(vectors, [modelled(calls) for _, calls in own], out)
+    put_out(vectors, [modelled(calls) for _, calls in own] + marked, out)
 
 
 # ── a list that is wrong once in each case ──
@@ -264,8 +248,19 @@ def make(path, out, oracle=None):
 BYTES = {("block", 5), ("cells", 0), ("cells", 1), ("write", 0)}
 
 
+def broken(dice, runs):
+    """Runs of which one file comes out otherwise."""
+    place = dice.below(len(runs))
+    number, many = run_of(runs[place])
+    before = dice.below(many)
+    parts = [f"{number}*{before}", f"{17 + (number + 1) % 8}*1", f"{number}*{many - before - 1}"]
+    return runs[:place] + [part for part in parts if not part.endswith("*0")] + runs[place + 1:]
+
+
 def changed(dice, call, answer):
     """Another answer: another refusal, or one word changed."""
+    if call == "damaged":
+        return broken(dice, answer)
     other = ["refused", str(1 + (int(answer[1]) + dice.below(23)) % 24 if answer[0] == "refused" else dice.among(1, 24))]
     place = dice.below(len(answer))
     word, words = answer[place], list(answer)
@@ -284,7 +279,7 @@ def changed(dice, call, answer):
 
 def spoiled(dice, case):
     """A case up to a call whose answer is changed."""
-    sayable = [n for n, (call, _) in enumerate(case) if str(WORD) not in call]
+    sayable = [n for n, (call, _) in enumerate(case) if str(WORD) not in call and call[0] != "scratch"]
     last = dice.pick(sayable)
     call, answer = case[last]
     return case[:last] + [(call, changed(dice, call[0], answer))]
@@ -293,44 +288,11 @@ def spoiled(dice, case):
 def spoil(path, out):
     dice = Dice(1)
     vectors = [spoiled(dice, case) for case in vector_cases(path)]
-    put_out(vectors, [spoiled(dice, modelled(calls)) for _, calls in own_lists()], out)
+    own = [spoiled(dice, modelled(calls)) for _, calls in own_lists()] + [spoiled(dice, case) for case in vector_cases(MARKED)]
+    put_out(vectors, own, out)
 
 
 # ── showing it ──
-
-
-def read_number(data, at):
-    if data[at] < 248:
-        return data[at], at + 1
-    width = data[at] - 247
-    return int.from_bytes(data[at + 1:at + 1 + width], "big"), at + 1 + width
-
-
-def rows_of(part):
-    """The rows of a part, each with the part's pool."""
-    size, at = read_number(part, 0)
-    pool, at = part[at:at + size], at + size
-    while part[at]:
-        count, at = read_number(part, at)
-        numbers = []
-        for _ in range(count):
-            value, at = read_number(part, at)
-            numbers.append(value)
-        yield numbers + [0] * (16 - count), pool
-
-
-def line(numbers, pool):
-    """A row in words; what a refused call would answer is left out."""
-    name, *columns = COLUMNS[numbers[0]]
-    values = dict(zip(columns, numbers[2:]))
-    length = values["end"] - values["start"] if name == "cells" else values.get("length", 0)
-    words = [name] + [f"refused {numbers[1]}"] * (numbers[1] > 0)
-    for column, value in values.items():
-        if column.startswith("@"):
-            words.append(f"{column[1:]} {hexed(pool[value:value + max(0, length)])}")
-        elif column:
-            words.append(f"{column} {value}")
-    return ", ".join(words)
 
 
 def show(path, only=None):
@@ -343,13 +305,34 @@ def show(path, only=None):
                 print(f"{case}: {line(numbers, pool)}")
 
 
-if __name__ == "__main__":
+# ── tests ──
+
+
+def test():
+    """The model gives every answer of marked.txt, and rows are read as they were written."""
+    marked = vector_cases(MARKED)
+    check(marked)
+    for value in (0, 247, 248, 255, 256, 1 << 32, WORD - 1):
+        assert read_number(number(value), 0) == (value, len(number(value)))
+    stored = List()
+    for case in marked:
+        stored.add(OWN, case)
+    lines = [line(*r) for start in range(0, len(stored.bytes()), PART) for r in rows_of(stored.bytes()[start:start + PART])]
+    assert lines.count("own case") == len(marked) and len(lines) == len(marked) + sum(map(len, marked))
+    said = {n for case in marked for _, answer in case for n in answer[1:] if answer[0] == "refused"}
+    assert said == {str(n) for n in range(1, 25)}, "marked.txt has the edge of each refusal"
+    assert [run_of(word) for word in broken(Dice(1), ["17*5"])] != [(17, 5)]
+    print("stored: ok")
+
+
+def main(arguments):
     sys.setrecursionlimit(10000)
-    if sys.argv[1:2] == ["make"] and len(sys.argv) in (4, 5):
-        make(*sys.argv[2:])
-    elif sys.argv[1:2] == ["spoil"] and len(sys.argv) == 4:
-        spoil(*sys.argv[2:])
-    elif sys.argv[1:2] == ["show"] and len(sys.argv) in (3, 4):
-        show(*sys.argv[2:])
-    else:
+    commands = {"make": (make, (2, 3)), "spoil": (spoil, (2,)), "show": (show, (1, 2)), "--test": (test, (0,)), "--help": (lambda: print(__doc__), (0,))}
+    run, counts = commands.get(arguments[0] if arguments else "", (None, ()))
+    if len(arguments) - 1 not in counts:
         sys.exit(__doc__)
+    run(*arguments[1:])
+
+
+if __name__ == "__main__":
+    main(sys.argv[1:])

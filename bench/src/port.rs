@@ -1,8 +1,8 @@
 //! The proved calls, public and inner, on tables of their own.
-use servercape::raw;
+use servercape::{raw, Kind};
 
 extern "C" {
-    fn inner_test(
+    fn servercape_inner_test(
         pieces: *const u64, pieces_length: usize,
         blocks: *const u64, blocks_length: usize,
         store: *const u8, store_length: usize,
@@ -10,7 +10,7 @@ extern "C" {
         entries: *const u64, entries_length: usize,
     ) -> u64;
 
-    fn inner_record(
+    fn servercape_inner_record(
         pieces: *mut u64, pieces_length: usize,
         blocks: *mut u64, blocks_length: usize,
         store: *mut u8, store_length: usize,
@@ -19,14 +19,14 @@ extern "C" {
         bytes: *const u8, bytes_length: usize,
     ) -> u64;
 
-    fn inner_finish(
+    fn servercape_inner_finish(
         pieces: *mut u64, pieces_length: usize,
         blocks: *mut u64, blocks_length: usize,
         nodes: *mut u64, nodes_length: usize,
         entries: *mut u64, entries_length: usize,
     ) -> u64;
 
-    fn inner_write(
+    fn servercape_inner_write(
         blocks: *const u64, blocks_length: usize,
         store: *const u8, store_length: usize,
         nodes: *const u64, nodes_length: usize,
@@ -34,9 +34,9 @@ extern "C" {
         out: *mut u8, out_length: usize,
     ) -> u64;
 
-    fn inner_block(blocks: *const u64, blocks_length: usize, number: u64, length: &mut u64, offset: &mut u64);
+    fn servercape_inner_block(blocks: *const u64, blocks_length: usize, number: u64, length: &mut u64, offset: &mut u64);
 
-    fn inner_find(
+    fn servercape_inner_find(
         blocks: *const u64, blocks_length: usize,
         nodes: *const u64, nodes_length: usize,
         entries: *const u64, entries_length: usize,
@@ -84,23 +84,23 @@ macro_rules! reads {
 impl Tables {
     /// An open index. Opening clears the tables, so every page of them has been touched before anything is timed.
     pub fn open(rows: Rows, end_tick: u64) -> Tables {
-        let length = |table, rows| unsafe { raw::index_length(table, rows) as usize };
+        let length = |table, rows| unsafe { raw::servercape_length(table, rows) as usize };
         let mut t = Tables {
-            pieces: vec![7; length(0, rows.pieces)],
-            blocks: vec![7; length(1, rows.blocks)],
-            store: vec![7; length(2, rows.bytes)],
-            nodes: vec![7; length(3, rows.nodes)],
-            entries: vec![7; length(4, rows.entries)],
-            scratch: vec![7; length(5, rows.pieces)],
+            pieces: vec![7; length(raw::SERVERCAPE_PIECES, rows.pieces)],
+            blocks: vec![7; length(raw::SERVERCAPE_BLOCKS, rows.blocks)],
+            store: vec![7; length(raw::SERVERCAPE_STORE, rows.bytes)],
+            nodes: vec![7; length(raw::SERVERCAPE_NODES, rows.nodes)],
+            entries: vec![7; length(raw::SERVERCAPE_ENTRIES, rows.entries)],
+            scratch: vec![7; length(raw::SERVERCAPE_SCRATCH, rows.pieces)],
         };
         let number = unsafe {
-            raw::index_open(
+            raw::servercape_open(
                 t.pieces.as_mut_ptr(), t.pieces.len(),
                 t.blocks.as_mut_ptr(), t.blocks.len(),
                 t.store.as_ptr(), t.store.len(),
                 t.nodes.as_mut_ptr(), t.nodes.len(),
                 t.entries.as_mut_ptr(), t.entries.len(),
-                end_tick, 1,
+                end_tick, Kind::Memory as u8,
             )
         };
         assert_eq!(number, 0, "open");
@@ -109,7 +109,7 @@ impl Tables {
 
     pub fn record(&mut self, tick: u64, first: u64, bytes: &[u8]) -> u64 {
         unsafe {
-            raw::index_record(
+            raw::servercape_record(
                 self.pieces.as_mut_ptr(), self.pieces.len(),
                 self.blocks.as_mut_ptr(), self.blocks.len(),
                 self.store.as_mut_ptr(), self.store.len(),
@@ -123,7 +123,7 @@ impl Tables {
 
     pub fn record_inner(&mut self, tick: u64, first: u64, bytes: &[u8]) -> u64 {
         unsafe {
-            inner_record(
+            servercape_inner_record(
                 self.pieces.as_mut_ptr(), self.pieces.len(),
                 self.blocks.as_mut_ptr(), self.blocks.len(),
                 self.store.as_mut_ptr(), self.store.len(),
@@ -135,7 +135,7 @@ impl Tables {
 
     pub fn finish(&mut self) -> u64 {
         unsafe {
-            raw::index_finish(
+            raw::servercape_finish(
                 self.pieces.as_mut_ptr(), self.pieces.len(),
                 self.blocks.as_mut_ptr(), self.blocks.len(),
                 self.store.as_ptr(), self.store.len(),
@@ -147,7 +147,7 @@ impl Tables {
 
     pub fn finish_inner(&mut self) -> u64 {
         unsafe {
-            inner_finish(
+            servercape_inner_finish(
                 self.pieces.as_mut_ptr(), self.pieces.len(),
                 self.blocks.as_mut_ptr(), self.blocks.len(),
                 self.nodes.as_mut_ptr(), self.nodes.len(),
@@ -158,35 +158,35 @@ impl Tables {
 
     /// The test behind refusal 2: 1 open, 2 closed.
     pub fn test(&self) -> u64 {
-        reads!(inner_test, self,)
+        reads!(servercape_inner_test, self,)
     }
 
     /// The bytes of a block, by its number.
     pub fn block_bytes(&self, number: u64) -> &[u8] {
         let [mut kind, mut first, mut length, mut created, mut destroyed, mut offset] = [0; 6];
         let refusal =
-            reads!(raw::index_block, self, number, &mut kind, &mut first, &mut length, &mut created, &mut destroyed, &mut offset);
+            reads!(raw::servercape_block, self, number, &mut kind, &mut first, &mut length, &mut created, &mut destroyed, &mut offset);
         assert_eq!(refusal, 0, "block");
         &self.store[offset as usize..(offset + length) as usize]
     }
 
     pub fn block_bytes_inner(&self, number: u64) -> &[u8] {
         let (mut length, mut offset) = (0, 0);
-        unsafe { inner_block(self.blocks.as_ptr(), self.blocks.len(), number, &mut length, &mut offset) };
+        unsafe { servercape_inner_block(self.blocks.as_ptr(), self.blocks.len(), number, &mut length, &mut offset) };
         &self.store[offset as usize..(offset + length) as usize]
     }
 
     pub fn find(&self, tick: u64, start: u64, end: u64, answer: &mut [u64]) -> u64 {
         let (mut count, mut visited) = (0, 0);
         let refusal =
-            reads!(raw::index_find, self, tick, start, end, answer.as_mut_ptr(), answer.len(), &mut count, &mut visited);
+            reads!(raw::servercape_find, self, tick, start, end, answer.as_mut_ptr(), answer.len(), &mut count, &mut visited);
         assert_eq!(refusal, 0, "find");
         count
     }
 
     pub fn find_inner(&self, tick: u64, start: u64, end: u64, answer: &mut [u64]) -> u64 {
         unsafe {
-            inner_find(
+            servercape_inner_find(
                 self.blocks.as_ptr(), self.blocks.len(),
                 self.nodes.as_ptr(), self.nodes.len(),
                 self.entries.as_ptr(), self.entries.len(),
@@ -197,20 +197,20 @@ impl Tables {
 
     pub fn cells(&self, tick: u64, start: u64, end: u64, bytes: &mut [u8], held: &mut [u8]) {
         let refusal =
-            reads!(raw::index_read_cells, self, tick, start, end, bytes.as_mut_ptr(), bytes.len(), held.as_mut_ptr(), held.len());
+            reads!(raw::servercape_read_cells, self, tick, start, end, bytes.as_mut_ptr(), bytes.len(), held.as_mut_ptr(), held.len());
         assert_eq!(refusal, 0, "read cells");
     }
 
     pub fn write(&self, out: &mut [u8]) -> u64 {
         let mut written = 0;
-        let refusal = reads!(raw::index_write, self, out.as_mut_ptr(), out.len(), &mut written);
+        let refusal = reads!(raw::servercape_write, self, out.as_mut_ptr(), out.len(), &mut written);
         assert_eq!(refusal, 0, "write");
         written
     }
 
     pub fn write_inner(&self, out: &mut [u8]) -> u64 {
         unsafe {
-            inner_write(
+            servercape_inner_write(
                 self.blocks.as_ptr(), self.blocks.len(),
                 self.store.as_ptr(), self.store.len(),
                 self.nodes.as_ptr(), self.nodes.len(),
@@ -223,7 +223,7 @@ impl Tables {
     pub fn load(&mut self, file: &[u8]) -> u64 {
         let mut next = 0;
         let refusal = unsafe {
-            raw::index_load(
+            raw::servercape_load(
                 self.pieces.as_mut_ptr(), self.pieces.len(),
                 self.blocks.as_mut_ptr(), self.blocks.len(),
                 self.store.as_mut_ptr(), self.store.len(),

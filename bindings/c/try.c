@@ -38,12 +38,12 @@ static void *filled(size_t bytes)
 static struct lent lend(uint64_t pieces, uint64_t blocks, uint64_t store, uint64_t nodes, uint64_t entries)
 {
     struct lent x;
-    x.pieces_length = index_length(INDEX_PIECES, pieces);
-    x.blocks_length = index_length(INDEX_BLOCKS, blocks);
-    x.store_length = index_length(INDEX_STORE, store);
-    x.nodes_length = index_length(INDEX_NODES, nodes);
-    x.entries_length = index_length(INDEX_ENTRIES, entries);
-    x.scratch_length = index_length(INDEX_SCRATCH, pieces);
+    x.pieces_length = servercape_length(SERVERCAPE_PIECES, pieces);
+    x.blocks_length = servercape_length(SERVERCAPE_BLOCKS, blocks);
+    x.store_length = servercape_length(SERVERCAPE_STORE, store);
+    x.nodes_length = servercape_length(SERVERCAPE_NODES, nodes);
+    x.entries_length = servercape_length(SERVERCAPE_ENTRIES, entries);
+    x.scratch_length = servercape_length(SERVERCAPE_SCRATCH, pieces);
     x.pieces = filled(8 * x.pieces_length);
     x.blocks = filled(8 * x.blocks_length);
     x.store = filled(x.store_length);
@@ -70,7 +70,7 @@ static void give_back(struct lent x)
 
 static uint64_t record(struct lent x, uint64_t tick, uint64_t first, const uint8_t *bytes, size_t length)
 {
-    return index_record(TABLES(x), x.scratch, x.scratch_length, tick, first, bytes, length);
+    return servercape_record(TABLES(x), x.scratch, x.scratch_length, tick, first, bytes, length);
 }
 
 /* ── the listing ── */
@@ -86,7 +86,7 @@ static const struct block listing[] = {
 
 static void play(struct lent x)
 {
-    same("open", index_open(TABLES(x), 8, 1), 0);
+    same("open", servercape_open(TABLES(x), 8, 1), 0);
     same("op 1", record(x, 1, 100, (const uint8_t[]){7, 7, 7}, 3), 0);
     same("op 2", record(x, 3, 102, (const uint8_t[]){9, 9, 9}, 3), 0);
     same("op 3", record(x, 5, 100, (const uint8_t[]){7, 7}, 2), 0);
@@ -100,10 +100,10 @@ static void play(struct lent x)
 static void read_blocks(struct lent x)
 {
     uint64_t kind = 77, first = 77, length = 77, created = 77, destroyed = 77, offset = 77;
-    same("no such block", index_block(TABLES(x), 6, &kind, &first, &length, &created, &destroyed, &offset), 15);
+    same("no such block", servercape_block(TABLES(x), 6, &kind, &first, &length, &created, &destroyed, &offset), 15);
     same("kept values", kind + first + length + created + destroyed + offset, 6 * 77);
     for (uint64_t k = 0; k < 6; k++) {
-        same("block", index_block(TABLES(x), k, &kind, &first, &length, &created, &destroyed, &offset), 0);
+        same("block", servercape_block(TABLES(x), k, &kind, &first, &length, &created, &destroyed, &offset), 0);
         same("kind", kind, 1);
         same("first", first, listing[k].first);
         same("length", length, listing[k].length);
@@ -116,12 +116,12 @@ static void read_blocks(struct lent x)
 static void read_finds(struct lent x)
 {
     uint64_t answer[4] = {77, 77, 77, 77}, count = 77, visited = 77;
-    same("too small", index_find(TABLES(x), 6, 100, 104, answer, 2, &count, &visited), 16);
-    same("past the end", index_find(TABLES(x), 8, 100, 104, answer, 4, &count, &visited), 14);
-    same("turned round", index_find(TABLES(x), 6, 104, 100, answer, 4, &count, &visited), 15);
+    same("too small", servercape_find(TABLES(x), 6, 100, 104, answer, 2, &count, &visited), 16);
+    same("past the end", servercape_find(TABLES(x), 8, 100, 104, answer, 4, &count, &visited), 14);
+    same("turned round", servercape_find(TABLES(x), 6, 104, 100, answer, 4, &count, &visited), 15);
     same("kept counts", count + visited, 2 * 77);
     same("kept answer", answer[0] + answer[1], 2 * 77);
-    same("find", index_find(TABLES(x), 6, 100, 104, answer, 4, &count, &visited), 0);
+    same("find", servercape_find(TABLES(x), 6, 100, 104, answer, 4, &count, &visited), 0);
     same("count", count, 3);
     same("visited", visited, 3);
     uint64_t cells = 0;
@@ -129,7 +129,7 @@ static void read_finds(struct lent x)
         cells += listing[answer[i]].first;
     same("their first cells", cells, 100 + 102 + 103);
     same("past the count", answer[3], 77);
-    same("an empty window", index_find(TABLES(x), 6, 104, 104, answer, 0, &count, &visited), 0);
+    same("an empty window", servercape_find(TABLES(x), 6, 104, 104, answer, 0, &count, &visited), 0);
     same("nothing", count, 0);
 }
 
@@ -138,10 +138,10 @@ static void read_all_cells(struct lent x)
     uint8_t bytes[8], held[8];
     memset(bytes, 77, 8);
     memset(held, 77, 8);
-    same("cells", index_read_cells(TABLES(x), 6, 99, 106, bytes, 8, held, 8), 0);
+    same("cells", servercape_read_cells(TABLES(x), 6, 99, 106, bytes, 8, held, 8), 0);
     same("bytes", memcmp(bytes, (const uint8_t[]){0, 7, 7, 9, 4, 9, 0, 77}, 8) == 0, 1);
     same("held", memcmp(held, (const uint8_t[]){0, 1, 1, 1, 1, 1, 0, 77}, 8) == 0, 1);
-    same("held too short", index_read_cells(TABLES(x), 6, 99, 106, bytes, 8, held, 6), 16);
+    same("held too short", servercape_read_cells(TABLES(x), 6, 99, 106, bytes, 8, held, 6), 16);
 }
 
 /* ── the file ── */
@@ -159,29 +159,29 @@ static void write_and_load(struct lent x)
 {
     uint8_t file[1024], again[1024];
     uint64_t written = 77, next = 77;
-    same("too short", index_write(TABLES(x), file, 100, &written), 16);
+    same("too short", servercape_write(TABLES(x), file, 100, &written), 16);
     same("kept length", written, 77);
-    same("write", index_write(TABLES(x), file + 3, sizeof file - 3, &written), 0);
+    same("write", servercape_write(TABLES(x), file + 3, sizeof file - 3, &written), 0);
     same("its length", written, 651);
 
     struct lent y = lend(0, 6, 7, 10, 12);
-    same("bytes end", index_load(TABLES(y), file, written + 2, 3, &next), 17);
-    same("past the end", index_load(TABLES(y), file, sizeof file, sizeof file, &next), 17);
+    same("bytes end", servercape_load(TABLES(y), file, written + 2, 3, &next), 17);
+    same("past the end", servercape_load(TABLES(y), file, sizeof file, sizeof file, &next), 17);
     same("kept position", next, 77);
     same("untouched", y.blocks[0], UINT64_C(0xA5A5A5A5A5A5A5A5));
-    same("load", index_load(TABLES(y), file, sizeof file, 3, &next), 0);
+    same("load", servercape_load(TABLES(y), file, sizeof file, 3, &next), 0);
     same("next", next, 3 + written);
     read_blocks(y);
     read_finds(y);
     read_all_cells(y);
-    same("write again", index_write(TABLES(y), again, sizeof again, &written), 0);
+    same("write again", servercape_write(TABLES(y), again, sizeof again, &written), 0);
     same("the same bytes", memcmp(file + 3, again, written) == 0, 1);
 
     y.entries_length -= 2;
-    same("an entry too few", index_load(TABLES(y), file, sizeof file, 3, &next), 20);
+    same("an entry too few", servercape_load(TABLES(y), file, sizeof file, 3, &next), 20);
     y.entries_length += 2;
     file[3 + 9 + 17] = 8;
-    same("a block that ends as it starts", index_load(TABLES(y), file, sizeof file, 3, &next), 22);
+    same("a block that ends as it starts", servercape_load(TABLES(y), file, sizeof file, 3, &next), 22);
     same("zeros", not_zero((uint8_t *)y.blocks, 8 * y.blocks_length) + not_zero(y.store, y.store_length), 0);
     give_back(y);
 }
@@ -190,24 +190,27 @@ static void write_and_load(struct lent x)
 
 static void lengths(void)
 {
-    same("pieces", index_length(INDEX_PIECES, 512), 8 + 8 * 512);
-    same("entries", index_length(INDEX_ENTRIES, 4096), 8 + 2 * 4096);
-    same("store", index_length(INDEX_STORE, UINT64_MAX), UINT64_MAX);
-    same("scratch", index_length(INDEX_SCRATCH, 3), 24);
-    same("the last that fits", index_length(INDEX_NODES, UINT64_MAX / 8 - 1), UINT64_MAX - 7);
-    same("does not fit", index_length(INDEX_NODES, UINT64_MAX / 8), 0);
-    same("no such table", index_length(6, 1), 0);
+    same("pieces", servercape_length(SERVERCAPE_PIECES, 512), 8 + 8 * 512);
+    same("blocks", servercape_length(SERVERCAPE_BLOCKS, 512) - servercape_length(SERVERCAPE_BLOCKS, 0), 8 * 512);
+    same("entries", servercape_length(SERVERCAPE_ENTRIES, 4096), 8 + 2 * 4096);
+    same("store", servercape_length(SERVERCAPE_STORE, UINT64_MAX), UINT64_MAX);
+    same("scratch", servercape_length(SERVERCAPE_SCRATCH, 3), 24);
+    same("the last that fits", servercape_length(SERVERCAPE_NODES, UINT64_MAX / 8 - 1), UINT64_MAX - 7);
+    same("does not fit", servercape_length(SERVERCAPE_NODES, UINT64_MAX / 8), 0);
+    same("no such table", servercape_length(6, 1), 0);
 }
 
 static void refused(struct lent x)
 {
-    same("end tick 0", index_open(TABLES(x), 0, 1), 1);
-    same("largest end tick", index_open(TABLES(x), UINT64_C(1) << 63, 4), 0);
-    same("kind 5", index_open(TABLES(x), 8, 5), 1);
+    same("end tick 0", servercape_open(TABLES(x), 0, 1), 1);
+    same("largest end tick", servercape_open(TABLES(x), SERVERCAPE_MAX_END_TICK, 4), 0);
+    same("above it", servercape_open(TABLES(x), SERVERCAPE_MAX_END_TICK + 1, 4), 1);
+    same("kind 5", servercape_open(TABLES(x), 8, 5), 1);
     uint64_t count = 77, visited = 77;
-    same("not finished", index_find(TABLES(x), 0, 0, 1, x.scratch, x.scratch_length, &count, &visited), 4);
-    x.blocks[0] = 9;
-    same("not well formed", index_finish(TABLES(x)), 2);
+    same("not finished", servercape_find(TABLES(x), 0, 0, 1, x.scratch, x.scratch_length, &count, &visited), 4);
+    /* the state stands in the head's last row */
+    x.blocks[servercape_length(SERVERCAPE_BLOCKS, 0) - 8] = 9;
+    same("not well formed", servercape_finish(TABLES(x)), 2);
 }
 
 int main(void)
@@ -216,13 +219,13 @@ int main(void)
     lengths();
     refused(x);
     play(x);
-    same("finish", index_finish(TABLES(x)), 0);
-    same("finished", index_finish(TABLES(x)), 3);
+    same("finish", servercape_finish(TABLES(x)), 0);
+    same("finished", servercape_finish(TABLES(x)), 3);
     read_blocks(x);
     read_finds(x);
     read_all_cells(x);
     write_and_load(x);
-    same("clock", index_clock((UINT64_C(7) << 32) + 3 * 1440 + 605), 1005);
+    same("clock", servercape_clock((UINT64_C(7) << 32) + 3 * 1440 + 605), 1005);
     give_back(x);
     printf("C: %d checks, %d wrong\n", checks, wrong);
     return wrong != 0;

@@ -1,7 +1,7 @@
 //! The file of document 01: its bytes, its fields one after the other, and the loader's refusals. Also the Rust's files in another order (D4).
 use crate::board::{Block, Closed};
 use crate::tree::{Node, Tree};
-use servercape::Room;
+use servercape::{Index, Room};
 
 // ── writing ──
 
@@ -159,7 +159,7 @@ pub fn loaded(file: &[u8], at: usize, room: &Room) -> Result<(Closed, usize), u6
     if !fits {
         return Err(20);
     }
-    if index.end == 0 || index.end > 1 << 63 || !halves(&index.tree, 0, index.end) {
+    if index.end == 0 || index.end > Index::MAX_END_TICK || !halves(&index.tree, 0, index.end) {
         return Err(21);
     }
     if index.blocks.is_empty() || !index.blocks.iter().all(|b| sound(b, index.end)) {

@@ -64,7 +64,8 @@ fn changed_field(random: &mut Random, good: &[u8]) -> Vec<u8> {
     let value = u64::from_le_bytes(file[at..at + 8].try_into().unwrap());
     let other = random.of(&fields);
     let other = u64::from_le_bytes(file[other..other + 8].try_into().unwrap());
-    let near = [value.wrapping_add(1), value.wrapping_sub(1), 0, 1, other, 1 << 63, (1 << 63) + 1, u64::MAX, value / 2, value.wrapping_mul(2)];
+    let last = Index::MAX_END_TICK;
+    let near = [value.wrapping_add(1), value.wrapping_sub(1), 0, 1, other, last, last + 1, u64::MAX, value / 2, value.wrapping_mul(2)];
     let value = random.of(&near);
     file[at..at + 8].copy_from_slice(&value.to_le_bytes());
     file
@@ -128,7 +129,7 @@ fn rim(node: &mut Node, random: &mut Random) {
 
 fn queries(random: &mut Random, index: &Closed) -> Vec<Query> {
     let cell = index.blocks.first().map_or(0, |b| b.first);
-    let end = index.end.clamp(1, 1 << 63);
+    let end = index.end.clamp(1, Index::MAX_END_TICK);
     vec![(random.below(end), 0, u64::MAX), (end - 1, cell, cell.saturating_add(random.below(9)))]
 }
 

@@ -3,7 +3,7 @@ use crate::board::{Board, Op};
 use crate::lists::{need, Case, UNBOUNDED};
 use crate::random::Random;
 use crate::rust::Query;
-use servercape::Room;
+use servercape::{Index, Room};
 
 // ── every list of a small world ──
 
@@ -57,8 +57,9 @@ impl World {
 
 // ── random lists ──
 
+const LAST: u64 = Index::MAX_END_TICK;
 const ENDS: [u64; 24] = [
-    1, 2, 3, 4, 5, 7, 8, 9, 15, 16, 17, 31, 32, 33, 63, 64, 65, 127, 128, 129, 1000, 1 << 32, (1 << 63) - 1, 1 << 63,
+    1, 2, 3, 4, 5, 7, 8, 9, 15, 16, 17, 31, 32, 33, 63, 64, 65, 127, 128, 129, 1000, 1 << 32, LAST - 1, LAST,
 ];
 
 /// A table that a list's room may be short of.

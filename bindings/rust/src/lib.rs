@@ -1,4 +1,4 @@
-//! The history of a planning board: which bytes its cells held at each tick. Every call here is one proved call of `libexports.a`; this crate
+//! The history of a planning board: which bytes its cells held at each tick. Every call here is one proved call of `libservercape.a`; this crate
 //! owns the tables that those calls are lent, and gives their answers Rust types.
 //!
 //! ```text
@@ -15,9 +15,6 @@ mod refusal;
 
 pub use refusal::Refusal;
 use std::ops::Range;
-
-/// The largest end tick.
-pub const MAX_END_TICK: u64 = 1 << 63;
 
 /// The kind of space that an index is of.
 #[derive(Clone, Copy, PartialEq, Eq, Hash, Debug)]
@@ -84,33 +81,43 @@ pub struct Index {
     room: Room,
 }
 
-/// The five tables as pointers and lengths, in the order that every call has, and what comes after them.
-macro_rules! reads {
-    ($call:ident, $index:expr $(, $rest:expr)* $(,)?) => {
+/// A call with the five tables in front: which of them it may write to, then what comes after them.
+macro_rules! call {
+    ($call:ident, $index:expr, $pieces:ident $blocks:ident $store:ident $nodes:ident $entries:ident $(, $rest:expr)*) => {
         raw::$call(
-            $index.pieces.as_ptr(), $index.pieces.len(),
-            $index.blocks.as_ptr(), $index.blocks.len(),
-            $index.store.as_ptr(), $index.store.len(),
-            $index.nodes.as_ptr(), $index.nodes.len(),
-            $index.entries.as_ptr(), $index.entries.len(),
+            $index.pieces.$pieces(), $index.pieces.len(),
+            $index.blocks.$blocks(), $index.blocks.len(),
+            $index.store.$store(), $index.store.len(),
+            $index.nodes.$nodes(), $index.nodes.len(),
+            $index.entries.$entries(), $index.entries.len(),
             $($rest),*
         )
+    };
+}
+
+/// A call that writes to none of them.
+macro_rules! reads {
+    ($call:ident, $index:expr $(, $rest:expr)*) => {
+        call!($call, $index, as_ptr as_ptr as_ptr as_ptr as_ptr $(, $rest)*)
     };
 }
 
 // Every `unsafe` below calls a function that is proved for all slices. Its arguments are the parts of this crate's own vectors or of references,
 // so they are there, aligned, and apart from one another.
 impl Index {
+    /// The largest end tick.
+    pub const MAX_END_TICK: u64 = 1 << 63;
+
     /// Tables for an index, not opened yet. Panics where there is not so much memory.
     fn lend(room: Room) -> Index {
         let numbers = |table, rows| vec![0; length(table, rows)];
         Index {
-            pieces: numbers(0, room.pieces),
-            blocks: numbers(1, room.blocks),
-            store: vec![0; length(2, room.bytes)],
-            nodes: numbers(3, room.nodes),
-            entries: numbers(4, room.entries),
-            scratch: numbers(5, room.pieces),
+            pieces: numbers(raw::SERVERCAPE_PIECES, room.pieces),
+            blocks: numbers(raw::SERVERCAPE_BLOCKS, room.blocks),
+            store: vec![0; length(raw::SERVERCAPE_STORE, room.bytes)],
+            nodes: numbers(raw::SERVERCAPE_NODES, room.nodes),
+            entries: numbers(raw::SERVERCAPE_ENTRIES, room.entries),
+            scratch: numbers(raw::SERVERCAPE_SCRATCH, room.pieces),
             room,
         }
     }
@@ -125,14 +132,7 @@ impl Index {
     /// Opens an index anew in the same tables. Refusal 1.
     pub fn reopen(&mut self, end_tick: u64, kind: Kind) -> Result<(), Refusal> {
         Refusal::unless_zero(unsafe {
-            raw::index_open(
-                self.pieces.as_mut_ptr(), self.pieces.len(),
-                self.blocks.as_mut_ptr(), self.blocks.len(),
-                self.store.as_ptr(), self.store.len(),
-                self.nodes.as_mut_ptr(), self.nodes.len(),
-                self.entries.as_mut_ptr(), self.entries.len(),
-                end_tick, kind as u8,
-            )
+            call!(servercape_open, self, as_mut_ptr as_mut_ptr as_ptr as_mut_ptr as_mut_ptr, end_tick, kind as u8)
         })
     }
 
@@ -147,14 +147,7 @@ impl Index {
     pub fn reload(&mut self, file: &[u8], at: usize) -> Result<usize, Refusal> {
         let mut next = 0;
         Refusal::unless_zero(unsafe {
-            raw::index_load(
-                self.pieces.as_mut_ptr(), self.pieces.len(),
-                self.blocks.as_mut_ptr(), self.blocks.len(),
-                self.store.as_mut_ptr(), self.store.len(),
-                self.nodes.as_mut_ptr(), self.nodes.len(),
-                self.entries.as_mut_ptr(), self.entries.len(),
-                file.as_ptr(), file.len(), at as u64, &mut next,
-            )
+            call!(servercape_load, self, as_mut_ptr as_mut_ptr as_mut_ptr as_mut_ptr as_mut_ptr, file.as_ptr(), file.len(), at as u64, &mut next)
         })?;
         Ok(next as usize)
     }
@@ -162,28 +155,15 @@ impl Index {
     /// Records the bytes of the cells from `first` on, at a tick. Refusals 3, 5 to 11.
     pub fn record(&mut self, tick: u64, first: u64, bytes: &[u8]) -> Result<(), Refusal> {
         Refusal::unless_zero(unsafe {
-            raw::index_record(
-                self.pieces.as_mut_ptr(), self.pieces.len(),
-                self.blocks.as_mut_ptr(), self.blocks.len(),
-                self.store.as_mut_ptr(), self.store.len(),
-                self.nodes.as_ptr(), self.nodes.len(),
-                self.entries.as_ptr(), self.entries.len(),
-                self.scratch.as_ptr(), self.scratch.len(),
-                tick, first, bytes.as_ptr(), bytes.len(),
-            )
+            call!(servercape_record, self, as_mut_ptr as_mut_ptr as_mut_ptr as_ptr as_ptr,
+                self.scratch.as_ptr(), self.scratch.len(), tick, first, bytes.as_ptr(), bytes.len())
         })
     }
 
     /// Finishes the index: it can be read from now on, and takes no more operations. Refusals 3, 12, 13.
     pub fn finish(&mut self) -> Result<(), Refusal> {
         Refusal::unless_zero(unsafe {
-            raw::index_finish(
-                self.pieces.as_mut_ptr(), self.pieces.len(),
-                self.blocks.as_mut_ptr(), self.blocks.len(),
-                self.store.as_ptr(), self.store.len(),
-                self.nodes.as_mut_ptr(), self.nodes.len(),
-                self.entries.as_mut_ptr(), self.entries.len(),
-            )
+            call!(servercape_finish, self, as_mut_ptr as_mut_ptr as_ptr as_mut_ptr as_mut_ptr)
         })
     }
 
@@ -191,7 +171,7 @@ impl Index {
     pub fn block(&self, number: u64) -> Result<Block<'_>, Refusal> {
         let [mut kind, mut first, mut length, mut created, mut destroyed, mut offset] = [0; 6];
         Refusal::unless_zero(unsafe {
-            reads!(index_block, self, number, &mut kind, &mut first, &mut length, &mut created, &mut destroyed, &mut offset)
+            reads!(servercape_block, self, number, &mut kind, &mut first, &mut length, &mut created, &mut destroyed, &mut offset)
         })?;
         let from = offset as usize;
         let bytes = &self.store[from..from + length as usize];
@@ -220,7 +200,7 @@ impl Index {
     pub fn find_into(&self, tick: u64, window: Range<u64>, answer: &mut [u64]) -> Result<(usize, u64), Refusal> {
         let (mut count, mut visited) = (0, 0);
         Refusal::unless_zero(unsafe {
-            reads!(index_find, self, tick, window.start, window.end, answer.as_mut_ptr(), answer.len(), &mut count, &mut visited)
+            reads!(servercape_find, self, tick, window.start, window.end, answer.as_mut_ptr(), answer.len(), &mut count, &mut visited)
         })?;
         Ok((count as usize, visited))
     }
@@ -239,7 +219,7 @@ impl Index {
     /// The same into a slice: how many bytes it wrote. Refusals 4, 16.
     pub fn write_into(&self, out: &mut [u8]) -> Result<usize, Refusal> {
         let mut written = 0;
-        Refusal::unless_zero(unsafe { reads!(index_write, self, out.as_mut_ptr(), out.len(), &mut written) })?;
+        Refusal::unless_zero(unsafe { reads!(servercape_write, self, out.as_mut_ptr(), out.len(), &mut written) })?;
         Ok(written as usize)
     }
 
@@ -254,7 +234,7 @@ impl Index {
     /// The same into two slices: the bytes, and 1 where a cell is held. Refusals 4, 14 to 16.
     pub fn cells_into(&self, tick: u64, window: Range<u64>, bytes: &mut [u8], held: &mut [u8]) -> Result<(), Refusal> {
         Refusal::unless_zero(unsafe {
-            reads!(index_read_cells, self, tick, window.start, window.end, bytes.as_mut_ptr(), bytes.len(), held.as_mut_ptr(), held.len())
+            reads!(servercape_read_cells, self, tick, window.start, window.end, bytes.as_mut_ptr(), bytes.len(), held.as_mut_ptr(), held.len())
         })
     }
 }
@@ -277,12 +257,12 @@ impl<'a> Iterator for Blocks<'a> {
 
 /// The clock label of a cell: hours times 100 plus minutes.
 pub fn clock(cell: u64) -> u64 {
-    unsafe { raw::index_clock(cell) }
+    unsafe { raw::servercape_clock(cell) }
 }
 
 /// How many numbers (of the store: bytes) a table of so many rows has.
 fn length(table: u64, rows: u64) -> usize {
-    let length = unsafe { raw::index_length(table, rows) };
+    let length = unsafe { raw::servercape_length(table, rows) };
     assert!(length != 0 || rows == 0, "no table has {rows} rows");
     length as usize
 }

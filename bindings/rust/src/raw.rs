@@ -1,9 +1,17 @@
 //! The exported functions as the linker sees them: a slice is a pointer and a length. ../../servercape.h says what each does.
 
-extern "C" {
-    pub fn index_length(table: u64, rows: u64) -> u64;
+/// What `servercape_length` counts.
+pub const SERVERCAPE_PIECES: u64 = 0;
+pub const SERVERCAPE_BLOCKS: u64 = 1;
+pub const SERVERCAPE_STORE: u64 = 2;
+pub const SERVERCAPE_NODES: u64 = 3;
+pub const SERVERCAPE_ENTRIES: u64 = 4;
+pub const SERVERCAPE_SCRATCH: u64 = 5;
 
-    pub fn index_open(
+extern "C" {
+    pub fn servercape_length(table: u64, rows: u64) -> u64;
+
+    pub fn servercape_open(
         pieces: *mut u64, pieces_length: usize,
         blocks: *mut u64, blocks_length: usize,
         store: *const u8, store_length: usize,
@@ -12,7 +20,7 @@ extern "C" {
         end_tick: u64, kind: u8,
     ) -> u64;
 
-    pub fn index_record(
+    pub fn servercape_record(
         pieces: *mut u64, pieces_length: usize,
         blocks: *mut u64, blocks_length: usize,
         store: *mut u8, store_length: usize,
@@ -23,7 +31,7 @@ extern "C" {
         bytes: *const u8, bytes_length: usize,
     ) -> u64;
 
-    pub fn index_finish(
+    pub fn servercape_finish(
         pieces: *mut u64, pieces_length: usize,
         blocks: *mut u64, blocks_length: usize,
         store: *const u8, store_length: usize,
@@ -31,7 +39,7 @@ extern "C" {
         entries: *mut u64, entries_length: usize,
     ) -> u64;
 
-    pub fn index_block(
+    pub fn servercape_block(
         pieces: *const u64, pieces_length: usize,
         blocks: *const u64, blocks_length: usize,
         store: *const u8, store_length: usize,
@@ -41,7 +49,7 @@ extern "C" {
         kind: &mut u64, first: &mut u64, length: &mut u64, created: &mut u64, destroyed: &mut u64, offset: &mut u64,
     ) -> u64;
 
-    pub fn index_find(
+    pub fn servercape_find(
         pieces: *const u64, pieces_length: usize,
         blocks: *const u64, blocks_length: usize,
         store: *const u8, store_length: usize,
@@ -52,7 +60,7 @@ extern "C" {
         count: &mut u64, visited: &mut u64,
     ) -> u64;
 
-    pub fn index_read_cells(
+    pub fn servercape_read_cells(
         pieces: *const u64, pieces_length: usize,
         blocks: *const u64, blocks_length: usize,
         store: *const u8, store_length: usize,
@@ -63,7 +71,7 @@ extern "C" {
         held: *mut u8, held_length: usize,
     ) -> u64;
 
-    pub fn index_write(
+    pub fn servercape_write(
         pieces: *const u64, pieces_length: usize,
         blocks: *const u64, blocks_length: usize,
         store: *const u8, store_length: usize,
@@ -73,7 +81,7 @@ extern "C" {
         written: &mut u64,
     ) -> u64;
 
-    pub fn index_load(
+    pub fn servercape_load(
         pieces: *mut u64, pieces_length: usize,
         blocks: *mut u64, blocks_length: usize,
         store: *mut u8, store_length: usize,
@@ -83,5 +91,5 @@ extern "C" {
         at: u64, next: &mut u64,
     ) -> u64;
 
-    pub fn index_clock(cell: u64) -> u64;
+    pub fn servercape_clock(cell: u64) -> u64;
 }

@@ -1,5 +1,5 @@
 //! The boards of document 01 and the edges of its refusals, through the Rust types.
-use servercape::{clock, Block, Index, Kind, Room, MAX_END_TICK};
+use servercape::{clock, Block, Index, Kind, Room};
 
 fn opened(end_tick: u64) -> Index {
     Index::open(Room::even(64), end_tick, Kind::Memory).unwrap()
@@ -117,9 +117,9 @@ fn the_room_is_used_to_its_end() {
 
 #[test]
 fn the_largest_end_tick() {
-    assert_eq!(number(Index::open(Room::even(1), MAX_END_TICK + 1, Kind::Unique)), 1);
-    let mut index = Index::open(Room::even(64), MAX_END_TICK, Kind::Unique).unwrap();
-    index.record(MAX_END_TICK - 1, 0, &[9]).unwrap();
+    assert_eq!(number(Index::open(Room::even(1), Index::MAX_END_TICK + 1, Kind::Unique)), 1);
+    let mut index = Index::open(Room::even(64), Index::MAX_END_TICK, Kind::Unique).unwrap();
+    index.record(Index::MAX_END_TICK - 1, 0, &[9]).unwrap();
     index.finish().unwrap();
-    assert_eq!(index.find(MAX_END_TICK - 1, 0..1).unwrap().visited, 64);
+    assert_eq!(index.find(Index::MAX_END_TICK - 1, 0..1).unwrap().visited, 64);
 }

@@ -9,20 +9,20 @@ use lib.Dec.{leb}
 use lib.ListN.{length, length-append}
 use Rattle.lists.proofs.Numbers.{le-or-lt}
 use Rattle.lists.proofs.Maps.{length-of-map}
-use Rattle.history.specs.Words.{Operation, Block, size, blockOf}
+use Rattle.history.specs.Words.{Operation, Block, size, blockOf, firstCell}
 use Rattle.history.specs.Ledger.{Opening, Ledger, opened, settled, finishBy}
 use Rattle.history.specs.Refusals.{Answer, accepted, refused, openAnswer}
 use Rattle.history.specs.Calls.{Call, recordCall, finishCall, answerTo, acceptedBy, leaves, after, afterAll, history, noted}
 use Rattle.history.specs.Law.{LedgerLaw}
 use Rattle.history.specs.File.{Read, got, fault}
-use Rattle.history.specs.Printed.{Records, bad, all, readRecord, boardLent, boardScratch, badRecordText, openText, opText, finishText, refusedText, newline, decimal, hexBytes, blockLine, refusedLine, opLine, lastLines, linesFrom, openLines, recordLines}
+use Rattle.history.specs.Printed.{Records, bad, all, readRecord, boardLent, boardScratch, badRecordText, openText, opText, finishText, refusedText, newline, decimal, hexBytes, blockLine, refusedLine, opLine, lastLines, linesFrom, openLines, recordLines, Booking, operationOf, boardOpening}
 use Rattle.history.proofs.EveryList.{the-law, law-after, opening-kept}
-use Rattle.board_text.specs.Input.{itemFrom, itemAt, inputFrom, recordsOf, firstRecord}
-use Rattle.board_text.specs.Walk.{Walk, walk-end, walk-on}
+use Rattle.board_input.specs.Input.{itemFrom, itemAt, inputFrom, recordsOf, firstRecord}
+use Rattle.board_input.specs.Walk.{Walk, walk-end, walk-on}
 use Rattle.board_text.specs.Line.{blockLineOf, blockFront}
-use Rattle.board_text.specs.declared.input.Item.the-variants.{End, Record}
-use Rattle.board_text.proofs.Walking.{records-on, records-short}
-use Rattle.board_text.proofs.Meeting.{law-of-input}
+use Rattle.board_input.specs.declared.Item.the-variants.{End, Record}
+use Rattle.board_input.proofs.Walking.{records-on, records-short}
+use Rattle.board_input.proofs.Meeting.{law-of-input}
 use Rattle.board_text.proofs.Lines.{law-of-lines}
 use Rattle.board_run.specs.Runs.{printedOf}
 use Rattle.board_run.specs.Room.{outputMost}
@@ -44,13 +44,13 @@ block-length : (b : Block) → length (blockLine b) ≤ 90 + 2 * size (b .stretc
 unfolding blockLineOf
 block-length b =
     let bytes = b .stretch .bytes in
-    let front = blockFront (b .stretch .first) (length bytes) (b .created) (b .destroyed) in
+    let front = blockFront (firstCell b) (length bytes) (b .created) (b .destroyed) in
     rw (law-of-lines .in-parts b)
     (omega (
       arith,
       length-append front (hexBytes bytes [] ++ (newline ∷ [])),
       length-append (hexBytes bytes []) (newline ∷ []),
-      law-of-lines .front-length (b .stretch .first) (length bytes) (b .created) (b .destroyed),
+      law-of-lines .front-length (firstCell b) (length bytes) (b .created) (b .destroyed),
       law-of-lines .bytes-length bytes,
     ))
 
@@ -68,15 +68,15 @@ record Roomy (l : Ledger) : Type 0 where
   lent : l .opening .lent ≡ boardLent
   held : Held (l .now)
 
-roomy-opened : (end kind : ℕ) → openAnswer (record { end = end; kind = kind; lent = boardLent }) ≡ accepted tt
-    → Roomy (opened (record { end = end; kind = kind; lent = boardLent }))
+roomy-opened : (end kind : ℕ) → openAnswer (boardOpening end kind) ≡ accepted tt
+    → Roomy (opened (boardOpening end kind))
 unfolding opened afterAll history
 roomy-opened end kind taken =
     record {
       calls = [];
-      law = the-law (record { end = end; kind = kind; lent = boardLent }) taken [];
+      law = the-law (boardOpening end kind) taken [];
       lent = refl;
-      held = held-opened (record { end = end; kind = kind; lent = boardLent });
+      held = held-opened (boardOpening end kind);
     }
 
 same-opening : (l : Ledger) (k : Call) → after l k .opening ≡ l .opening
@@ -124,16 +124,16 @@ last-length l r = go (answerTo l finishCall)
     go (accepted u) = omega (arith, blocks-length bs, few, small)
     go (refused n) = omega (arith, refused-length finishText n)
 
-lines-length : (os : List Operation) (k : ℕ) (l : Ledger) → Roomy l → length (linesFrom k l os) ≤ 53 * length os + lastMost
+lines-length : (bs : List Booking) (k : ℕ) (l : Ledger) → Roomy l → length (linesFrom k l bs) ≤ 53 * length bs + lastMost
 unfolding linesFrom
 lines-length [] k l r = last-length l r
-lines-length (o ∷ os) k l r =
-    let call = recordCall boardScratch o in
+lines-length (b ∷ bs) k l r =
+    let call = recordCall boardScratch (operationOf b) in
     omega (
       arith,
-      length-append (opLine k (answerTo l call)) (linesFrom (suc k) (after l call) os),
+      length-append (opLine k (answerTo l call)) (linesFrom (suc k) (after l call) bs),
       op-length k (answerTo l call),
-      lines-length os (suc k) (after l call) (roomy-record l o r),
+      lines-length bs (suc k) (after l call) (roomy-record l (operationOf b) r),
     )
 
 -- ── how many records there are ──
@@ -142,21 +142,21 @@ item-start : (input : List ℕ) (at : ℕ) {tick first start cells next : ℕ} �
 unfolding itemAt
 item-start input at {tick} {first} {start} {cells} {next} e = go (leb (length input) at) (readRecord input at) e
   where
-    go : (t : Bool) (r : Read Operation) → Record tick first start cells next ≡ cond t End (itemFrom at r) → start ≡ at + 20
+    go : (t : Bool) (r : Read Booking) → Record tick first start cells next ≡ cond t End (itemFrom at r) → start ≡ at + 20
     go true r e = let z : _≡_ {A = ℕ} 0 1 = cc in absurd (omega arith)
-    go false (got o n) e = cc
+    go false (got b n) e = cc
     go false (fault i) e = let z : _≡_ {A = ℕ} 0 1 = cc in absurd (omega arith)
 
-walk-count : {input : List ℕ} {at : ℕ} {os : List Operation} → Walk input at os → at ≤ length input → 20 * length os + at ≤ length input
+walk-count : {input : List ℕ} {at : ℕ} {bs : List Booking} → Walk input at bs → at ≤ length input → 20 * length bs + at ≤ length input
 walk-count (walk-end h) inside = omega arith
-walk-count {input} {at} (walk-on {next = next} {os = os} h w) inside =
+walk-count {input} {at} (walk-on {next = next} h w) inside =
     let more = records-on input 0 at h in
     omega (arith, item-start input at h, more .ends, more .inside, walk-count w (more .inside))
 
-few-records : (input : List ℕ) (os : List Operation) → length input ≤ 65536 → recordsOf input ≡ all os → length os ≤ 3276
-few-records input os fits e = ⊎-elim
-    (λ (h : firstRecord ≤ length input). let c = walk-count (law-of-input .all-met input os e) h in omega arith)
-    (λ (h : length input < firstRecord). let f : bad 0 ≡ all os = sym (records-short input h) ∙ e in let z : _≡_ {A = ℕ} 0 1 = cc in absurd (omega arith))
+few-records : (input : List ℕ) (bs : List Booking) → length input ≤ 65536 → recordsOf input ≡ all bs → length bs ≤ 3276
+few-records input bs fits e = ⊎-elim
+    (λ (h : firstRecord ≤ length input). let c = walk-count (law-of-input .all-met input bs e) h in omega arith)
+    (λ (h : length input < firstRecord). let f : bad 0 ≡ all bs = sym (records-short input h) ∙ e in let z : _≡_ {A = ℕ} 0 1 = cc in absurd (omega arith))
     (le-or-lt firstRecord (length input))
 
 -- ── the whole ──
@@ -164,15 +164,15 @@ few-records input os fits e = ⊎-elim
 bad-length : (k : ℕ) → length (badRecordText ++ decimal k (newline ∷ [])) ≤ 32
 bad-length k = omega (arith, law-of-lines .number-length k (newline ∷ []))
 
-all-length : (end kind : ℕ) (os : List Operation) → length os ≤ 3276 → length (recordLines end kind (all os)) ≤ outputMost
+all-length : (end kind : ℕ) (bs : List Booking) → length bs ≤ 3276 → length (recordLines end kind (all bs)) ≤ outputMost
 unfolding recordLines openLines
-all-length end kind os few = go (openAnswer a) refl
+all-length end kind bs few = go (openAnswer a) refl
   where
     a : Opening
-    a = record { end = end; kind = kind; lent = boardLent }
+    a = boardOpening end kind
 
-    go : (x : Answer Unit) → openAnswer a ≡ x → length (openLines a os x) ≤ outputMost
-    go (accepted u) e = omega (arith, lines-length os 1 (opened a) (roomy-opened end kind e))
+    go : (x : Answer Unit) → openAnswer a ≡ x → length (openLines a bs x) ≤ outputMost
+    go (accepted u) e = omega (arith, lines-length bs 1 (opened a) (roomy-opened end kind e))
     go (refused n) e = omega (arith, refused-length openText n)
 
 pub room : (input : List ℕ) → length input ≤ 65536 → length (printedOf input) ≤ outputMost

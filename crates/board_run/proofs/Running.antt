@@ -6,28 +6,28 @@ use Prim.Native.Nat.{ℕ, _≤_, _<_}
 use native.Mathlib.Omega.{arith}
 use lib.ListN.{length, take, length-take}
 use lib.Seq.{take-all, length-take-le, length-sets}
-use Rattle.history.specs.Words.{Operation}
 use Rattle.history.specs.Lent.{Lent, tooShort}
-use Rattle.history.specs.Ledger.{Opening, opened}
+use Rattle.history.specs.Ledger.{Opening, opened, openingFor}
 use Rattle.history.specs.Refusals.{Answer, accepted, refused, openAnswer}
-use Rattle.history.specs.Printed.{Records, bad, all, inputMost, boardLent, headerText, badRecordText, openText, newline, decimal, refusedLine, linesFrom, openLines, recordLines, printed}
+use Rattle.history.specs.Printed.{Records, bad, all, inputMost, boardLent, headerText, badRecordText, openText, newline, decimal, refusedLine, linesFrom, openLines, recordLines, printed, Booking, boardOpening}
 use Rattle.layout.specs.Tables.{Tables, tables}
 use Rattle.layout.specs.Relations.{openingOf, openedTables, leftBy, OpenedBy}
 use Rattle.index.specs.Answers.{openedOf}
 use Rattle.index.specs.declared.Opened.{Opened}
 use Rattle.index.specs.declared.Opened.the-variants.{Opened as IsOpened, Refused}
-use Rattle.board_text.specs.Input.{startOf, recordsOf, checkOf}
-use Rattle.board_text.specs.Line.{Put}
-use Rattle.board_text.specs.declared.input.Start.{Start}
-use Rattle.board_text.specs.declared.input.Start.the-variants.{Short, Open}
-use Rattle.board_text.specs.declared.input.Check.{Check}
-use Rattle.board_text.specs.declared.input.Check.the-variants.{Good, Bad}
-use Rattle.board_text.proofs.Putting.{put-append}
-use Rattle.board_text.proofs.Meeting.{law-of-input}
+use Rattle.board_input.specs.Input.{startOf, recordsOf, checkOf}
+use Rattle.lists.specs.Puts.{Put}
+use Rattle.board_input.specs.declared.Start.{Start}
+use Rattle.board_input.specs.declared.Start.the-variants.{Short, Open}
+use Rattle.board_input.specs.declared.Check.{Check}
+use Rattle.board_input.specs.declared.Check.the-variants.{Good, Bad}
+use Rattle.lists.proofs.Puts.{put-append}
+use Rattle.board_input.proofs.Meeting.{law-of-input}
 use Rattle.board_text.proofs.Lines.{law-of-lines}
-use Rattle.board_run.specs.Runs.{Standing, RecordedAll, FinishPut, OpenPut, PlayPut, LendPut, printedOf}
+use Rattle.board_lines.specs.Lines.{Standing, RecordedAll, FinishPut}
+use Rattle.board_lines.proofs.Standing.{opened-stands}
+use Rattle.board_run.specs.Runs.{OpenPut, PlayPut, LendPut, printedOf}
 use Rattle.board_run.specs.Room.{outputMost, PrintsBoard}
-use Rattle.board_run.proofs.Standing.{opened-stands}
 use Rattle.board_run.proofs.Room.{room}
 
 -- ── `play_open` ──
@@ -45,15 +45,11 @@ open-lines {nodes} {entries} {out} {out′} {next} header records last =
 
 -- ── `play` ──
 
--- what the program opens with
-abbrev boardOpening : (end kind : ℕ) → Opening
-boardOpening end kind = record { end = end; kind = kind; lent = boardLent }
-
-lines-refused : (end kind n : ℕ) (os : List Operation) → openAnswer (boardOpening end kind) ≡ refused n → recordLines end kind (all os) ≡ refusedLine openText n
+lines-refused : (end kind n : ℕ) (os : List Booking) → openAnswer (boardOpening end kind) ≡ refused n → recordLines end kind (all os) ≡ refusedLine openText n
 unfolding recordLines openLines
 lines-refused end kind n os e = rw e
 
-lines-taken : (end kind : ℕ) (os : List Operation) → openAnswer (boardOpening end kind) ≡ accepted tt
+lines-taken : (end kind : ℕ) (os : List Booking) → openAnswer (boardOpening end kind) ≡ accepted tt
     → recordLines end kind (all os) ≡ headerText ++ (newline ∷ linesFrom 1 (opened (boardOpening end kind)) os)
 unfolding recordLines openLines
 lines-taken end kind os e = rw e
@@ -68,7 +64,7 @@ module _ {end kind : ℕ} {t t′ : Tables} {r : Opened} (d : OpenedBy end kind 
       record {
         lines = λ lent os w.
             let answer : openAnswer (boardOpening end kind) ≡ refused n =
-            ap (λ (x : Lent). openAnswer (record { end = end; kind = kind; lent = x })) (sym lent) ∙ sym (d .answered) ∙ ap openedOf e in
+            ap (λ (x : Lent). openAnswer (openingFor end kind x)) (sym lent) ∙ sym (d .answered) ∙ ap openedOf e in
             rw (lines-refused end kind n os answer) put;
       }
 
@@ -78,7 +74,7 @@ module _ {end kind : ℕ} {t t′ : Tables} {r : Opened} (d : OpenedBy end kind 
       record {
         lines = λ lent os w.
             let taken : openAnswer (openingOf end kind t) ≡ accepted tt = sym (d .answered) ∙ ap openedOf e in
-            let same : openingOf end kind t ≡ boardOpening end kind = ap (λ (x : Lent). record { end = end; kind = kind; lent = x }) lent in
+            let same : openingOf end kind t ≡ boardOpening end kind = ap (openingFor end kind) lent in
             let left : t′ ≡ openedTables end kind t = d .left ∙ ap (λ (x : Answer Unit). leftBy x t (openedTables end kind t)) (ap openedOf e) in
             let stands : Standing t′ (opened (openingOf end kind t)) =
             subst (λ (x : Tables). Standing x (opened (openingOf end kind t))) (sym left) (opened-stands end kind t (ap tooShort lent ∙ board-fits) taken) in
@@ -104,7 +100,7 @@ found-bad : (x : Records) (k : ℕ) → checkOf x ≡ Bad k → x ≡ bad k
 found-bad (bad n) k e = let same : n ≡ k = cc in ap bad same
 found-bad (all os) k e = let z : _≡_ {A = ℕ} 0 1 = cc in absurd (omega arith)
 
-found-good : (x : Records) → checkOf x ≡ Good → (os : List Operation) × (x ≡ all os)
+found-good : (x : Records) → checkOf x ≡ Good → (os : List Booking) × (x ≡ all os)
 found-good (bad n) e = let z : _≡_ {A = ℕ} 0 1 = cc in absurd (omega arith)
 found-good (all os) e = (os, refl)
 

@@ -4,7 +4,7 @@ use mathlib.Core.List.{List}
 use Prim.Native.Nat.{ℕ, _+_, _*_, _≤_}
 use lib.ListN.{length, take}
 use Rattle.history.specs.Printed.{printed}
-use Rattle.board_text.specs.Line.{Put}
+use Rattle.lists.specs.Puts.{Put}
 
 -- the header; a line for each of at most 3,276 records; a line for each of 1,024 blocks, but for the bytes, of which all blocks have no more than the store
 abbrev pub outputMost : ℕ

@@ -1,29 +1,20 @@
 // The program `board`, but for reading and writing: the input is played on tables of the lengths that document 01 lends, and all that is to be printed
 // is put into a lent buffer.
 //
-//   records         the records one after the other, and the lines of the refused ones
-//   blocks          finish, and the lines of the blocks
-//
 //   specs/Room      what `run` ensures, and how much is printed at most
-//   specs/Runs      what is known of the tables between calls, and what each part puts
-//   proofs/Standing, Recording, Listing, Running   one step for each return and each turn
+//   specs/Runs      what each part puts; the lines of records and blocks stand in `board_lines`
+//   proofs/Running  one step for each return
 //   proofs/Sizes, Room   every byte recorded is printed once, so there is room for all that is printed
-//
-// No table is tested here: opening makes them well formed, and each call after it keeps them so.
 ghost use mathlib.Core.Path.{_≡_};
 ghost use lib.ListN.{length};
 ghost use Rattle.layout.specs.Tables.{tables};
 ghost use Rattle.board_run.specs.Runs.{OpenPut, PlayPut, LendPut, printedOf};
 ghost use Rattle.board_run.specs.Room.{outputMost, PrintsBoard};
-ghost use Rattle.board_text.specs.Line.{Put};
-
-mod blocks;
-mod records;
-
-use board_text::input;
-use board_text::input::Check;
-use board_text::input::Start;
-use board_text::line;
+ghost use Rattle.lists.specs.Puts.{Put};
+use board_input::Check;
+use board_input::Start;
+use board_lines::blocks;
+use board_lines::records;
 use index::Index;
 use index::Opened;
 use tables::block;
@@ -66,7 +57,7 @@ fn play_open(
     ensures { λ r. ⌜ OpenPut (tables (now (pieces .entry)) (now (blocks .entry)) (now (store .entry)) (now (nodes .entry)) (now (entries .entry)))
         (now (input .entry)) (now (out .entry)) (now (out .exit)) r ⌝ }
 {
-    let behind_header = line::header(out, 0);
+    let behind_header = board_text::header(out, 0);
     let behind_ops = records::record_all(input, pieces, blocks, store, out, behind_header);
     blocks::finish(pieces, blocks, store, nodes, entries, out, behind_ops)
 }
@@ -87,7 +78,7 @@ fn play(
         (now (input .entry)) end kind (now (out .entry)) (now (out .exit)) r ⌝ }
 {
     match Index::open(pieces, blocks, store, nodes, entries, end, kind) {
-        Opened::Refused(number) => line::open_refused(out, 0, number),
+        Opened::Refused(number) => board_text::open_refused(out, 0, number),
         Opened::Opened => play_open(input, pieces, blocks, store, nodes, entries, out),
     }
 }
@@ -118,10 +109,10 @@ fn lend(input: &[u8], end: u64, kind: u8, out: &mut [u8]) -> usize
 fn run_first(input: &[u8], out: &mut [u8]) -> usize
     ensures { λ r. ⌜ Put (now (out .entry)) 0 (printedOf (now (input .entry))) (now (out .exit)) r ⌝ }
 {
-    match input::opening(input) {
-        Start::Short => line::bad_record(out, 0, 0),
-        Start::Open { end, kind } => match input::check_records(input) {
-            Check::Bad(k) => line::bad_record(out, 0, k),
+    match board_input::opening(input) {
+        Start::Short => board_text::bad_record(out, 0, 0),
+        Start::Open { end, kind } => match board_input::check_records(input) {
+            Check::Bad(k) => board_text::bad_record(out, 0, k),
             Check::Good => lend(input, end, kind, out),
         },
     }

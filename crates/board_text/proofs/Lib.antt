@@ -1,9 +1,3 @@
 -- Laws that belong to no one function.
-mod Numbers
-mod Records
-pub mod Walking
-mod Checking
-pub mod Meeting
-pub mod Putting
 mod Digits
 pub mod Lines

@@ -9,9 +9,10 @@ use lib.Seq.{take-suc, take-all}
 use Rattle.history.specs.Reads.{clockLabel}
 use Rattle.history.specs.Printed.{digit, decimal, fourDigits, hexDigit, hexBytes, blockLine, refusedLine, refusedText, space, newline}
 use Rattle.history.specs.Words.{Block, firstCell}
-use Rattle.board_text.specs.Line.{Put, blockFront, blockLineOf, frontMost, LawOfLines}
+use Rattle.lists.specs.Puts.{Put}
+use Rattle.board_text.specs.Line.{blockFront, blockLineOf, frontMost, LawOfLines}
 use Rattle.board_text.proofs.Digits.{digits-front, digits-length}
-use Rattle.board_text.proofs.Putting.{put-none, put-append, put-shown}
+use Rattle.lists.proofs.Puts.{put-none, put-append, put-shown}
 
 -- ── bytes in hexadecimal ──
 

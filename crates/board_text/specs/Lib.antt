@@ -1,4 +1,2 @@
 -- The definitions that the contracts cite.
-pub mod Input
-pub mod Walk
 pub mod Line

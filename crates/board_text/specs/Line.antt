@@ -1,20 +1,12 @@
 -- What the functions of `line` put into a lent buffer. Definitions alone: their laws stand in proofs/.
 use mathlib.Core.Path.{_≡_}
 use mathlib.Core.List.{List, [], _∷_, _++_}
-use Prim.Native.Nat.{ℕ, _+_, _*_, _≤_, min, max}
+use Prim.Native.Nat.{ℕ, _+_, _*_, _≤_}
 use lib.ListN.{length, take}
-use lib.Seq.{sets}
+use Rattle.lists.specs.Puts.{Put}
 use Rattle.history.specs.Words.{Block, firstCell}
 use Rattle.history.specs.Reads.{clockLabel}
 use Rattle.history.specs.Printed.{space, newline, decimal, fourDigits, hexBytes, blockLine}
-
--- ── putting ──
-
--- A text put into a buffer at a position, as far as there is room: it stands there, all else is as it was, and the next position is behind it, or at the
--- buffer's end where the text is cut. From a position past the end nothing is put, and the position stays.
-pub record Put (out : List ℕ) (at : ℕ) (text : List ℕ) (after : List ℕ) (next : ℕ) : Type 0 where
-  pub stands : after ≡ sets out at text
-  pub ends : next ≡ max at (min (at + length text) (length out))
 
 -- ── a block's line in parts ──
 

@@ -1,10 +1,9 @@
-// Plays the boards of its data through `board_run` and compares what is printed of each with what must be. The data is made by tools/boardcases.py: a
+// Plays the boards of its data through `board_run` and compares what is printed of each with what must be. The data is made by tools/printed.py: a
 // count, then for each board the input's length, the input, the output's length and the output. Prints the number of each board that differs, from 0 on,
 // and then how many were compared and how many differ.
 ghost use mathlib.Core.Path.{_≡_};
-ghost use Prim.Native.Nat.{_≤_, _<_, _^_};
+ghost use Prim.Native.Nat.{_<_, _^_};
 ghost use lib.ListN.{length};
-use index::reads;
 use libc::STDIN_FILENO;
 use libc::STDOUT_FILENO;
 
@@ -38,84 +37,45 @@ fn number_at(data: &[u8], at: usize) -> usize
 
 // The text whose length stands at a position; the empty one where the data is cut.
 fn text_at<'a>(data: &'a [u8], at: usize) -> &'a [u8] {
-    if data.len() < at {
-        return reads::part(data, 0, 0);
-    }
-    reads::part(data, (at + NUMBER) as u64, number_at(data, at) as u64)
+    let start = plain::skip(data, at, NUMBER as u64);
+    plain::part(data, start as u64, number_at(data, at) as u64)
 }
 
 // The position behind that text, or the end of the data.
 fn behind(data: &[u8], at: usize) -> usize {
-    if data.len() < at {
-        return data.len();
-    }
-    let whole = NUMBER + number_at(data, at);
-    if data.len() - at < whole {
-        return data.len();
-    }
-    at + whole
-}
-
-fn alike(a: &[u8], b: &[u8]) -> bool {
-    if a.len() != b.len() {
-        return false;
-    }
-    let mut i = 0;
-    while i < a.len() {
-        if a[i] != b[i] {
-            return false;
-        }
-        i += 1;
-    }
-    true
+    plain::skip(data, at, (NUMBER + number_at(data, at)) as u64)
 }
 
 // Whether the board of an input is printed as it must be.
 fn prints(input: &[u8], wanted: &[u8], out: &mut [u8]) -> bool {
     let printed = board_run::run(input, out);
-    alike(&out[..printed], wanted)
+    check::same(&out[..printed], wanted)
 }
 
-fn differs(number: usize) {
-    io::write_all(STDOUT_FILENO, b"differs: ");
-    io::print_decimal(STDOUT_FILENO, number as u64);
-    io::write_all(STDOUT_FILENO, b"\n");
-}
-
-fn summary(boards: usize, differ: usize) {
-    io::print_decimal(STDOUT_FILENO, boards as u64);
-    io::write_all(STDOUT_FILENO, b" boards compared, ");
-    io::print_decimal(STDOUT_FILENO, differ as u64);
-    io::write_all(STDOUT_FILENO, b" differ\n");
-}
-
-// Plays the board at a position; answers 1 where it differs.
-fn play_one(data: &[u8], at: usize, number: usize, out: &mut [u8]) -> usize
-    ensures { λ r. ⌜ r ≤ 1 ⌝ }
-{
+// Plays the board at a position.
+fn play_one(tally: &mut [u64], data: &[u8], at: usize, out: &mut [u8]) {
     let input = text_at(data, at);
     let wanted = text_at(data, behind(data, at));
-    if prints(input, wanted, out) {
-        return 0;
+    let alike = prints(input, wanted, out);
+    if !alike {
+        io::write_all(STDOUT_FILENO, b"differs: ");
+        tally::print_count(tally, tally::COMPARED, b"\n");
     }
-    differs(number);
-    1
+    tally::compare(tally, alike);
 }
 
-fn play_all(data: &[u8], out: &mut [u8]) {
+fn play_all(tally: &mut [u64], data: &[u8], out: &mut [u8]) {
     let count = number_at(data, 0);
     let mut at = NUMBER;
     let mut boards: usize = 0;
-    let mut differ: usize = 0;
     while boards < BOARDS {
         if count <= boards {
-            break;
+            return;
         }
-        differ += play_one(data, at, boards, out);
+        play_one(tally, data, at, out);
         at = behind(data, behind(data, at));
         boards += 1;
     }
-    summary(boards, differ);
 }
 
 fn buffer() -> [u8; DATA]
@@ -125,8 +85,11 @@ fn buffer() -> [u8; DATA]
 }
 
 fn main() {
+    let mut tally = [0; 8];
     let mut data = buffer();
     let mut out = board_run::buffer();
     let given = io::read_full(STDIN_FILENO, &mut data);
-    play_all(&data[..given], &mut out);
+    play_all(&mut tally, &data[..given], &mut out);
+    tally::print_count(&tally, tally::COMPARED, b" boards compared, ");
+    tally::print_count(&tally, tally::DIFFER, b" differ\n");
 }

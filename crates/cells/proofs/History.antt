@@ -19,9 +19,9 @@ use Rattle.history.specs.Calls.{afterAll, history, valueAt}
 use Rattle.history.specs.Law.{LedgerLaw}
 use Rattle.history.specs.Sound.{SoundTree}
 use Rattle.history.proofs.EveryList.{every-list}
-use Rattle.cells.specs.Answers.{givenBy, cellsLeft}
+use Rattle.layout.specs.Reads.{valuesOf, filledBy}
 use Rattle.cells.specs.Law.{byteOf, markOf, CellsShowHistory}
-use Rattle.cells.proofs.Reading.{cells-given}
+use Rattle.cells_read.proofs.Reading.{cells-given}
 
 -- a finished index has no pieces, so that its blocks are all that is live
 all-settled : (l : Ledger) → finished l ≡ true → SoundTree l (l .tree) → settled (l .opening .end) (l .now) ≡ l .now .blocks
@@ -61,15 +61,14 @@ module _ (l : Ledger) (h : List Operation) (law : LedgerLaw l h) (done : finishe
       (all-any (countFrom start (stop - start)) (λ c. rw (shows-value c) (mark-of (valueAt h tick c))))
 
 pub cells-show-history : CellsShowHistory
-unfolding givenBy cellsLeft
 cells-show-history a taken ks done t enc tick start stop bytes bytes′ held held′ answer before room rb rh read =
     let l = afterAll (opened a) ks in
     let h = history [] (opened a) ks in
     let law = every-list a taken ks .law in
-    let given = read .formed l enc (law .sound .sound) in
-    let is = cells-given t l enc done tick start stop (length bytes) (length held) (omega (arith, enc .end)) room rb rh in
+    let given = read .read .formed l enc (law .sound .sound) in
+    let is = cells-given enc done tick start stop (length bytes) (length held) (omega (arith, enc .end)) room rb rh in
     record {
-      answered = given .answered ∙ ap givenBy is;
-      in-bytes = given .in-bytes ∙ ap (λ (x : Answer Cells). cellsLeft (λ c. c .bytes) x bytes) is ∙ ap (sets bytes 0) (bytes-value l h law done tick start stop before);
-      in-held = given .in-held ∙ ap (λ (x : Answer Cells). cellsLeft (λ c. c .held) x held) is ∙ ap (sets held 0) (held-value l h law done tick start stop before);
+      answered = given .answered ∙ ap (valuesOf (λ _. tt)) is;
+      in-bytes = given .in-bytes ∙ ap (λ (x : Answer Cells). filledBy (λ c. c .bytes) x bytes) is ∙ ap (sets bytes 0) (bytes-value l h law done tick start stop before);
+      in-held = given .in-held ∙ ap (λ (x : Answer Cells). filledBy (λ c. c .held) x held) is ∙ ap (sets held 0) (held-value l h law done tick start stop before);
     }

@@ -29,11 +29,15 @@ pub record HistoryShown (a : Opening) (ks : List Call) (tick start stop : ℕ) (
   pub in-bytes : bytes′ ≡ sets bytes 0 (map (λ c. byteOf (valueAt (history [] (opened a) ks) tick c)) (countFrom start (stop - start)))
   pub in-held : held′ ≡ sets held 0 (map (λ c. markOf (valueAt (history [] (opened a) ks) tick c)) (countFrom start (stop - start)))
 
--- For every opening that is taken and every list of calls that leaves a finished index: whatever tables stand for it, a read of a tick below E and of
--- a range that the slices hold shows the history.
+-- A read of a tick below E and of a range that the slices hold shows the history.
+abbrev pub ShowsHistory : (a : Opening) (ks : List Call) → Tables → Type 0
+ShowsHistory a ks t =
+    (tick start stop : ℕ) (bytes bytes′ held held′ : List ℕ) (answer : Answer Unit) → tick < afterAll (opened a) ks .opening .end → start ≤ stop
+    → stop - start ≤ length bytes → stop - start ≤ length held → CellsReadBy t tick start stop bytes bytes′ held held′ answer
+    → HistoryShown a ks tick start stop bytes bytes′ held held′ answer
+
+-- For every opening that is taken and every list of calls that leaves a finished index: whatever tables stand for it show the history.
 abbrev pub CellsShowHistory : Type 0
 CellsShowHistory =
     (a : Opening) → openAnswer a ≡ accepted tt → (ks : List Call) → finished (afterAll (opened a) ks) ≡ true
-    → (t : Tables) → Encodes t (afterAll (opened a) ks) → (tick start stop : ℕ) (bytes bytes′ held held′ : List ℕ) (answer : Answer Unit)
-    → tick < afterAll (opened a) ks .opening .end → start ≤ stop → stop - start ≤ length bytes → stop - start ≤ length held
-    → CellsReadBy t tick start stop bytes bytes′ held held′ answer → HistoryShown a ks tick start stop bytes bytes′ held held′ answer
+    → (t : Tables) → Encodes t (afterAll (opened a) ks) → ShowsHistory a ks t

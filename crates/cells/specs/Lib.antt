@@ -1,4 +1,2 @@
-pub mod Runs
-pub mod Shows
 pub mod Answers
 pub mod Law

@@ -1,26 +1,13 @@
-// Read cells: for a tick and [start, end) the byte of each cell, and 1 where a live block holds it; 0 and 0 where none does. It goes from block to
-// block, each found by a search of the tree, and writes every cell of the range once.
+// Read cells: for a tick and [start, end) the byte of each cell, and 1 where a live block holds it; 0 and 0 where none does.
 //
-//   specs/Answers   what the answer means, and the contract; specs/Law: the history is shown (proofs/History)
-//   run             specs/Runs    proofs/Seeing, Living, Runs   the cells that come next: free ones, then a block's
-//   show            specs/Shows   proofs/Filling, Showing       cells written run by run
-//   closed          proofs/Reading                              14, 15 and 16
-//   lib             proofs/Answering                            2 and 4
+//   specs/Answers   the contract
+//   specs/Law       the history is shown (proofs/History): a theorem of crate demand, which links it to lists of calls
+//   lib             proofs/Answering   2 and 4; the rest stands in cells_read
 ghost use Rattle.layout.specs.Tables.{tables};
-ghost use Rattle.cells.specs.Answers.{readOf, CellsReadBy};
-ghost use Rattle.cells.specs.Law.{CellsShowHistory};
-
-mod closed;
-mod run;
-mod show;
-
+ghost use Rattle.cells_read.specs.Answers.{readOf};
+ghost use Rattle.cells.specs.Answers.{CellsReadBy};
+pub use cells_read::Read;
 use index_test::State;
-
-// The answer of read cells: both slices are filled, or nothing has changed.
-pub enum Read {
-    Filled,
-    Refused(u64),
-}
 
 // The cells of [start, end) at a tick, into two lent slices.
 pub fn read_cells(
@@ -42,7 +29,7 @@ pub fn read_cells(
     match state {
         State::Bad => Read::Refused(2),
         State::Open => Read::Refused(4),
-        State::Closed => closed::read_closed(
+        State::Closed => cells_read::read_closed(
             blocks,
             store,
             nodes,
@@ -55,8 +42,3 @@ pub fn read_cells(
         ),
     }
 }
-
-// Over an index that any list of calls has reached and finished, read cells shows what the history has.
-pub fn shows_history()
-    ensures { λ _. ⌜ CellsShowHistory ⌝ }
-{}

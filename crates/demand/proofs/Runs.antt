@@ -2,18 +2,19 @@
 -- the ledger has. Assumes nothing.
 use mathlib.Core.Path.{_≡_, refl, ap, ap₂, sym, _∙_, subst}
 use mathlib.Core.Logic.{inl, inr}
-use mathlib.Core.Bool.{Bool, true, false, true≢false, false≢true}
+use mathlib.Core.Bool.{true, false, true≢false, false≢true}
 use mathlib.Core.List.{List, [], _∷_}
-use Prim.Native.Nat.{ℕ, _≤_, _<_}
+use Prim.Native.Nat.{ℕ, suc, _≤_, _<_}
 use native.Mathlib.Omega.{arith}
 use lib.ListN.{length}
-use borrow.Author.Tests.{lt-leb, le-leb, le-ltb, lt-ltb}
+use borrow.Author.Tests.{le-ltb, lt-ltb}
 use Rattle.lists.proofs.Numbers.{bool-cases}
 use Rattle.history.specs.Words.{Operation, Block}
 use Rattle.history.specs.Lent.{tooShort}
 use Rattle.history.specs.Ledger.{Opening, Ledger, opened, finished, isRead, recordBy, finishBy}
-use Rattle.history.specs.Reads.{Found, blockBy, findBy}
-use Rattle.history.specs.Refusals.{Answer, accepted, refused, firstOf, maxEndTick, openAnswer, recordRefusals, recordAnswer, finishRefusals, finishAnswer, windowRefusals, findAnswer, blockRefusals, blockAnswer}
+use Rattle.history.specs.Reads.{blockBy, findBy}
+use Rattle.tables.specs.Columns.{blockColumn, blockOffset}
+use Rattle.history.specs.Refusals.{Answer, accepted, refused, firstOf, maxEndTick, openAnswer, recordRefusals, recordAnswer, finishRefusals, finishAnswer, findAnswer}
 use Rattle.history.specs.Calls.{Call, recordCall, finishCall, answerTo, acceptedBy, leaves, after, answers, afterAll, noted, history}
 use Rattle.history.specs.Sound.{Sound}
 use Rattle.history.specs.Law.{LedgerLaw, Faithful}
@@ -22,7 +23,10 @@ use Rattle.history.proofs.FindSound.{find-sound}
 use Rattle.layout.specs.Tables.{Tables, lengthsOf}
 use Rattle.layout.specs.Encodes.{Encodes}
 use Rattle.layout.specs.Formed.{WellFormed, WellFormedForFinish, Blank}
-use Rattle.layout.specs.Relations.{openingOf, openedTables, leftBy, OpenedBy, RecordedTables, RecordLeaves, RecordedBy, FinishLeaves, FinishedBy, countsOf, answerLeft, Fields, blockIn, blockOfFields}
+use Rattle.layout.specs.Relations.{openingOf, openedTables, leftBy, OpenedBy, RecordLeaves, RecordedBy, FinishLeaves, FinishedBy, Fields, blockIn, fieldsAt, BlockHanded}
+use Rattle.layout.proofs.Recording.{record-blank, record-open}
+use Rattle.layout.specs.Reads.{valuesOf}
+use Rattle.layout.proofs.ReadLaws.{block-there, block-15, window-rest, into-gives, into-refuses}
 use Rattle.layout.proofs.Opening.{open-accepted, opened-encodes, opened-lengths, opened-blank}
 use Rattle.demand.specs.Theorem.{CallDone, Run, run-nil, run-cons, Finished, Demand3}
 
@@ -66,15 +70,6 @@ record Standing (t : Tables) (l : Ledger) (h : List Operation) : Type 0 where
   law : LedgerLaw l h
   blank : finished l ≡ false → Blank t
 
--- a record leaves the node and entry tables of an open index as they were
-record-blank : (r : Bool) (l : Ledger) (o : Operation) (t t′ : Tables) → RecordedTables r l o t t′ → Blank t → Blank t′
-record-blank true l o t t′ e b = rw e (record { nodes = b .nodes; entries = b .entries })
-record-blank false l o t t′ u b = record { nodes = rw (u .nodes) (b .nodes); entries = rw (u .entries) (b .entries) }
-
-same-tree : (l : Ledger) (o : Operation) → finished (recordBy l o) ≡ finished l
-unfolding recordBy
-same-tree l o = refl
-
 finish-done : (l : Ledger) → finished (finishBy l) ≡ true
 unfolding finishBy
 finish-done l = refl
@@ -91,7 +86,7 @@ step-record scratch o t t′ l h a s d =
     go (accepted b) law x = record {
       encodes = x .0;
       law = law;
-      blank = λ still. record-blank (isRead (l .now) o) l o t t′ (x .1) (s .blank (sym (same-tree l o) ∙ still));
+      blank = λ still. record-blank (isRead (l .now) o) l o t t′ (x .1) (s .blank (sym (record-open l o) ∙ still));
     }
     go (refused n) law x = rw x (record { encodes = s .encodes; law = law; blank = s .blank })
 
@@ -125,64 +120,42 @@ runs {t} l h s (run-cons {t₁} {k = k} {ks} {a} d r) =
 -- ── reads of a finished index ──
 
 module _ (l : Ledger) (h : List Operation) (t : Tables) (s : Standing t l h) (done : finished l ≡ true) where
-  fits : tooShort (l .opening .lent) ≡ false
-  fits = rw (s .encodes .lengths) (s .encodes .heads)
-
   sound : Sound l
   sound = s .law .sound .sound
 
-  block-there : (k : ℕ) → k < length (l .now .blocks) → blockAnswer l k ≡ accepted (blockBy l k)
-  unfolding blockRefusals firstOf
-  block-there k h = rw (fits, done, lt-leb (length (l .now .blocks)) k h)
-
-  block-past : (k : ℕ) → length (l .now .blocks) ≤ k → blockAnswer l k ≡ refused 15
-  unfolding blockRefusals firstOf
-  block-past k h = rw (fits, done, le-leb (length (l .now .blocks)) k h)
-
   find-fits : (tick start stop room : ℕ) → tick < l .opening .end → start ≤ stop → length (findBy l tick start stop .numbers) ≤ room
       → findAnswer l tick start stop room ≡ accepted (findBy l tick start stop)
-  unfolding windowRefusals firstOf
   find-fits tick start stop room a b c =
-      rw (fits, done, lt-leb (l .opening .end) tick a, le-ltb stop start b, le-ltb room (length (findBy l tick start stop .numbers)) c)
+      window-rest (s .encodes) done _ _ tick start stop (omega (arith, s .encodes .end)) b ∙ rw (le-ltb room (length (findBy l tick start stop .numbers)) c)
 
   find-full : (tick start stop room : ℕ) → tick < l .opening .end → start ≤ stop → room < length (findBy l tick start stop .numbers)
       → findAnswer l tick start stop room ≡ refused 16
-  unfolding windowRefusals firstOf
   find-full tick start stop room a b c =
-      rw (fits, done, lt-leb (l .opening .end) tick a, le-ltb stop start b, lt-ltb room (length (findBy l tick start stop .numbers)) c)
+      window-rest (s .encodes) done _ _ tick start stop (omega (arith, s .encodes .end)) b ∙ rw (lt-ltb room (length (findBy l tick start stop .numbers)) c)
 
--- the fields that an answer must have given
-fields-given : (store : List ℕ) (answer : Answer Fields) (b : Block) → blockOfFields store answer ≡ accepted b → (f : Fields) × (answer ≡ accepted f) × (blockIn store f ≡ b)
-unfolding blockOfFields
-fields-given store (accepted f) b e = (f, refl, inner (blockIn store f) b e)
+-- block by number hands out the block that is asked for, and refuses as the ledger does
+block-handed : {t : Tables} {k : ℕ} {answer : Answer Fields} {x : Answer Block} (b : Block) → BlockHanded t k answer x → x ≡ accepted b
+    → (f : Fields) × (answer ≡ accepted f) × (blockIn (t .store) f ≡ b)
+block-handed {t} {k} {answer} b d e =
+    let is : answer ≡ accepted (fieldsAt (blockColumn (t .blocks) (suc k) blockOffset) b) = d .answered ∙ ap (valuesOf (fieldsAt (blockColumn (t .blocks) (suc k) blockOffset))) e in
+    (_, is, inner (ap (valuesOf (blockIn (t .store))) (sym is) ∙ d .bytes-there ∙ e))
   where
-    inner : (x y : Block) → _≡_ {A = Answer Block} (accepted x) (accepted y) → x ≡ y
-    inner x y p = cc
-fields-given store (refused n) b e = let z : _≡_ {A = ℕ} 0 1 = cc in absurd (omega arith)
-
-number-given : (store : List ℕ) (answer : Answer Fields) (n : ℕ) → blockOfFields store answer ≡ refused n → answer ≡ refused n
-unfolding blockOfFields
-number-given store (accepted f) n e = let z : _≡_ {A = ℕ} 0 1 = cc in absurd (omega arith)
-number-given store (refused m) n e = ap {B = Answer Fields} refused (inner e)
-  where
-    inner : _≡_ {A = Answer Block} (refused m) (refused n) → m ≡ n
+    inner : {x y : Block} → _≡_ {A = Answer Block} (accepted x) (accepted y) → x ≡ y
     inner p = cc
 
+number-handed : {t : Tables} {k n : ℕ} {answer : Answer Fields} {x : Answer Block} → BlockHanded t k answer x → x ≡ refused n → answer ≡ refused n
+number-handed {t} {k} d e = d .answered ∙ ap (valuesOf (fieldsAt (blockColumn (t .blocks) (suc k) blockOffset))) e
+
 finished-reads : (l : Ledger) (h : List Operation) (t : Tables) → Standing t l h → finished l ≡ true → Faithful (l .opening .end) (l .now .blocks) h → Finished l h t
-unfolding countsOf answerLeft
 finished-reads l h t s done cells = record {
-  blocks = λ k answer d below. fields-given (t .store) answer (blockBy l k) (d .formed l (s .encodes) (sound l h t s done) ∙ block-there l h t s done k below);
-  no-more = λ k answer d above. number-given (t .store) answer 15 (d .formed l (s .encodes) (sound l h t s done) ∙ block-past l h t s done k above);
+  blocks = λ k answer d below. block-handed (blockBy l k) (d .read .formed l (s .encodes) (sound l h t s done)) (block-there (s .encodes) done k below);
+  no-more = λ k answer d above. number-handed (d .read .formed l (s .encodes) (sound l h t s done)) (block-15 (s .encodes) done k above);
   cells = cells;
   finds = λ tick start stop below. find-sound l (sound l h t s done) done tick start stop below;
   found = λ tick start stop out out′ answer below ordered d room.
-      let f = d .formed l (s .encodes) (sound l h t s done) in
-      let e = find-fits l h t s done tick start stop (length out) below ordered room in
-      (f .0 ∙ ap countsOf e, f .1 ∙ ap (λ (x : Answer Found). answerLeft x out) e);
+      into-gives (d .read .formed l (s .encodes) (sound l h t s done)) (find-fits l h t s done tick start stop (length out) below ordered room);
   no-room = λ tick start stop out out′ answer below ordered d room.
-      let f = d .formed l (s .encodes) (sound l h t s done) in
-      let e = find-full l h t s done tick start stop (length out) below ordered room in
-      (f .0 ∙ ap countsOf e, f .1 ∙ ap (λ (x : Answer Found). answerLeft x out) e);
+      into-refuses (d .read .formed l (s .encodes) (sound l h t s done)) (find-full l h t s done tick start stop (length out) below ordered room);
 }
 
 -- ── the demand ──

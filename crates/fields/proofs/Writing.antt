@@ -7,8 +7,7 @@ use native.Mathlib.Numerals.{add-one}
 use lib.ListN.{length, set}
 use lib.Seq.{sets}
 use Rattle.lists.proofs.Numbers.{suc-of}
-use Rattle.lists.proofs.Stores.{sets-append}
-use Rattle.tables.proofs.Past.{sets-past}
+use Rattle.lists.proofs.Stores.{sets-append, sets-past}
 use Rattle.history.specs.File.{bytesOf}
 use Rattle.history.proofs.FileNumbers.{bytesOf-length}
 

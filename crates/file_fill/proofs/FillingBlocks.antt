@@ -8,40 +8,21 @@ use lib.Seq.{sets}
 use Rattle.lists.proofs.Numbers.{suc-of}
 use Rattle.lists.proofs.Stores.{sets-append}
 use Rattle.history.specs.Lent.{rowWidth}
-use Rattle.history.specs.Words.{Block, size, firstCell}
-use Rattle.history.specs.File.{Read, got, fault, onward, _>>=_, give, many, readBlock}
+use Rattle.history.specs.Words.{Block, size}
+use Rattle.history.specs.File.{got, onward, _>>=_, give, many, readBlock}
 use Rattle.history.proofs.FileYields.{got-value, got-next, fault-got}
 use Rattle.tables.specs.Columns.{blockBase}
 use Rattle.file_scan.specs.declared.rows.BlockRow.{BlockRow}
 use Rattle.file_scan.specs.declared.rows.BlockRow.the-variants as block
-use Rattle.file_scan.specs.Rows.{rowHead, blockRow}
+use Rattle.file_scan.specs.Rows.{blockRow}
 use Rattle.file_scan.proofs.Readers.{onward-got}
 use Rattle.file_scan.proofs.RowReads.{block-passes}
+use Rattle.file_scan.proofs.RowSays.{Says, block-says, block-fault}
 use Rattle.file_scan.proofs.RowBytes.{block-bytes}
-use Rattle.file_fill.specs.Fill.{blockNumbers, blocksNumbers, bytesOfAll, FilledBlocks}
+use Rattle.layout.specs.Rows.{blockNumbers, blocksNumbers}
+use Rattle.file_fill.specs.Fill.{bytesOfAll, FilledBlocks}
 
--- ── what a row says of the reading ──
-
--- the block that was read
-pub record Says (at : ℕ) (o : Read Block) (first cells created destroyed place next : ℕ) : Type 0 where
-  pub block : Block
-  pub read : o ≡ got block next
-  pub first-is : first ≡ firstCell block
-  pub cells-are : cells ≡ size (block .stretch)
-  pub created-is : created ≡ block .created
-  pub destroyed-is : destroyed ≡ block .destroyed
-  pub place-is : place ≡ at + rowHead
-
-row-says : (at : ℕ) {a b c d q n : ℕ} (o : Read Block) → block.Block a b c d q n ≡ blockRow at o → Says at o a b c d q n
-unfolding blockRow
-row-says at (got x m) e =
-    record { block = x; read = ap (got x) (cc); first-is = cc; cells-are = cc; created-is = cc; destroyed-is = cc; place-is = cc }
-row-says at (fault i) e = absurd (let z : _≡_ {A = ℕ} 0 1 = cc in omega arith)
-
-row-fault : (at : ℕ) {i : ℕ} (o : Read Block) → block.Fault i ≡ blockRow at o → o ≡ fault i
-unfolding blockRow
-row-fault at (got x m) e = absurd (let z : _≡_ {A = ℕ} 0 1 = cc in omega arith)
-row-fault at (fault j) e = ap fault (cc)
+-- ── rows ──
 
 same-row : (used : ℕ) {a b c d k a′ b′ c′ d′ k′ : ℕ} → a ≡ a′ → b ≡ b′ → c ≡ c′ → d ≡ d′ → k ≡ k′
     → _≡_ {A = List ℕ} (a ∷ b ∷ c ∷ d ∷ used ∷ k ∷ 0 ∷ 0 ∷ []) (a′ ∷ b′ ∷ c′ ∷ d′ ∷ used ∷ k′ ∷ 0 ∷ 0 ∷ [])
@@ -95,7 +76,7 @@ module _ {file : List ℕ} {kind count at : ℕ} {blocks₀ store₀ blocks stor
     (o : Onward file kind count at blocks₀ store₀ blocks store left rows used place) where
   module _ {row : BlockRow} {a b c d q n : ℕ} (t : row ≡ block.Block a b c d q n) (e : row ≡ blockRow place (readBlock kind file place)) where
     said : Says place (readBlock kind file place) a b c d q n
-    said = row-says place (readBlock kind file place) (sym t ∙ e)
+    said = block-says place (readBlock kind file place) (sym t ∙ e)
 
     pub fill-room : (rows + 1 ≤ n) × (used + b ≤ n) × (q ≤ n) × (n ≤ length file)
     fill-room =
@@ -103,7 +84,7 @@ module _ {file : List ℕ} {kind count at : ℕ} {blocks₀ store₀ blocks stor
         (omega (arith, o .few, p .place), omega (arith, o .low, p .place, said .cells-are), omega (arith, p .place, said .place-is), p .inside)
 
     module _ {blocks₁ store₁ : List ℕ}
-        (put : blocks₁ ≡ sets blocks (rowWidth * (rows + 1) + 0) (a ∷ b ∷ c ∷ d ∷ used ∷ kind ∷ 0 ∷ 0 ∷ []))
+        (put : blocks₁ ≡ sets blocks (rowWidth * (rows + 1) + blockBase) (a ∷ b ∷ c ∷ d ∷ used ∷ kind ∷ 0 ∷ 0 ∷ []))
         (copied : store₁ ≡ sets store used (take (n - q) (drop q file))) where
       put-is : blocks₁ ≡ sets blocks (rowWidth * (rows + 1) + blockBase) (blockNumbers used (said .block))
       unfolding blockNumbers
@@ -137,7 +118,7 @@ module _ {file : List ℕ} {kind count at : ℕ} {blocks₀ store₀ blocks stor
       none : {bs : List Block} {n : ℕ} → many (readBlock kind) left file place ≡ got bs n → ⊥
       none {bs} {n} g =
           let one : many (readBlock kind) (suc (left - 1)) file place ≡ got bs n = rw (suc-of left (λ z. omega arith)) at g in
-          fault-got (rw (row-fault place (readBlock kind file place) (sym t ∙ e)) at one)
+          fault-got (rw (block-fault place (readBlock kind file place) (sym t ∙ e)) at one)
 
   pub fill-done : left ≤ 0 → FilledBlocks file kind count at blocks₀ store₀ blocks store
   unfolding many give blocksNumbers flatMap

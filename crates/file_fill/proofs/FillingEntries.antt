@@ -13,7 +13,8 @@ use Rattle.fields.specs.Fields.{readOf}
 use Rattle.fields.specs.declared.Field.{Field}
 use Rattle.fields.specs.declared.Field.the-variants.{Got, End}
 use Rattle.file_scan.proofs.Readers.{onward-got, number-passes}
-use Rattle.file_fill.specs.Fill.{firstCellOf, entryNumbers, entryPlace, FilledEntries}
+use Rattle.layout.specs.Rows.{entryNumbers}
+use Rattle.file_fill.specs.Fill.{firstCellOf, entryPlace, FilledEntries}
 
 -- what the rest leaves, all leave from the start; each entry has bytes of its own
 pub record Onward (blocks file : List ℕ) (at first count : ℕ) (start entries : List ℕ) (place row left : ℕ) : Type 0 where

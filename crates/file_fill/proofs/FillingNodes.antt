@@ -8,6 +8,7 @@ use native.Mathlib.Omega.{arith}
 use lib.Dec.{leb}
 use lib.Seq.{sets}
 use borrow.Author.Tests.{le-leb, lt-leb}
+use Rattle.lists.proofs.Stores.{sets-before}
 use Rattle.lists.proofs.Numbers.{le-or-lt}
 use Rattle.history.specs.Lent.{rowWidth}
 use Rattle.history.specs.Tree.{nodeCount, entryCount, entriesIn}
@@ -16,8 +17,8 @@ use Rattle.history.proofs.FileRules.{Rule21, rule21-decides}
 use Rattle.file_scan.specs.Rows.{Head, headAbsent, headPresent, readHead}
 use Rattle.file_fill.specs.declared.nodes.Filled.{Filled}
 use Rattle.file_fill.specs.declared.nodes.Filled.the-variants as filled
-use Rattle.file_fill.specs.Fill.{fits, rootEnd, firstCellOf, entryNumbers, nodeNumbers, TreeLeft, FilledTree, nodeHeadNumbers, entryHeadNumbers, NodesLeft, FilledNodes}
-use Rattle.file_fill.proofs.Storing.{sets-before}
+use Rattle.layout.specs.Rows.{entryNumbers, nodeNumbers, nodeHeadNumbers, entryHeadNumbers}
+use Rattle.file_fill.specs.Fill.{fits, rootEnd, firstCellOf, TreeLeft, FilledTree, NodesLeft, FilledNodes}
 use Rattle.file_fill.proofs.Ruling.{rule21-fits}
 use Rattle.file_fill.proofs.FillingTrees.{root-absent, root-present, root-fault, tree-parts, tree-not-wrong}
 

@@ -9,7 +9,7 @@ use lib.ListN.{length, length-append}
 use lib.Seq.{sets}
 use borrow.Author.Tests.{lt-ltb, le-ltb}
 use Rattle.lists.proofs.Numbers.{and-left, and-right, and-both, lt-or-le, bool-cases}
-use Rattle.lists.proofs.Stores.{sets-append}
+use Rattle.lists.proofs.Stores.{sets-append, sets-before}
 use Rattle.history.specs.Lent.{rowWidth, entryWidth}
 use Rattle.history.specs.Tree.{Tree, hole, node, mid, nodeCount, entryCount, entriesIn}
 use Rattle.history.specs.File.{Nodes, absent, present, got, fault, onward, many, readRoot, treeFrom}
@@ -24,8 +24,8 @@ use Rattle.file_fill.specs.declared.nodes.Half.{Half}
 use Rattle.file_fill.specs.declared.nodes.Half.the-variants as half
 use Rattle.file_fill.specs.declared.nodes.Filled.{Filled}
 use Rattle.file_fill.specs.declared.nodes.Filled.the-variants as filled
-use Rattle.file_fill.specs.Fill.{isPlace, rightStart, fits, halfOf, firstCellOf, entryNumbers, entryPlace, FilledEntries, rootLink, nodeNumbers, TreeLeft, FilledTree}
-use Rattle.file_fill.proofs.Storing.{sets-before}
+use Rattle.layout.specs.Rows.{entryNumbers, rootLink, nodeNumbers}
+use Rattle.file_fill.specs.Fill.{isPlace, rightStart, fits, halfOf, firstCellOf, entryPlace, FilledEntries, TreeLeft, FilledTree}
 use Rattle.file_fill.proofs.Places.{place-some, half-is-absent, half-is-wrong, half-is-there, There}
 
 -- ── the reading of a tree ──

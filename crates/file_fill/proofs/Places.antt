@@ -17,8 +17,10 @@ use Rattle.tables.proofs.Past.{read-past}
 use Rattle.file_scan.specs.declared.rows.NodeRow.{NodeRow}
 use Rattle.file_scan.specs.declared.rows.NodeRow.the-variants as node
 use Rattle.file_scan.specs.Rows.{rowHead, Head, headAbsent, headPresent, nodeRow}
+use Rattle.file_scan.proofs.RowSays.{row-present, row-absent, row-fault}
 use Rattle.file_fill.specs.declared.nodes.Half.the-variants as half
-use Rattle.file_fill.specs.Fill.{isPlace, rightStart, halfOf, rootEnd, rootIn, firstCellOf}
+use Rattle.layout.specs.Rows.{rootIn}
+use Rattle.file_fill.specs.Fill.{isPlace, rightStart, halfOf, rootEnd, firstCellOf}
 
 -- ── the returns of `is_place` ──
 
@@ -63,28 +65,6 @@ module _ (lo hi : ℕ) where
   start-middle h k = rw (lt-ltb (lo + 1) hi (omega arith)) (omega arith)
 
 pub ruleset starting = (start-past, start-narrow, start-middle)
-
--- ── what a row says of the reading ──
-
--- a node's row comes of a node that was read, an absent child of an absent child, and a fault of a fault
-row-present : (at : ℕ) {a b c d q n : ℕ} {G : Type 0} (o : Read Head) → node.Present a b c d q n ≡ nodeRow at o
-    → ((es : List ℕ) → o ≡ got (headPresent a b c es) n → length es ≡ d → q ≡ at + rowHead → G) → G
-unfolding nodeRow
-row-present at (got headAbsent m) e f = absurd (let z : _≡_ {A = ℕ} 0 1 = cc in omega arith)
-row-present at (got (headPresent x y z es) m) e f = f es (cc) (cc) (cc)
-row-present at (fault i) e f = absurd (let z : _≡_ {A = ℕ} 0 1 = cc in omega arith)
-
-row-absent : (at : ℕ) {n : ℕ} (o : Read Head) → node.Absent n ≡ nodeRow at o → o ≡ got headAbsent n
-unfolding nodeRow
-row-absent at (got headAbsent m) e = cc
-row-absent at (got (headPresent x y z es) m) e = absurd (let z : _≡_ {A = ℕ} 0 1 = cc in omega arith)
-row-absent at (fault i) e = absurd (let z : _≡_ {A = ℕ} 0 1 = cc in omega arith)
-
-row-fault : (at : ℕ) {i : ℕ} (o : Read Head) → node.Fault i ≡ nodeRow at o → o ≡ fault i
-unfolding nodeRow
-row-fault at (got headAbsent m) e = absurd (let z : _≡_ {A = ℕ} 0 1 = cc in omega arith)
-row-fault at (got (headPresent x y z es) m) e = absurd (let z : _≡_ {A = ℕ} 0 1 = cc in omega arith)
-row-fault at (fault j) e = cc
 
 -- ── the returns of `half_at` and `root_end` ──
 

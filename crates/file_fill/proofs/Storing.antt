@@ -1,12 +1,14 @@
--- Rows written: one step for each return of the functions that write a row, and numbers written in front of others. Assumes nothing.
-use mathlib.Core.Path.{_≡_, refl, _∙_, ap}
+-- Rows written: one step for each return of the functions that write a row, and numbers written in front of others; zeros from the start on. Assumes nothing.
+use mathlib.Core.Path.{_≡_, refl, sym, _∙_, ap}
 use mathlib.Core.List.{List, [], _∷_, _++_}
-use Prim.Native.Nat.{ℕ, suc, _+_, _*_, _<_}
+use Prim.Native.Nat.{ℕ, suc, _+_, _-_, _*_, _≤_, _<_}
 use native.Mathlib.Omega.{arith}
-use lib.ListN.{length, set}
+use lib.ListN.{length, set, replicate, length-replicate, replicate-append-replicate}
 use lib.Seq.{sets, set-comm}
+use Rattle.lists.proofs.Stores.{sets-append}
 use Rattle.history.specs.Lent.{rowWidth, entryWidth, entryHead}
-use Rattle.file_fill.specs.Fill.{rootIn, nodeHeadNumbers}
+use Rattle.tables.proofs.Past.{sets-front}
+use Rattle.layout.specs.Rows.{rootIn, nodeHeadNumbers}
 
 -- ── a row ──
 
@@ -40,17 +42,20 @@ head-put t kind count p q r s u w = rw (← p, ← q, ← r, ← s, ← u) w
 
 pub ruleset putting = (half-put, row-put, entry-put, head-put)
 
--- ── in front of others ──
+-- ── zeros ──
 
-set-before : (l : List ℕ) (i x j : ℕ) (ys : List ℕ) → i < j → set (sets l j ys) i x ≡ sets (set l i x) j ys
-set-before l i x j [] h = refl
-set-before l i x j (y ∷ ys) h =
-    set-before (set l j y) i x (suc j) ys (omega arith) ∙ ap (λ (m : List ℕ). sets m (suc j) ys) (set-comm l j i y x (λ e. omega arith))
+-- one zero more
+pub zeros-more : (l : List ℕ) (i : ℕ) → set (sets l 0 (replicate i 0)) i 0 ≡ sets l 0 (replicate (i + 1) 0)
+zeros-more l i =
+    let z : 0 + i ≡ i = omega arith in
+    sym (rw (← replicate-append-replicate {A = ℕ} i 1 0, sets-append l 0 (replicate i 0) (0 ∷ []), length-replicate {A = ℕ} i 0, z))
 
--- numbers written in front of others that were written before are one list
-pub sets-before : (l : List ℕ) (i : ℕ) (xs ys : List ℕ) → sets (sets l (i + length xs) ys) i xs ≡ sets l i (xs ++ ys)
-sets-before l i [] ys = let z : i + 0 ≡ i = omega arith in rw z
-sets-before l i (x ∷ xs) ys =
-    let z : i + suc (length xs) ≡ suc i + length xs = omega arith in
-    ap (λ (m : List ℕ). sets m (suc i) xs) (set-before l i x (i + suc (length xs)) ys (omega arith))
-    ∙ rw z (sets-before (set l i x) (suc i) xs ys)
+-- zeros up to the end of the table are all that are written
+pub zeros-cut : (l : List ℕ) (n i : ℕ) → i ≤ n → length l ≤ i → sets l 0 (replicate i 0) ≡ sets l 0 (replicate n 0)
+zeros-cut l n i h k =
+    let e : i + (n - i) ≡ n = omega arith in
+    sym (sets-front l (replicate i 0) (replicate (n - i) 0) 0 (omega (arith, length-replicate {A = ℕ} i 0))) ∙ rw (replicate-append-replicate {A = ℕ} i (n - i) 0, e)
+
+-- n of them are all
+pub zeros-upto : (l : List ℕ) (n i : ℕ) → i ≤ n → n ≤ i → sets l 0 (replicate i 0) ≡ sets l 0 (replicate n 0)
+zeros-upto l n i h k = let e : i ≡ n = omega arith in rw e

@@ -1,33 +1,30 @@
 -- What the second pass writes of what the file's reader in `history` gives: the numbers of each table, by equality. Definitions alone.
 use mathlib.Core.Path.{_≡_}
 use mathlib.Core.Bool.{Bool, true, false, cond, _&&_}
-use mathlib.Core.List.{List, [], _∷_, _++_, flatMap}
+use mathlib.Core.List.{List, flatMap}
 use Prim.Native.Nat.{ℕ, suc, _+_, _*_, _^_, _≤_}
 use lib.Dec.{leb, ltb, eqb}
-use lib.ListN.{length}
+use lib.ListN.{length, replicate}
 use lib.Seq.{sets}
 use Rattle.history.specs.Lent.{rowWidth, entryWidth, entryHead}
-use Rattle.history.specs.Words.{Block, size, firstCell}
-use Rattle.history.specs.Tree.{Tree, hole, node, mid, halves, nodeCount, entryCount, entriesIn}
+use Rattle.history.specs.Words.{Block}
+use Rattle.history.specs.Tree.{Tree, mid, halves, nodeCount, entryCount, entriesIn}
 use Rattle.history.specs.File.{Nodes, absent, present, Read, got, fault, number, many, readBlock, readRoot, treeFrom, endOf, rule21}
 use Rattle.tables.specs.Columns.{blockBase, blockColumn, blockFirst}
+use Rattle.layout.specs.Rows.{blocksNumbers, rootLink, nodeNumbers, treeNumbers, entryNumbers, runNumbers}
 use Rattle.file_scan.specs.Rows.{rowHead, Head, headAbsent, headPresent}
 use Rattle.file_fill.specs.declared.nodes.Half.{Half}
 use Rattle.file_fill.specs.declared.nodes.Half.the-variants as half
 use Rattle.file_fill.specs.declared.nodes.Filled.{Filled}
 use Rattle.file_fill.specs.declared.nodes.Filled.the-variants as filled
 
+-- ── zeros ──
+
+-- the first n numbers are zeros, as far as the table goes; the rest is as it was
+pub record ZerosFirst (table table′ : List ℕ) (n : ℕ) : Type 0 where
+  pub is : table′ ≡ sets table 0 (replicate n 0)
+
 -- ── blocks ──
-
--- the row of a block whose bytes start at an offset; the columns next and spare are 0
-unfoldable pub blockNumbers : (offset : ℕ) → Block → List ℕ
-blockNumbers offset b =
-    firstCell b ∷ size (b .stretch) ∷ b .created ∷ b .destroyed ∷ offset ∷ b .kind ∷ 0 ∷ 0 ∷ []
-
--- the rows of blocks whose bytes stand one after the other
-unfoldable pub blocksNumbers : (offset : ℕ) → List Block → List ℕ
-blocksNumbers offset [] = []
-blocksNumbers offset (b ∷ bs) = blockNumbers offset b ++ blocksNumbers (offset + size (b .stretch)) bs
 
 -- the blocks' bytes, one after the other
 abbrev pub bytesOfAll : List Block → List ℕ
@@ -71,11 +68,6 @@ rootEnd (fault n) = 0
 abbrev pub firstCellOf : (blocks : List ℕ) (k : ℕ) → ℕ
 firstCellOf blocks k = blockColumn blocks (suc k) blockFirst
 
--- a row for each: the block number and its key
-unfoldable pub entryNumbers : (key : ℕ → ℕ) (ks : List ℕ) → List ℕ
-entryNumbers key [] = []
-entryNumbers key (k ∷ ks) = k ∷ key k ∷ entryNumbers key ks
-
 abbrev pub entryPlace : (row : ℕ) → ℕ
 entryPlace row = entryHead + entryWidth * row
 
@@ -84,19 +76,6 @@ pub record FilledEntries (blocks file : List ℕ) (at first count : ℕ) (entrie
       → entries′ ≡ sets entries (entryPlace first) (entryNumbers (firstCellOf blocks) ks)
 
 -- ── nodes ──
-
--- the link of the root of a tree that stands behind so many rows
-unfoldable pub rootLink : (rows : ℕ) → Tree → ℕ
-rootLink rows hole = 0
-rootLink rows (node es l r) = suc rows
-
--- the rows of a tree behind so many rows, whose runs stand behind so many entries: root first, left before right
-unfoldable pub nodeNumbers : (kind lo hi rows runs : ℕ) → Tree → List ℕ
-nodeNumbers kind lo hi rows runs hole = []
-nodeNumbers kind lo hi rows runs (node es l r) =
-    (lo ∷ hi ∷ rootLink (suc rows) l ∷ rootLink (suc rows + nodeCount l) r ∷ runs ∷ length es ∷ kind ∷ 0 ∷ [])
-    ++ (nodeNumbers kind lo (mid lo hi) (suc rows) (runs + length es) l
-    ++ nodeNumbers kind (mid lo hi) hi (suc rows + nodeCount l) (runs + length es + entryCount l) r)
 
 -- what a tree that fits leaves
 pub record TreeLeft (blocks : List ℕ) (kind lo hi rows runs : ℕ) (T : Tree) (next : ℕ) (nodes entries nodes′ entries′ : List ℕ) (r : Filled) : Type 0 where
@@ -114,22 +93,11 @@ pub record FilledTree (blocks file : List ℕ) (kind lo hi at rows runs : ℕ) (
 
 -- ── the whole ──
 
--- the root's link in a column of the head
-abbrev pub rootIn : (kind col : ℕ) → ℕ
-rootIn kind col = cond (eqb kind col) 1 0
-
--- the heads
-abbrev pub nodeHeadNumbers : (kind count : ℕ) → List ℕ
-nodeHeadNumbers kind count = rootIn kind 0 ∷ rootIn kind 1 ∷ rootIn kind 2 ∷ rootIn kind 3 ∷ rootIn kind 4 ∷ count ∷ 0 ∷ 0 ∷ []
-
-abbrev pub entryHeadNumbers : (count : ℕ) → List ℕ
-entryHeadNumbers count = count ∷ 0 ∷ 0 ∷ 0 ∷ 0 ∷ 0 ∷ 0 ∷ 0 ∷ []
-
 -- what nodes that keep rule 21 leave: the heads, and the rows behind them
 pub record NodesLeft (blocks : List ℕ) (kind : ℕ) (t : Nodes) (nodes entries nodes′ entries′ : List ℕ) (r : ℕ) : Type 0 where
   pub ends : r ≡ endOf t
-  pub node-rows : nodes′ ≡ sets nodes 0 (nodeHeadNumbers kind (nodeCount (treeFrom t)) ++ nodeNumbers kind 0 (endOf t) 0 0 (treeFrom t))
-  pub entry-rows : entries′ ≡ sets entries 0 (entryHeadNumbers (entryCount (treeFrom t)) ++ entryNumbers (firstCellOf blocks) (entriesIn (treeFrom t)))
+  pub node-rows : nodes′ ≡ sets nodes 0 (treeNumbers kind (endOf t) (treeFrom t))
+  pub entry-rows : entries′ ≡ sets entries 0 (runNumbers (firstCellOf blocks) (treeFrom t))
 
 pub record FilledNodes (blocks file : List ℕ) (kind at : ℕ) (nodes entries nodes′ entries′ : List ℕ) (r : ℕ) : Type 0 where
   pub right : (t : Nodes) (next : ℕ) → readRoot file at ≡ got t next → rule21 t ≡ true → NodesLeft blocks kind t nodes entries nodes′ entries′ r

@@ -5,9 +5,6 @@ use file_scan::rows;
 use file_scan::rows::BlockRow;
 use tables::block;
 
-// Where the row of link 0 stands: the last row of the head.
-pub const BASE: usize = block::HEAD - tables::ROW;
-
 // Fills the rows from link 1 on, and the store from its start on. Linear in the blocks and their bytes.
 pub fn fill_blocks(
     blocks: &mut [u64],
@@ -36,7 +33,7 @@ pub fn fill_blocks(
                 rows += 1;
                 put_row(
                     blocks,
-                    BASE,
+                    block::BASE,
                     rows,
                     first,
                     length,

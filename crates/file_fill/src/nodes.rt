@@ -7,7 +7,8 @@ ghost use lib.Seq.{sets};
 ghost use Rattle.history.specs.Lent.{entryWidth, entryHead};
 ghost use Rattle.history.specs.Tree.{mid};
 ghost use Rattle.file_scan.specs.Rows.{readHead};
-ghost use Rattle.file_fill.specs.Fill.{firstCellOf, isPlace, rightStart, halfOf, rootEnd, FilledEntries, FilledTree, FilledNodes, rootIn};
+ghost use Rattle.layout.specs.Rows.{rootIn};
+ghost use Rattle.file_fill.specs.Fill.{firstCellOf, isPlace, rightStart, halfOf, rootEnd, FilledEntries, FilledTree, FilledNodes};
 use crate::rows::put_row;
 use fields::Field;
 use fields::reader;
@@ -15,9 +16,6 @@ use file_scan::rows;
 use file_scan::rows::NodeRow;
 use tables::block;
 use tables::entry;
-
-// The largest end tick.
-const LAST: u64 = 1 << 63;
 
 // What stands at a position where the node of an interval is awaited: that node, no node, or anything else.
 pub enum Half {
@@ -214,7 +212,7 @@ fn root_end(file: &[u8], at: usize) -> u64
         NodeRow::Fault { .. } => 0,
         NodeRow::Absent { .. } => 0,
         NodeRow::Present { max, .. } => {
-            if LAST < max {
+            if block::MAX_END_TICK < max {
                 return 0;
             }
             max

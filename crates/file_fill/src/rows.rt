@@ -1,9 +1,10 @@
-// A row of eight numbers.
+// A row of eight numbers, and zeros from a table's start on.
 ghost use mathlib.Core.Path.{_≡_};
 ghost use mathlib.Core.List.{[], _∷_};
 ghost use Prim.Native.Nat.{_+_, _*_, _≤_};
 ghost use lib.Seq.{sets};
 ghost use Rattle.history.specs.Lent.{rowWidth};
+ghost use Rattle.file_fill.specs.Fill.{ZerosFirst};
 
 // Half a row: four numbers from column `col` on.
 fn put_half(table: &mut [u64], link: u64, col: usize, a: u64, b: u64, c: u64, d: u64)
@@ -35,4 +36,18 @@ pub fn put_row(
 {
     put_half(table, link, base, a, b, c, d);
     put_half(table, link, base + 4, e, f, g, h);
+}
+
+// The first `n` numbers of the table become 0, as far as it goes.
+pub fn put_zeros(table: &mut [u64], n: usize)
+    ensures { λ _. ⌜ ZerosFirst (now (table .entry)) (now (table .exit)) n ⌝ }
+{
+    let mut i = 0;
+    while i < n {
+        if table.len() <= i {
+            return;
+        }
+        table[i] = 0;
+        i += 1;
+    }
 }

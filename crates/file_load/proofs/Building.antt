@@ -1,12 +1,13 @@
--- The second pass and the tests behind it: one step for each return of `build`. Assumes nothing.
-use mathlib.Core.Path.{_≡_, refl, sym, _∙_}
+-- The second pass and the tests behind it: one step for each return of `put_head` and `build`. Assumes nothing.
+use mathlib.Core.Path.{_≡_, refl, sym, ap, _∙_}
 use mathlib.Core.Logic.{_⊎_, inl, inr, ⊎-elim}
 use mathlib.Core.Bool.{Bool, true, false, cond}
-use mathlib.Core.List.{List, [], _∷_}
-use Prim.Native.Nat.{ℕ, _+_, _*_, _<_}
+use mathlib.Core.List.{List, [], _∷_, _++_}
+use Prim.Native.Nat.{ℕ, _+_, _*_, _^_, _<_}
 use native.Mathlib.Omega.{arith}
-use lib.ListN.{length}
+use lib.ListN.{length, replicate, length-replicate}
 use lib.Seq.{sets}
+use Rattle.lists.proofs.Stores.{sets-append}
 use Rattle.lists.proofs.Numbers.{bool-cases, lt-or-le}
 use Rattle.history.specs.Lent.{rowWidth}
 use Rattle.history.specs.Words.{Block}
@@ -14,13 +15,29 @@ use Rattle.history.specs.Tree.{Tree}
 use Rattle.history.specs.Rules.{rule23, apart}
 use Rattle.history.specs.File.{File, treeFrom, endOf, rule20, rule21, rule22}
 use Rattle.history.proofs.FileRules.{Rule20, rule20-decides, rule21-decides, rule22-decides}
+use Rattle.tables.specs.Columns.{blockBase}
 use Rattle.segment_test.specs.Test.{lent}
 use Rattle.ordering.specs.Order.{Sorted}
-use Rattle.file_fill.specs.Fill.{FilledBlocks, FilledNodes}
+use Rattle.file_fill.specs.Fill.{ZerosFirst, FilledBlocks, FilledNodes}
 use Rattle.layout.specs.Tables.{tables, lengthsOf}
 use Rattle.layout.specs.Encodes.{closedState}
-use Rattle.file_load.specs.Load.{judgement, Judged, verdict, PartsAt, Built}
+use Rattle.layout.specs.Rows.{headNumbers}
+use Rattle.layout.specs.Files.{loadedHead}
+use Rattle.file_load.specs.Load.{judgement, Judged, HeadPut, verdict, PartsAt, Built}
 use Rattle.file_load.proofs.Standing.{Filled, judged-is, loaded}
+
+-- ── the head ──
+
+-- zeros from the start on, and a list behind them, are one list
+zeros-before : (n : ℕ) (l xs : List ℕ) → sets (sets l 0 (replicate n 0)) n xs ≡ sets l 0 (replicate n 0 ++ xs)
+zeros-before n l xs = sym (sets-append l 0 (replicate n 0) xs ∙ ap (λ (k : ℕ). sets (sets l 0 (replicate n 0)) k xs) (let z = length-replicate {A = ℕ} n 0 in omega arith))
+
+pub head-put : {blocks b₁ b₂ : List ℕ} {e kind n used : ℕ} → ZerosFirst blocks b₁ blockBase
+    → b₂ ≡ sets b₁ (rowWidth * 0 + blockBase) (headNumbers closedState e kind n used 0) → HeadPut blocks b₂ e kind n used
+unfolding loadedHead
+head-put {blocks} {b₁} {b₂} {e} {kind} {n} {used} cleared wrote =
+    let row : List ℕ = headNumbers closedState e kind n used 0 in
+    record { is = wrote ∙ ap (λ (l : List ℕ). sets l blockBase row) (cleared .is) ∙ zeros-before blockBase blocks row }
 
 -- ── the verdict ──
 
@@ -86,8 +103,8 @@ module _ (file : List ℕ) (kind n used start root : ℕ) {blocks store nodes en
           absurd (omega (arith, rule21-decides (f .nodes) .yes y .some-tick)))
           (λ y. verdict-21 f y) (bool-cases (rule21 (f .nodes)))
 
-  module _ (some-end : e ≡ 0 → ⊥) {b₂ b₃ : List ℕ}
-      (head : b₂ ≡ sets b₁ (rowWidth * 0 + 0) (closedState ∷ e ∷ kind ∷ n ∷ used ∷ 0 ∷ 0 ∷ 0 ∷ []))
+  module _ (few : n < 2 ^ 64) (some-end : e ≡ 0 → ⊥) {b₂ b₃ : List ℕ}
+      (head : HeadPut b₁ b₂ e kind n used)
       (sorted : Sorted b₂ b₃ n) {r : ℕ} (judged : Judged (lent b₃ nodes′ entries′) kind e n r) where
     keeps-21 : (f : File) → PartsAt file kind n used start root f → rule21 (f .nodes) ≡ true
     keeps-21 f q = ⊎-elim (λ y. y) (λ y. absurd (some-end (filled-nodes .wrong (f .nodes) (q .nodes-end) (q .nodes) y))) (bool-cases (rule21 (f .nodes)))
@@ -100,8 +117,9 @@ module _ (file : List ℕ) (kind n used start root : ℕ) {blocks store nodes en
           rows-are = filled-blocks .rows (f .blocks) root (q .blocks);
           bytes-are = filled-blocks .bytes (f .blocks) root (q .blocks);
           tree-is = filled-nodes .right (f .nodes) (q .nodes-end) (q .nodes) (keeps-21 f q);
-          head-is = head;
+          head-is = head .is;
           sorted = sorted;
+          few = few;
           count = q .count;
           bytes = q .bytes;
           own-kind = q .own-kind;
@@ -127,5 +145,3 @@ module _ (file : List ℕ) (kind n used start root : ℕ) {blocks store nodes en
           let some : 0 < n = omega (arith, rule22-decides (endOf (f .nodes)) (f .blocks) .yes (held .1) .some-block, q .count) in
           loaded (filled f pieces q room) some pieces (held .1) (held .2);
     }
-
-pub ruleset building = (build-halves, build-judged)

@@ -2,7 +2,7 @@
 use mathlib.Core.Path.{_≡_, refl, sym, _∙_, ap}
 use mathlib.Core.Logic.{_⊎_, inl, inr, ⊎-elim}
 use mathlib.Core.Bool.{Bool, true, false, _&&_, not, true≢false}
-use mathlib.Core.List.{List, [], _∷_}
+use mathlib.Core.List.{List, []}
 use Prim.Native.Nat.{ℕ, zero, suc, _+_, _*_, _-_, _/_, _^_, _≤_, _<_}
 use native.Mathlib.Omega.{arith}
 use lib.Dec.{leb, ltb}
@@ -18,14 +18,15 @@ use Rattle.history.specs.Tree.{Tree, noBlock}
 use Rattle.history.specs.Rules.{every, filled, lived, rule23, apart}
 use Rattle.history.specs.File.{rule22}
 use Rattle.history.specs.Sound.{isEmpty}
+use Rattle.history.proofs.FileLists.{not-empty}
 use Rattle.history.proofs.RulesLaws.{every-decides, apart-decides}
 use Rattle.history.proofs.FileRules.{rule22-decides, LivingBlock}
 use Rattle.tables.specs.Columns.{blockColumn, blockFirst, blockLength, blockCreated, blockDestroyed}
+use Rattle.block_table.specs.Blocks.{lengthAt, blockOfRow, blocksOf, Stored}
+use Rattle.block_table.proofs.Blocks.{blocks-length, blocks-at, blocks-key, bytes-length}
 use Rattle.segment_table.specs.Closed as closed
 use Rattle.segment_test.specs.Test.{BlockRows, ClosedTree}
 use Rattle.segment_test.proofs.ClosedTree.{tested-rule-23}
-use Rattle.ordering.specs.Blocks.{lengthAt, blockOfRow, blocksOf, Stored}
-use Rattle.ordering.proofs.Blocks.{blocks-length, blocks-at, blocks-key, bytes-length}
 use Rattle.segment_apart.specs.Apart.{Bounded, AllBounded, ClosedApart}
 use Rattle.segment_apart.proofs.Agreeing.{closed-decides}
 use Rattle.file_load.specs.Load.{roomFor, livesAt, TestedLives, judgement, Ready, Judged}
@@ -33,18 +34,18 @@ use Rattle.file_load.specs.Load.{roomFor, livesAt, TestedLives, judgemen
 -- ── the returns of `room` ──
 
 module _ (blocks store nodes entries n bytes rows runs : ℕ) where
-  pub room-blocks : {p : ℕ} → p ≡ blocks - blockHead → p / 8 < n → false ≡ roomFor blocks store nodes entries n bytes rows runs
+  pub room-blocks : {p : ℕ} → p ≡ (blocks - blockHead) / rowWidth → p < n → false ≡ roomFor blocks store nodes entries n bytes rows runs
   unfolding roomFor
   room-blocks e h = rw (lt-leb n ((blocks - blockHead) / rowWidth) (omega arith)) refl
 
-  module _ {p : ℕ} (e : p ≡ blocks - blockHead) (fits : n ≤ p / 8) where
-    pub room-nodes : {q : ℕ} → q ≡ nodes - nodeHead → q / 8 < rows → false ≡ roomFor blocks store nodes entries n bytes rows runs
+  module _ {p : ℕ} (e : p ≡ (blocks - blockHead) / rowWidth) (fits : n ≤ p) where
+    pub room-nodes : {q : ℕ} → q ≡ (nodes - nodeHead) / rowWidth → q < rows → false ≡ roomFor blocks store nodes entries n bytes rows runs
     unfolding roomFor
     room-nodes u h =
         rw (le-leb n ((blocks - blockHead) / rowWidth) (omega arith), lt-leb rows ((nodes - nodeHead) / rowWidth) (omega arith)) refl
 
-    module _ {q : ℕ} (u : q ≡ nodes - nodeHead) (fits₂ : rows ≤ q / 8) where
-      pub room-entries : {s : ℕ} → s ≡ entries - entryHead → s / 2 < runs → false ≡ roomFor blocks store nodes entries n bytes rows runs
+    module _ {q : ℕ} (u : q ≡ (nodes - nodeHead) / rowWidth) (fits₂ : rows ≤ q) where
+      pub room-entries : {s : ℕ} → s ≡ (entries - entryHead) / entryWidth → s < runs → false ≡ roomFor blocks store nodes entries n bytes rows runs
       unfolding roomFor
       room-entries w h =
           rw (
@@ -53,7 +54,7 @@ module _ (blocks store nodes entries n bytes rows runs : ℕ) where
             lt-leb runs ((entries - entryHead) / entryWidth) (omega arith),
           ) refl
 
-      pub room-bytes : {s : ℕ} → s ≡ entries - entryHead → runs ≤ s / 2 → leb bytes store ≡ roomFor blocks store nodes entries n bytes rows runs
+      pub room-bytes : {s : ℕ} → s ≡ (entries - entryHead) / entryWidth → runs ≤ s → leb bytes store ≡ roomFor blocks store nodes entries n bytes rows runs
       unfolding roomFor
       room-bytes w h =
           rw (
@@ -105,7 +106,7 @@ pub ruleset living = (lives-empty, lives-wraps, lives-never, lives-by)
 -- ── rule 22 over rows ──
 
 abbrev test : (end : ℕ) → Block → Bool
-test end b = filled (b .stretch) && lived end b
+test end b = filled b && lived end b
 
 module _ (store blocks : List ℕ) (n end : ℕ) (stored : Stored (length store) blocks n) where
   -- a row's test is its block's
@@ -202,10 +203,6 @@ module _ (t : closed.Tables) (kind end n : ℕ) {live : Bool} (lives : TestedLiv
 
     some : (store : List ℕ) → Stored (length store) (t .blocks) n → isEmpty (bs store) ≡ false
     some store q = not-empty (bs store) (rule22-decides end (bs store) .yes (rule store q) .some-block)
-      where
-        not-empty : (xs : List Block) → 0 < length xs → isEmpty xs ≡ false
-        not-empty [] h = absurd (omega arith)
-        not-empty (x ∷ xs) h = refl
 
     rows : (store : List ℕ) → BlockRows (t .blocks) n (bs store)
     unfolding blockOfRow

@@ -2,7 +2,7 @@
 use mathlib.Core.Path.{_≡_, refl, _∙_, ap₂}
 use mathlib.Core.Logic.{inl, inr}
 use mathlib.Core.List.{List, [], _∷_, map, flatMap}
-use Prim.Native.Nat.{ℕ, suc, _+_, _*_, _-_, _≤_, _<_}
+use Prim.Native.Nat.{ℕ, suc, _+_, _*_, _≤_, _<_}
 use native.Mathlib.Omega.{arith}
 use lib.ListN.{length, getD, take, drop, length-append}
 use Rattle.lists.specs.Lists.{countFrom, sumOf}
@@ -10,9 +10,11 @@ use Rattle.lists.proofs.Numbers.{eq-or-ne}
 use Rattle.history.specs.Lent.{rowWidth}
 use Rattle.history.specs.Words.{Block, size}
 use Rattle.tables.specs.Columns.{blockColumn, blockBase, blockFirst, blockLength, blockCreated, blockDestroyed, blockOffset, blockOwner}
-use Rattle.ordering.specs.Blocks.{lengthAt, offsetAt, blockOfRow, blocksOf, Stored}
+use Rattle.block_table.specs.Blocks.{rowAt, lengthAt, offsetAt, blockOfRow, blocksOf, Stored}
+use Rattle.block_table.proofs.Blocks.{shown-is}
 use Rattle.file_scan.specs.Counts.{bytesIn}
-use Rattle.file_fill.specs.Fill.{blockNumbers, blocksNumbers, bytesOfAll}
+use Rattle.layout.specs.Rows.{blockNumbers, blocksNumbers}
+use Rattle.file_fill.specs.Fill.{bytesOfAll}
 use Rattle.file_load.proofs.Holding.{HoldsAt, holds-left, holds-right, holds-moved, holds-part}
 
 -- ── sizes ──
@@ -53,12 +55,7 @@ module _ (t store : List ℕ) (rows used : ℕ) (b : Block) (row : HoldsAt t (ro
   row-is room bytes =
       let part : take (lengthAt t (suc rows)) (drop (offsetAt t (suc rows)) store) ≡ b .stretch .bytes =
       ap₂ (λ (n m : ℕ). take n (drop m store)) row-length row-offset ∙ holds-part store used (b .stretch .bytes) room bytes in
-      λ i. record {
-        kind = at blockOwner (omega arith) i;
-        stretch = record { first = at blockFirst (omega arith) i; bytes = part i };
-        created = at blockCreated (omega arith) i;
-        destroyed = at blockDestroyed (omega arith) i;
-      }
+      shown-is store (rowAt t (suc rows)) b (at blockOwner (omega arith)) (at blockFirst (omega arith)) part (at blockCreated (omega arith)) (at blockDestroyed (omega arith))
 
 -- ── all rows ──
 

@@ -3,41 +3,43 @@ use mathlib.Core.Path.{_≡_, refl, sym, _∙_, ap, ap₂, subst}
 use mathlib.Core.Logic.{_⊎_, inl, inr, ⊎-elim}
 use mathlib.Core.Bool.{true, false, true≢false, false≢true}
 use mathlib.Core.List.{List, [], _∷_, _++_}
-use Prim.Native.Nat.{ℕ, suc, _+_, _*_, _-_, _/_, _≤_, _<_, max}
+use Prim.Native.Nat.{ℕ, suc, _+_, _*_, _-_, _/_, _^_, _≤_, _<_, max}
 use native.Mathlib.Omega.{arith}
-use lib.ListN.{length, getD, length-append, length-replicate}
+use lib.ListN.{length, getD, replicate, length-append, length-replicate}
 use lib.Seq.{sets, length-sets}
-use Rattle.lists.specs.Lists.{all-nil, has, countFrom}
-use Rattle.lists.proofs.Lists.{all-at, count-from-length}
+use Rattle.lists.specs.Lists.{All, all-nil, all-cons, has, countFrom}
+use Rattle.lists.proofs.Lists.{all-at, all-map, count-from-length}
 use Rattle.lists.proofs.Numbers.{bool-cases, lt-or-le}
-use Rattle.lists.proofs.Stores.{getD-sets-out}
+use Rattle.lists.proofs.Stores.{getD-sets-out, sets-before}
 use Rattle.history.specs.Lent.{rowWidth, entryWidth, blockHead, nodeHead, entryHead, pieceHead}
 use Rattle.history.specs.Words.{Block}
-use Rattle.history.specs.Tree.{Tree, hole, node, nodeCount, entryCount, entriesIn}
+use Rattle.history.specs.Tree.{Tree, hole, node, nodeCount, entryCount, entriesIn, keyIn}
 use Rattle.history.specs.Rules.{isHole, rule23}
 use Rattle.history.specs.File.{Nodes, absent, present, File, treeFrom, endOf, rule22, loadedFrom, loadedLedger}
 use Rattle.history.proofs.TreeCounts.{entry-count-in}
+use Rattle.history.proofs.RulesLaws.{numbered-decides, rule23-decides}
 use Rattle.history.proofs.FileRules.{Rule21, Rule22, rule22-decides}
 use Rattle.history.proofs.FileContents.{Entered, rules-enter}
 use Rattle.tables.specs.Columns.{blockColumn, blockBase, blockFirst, blockNext, headState, headEnd, headKind, headCount, headUsed, headLast}
+use Rattle.block_table.specs.Blocks.{Room, blocksOf, Stored}
+use Rattle.block_table.proofs.Blocks.{blocks-key}
 use Rattle.segment_table.specs.Closed.{firstCellIn, Closed}
 use Rattle.segment_test.specs.Test.{lent}
-use Rattle.ordering.specs.Order.{Room, InOrder, Ordered, Sorted}
-use Rattle.ordering.specs.Blocks.{blocksOf, Stored}
-use Rattle.ordering.proofs.Keeping.{order-column, stored-order}
-use Rattle.ordering.proofs.Blocks.{blocks-order}
+use Rattle.ordering.specs.Order.{InOrder, ordered, Ordered, Sorted}
+use Rattle.ordering.proofs.Keeping.{order-column, stored-order, blocks-order}
+use Rattle.ordering.proofs.Explicit.{ordered-is}
 use Rattle.file_scan.specs.Counts.{bytesIn}
-use Rattle.file_fill.specs.Fill.{blocksNumbers, bytesOfAll, firstCellOf, entryNumbers, nodeNumbers, nodeHeadNumbers, entryHeadNumbers, NodesLeft}
-use Rattle.file_fill.proofs.Storing.{sets-before}
+use Rattle.layout.specs.Rows.{headNumbers, blocksNumbers, nodeHeadNumbers, nodeNumbers, treeNumbers, entryHeadNumbers, entryNumbers, runNumbers}
+use Rattle.file_fill.specs.Fill.{bytesOfAll, firstCellOf, NodesLeft}
 use Rattle.file_fill.proofs.FillingTrees.{node-numbers-length, entry-numbers-length}
 use Rattle.layout.specs.Tables.{Tables, tables, lengthsOf, headAt}
 use Rattle.layout.specs.Encodes.{closedState, Encodes}
 use Rattle.layout.specs.Relations.{zeros}
-use Rattle.layout.specs.Files.{headed, LoadedTables}
+use Rattle.layout.specs.Files.{headed, loadedHead, loadedRows, LoadedTables}
 use Rattle.layout.proofs.Lengths.{lent-same, fit-heads}
 use Rattle.layout.proofs.Opening.{getD-zeros, no-links}
 use Rattle.file_load.specs.Load.{Ready, Judged, judgement}
-use Rattle.file_load.proofs.Holding.{HoldsAt, written-holds, holds-left, holds-right, holds-part}
+use Rattle.file_load.proofs.Holding.{HoldsAt, written-holds, holds-left, holds-right, holds-moved, holds-part}
 use Rattle.file_load.proofs.Rows.{numbers-length, bytes-length, filled-blocks, filled-stored}
 use Rattle.file_load.proofs.Trees.{entries-used, tree-closed}
 
@@ -54,20 +56,25 @@ unfolding nodeCount
 some-node hole h = absurd (true≢false h)
 some-node (node es l r) h = omega arith
 
--- ── what was filled ──
+-- ── numbers ──
 
--- the head of the block table
-abbrev pub headNumbers : (e kind n used : ℕ) → List ℕ
-headNumbers e kind n used = closedState ∷ e ∷ kind ∷ n ∷ used ∷ 0 ∷ 0 ∷ 0 ∷ []
+-- entries with the same keys
+entry-numbers-same : (key key′ : ℕ → ℕ) (ks : List ℕ) → All (λ k. key k ≡ key′ k) ks → entryNumbers key ks ≡ entryNumbers key′ ks
+unfolding entryNumbers
+entry-numbers-same key key′ [] all-nil = refl
+entry-numbers-same key key′ (k ∷ ks) (all-cons e es) = ap₂ (λ (x : ℕ) (xs : List ℕ). k ∷ x ∷ xs) e (entry-numbers-same key key′ ks es)
+
+-- ── what was filled ──
 
 -- Each table after its part of the second pass: the block rows, the head in front of them, their order; the bytes; nodes and entries. What was
 -- counted is the file's and has room, and rule 21 holds.
-pub record Filled (f : File) (kind n used e : ℕ) (blocks store nodes entries rows headed-rows ordered store′ nodes′ entries′ : List ℕ) : Type 0 where
+pub record Filled (f : File) (kind n used e : ℕ) (blocks store nodes entries rows headed-rows in-order store′ nodes′ entries′ : List ℕ) : Type 0 where
   pub rows-are : rows ≡ sets blocks (rowWidth * 1 + blockBase) (blocksNumbers 0 (f .blocks))
   pub bytes-are : store′ ≡ sets store 0 (bytesOfAll (f .blocks))
   pub tree-is : NodesLeft rows kind (f .nodes) nodes entries nodes′ entries′ e
-  pub head-is : headed-rows ≡ sets rows (rowWidth * 0 + 0) (headNumbers e kind n used)
-  pub sorted : Sorted headed-rows ordered n
+  pub head-is : headed-rows ≡ sets rows 0 (loadedHead e kind n used)
+  pub sorted : Sorted headed-rows in-order n
+  pub few : n < 2 ^ 64
   pub count : n ≡ length (f .blocks)
   pub bytes : used ≡ bytesIn (f .blocks)
   pub own-kind : kind ≡ f .kind
@@ -100,10 +107,10 @@ module _ {f : File} {kind n used e : ℕ} {blocks store nodes entries b₁ b₂ 
   root-there = rooted (f .nodes) (F .rule-21 .some-tick)
 
   abbrev nodeList : List ℕ
-  nodeList = nodeHeadNumbers kind (nodeCount T) ++ nodeNumbers kind 0 (endOf (f .nodes)) 0 0 T
+  nodeList = treeNumbers kind (endOf (f .nodes)) T
 
   abbrev entryList : List ℕ
-  entryList = entryHeadNumbers (entryCount T) ++ entryNumbers (firstCellOf b₁) (entriesIn T)
+  entryList = runNumbers (firstCellOf b₁) T
 
   nodes-long : length nodes′ ≡ length nodes
   nodes-long = ap length (F .tree-is .node-rows) ∙ length-sets nodes 0 nodeList
@@ -136,14 +143,33 @@ module _ {f : File} {kind n used e : ℕ} {blocks store nodes entries b₁ b₂ 
 
   -- ── blocks ──
 
-  abbrev blockList : List ℕ
-  blockList = headNumbers e kind n used ++ blocksNumbers 0 bs
+  abbrev headRow : List ℕ
+  headRow = headNumbers closedState e kind n used 0
 
+  abbrev blockList : List ℕ
+  blockList = loadedHead e kind n used ++ blocksNumbers 0 bs
+
+  head-list-long : length (loadedHead e kind n used) ≡ blockHead
+  unfolding loadedHead
+  head-list-long = length-append (replicate blockBase 0) headRow ∙ omega (arith, length-replicate {A = ℕ} blockBase 0)
+
+  -- the head and the rows behind it were written as one list
   whole : b₂ ≡ sets blocks 0 blockList
-  whole = F .head-is ∙ ap (λ (u : List ℕ). sets u 0 (headNumbers e kind n used)) (F .rows-are) ∙ sets-before blocks 0 (headNumbers e kind n used) (blocksNumbers 0 bs)
+  whole =
+      let place : rowWidth * 1 + blockBase ≡ 0 + length (loadedHead e kind n used) = omega (arith, head-list-long) in
+      F .head-is
+      ∙ ap (λ (u : List ℕ). sets u 0 (loadedHead e kind n used)) (F .rows-are ∙ ap (λ (i : ℕ). sets blocks i (blocksNumbers 0 bs)) place)
+      ∙ sets-before blocks 0 (loadedHead e kind n used) (blocksNumbers 0 bs)
+
+  loaded-rows : b₂ ≡ sets blocks 0 (loadedRows (loadedFrom f))
+  unfolding loadedRows
+  loaded-rows =
+      let same : blockList ≡ loadedHead (endOf (f .nodes)) (f .kind) (length bs) (length (bytesOfAll bs)) ++ blocksNumbers 0 bs =
+      rw (F .tree-is .ends, F .own-kind, F .count, F .bytes, bytes-length bs) in
+      whole ∙ ap (λ (v : List ℕ). sets blocks 0 v) same
 
   block-list-long : length blockList ≡ blockHead + rowWidth * n
-  block-list-long = length-append (headNumbers e kind n used) (blocksNumbers 0 bs) ∙ omega (arith, numbers-length 0 bs, F .count)
+  block-list-long = length-append (loadedHead e kind n used) (blocksNumbers 0 bs) ∙ omega (arith, head-list-long, numbers-length 0 bs, F .count)
 
   head-long : length b₂ ≡ length blocks
   head-long = ap length whole ∙ length-sets blocks 0 blockList
@@ -155,6 +181,12 @@ module _ {f : File} {kind n used e : ℕ} {blocks store nodes entries b₁ b₂ 
     rows-hold : HoldsAt b₂ 0 blockList
     rows-hold = subst (λ (s : List ℕ). HoldsAt s 0 blockList) (sym whole) (written-holds blocks 0 blockList (omega (arith, block-list-long, block-fits)))
 
+    head-hold : HoldsAt b₂ blockBase headRow
+    unfolding loadedHead
+    head-hold =
+        holds-moved (length-replicate {A = ℕ} blockBase 0)
+        (holds-right (replicate blockBase 0) headRow (holds-left (loadedHead e kind n used) (blocksNumbers 0 bs) rows-hold))
+
     rows-room : Room b₂ n
     rows-room = omega (arith, head-long, block-fits)
 
@@ -165,13 +197,13 @@ module _ {f : File} {kind n used e : ℕ} {blocks store nodes entries b₁ b₂ 
     blocks-long = order .only .len ∙ head-long
 
     -- the head's columns, but for the first in order
-    head-column : (c : ℕ) → c < rowWidth → (c ≡ blockNext → ⊥) → blockColumn b₃ 0 c ≡ getD (headNumbers e kind n used) c 0
+    head-column : (c : ℕ) → c < rowWidth → (c ≡ blockNext → ⊥) → blockColumn b₃ 0 c ≡ getD headRow c 0
     head-column c h ne =
-        let z : rowWidth * 0 + (blockBase + c) ≡ 0 + c = omega arith in
-        order-column (order .only) 0 c h ne ∙ rw z (holds-left (headNumbers e kind n used) (blocksNumbers 0 bs) rows-hold .says c h)
+        let z : rowWidth * 0 + (blockBase + c) ≡ blockBase + c = omega arith in
+        order-column (order .only) 0 c h ne ∙ rw z (head-hold .says c h)
 
     row-list : HoldsAt b₂ (rowWidth * 1 + blockBase) (blocksNumbers 0 bs)
-    row-list = holds-right (headNumbers e kind n used) (blocksNumbers 0 bs) rows-hold
+    row-list = holds-moved (omega (arith, head-list-long)) (holds-right (loadedHead e kind n used) (blocksNumbers 0 bs) rows-hold)
 
     blocks-are : blocksOf store′ b₃ n ≡ bs
     blocks-are =
@@ -192,7 +224,7 @@ module _ {f : File} {kind n used e : ℕ} {blocks store nodes entries b₁ b₂ 
         sym
         (order-column (order .only) (suc k) blockFirst (omega arith) (λ z. omega arith)
         ∙ ap (λ (u : List ℕ). getD u i 0) (F .head-is)
-        ∙ getD-sets-out (headNumbers e kind n used) b₁ (rowWidth * 0 + 0) i (inr (omega arith)))
+        ∙ getD-sets-out (loadedHead e kind n used) b₁ 0 i (inr (omega (arith, head-list-long))))
 
     closed : entryHead ≤ length entries → Closed (lent b₃ nodes′ entries′) kind (endOf (f .nodes)) T
     closed h =
@@ -294,18 +326,21 @@ module _ {f : File} {kind n used e : ℕ} {blocks store nodes entries b₁ b₂ 
         tree = (subst (InOrder b₃) (F .count) (order .order), subst (λ (k : ℕ). Closed (lent b₃ nodes′ entries′) k (endOf (f .nodes)) T) (F .own-kind) (closed entries-headed));
       }
 
+      -- the keys are the first cells of the file's blocks: every entry is one of them
+      keys-are : All (λ k. firstCellOf b₁ k ≡ keyIn bs k) (entriesIn T)
+      keys-are =
+          all-map (λ k h. keys k ∙ sym (blocks-key store′ b₃ n k (omega (arith, F .count))) ∙ ap (λ (xs : List Block). keyIn xs k) blocks-are)
+          (numbered-decides (length bs) T .yes (rule23-decides (endOf (f .nodes)) bs T .yes entries-right .numbers))
+
       pub loaded : LoadedTables (loadedFrom f) t t′
       loaded = record {
-        lengths = lent-same (lengthsOf t′) (lengthsOf t) (length-replicate (length pieces) 0) blocks-long store-long nodes-long entries-long;
         pieces = refl;
+        blocks = ordered-is order rows-room (F .few) ∙ ap₂ ordered loaded-rows (F .count);
         store = F .bytes-are;
+        nodes = F .tree-is .node-rows ∙ ap (λ (k : ℕ). sets nodes 0 (treeNumbers k (endOf (f .nodes)) T)) (F .own-kind);
+        entries =
+            F .tree-is .entry-rows
+            ∙ ap (λ (xs : List ℕ). sets entries 0 (entryHeadNumbers (entryCount T) ++ xs)) (entry-numbers-same (firstCellOf b₁) (keyIn bs) (entriesIn T) keys-are);
+        lengths = lent-same (lengthsOf t′) (lengthsOf t) (length-replicate (length pieces) 0) blocks-long store-long nodes-long entries-long;
         stands = encodes;
-        blocks-rest = λ i h.
-            order .only .same i (λ k p z. omega (arith, F .count))
-            ∙ ap (λ (u : List ℕ). getD u i 0) whole
-            ∙ getD-sets-out blockList blocks 0 i (inr (omega (arith, block-list-long, F .count)));
-        nodes-rest = λ i h.
-            ap (λ (u : List ℕ). getD u i 0) (F .tree-is .node-rows) ∙ getD-sets-out nodeList nodes 0 i (inr (omega (arith, node-list-long)));
-        entries-rest = λ i h.
-            ap (λ (u : List ℕ). getD u i 0) (F .tree-is .entry-rows) ∙ getD-sets-out entryList entries 0 i (inr (omega (arith, entry-list-long)));
       }

@@ -16,7 +16,7 @@ use Rattle.history.proofs.TreeCounts.{entry-count-in}
 use Rattle.tables.specs.Columns.{column, entryColumn, nodeFirst, nodeEntries, nodesCount, entryBlock, entryKey}
 use Rattle.segment_table.specs.Closed.{Tables, nodesUsed, entriesUsed, firstAt, countAt, blockIn, firstCellIn, Consecutive, Closed}
 use Rattle.layout.proofs.ExistsTree.{linkTo, nodeRows, node-rows-length, Runs, node-rows-runs, runs-first, runs-next, RowsAt, EntriesAt, rows-tree}
-use Rattle.file_fill.specs.Fill.{entryNumbers, rootLink, nodeNumbers, rootIn, nodeHeadNumbers, entryHeadNumbers}
+use Rattle.layout.specs.Rows.{entryNumbers, rootLink, nodeNumbers, rootIn, nodeHeadNumbers, entryHeadNumbers}
 use Rattle.file_fill.proofs.FillingTrees.{node-numbers-length, entry-numbers-length}
 use Rattle.file_load.proofs.Holding.{HoldsAt, holds-left, holds-right, holds-moved}
 

@@ -5,6 +5,7 @@ use mathlib.Core.List.{List}
 use Prim.Native.Nat.{ℕ, _+_, _-_, _*_, _/_, _^_, _≤_, _<_}
 use lib.Dec.{leb, ltb}
 use lib.ListN.{length}
+use lib.Seq.{sets}
 use Rattle.history.specs.Lent.{rowWidth, entryWidth, blockHead, nodeHead, entryHead}
 use Rattle.history.specs.Words.{Block}
 use Rattle.history.specs.Tree.{Tree}
@@ -12,14 +13,14 @@ use Rattle.history.specs.Rules.{rule23, apart, isHole}
 use Rattle.history.specs.Refusals.{Answer, accepted, refused}
 use Rattle.history.specs.File.{File, got, many, readBlock, readRoot, loadedFrom, endOf, treeFrom, rule20, rule21, rule22}
 use Rattle.tables.specs.Columns.{blockColumn, blockFirst, blockLength, blockCreated, blockDestroyed}
+use Rattle.block_table.specs.Blocks.{Room, blocksOf, Stored}
 use Rattle.segment_table.specs.Closed as closed
 use Rattle.segment_table.specs.Closed.{Closed}
-use Rattle.ordering.specs.Order.{Room, InOrder}
-use Rattle.ordering.specs.Blocks.{blocksOf, Stored}
+use Rattle.ordering.specs.Order.{InOrder}
 use Rattle.file_scan.specs.Counts.{bytesIn}
 use Rattle.layout.specs.Tables.{Tables, tables, lengthsOf}
 use Rattle.layout.specs.Relations.{zeros}
-use Rattle.layout.specs.Files.{LoadedTables}
+use Rattle.layout.specs.Files.{loadedHead, LoadedTables}
 use Rattle.file_load.specs.declared.Loaded.{Loaded}
 use Rattle.file_load.specs.declared.Loaded.the-variants.{Next, Refused}
 
@@ -71,6 +72,11 @@ pub record Ready (t : closed.Tables) (kind end n : ℕ) (store : List ℕ) (tree
 pub record Judged (t : closed.Tables) (kind end n r : ℕ) : Type 0 where
   pub is : (store : List ℕ) (tree : Tree) → Ready t kind end n store tree → r ≡ judgement end (blocksOf store (t .blocks) n) tree
   pub none : n ≡ 0 → r ≡ 22
+
+-- ── the head ──
+
+pub record HeadPut (blocks blocks′ : List ℕ) (end kind n used : ℕ) : Type 0 where
+  pub is : blocks′ ≡ sets blocks 0 (loadedHead end kind n used)
 
 -- ── 21 to 24 ──
 

@@ -11,9 +11,6 @@ const ENTRIES: u64 = 23;
 
 const SHARED: u64 = 24;
 
-// The largest number.
-const MOST: u64 = 18446744073709551615;
-
 // Whether the block of a link has cells, no end above the largest number, and a life that ends by `end`. It subtracts and does not add.
 fn lives_at(blocks: &[u64], link: u64, end: u64) -> bool
     ensures { λ r. ⌜ r ≡ livesAt (now (blocks .entry)) link end ⌝ }
@@ -22,7 +19,7 @@ fn lives_at(blocks: &[u64], link: u64, end: u64) -> bool
     if length == 0 {
         return false;
     }
-    if MOST - length < block::get(blocks, link, block::FIRST) {
+    if u64::MAX - length < block::get(blocks, link, block::FIRST) {
         return false;
     }
     let destroyed = block::get(blocks, link, block::DESTROYED);

@@ -20,7 +20,7 @@ ghost use mathlib.Core.Path.{_≡_};
 ghost use lib.ListN.{length, replicate};
 ghost use Rattle.layout.specs.Tables.{tables};
 ghost use Rattle.layout.specs.Files.{LoadedBy};
-ghost use Rattle.file_load.specs.Load.{loadedOf, Built, Zeroed};
+ghost use Rattle.file_load.specs.Load.{loadedOf, HeadPut, Built, Zeroed};
 use file_fill::blocks;
 use file_fill::nodes;
 use file_fill::rows;
@@ -65,6 +65,26 @@ fn zero_all(blocks: &mut [u64], store: &mut [u8], nodes: &mut [u64], entries: &m
     tables::zero(entries);
 }
 
+// The head of a loaded index: zeros in its front, and its last row.
+fn put_head(blocks: &mut [u64], end: u64, kind: u64, n: u64, used: u64)
+    ensures { λ _. ⌜ HeadPut (now (blocks .entry)) (now (blocks .exit)) end kind n used ⌝ }
+{
+    rows::put_zeros(blocks, block::BASE);
+    rows::put_row(
+        blocks,
+        block::BASE,
+        0,
+        block::CLOSED,
+        end,
+        kind,
+        n,
+        used,
+        0,
+        0,
+        0,
+    );
+}
+
 // Fills the tables from a file that was scanned and has room in them, and tests rules 21 to 24: 0 where they hold, or the first that does not.
 fn build(
     blocks: &mut [u64],
@@ -85,19 +105,7 @@ fn build(
     if end == 0 {
         return HALVES;
     }
-    rows::put_row(
-        blocks,
-        blocks::BASE,
-        0,
-        block::CLOSED,
-        end,
-        kind,
-        n,
-        used,
-        0,
-        0,
-        0,
-    );
+    put_head(blocks, end, kind, n, used);
     ordering::sort(blocks, n);
     judge::judge(blocks, nodes, entries, kind, end, n)
 }

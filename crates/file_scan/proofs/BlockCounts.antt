@@ -15,20 +15,7 @@ use Rattle.file_scan.specs.declared.rows.BlockRow.the-variants as block
 use Rattle.file_scan.specs.Rows.{blockRow}
 use Rattle.file_scan.specs.Counts.{bytesIn, blocksFrom}
 use Rattle.file_scan.proofs.RowReads.{block-passes}
-
--- ── what a row says of the reading ──
-
--- a block's row comes of a block that was read, and a fault of a fault
-row-block : (at : ℕ) {a b c d q n : ℕ} {G : Type 0} (o : Read Block) → block.Block a b c d q n ≡ blockRow at o
-    → ((x : Block) → o ≡ got x n → size (x .stretch) ≡ b → G) → G
-unfolding blockRow
-row-block at (got x m) e f = f x (ap (got x) (cc)) (cc)
-row-block at (fault i) e f = absurd (let z : _≡_ {A = ℕ} 0 1 = cc in omega arith)
-
-row-fault : (at : ℕ) {i : ℕ} (o : Read Block) → block.Fault i ≡ blockRow at o → o ≡ fault i
-unfolding blockRow
-row-fault at (got x m) e = absurd (let z : _≡_ {A = ℕ} 0 1 = cc in omega arith)
-row-fault at (fault j) e = ap fault (cc)
+use Rattle.file_scan.proofs.RowSays.{block-says, block-fault}
 
 -- ── one more block ──
 
@@ -66,21 +53,21 @@ module _ {kind : ℕ} {file : List ℕ} {whole : Blocks} {left bytes place : ℕ
     -- the bytes counted are bytes of the file
     pub pass-room : bytes + b ≤ length file
     pass-room =
-        row-block place (readBlock kind file place) (sym t ∙ e) λ x g z.
-        let p = block-passes kind file place g in
-        omega (arith, s .bound)
+        let said = block-says place (readBlock kind file place) (sym t ∙ e) in
+        let p = block-passes kind file place (said .read) in
+        omega (arith, s .bound, said .cells-are)
 
     -- one block more
     pub pass-turn : 0 < left → Counts kind file whole (left - 1) (bytes + b) n
     pass-turn h =
-        row-block place (readBlock kind file place) (sym t ∙ e) λ x g z.
-        let p = block-passes kind file place g in
-        let more = rw (← (suc-of left (λ k. omega arith)), z) at (blocks-more kind file place (left - 1) bytes g) in
-        record { same = sym more ∙ s .same; bound = omega (arith, s .bound) }
+        let said = block-says place (readBlock kind file place) (sym t ∙ e) in
+        let p = block-passes kind file place (said .read) in
+        let more = rw (← (suc-of left (λ k. omega arith)), ← (said .cells-are)) at (blocks-more kind file place (left - 1) bytes (said .read)) in
+        record { same = sym more ∙ s .same; bound = omega (arith, s .bound, said .cells-are) }
 
   pub pass-fault : {r : BlockRow} {i : ℕ} → r ≡ block.Fault i → r ≡ blockRow place (readBlock kind file place) → 0 < left → passed.Fault i ≡ whole
   pass-fault t e h =
-      sym (rw (← (suc-of left (λ k. omega arith))) at (blocks-stop kind file place (left - 1) bytes (row-fault place (readBlock kind file place) (sym t ∙ e)))) ∙ s .same
+      sym (rw (← (suc-of left (λ k. omega arith))) at (blocks-stop kind file place (left - 1) bytes (block-fault place (readBlock kind file place) (sym t ∙ e)))) ∙ s .same
 
   pub pass-done : left ≤ 0 → passed.Passed bytes place ≡ whole
   unfolding many give blocksFrom sumOf

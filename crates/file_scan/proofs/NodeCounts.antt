@@ -13,32 +13,11 @@ use Rattle.file_scan.specs.declared.nodes.Nodes.{Nodes as Trees}
 use Rattle.file_scan.specs.declared.nodes.Nodes.the-variants as trees
 use Rattle.file_scan.specs.declared.rows.NodeRow.{NodeRow}
 use Rattle.file_scan.specs.declared.rows.NodeRow.the-variants as node
-use Rattle.file_scan.specs.Rows.{rowHead, Head, headAbsent, headPresent, readHead, nodeRow}
+use Rattle.file_scan.specs.Rows.{rowHead, headAbsent, headPresent, readHead, nodeRow}
 use Rattle.file_scan.specs.Counts.{nodesFrom}
 use Rattle.file_scan.proofs.RowReads.{head-passes}
+use Rattle.file_scan.proofs.RowSays.{row-present, row-absent, row-fault}
 use Rattle.file_scan.proofs.Forest.{root-parts}
-
--- ── what a row says of the reading ──
-
--- a node's row comes of a node that was read, an absent child of an absent child, and a fault of a fault
-row-present : (at : ℕ) {a b c d q n : ℕ} {G : Type 0} (o : Read Head) → node.Present a b c d q n ≡ nodeRow at o
-    → ((es : List ℕ) → o ≡ got (headPresent a b c es) n → length es ≡ d → G) → G
-unfolding nodeRow
-row-present at (got headAbsent m) e f = absurd (let z : _≡_ {A = ℕ} 0 1 = cc in omega arith)
-row-present at (got (headPresent x y z es) m) e f = f es (cc) (cc)
-row-present at (fault i) e f = absurd (let z : _≡_ {A = ℕ} 0 1 = cc in omega arith)
-
-row-absent : (at : ℕ) {n : ℕ} (o : Read Head) → node.Absent n ≡ nodeRow at o → o ≡ got headAbsent n
-unfolding nodeRow
-row-absent at (got headAbsent m) e = cc
-row-absent at (got (headPresent x y z es) m) e = absurd (let z : _≡_ {A = ℕ} 0 1 = cc in omega arith)
-row-absent at (fault i) e = absurd (let z : _≡_ {A = ℕ} 0 1 = cc in omega arith)
-
-row-fault : (at : ℕ) {i : ℕ} (o : Read Head) → node.Fault i ≡ nodeRow at o → o ≡ fault i
-unfolding nodeRow
-row-fault at (got headAbsent m) e = absurd (let z : _≡_ {A = ℕ} 0 1 = cc in omega arith)
-row-fault at (got (headPresent x y z es) m) e = absurd (let z : _≡_ {A = ℕ} 0 1 = cc in omega arith)
-row-fault at (fault j) e = cc
 
 -- ── a forest ──
 
@@ -132,14 +111,14 @@ module _ {file : List ℕ} {whole : Trees} {awaited nodes entries place : ℕ} (
     -- what is counted with this node, and the position behind it
     pub present-room : (rowHead * (nodes + 1) + 8 * (entries + d) ≤ n) × (place < n) × (n ≤ length file)
     present-room =
-        row-present place (readHead file place) (sym t ∙ e) λ es g z.
+        row-present place (readHead file place) (sym t ∙ e) λ es g z w.
         let p = head-passes file place g in
         (omega (arith, s .bound), omega arith, omega arith)
 
     -- one node more, and its two subtrees are awaited
     pub pass-present : 0 < awaited → Awaits file whole (awaited + 1) (nodes + 1) (entries + d) n
     pass-present h =
-        row-present place (readHead file place) (sym t ∙ e) λ es g z.
+        row-present place (readHead file place) (sym t ∙ e) λ es g z w.
         let k : suc (suc (awaited - 1)) ≡ awaited + 1 = omega arith in
         let turn = rw (k, ← (suc-of awaited (λ w. omega arith)), z) at (forest-present file place nodes entries (awaited - 1) g) in
         record { same = sym turn ∙ s .same; bound = present-room .0; few = omega (arith, s .few) }

@@ -16,7 +16,6 @@ use Rattle.lists.proofs.Counting.{count-from-append}
 use Rattle.history.specs.Words.{Block}
 use Rattle.history.specs.Tree.{Tree, hole, node, mid, noBlock, blockAt, nodeCount, entryCount, entriesIn}
 use Rattle.history.specs.Ledger.{Ledger, finished, isSome}
-use Rattle.history.specs.Reads.{treeOrHole}
 use Rattle.history.specs.Sound.{Sound, SoundTree, SoundClosed}
 use Rattle.history.specs.File.{bytesOf, blockBytes, nodeBytes, fileBytes, thoseWith, written, writtenBlocks, placeIn, mapTree, nodesOf, contents, fileOf, fileBy}
 use Rattle.history.proofs.RulesLaws.{rule23-decides, numbered-decides}
@@ -24,17 +23,20 @@ use Rattle.history.proofs.TreeEntries.{entry-life}
 use Rattle.history.proofs.FileNumbers.{bytesOf-length}
 use Rattle.history.proofs.FileRenumbered.{mapTree-nodeCount, mapTree-entryCount}
 use Rattle.history.proofs.FileKept.{entries-written}
+use Rattle.history.proofs.FileLoad.{file-some, file-none}
+use Rattle.history.proofs.ByKind.{closed-rule-23}
+use Rattle.history.proofs.FileLists.{not-empty, none-empty}
 use Rattle.tables.specs.Columns.{column, blockColumn, headKind, headEnd}
-use Rattle.ordering.specs.Blocks.{lengthAt, offsetAt, blockOfRow, Stored}
-use Rattle.ordering.proofs.Blocks.{blocks-at, bytes-length}
+use Rattle.block_table.specs.Blocks.{lengthAt, offsetAt, blockOfRow, Stored}
+use Rattle.block_table.proofs.Blocks.{blocks-at, bytes-length}
 use Rattle.segment_table.specs.Closed.{TreeAt, Closed}
 use Rattle.layout.specs.Tables.{tables}
 use Rattle.layout.specs.Encodes.{Encodes, TreeIn}
 use Rattle.layout.proofs.Pieces.{used-fits}
-use Rattle.file_write.specs.Living.{lives, living, livingBlocks}
+use Rattle.file_put.specs.Living.{lives, living, livingBlocks}
 use Rattle.file_write.specs.Sizes.{blocksSize, nodesSize, blockCount}
-use Rattle.file_write.proofs.Laying.{flatMap-append, flatMap-map, flatMap-one, block-parts, stored-fewer}
-use Rattle.file_write.proofs.Listing.{living-below, numbers-length}
+use Rattle.file_put.proofs.Laying.{flatMap-append, flatMap-map, flatMap-one, block-parts, stored-fewer}
+use Rattle.file_nodes.proofs.Listing.{living-below, numbers-length}
 
 -- ── which blocks are written ──
 
@@ -89,16 +91,6 @@ nodes-size lo hi (node es l r) =
 
 -- ── the file in parts ──
 
-file-some : (kind e : ℕ) (bs : List Block) (tree : Tree) → 0 < length bs → fileOf kind e bs tree ≡ fileBytes (contents kind e bs tree)
-unfolding fileOf
-file-some kind e [] tree h = absurd (omega arith)
-file-some kind e (b ∷ bs) tree h = refl
-
-pub file-none : (kind e : ℕ) (bs : List Block) (tree : Tree) → length bs ≡ 0 → fileOf kind e bs tree ≡ []
-unfolding fileOf
-file-none kind e [] tree h = refl
-file-none kind e (b ∷ bs) tree h = absurd (omega arith)
-
 -- What the tables say of the ledger's file.
 pub record Agrees (blocks store nodes entries : List ℕ) (l : Ledger) : Type 0 where
   pub tree : Tree
@@ -129,7 +121,7 @@ module _ (pieces blocks store nodes entries : List ℕ) (l : Ledger) (e : Encode
     those =
         rw (← (e .count))
         (living-entered (entriesIn tree) blocks (blockCount blocks) λ k h.
-        entry-life (l .opening .end) bs tree (omega (arith, s .board .some-tick)) (sound .rule-21) (sound .rule-23) k (omega (arith, e .count))
+        entry-life (l .opening .end) bs tree (omega (arith, s .board .some-tick)) (sound .rule-21) (closed-rule-23 l tree (s .board) sound) k (omega (arith, e .count))
         ∙ ap (λ (b : Block). ltb (b .created) (b .destroyed)) (row-block k h))
 
     themselves : writtenBlocks (l .now .blocks) tree ≡ livingBlocks store blocks (blockCount blocks)
@@ -145,7 +137,7 @@ module _ (pieces blocks store nodes entries : List ℕ) (l : Ledger) (e : Encode
         ++ nodeBytes (nodesOf 0 (blockColumn blocks 0 headEnd) (mapTree (placeIn (living blocks (blockCount blocks))) tree)))
     unfolding fileBytes contents flatten
     file-parts h =
-        file-some (l .opening .kind) (l .opening .end) bs tree (omega (arith, e .count))
+        file-some (l .opening .kind) (l .opening .end) bs tree (sound .rooted ∙ not-empty bs (omega (arith, e .count)))
         ∙ rw (many-blocks, themselves, those, e .kind, e .end) (simp (append-assoc, append-nil))
 
     agrees-tree : Agrees blocks store nodes entries l
@@ -154,7 +146,7 @@ module _ (pieces blocks store nodes entries : List ℕ) (l : Ledger) (e : Encode
         let inside : Stored (length store) blocks (blockCount blocks) =
         record { inside = λ link a b. omega (arith, e .blocks-stored .inside link a b, used-fits (tables pieces blocks store nodes entries) l e) } in
         let ks = living blocks (blockCount blocks) in
-        let rule = rule23-decides (l .opening .end) bs tree .yes (sound .rule-23) in
+        let rule = rule23-decides (l .opening .end) bs tree .yes (closed-rule-23 l tree (s .board) sound) in
         record {
           tree = tree;
           stands = rw (e .kind, e .end) (closed .stands);
@@ -164,7 +156,7 @@ module _ (pieces blocks store nodes entries : List ℕ) (l : Ledger) (e : Encode
           nodes-long =
               nodes-size 0 (blockColumn blocks 0 headEnd) (mapTree (placeIn ks) tree)
               ∙ rw (mapTree-nodeCount (placeIn ks) tree, mapTree-entryCount (placeIn ks) tree, closed .all-rows, closed .all-entries) refl;
-          empty = λ z. file-none (l .opening .kind) (l .opening .end) bs (treeOrHole (l .tree)) (omega (arith, e .count));
+          empty = λ z. rw is (file-none (l .opening .kind) (l .opening .end) bs tree (sound .rooted ∙ none-empty bs (omega (arith, e .count))));
           parts = λ h. rw is (file-parts h);
         }
 

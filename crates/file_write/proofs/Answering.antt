@@ -8,30 +8,28 @@ use native.Mathlib.Omega.{arith}
 use lib.Dec.{eqb}
 use lib.ListN.{length, length-append}
 use lib.Seq.{sets}
-use borrow.Author.Tests.{lt-ltb, le-ltb, le-leb, lt-leb}
+use borrow.Author.Tests.{le-leb, lt-leb}
 use Rattle.lists.proofs.Numbers.{le-or-lt}
-use Rattle.lists.proofs.Stores.{sets-append}
-use Rattle.history.specs.Lent.{tooShort}
-use Rattle.history.specs.Ledger.{Ledger, finished}
-use Rattle.history.specs.Refusals.{accepted, refused, firstOf, writeRefusals}
-use Rattle.history.specs.File.{bytesOf, blockBytes, nodeBytes, nodesOf, mapTree, placeIn, fileBy, writeAnswer}
+use Rattle.lists.proofs.Stores.{sets-append, sets-comm, sets-over}
+use Rattle.history.specs.Ledger.{Ledger}
+use Rattle.history.specs.Refusals.{accepted, refused}
+use Rattle.history.specs.File.{bytesOf, blockBytes, nodeBytes, nodesOf, mapTree, placeIn, fileBy}
 use Rattle.history.proofs.FileNumbers.{bytesOf-length}
 use Rattle.tables.specs.Columns.{column, blockColumn, headKind, headEnd}
-use Rattle.layout.specs.Tables.{tables}
-use Rattle.layout.specs.Encodes.{Encodes}
-use Rattle.layout.specs.Files.{bytesWritten, outLeft}
-use Rattle.file_write.specs.Putting.{Put}
-use Rattle.file_write.specs.Living.{living, livingBlocks}
+use Rattle.layout.proofs.ReadLaws.{write-fits, write-16, into-refused}
+use Rattle.lists.specs.Puts.{Put}
+use Rattle.file_put.specs.Living.{living, livingBlocks}
 use Rattle.file_write.specs.Sizes.{blocksSize, blockCount, nodesAt, fileSize, planOf}
-use Rattle.file_write.specs.Numbering.{Listed}
-use Rattle.file_write.specs.Parts.{PutBlocks, PutTree}
+use Rattle.file_nodes.specs.Numbering.{Listed}
+use Rattle.file_put.specs.Parts.{PutBlocks}
+use Rattle.file_nodes.specs.Nodes.{PutTree}
 use Rattle.file_write.specs.Answers.{FileWritten, WrittenClosed}
 use Rattle.file_write.specs.declared.plan.Plan.{Plan}
 use Rattle.file_write.specs.declared.plan.Plan.the-variants as plan
-use Rattle.file_write.proofs.Stores.{sets-comm, sets-over}
-use Rattle.file_write.proofs.Putting.{put-append}
-use Rattle.file_write.proofs.Listing.{numbers-length, list-shorter, numbering}
+use Rattle.lists.proofs.Puts.{put-append}
+use Rattle.file_nodes.proofs.Listing.{numbers-length, numbering}
 use Rattle.file_write.proofs.Agreeing.{Agrees, agrees}
+use Rattle.file_write.proofs.Planning.{list-shorter}
 
 -- ── part over part ──
 
@@ -70,7 +68,7 @@ file-written blocks store nodes entries many place count kind end root listed p�
         let nodes′ = nodeBytes (nodesOf 0 (blockColumn blocks 0 headEnd) (mapTree (placeIn (living blocks (blockCount blocks))) (a .tree))) in
         let head′ = bytesOf 1 (blockColumn blocks 0 headKind) ++ bytesOf 8 (length (living blocks (blockCount blocks))) in
         let tree′ : PutTree nodes entries (column nodes 0 (blockColumn blocks 0 headKind)) 0 (blockColumn blocks 0 headEnd) listed o₁ place o₂ p₂ = rw (r, k, e) at tree in
-        let second = tree′ .put ks blocks (blockColumn blocks 0 headKind) (a .tree) (numbering list′ m (omega arith) room) (a .stands) (a .known) in
+        let second = tree′ .put ks blocks (blockColumn blocks 0 headKind) (a .tree) (numbering list′ m (omega (arith, list-shorter blocks (blockCount blocks))) room) (a .stands) (a .known) in
         let third : Put o₂ 9 blocks′ o₃ p₃ = (rw c at put) .put (a .stored) in
         let last : Put o₃ 0 head′ o₅ p₅ = rw (k, m) at (put-append mark number) in
         let nine : length head′ ≡ 9 = length-append (bytesOf 1 (blockColumn blocks 0 headKind)) (bytesOf 8 (length ks)) ∙ omega (arith, bytesOf-length 1 (blockColumn blocks 0 headKind), bytesOf-length 8 (length ks)) in
@@ -86,33 +84,22 @@ file-long : {blocks store nodes entries : List ℕ} {l : Ledger} → Agrees bloc
 file-long {blocks} {store} {nodes} {entries} {l} a some =
     ap length (a .parts some) ∙ simp (length-append, bytesOf-length) (omega (arith, a .blocks-long, a .nodes-long))
 
-module _ (pieces blocks store nodes entries : List ℕ) (l : Ledger) (e : Encodes (tables pieces blocks store nodes entries) l) (done : finished l ≡ true) (out : ℕ) where
-  heads : tooShort (l .opening .lent) ≡ false
-  heads = rw (e .lengths) (e .heads)
-
-  write-long : out < length (fileBy l) → writeAnswer l out ≡ refused 16
-  unfolding firstOf writeRefusals
-  write-long h = rw (heads, done, lt-ltb out (length (fileBy l)) h)
-
-  write-fits : length (fileBy l) ≤ out → writeAnswer l out ≡ accepted (fileBy l)
-  unfolding firstOf writeRefusals
-  write-fits h = rw (heads, done, le-ltb out (length (fileBy l)) h)
-
 -- ── the returns ──
 
 module _ (blocks store nodes entries out : List ℕ) (count : ℕ) (c : count ≡ blockCount blocks) where
   pub closed-empty : count ≡ 0 → WrittenClosed blocks store nodes entries out out (accepted 0)
-  unfolding bytesWritten outLeft
   closed-empty z =
       record {
-        written = λ pieces l e s done.
-            let none : fileBy l ≡ [] = agrees pieces blocks store nodes entries l e s done .empty (omega arith) in
-            rw (write-fits pieces blocks store nodes entries l e done (length out) (rw none (omega arith)), none) (refl, refl);
+        written = λ pieces. record {
+          closed = λ l e s done.
+              let none : fileBy l ≡ [] = agrees pieces blocks store nodes entries l e s done .empty (omega arith) in
+              rw (write-fits e done (length out) (rw none (omega arith)), none) (record { answered = refl; left = refl });
+        };
       }
 
   module _ (some : count ≡ 0 → ⊥) (r : Plan) (p : r ≡ planOf blocks nodes entries (length out)) where
     pub closed-long : r ≡ plan.TooLong → WrittenClosed blocks store nodes entries out out (refused 16)
-    unfolding bytesWritten outLeft planOf
+    unfolding planOf
     closed-long f =
         ⊎-elim
         (λ (h : fileSize blocks nodes entries ≤ length out).
@@ -121,15 +108,17 @@ module _ (blocks store nodes entries out : List ℕ) (count : ℕ) (c : count �
         absurd (let z : _≡_ {A = ℕ} 0 1 = cc in omega arith))
         (λ (h : length out < fileSize blocks nodes entries).
         record {
-          written = λ pieces l e s done.
-              let a = agrees pieces blocks store nodes entries l e s done in
-              rw (write-long pieces blocks store nodes entries l e done (length out) (omega (arith, file-long a (omega arith)))) (refl, refl);
+          written = λ pieces. record {
+            closed = λ l e s done.
+                let a = agrees pieces blocks store nodes entries l e s done in
+                rw (write-16 e done (length out) (omega (arith, file-long a (omega arith)))) into-refused;
+          };
         })
         (le-or-lt (fileSize blocks nodes entries) (length out))
 
     pub closed-fits : (many place size : ℕ) (out′ : List ℕ) → r ≡ plan.Fits many place size → FileWritten blocks store nodes entries many place out out′
         → WrittenClosed blocks store nodes entries out out′ (accepted size)
-    unfolding bytesWritten outLeft planOf
+    unfolding planOf
     closed-fits many place size out′ f w =
         ⊎-elim
         (λ (h : fileSize blocks nodes entries ≤ length out).
@@ -139,10 +128,12 @@ module _ (blocks store nodes entries out : List ℕ) (count : ℕ) (c : count �
         let q : place ≡ nodesAt blocks (blockCount blocks) = cc in
         let z : size ≡ fileSize blocks nodes entries = cc in
         record {
-          written = λ pieces l e s done.
-              let long : length (fileBy l) ≡ fileSize blocks nodes entries = file-long (agrees pieces blocks store nodes entries l e s done) (omega arith) in
-              rw (write-fits pieces blocks store nodes entries l e done (length out) (omega arith))
-              (ap (λ (n : ℕ). accepted n) (z ∙ sym long), w .file pieces l e s done (omega arith) m q (omega arith));
+          written = λ pieces. record {
+            closed = λ l e s done.
+                let long : length (fileBy l) ≡ fileSize blocks nodes entries = file-long (agrees pieces blocks store nodes entries l e s done) (omega arith) in
+                rw (write-fits e done (length out) (omega arith))
+                (record { answered = ap (λ (n : ℕ). accepted n) (z ∙ sym long); left = w .file pieces l e s done (omega arith) m q (omega arith) });
+          };
         })
         (λ (h : length out < fileSize blocks nodes entries).
         let same : plan.Fits many place size ≡ plan.TooLong = sym f ∙ p ∙ rw (lt-leb (fileSize blocks nodes entries) (length out) h) in

@@ -1,10 +1,4 @@
 -- Laws that belong to no one function.
-pub mod Stores
-pub mod Putting
-pub mod Laying
 pub mod Planning
-pub mod Ranking
-pub mod Listing
-pub mod Treeing
 pub mod Agreeing
 pub mod Answering

@@ -1,8 +1,8 @@
 -- The file's size: the turns of `measure_blocks`, and its returns and those of `measure`. Assumes nothing.
 use mathlib.Core.Path.{_≡_, refl, sym, _∙_}
 use mathlib.Core.Logic.{⊎-elim}
-use mathlib.Core.Bool.{Bool, true, false}
-use mathlib.Core.List.{List, [], _∷_}
+use mathlib.Core.Bool.{Bool, true, false, cond}
+use mathlib.Core.List.{List, [], _∷_, _++_, append-nil}
 use Prim.Native.Nat.{ℕ, zero, suc, _+_, _*_, _-_, _/_, _≤_, _<_}
 use native.Mathlib.Numerals.{add-one}
 use native.Mathlib.Omega.{arith}
@@ -10,14 +10,14 @@ use lib.Dec.{ltb}
 use lib.ListN.{length, length-append}
 use borrow.Author.Tests.{le-leb, lt-leb}
 use Rattle.lists.proofs.Numbers.{le-or-lt}
-use Rattle.ordering.specs.Blocks.{lengthAt, createdAt, destroyedAt}
+use Rattle.block_table.specs.Blocks.{lengthAt, createdAt, destroyedAt}
 use Rattle.segment_table.specs.Closed.{nodesUsed, entriesUsed}
-use Rattle.file_write.specs.Living.{living}
+use Rattle.file_put.specs.Living.{living, lives}
 use Rattle.file_write.specs.Sizes.{blocksSize, nodesSize, blockCount, nodesAt, fileSize, shareOf, planOf}
 use Rattle.file_write.specs.declared.plan.Share.{Share}
 use Rattle.file_write.specs.declared.plan.Share.the-variants as share
 use Rattle.file_write.specs.declared.plan.Plan.the-variants as plan
-use Rattle.file_write.proofs.Laying.{told, living-one, living-none}
+use Rattle.file_put.proofs.Laying.{told, living-one, living-none}
 
 -- ── one block more ──
 
@@ -40,6 +40,17 @@ size-more blocks m zero h = let e : m ≡ 0 = omega arith in rw e (omega arith)
 size-more blocks m (suc n) h =
     ⊎-elim (λ (k : m ≤ n). omega (arith, size-more blocks m n k, size-step blocks n)) (λ (k : n < m). let e : m ≡ suc n = omega arith in rw e (omega arith))
     (le-or-lt m n)
+
+-- the list is shorter than the blocks
+pub list-shorter : (blocks : List ℕ) (n : ℕ) → 8 * length (living blocks n) ≤ blocksSize blocks n
+unfolding living blocksSize
+list-shorter blocks zero = omega arith
+list-shorter blocks (suc n) = go (lives blocks n) (list-shorter blocks n)
+  where
+    go : (t : Bool) → 8 * length (living blocks n) ≤ blocksSize blocks n
+        → 8 * length (living blocks n ++ cond t (n ∷ []) []) ≤ blocksSize blocks n + cond t (33 + lengthAt blocks (suc n)) 0
+    go true h = rw (length-append (living blocks n) (n ∷ [])) (omega arith)
+    go false h = rw (append-nil (living blocks n)) (omega arith)
 
 -- ── the turns of `measure_blocks` ──
 

@@ -11,8 +11,8 @@ use Rattle.history.specs.File.{fileBy, writeAnswer}
 use Rattle.history.specs.Sound.{Sound}
 use Rattle.layout.specs.Tables.{tables}
 use Rattle.layout.specs.Encodes.{Encodes}
-use Rattle.layout.specs.Files.{bytesWritten, outLeft}
-use Rattle.file_write.specs.Living.{living}
+use Rattle.layout.specs.Reads.{HandedInto, ClosedBy}
+use Rattle.file_put.specs.Living.{living}
 use Rattle.file_write.specs.Sizes.{blockCount, nodesAt}
 use Rattle.file_write.specs.declared.Written.{Written}
 use Rattle.file_write.specs.declared.Written.the-variants.{Bytes, Refused}
@@ -30,5 +30,5 @@ pub record FileWritten (blocks store nodes entries : List ℕ) (many place : ℕ
 
 -- `write_closed`: the ledger's answer, and the file in the slice; the rest of it is as it was
 pub record WrittenClosed (blocks store nodes entries out out′ : List ℕ) (answer : Answer ℕ) : Type 0 where
-  pub written : (pieces : List ℕ) (l : Ledger) → Encodes (tables pieces blocks store nodes entries) l → Sound l → finished l ≡ true
-      → (answer ≡ bytesWritten (writeAnswer l (length out))) × (out′ ≡ outLeft (writeAnswer l (length out)) out)
+  pub written : (pieces : List ℕ)
+      → ClosedBy (tables pieces blocks store nodes entries) (λ l. writeAnswer l (length out)) (HandedInto length (λ file. file) out out′ answer)

@@ -1,6 +1,2 @@
-pub mod Putting
-pub mod Living
 pub mod Sizes
-pub mod Numbering
-pub mod Parts
 pub mod Answers

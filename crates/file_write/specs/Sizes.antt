@@ -5,9 +5,9 @@ use Prim.Native.Nat.{ℕ, zero, suc, _+_, _*_}
 use lib.Dec.{leb}
 use lib.ListN.{length}
 use Rattle.tables.specs.Columns.{blockColumn, headCount}
-use Rattle.ordering.specs.Blocks.{lengthAt}
+use Rattle.block_table.specs.Blocks.{lengthAt}
 use Rattle.segment_table.specs.Closed.{nodesUsed, entriesUsed}
-use Rattle.file_write.specs.Living.{lives, living}
+use Rattle.file_put.specs.Living.{blocksAt, lives, living}
 use Rattle.file_write.specs.declared.plan.Share.{Share}
 use Rattle.file_write.specs.declared.plan.Share.the-variants as share
 use Rattle.file_write.specs.declared.plan.Plan.{Plan}
@@ -16,10 +16,6 @@ use Rattle.file_write.specs.declared.plan.Plan.the-variants as plan
 -- a kind or presence byte and four numbers
 abbrev pub rowHead : ℕ
 rowHead = 1 + 4 * 8
-
--- the blocks begin behind the kind byte and the block count
-abbrev pub blocksAt : ℕ
-blocksAt = 1 + 8
 
 -- the bytes of those of the first n blocks that have a life
 unfoldable pub blocksSize : (blocks : List ℕ) (n : ℕ) → ℕ

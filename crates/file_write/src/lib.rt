@@ -4,20 +4,17 @@
 // anew. While the nodes are written, the numbers of these blocks stand where the blocks will be, ascending, and a block's new number is its place
 // among them, found by binary search. Nothing past the file is touched, and no memory but the lent slice is used.
 //
-//   lib        specs/Answers         proofs/Agreeing, Answering   the file in parts, as the ledger has it; 16
-//   plan       specs/Sizes           proofs/Planning              how long the file is
-//   put        specs/Putting         proofs/Putting, Stores       bytes put one part after the other, or over another
-//   blocks     specs/Living, Parts   proofs/Laying                the blocks that have a life
-//   numbers    specs/Numbering       proofs/Listing, Ranking      their new numbers
-//   nodes      specs/Parts           proofs/Treeing               the tree, root first
+//   lib    specs/Answers   proofs/Agreeing, Answering   the file in parts, as the ledger has it; 16
+//   plan   specs/Sizes     proofs/Planning              how long the file is
 ghost use Rattle.file_write.specs.Answers.{writtenOf, FileWritten, WrittenClosed};
 
-mod blocks;
-mod nodes;
-mod numbers;
 mod plan;
-mod put;
 
+use file_nodes::nodes;
+use file_nodes::numbers;
+use file_put::BLOCKS_AT;
+use file_put::blocks;
+use file_put::put;
 use plan::Plan;
 use tables::block;
 
@@ -43,13 +40,13 @@ fn write_file(
 )
     ensures { λ _. ⌜ FileWritten (now (blocks .entry)) (now (store .entry)) (now (nodes .entry)) (now (entries .entry)) living place (now (out .entry)) (now (out .exit)) ⌝ }
 {
-    let count = block::get(blocks, 0, block::COUNT);
-    let kind = block::get(blocks, 0, block::KIND);
-    let end = block::get(blocks, 0, block::END);
+    let count = block_table::count(blocks);
+    let kind = block_table::kind(blocks);
+    let end = block_table::end(blocks);
     let root = tables::get(nodes, 0, kind as usize);
     let listed = numbers::list(blocks, count, living, out);
     nodes::put_tree(nodes, entries, root, 0, end, listed, out, place);
-    blocks::put_blocks(blocks, store, count, out, plan::BLOCKS_AT);
+    blocks::put_blocks(blocks, store, count, out, BLOCKS_AT);
     let count_at = put::byte(out, 0, kind);
     put::number(out, count_at, living);
 }
@@ -64,7 +61,7 @@ pub fn write_closed(
 ) -> Written
     ensures { λ r. ⌜ WrittenClosed (now (blocks .entry)) (now (store .entry)) (now (nodes .entry)) (now (entries .entry)) (now (out .entry)) (now (out .exit)) (writtenOf r) ⌝ }
 {
-    if block::get(blocks, 0, block::COUNT) == 0 {
+    if block_table::count(blocks) == 0 {
         return Written::Bytes(0);
     }
     match plan::measure(blocks, nodes, entries, out.len()) {

@@ -1,12 +1,12 @@
 // How long the file is, and where its parts stand: measured before anything is written, and never past the room, so that no sum wraps.
 ghost use mathlib.Core.Path.{_≡_};
 ghost use Rattle.file_write.specs.Sizes.{shareOf, planOf};
+use file_put::BLOCKS_AT;
+use file_put::blocks;
 use tables::block;
 use tables::entry;
 use tables::node;
 
-// The blocks begin behind the kind byte and the block count.
-pub const BLOCKS_AT: usize = 9;
 // A kind or presence byte and four numbers.
 const ROW: usize = 33;
 // A node's row, and a byte: there is one absent child more than nodes.
@@ -42,7 +42,7 @@ fn measure_blocks(blocks: &[u64], count: u64, room: usize) -> Share
     let mut link = 0;
     while link < count {
         link += 1;
-        if super::blocks::lives(blocks, link) {
+        if blocks::lives(blocks, link) {
             let length = block::get(blocks, link, block::LENGTH) as usize;
             if room - next < ROW {
                 return Share::TooLong;
@@ -61,7 +61,7 @@ fn measure_blocks(blocks: &[u64], count: u64, room: usize) -> Share
 pub fn measure(blocks: &[u64], nodes: &[u64], entries: &[u64], room: usize) -> Plan
     ensures { λ r. ⌜ r ≡ planOf (now (blocks .entry)) (now (nodes .entry)) (now (entries .entry)) room ⌝ }
 {
-    let count = block::get(blocks, 0, block::COUNT);
+    let count = block_table::count(blocks);
     let Share::Fits { living, next } = measure_blocks(blocks, count, room) else {
         return Plan::TooLong;
     };

@@ -12,12 +12,13 @@ use Rattle.lists.proofs.Lists.{all-map, all-mem, mem-right}
 use Rattle.history.specs.Words.{Operation, Block, Holds, blockOf, byteAt}
 use Rattle.history.specs.Tree.{Tree, treeOf}
 use Rattle.history.specs.Rules.{Apart, isHole}
-use Rattle.history.specs.Ledger.{Opening, Moment, Ledger, opened, finished, isSome, isRead, readBy, updateBy, recordBy, settled, finishBy}
+use Rattle.history.specs.Ledger.{Opening, Moment, Ledger, withNow, opened, finished, isSome, isRead, readBy, updateBy, recordBy, settled, finishBy}
 use Rattle.history.specs.Reads.{seen}
 use Rattle.history.specs.Refusals.{Answer, accepted, refused, openAnswer, recordAnswer, finishAnswer}
 use Rattle.history.specs.Calls.{Call, recordCall, finishCall, answerTo, acceptedBy, leaves, after, afterAll, noted, history, valueAt}
 use Rattle.history.specs.Sound.{SoundBoard, SoundTree, Sound, SoundForFinish, isEmpty}
 use Rattle.history.specs.Law.{CoversBy, LastCall, LedgerLaw, Faithful, EveryList}
+use Rattle.history.proofs.ByKind.{rule-23-kind}
 use Rattle.history.proofs.Passing.{opens, Taken, taken, room, finishes}
 use Rattle.history.proofs.Cells.{Shown, shown-read, shown-updated}
 use Rattle.history.proofs.Steps.{opened-sound, read-sound, update-sound, new-blocks, settled-sound, shown-apart}
@@ -45,7 +46,7 @@ record-sound l scratch o e s = go (isRead (l .now) o) refl
     k = taken l scratch o e
 
     go : (r : Bool) → isRead (l .now) o ≡ r
-        → Sound (record { opening = l .opening; now = cond r (readBy (l .now) o) (updateBy (l .opening .kind) (l .now) o); tree = l .tree })
+        → Sound (withNow (cond r (readBy (l .now) o) (updateBy (l .opening .kind) (l .now) o)) l)
     go true q = open-sound _ (k .still-open) (read-sound l o (s .board) (k .before-end) (k .not-back))
     go false q = open-sound _ (k .still-open) (update-sound l o (s .board) (k .before-end) (k .not-back) (k .some-cell) (k .no-wrap) (room l scratch o e q))
 
@@ -92,8 +93,9 @@ finish-sound l e s =
           rooted = rooted (l .opening .end) (settled (l .opening .end) (l .now));
           rule-21 = treeOf-halved (l .opening .end) (settled (l .opening .end) (l .now)) (b .end-most);
           rule-23 =
-              treeOf-rule23 (l .opening .end) (settled (l .opening .end) (l .now)) (omega (arith, b .some-tick)) (b .end-most) (s .apart)
-              (all-map (λ x g. g .stretch .some-cell) all) (all-map (λ x g. g .by-end) all);
+              rule-23-kind (l .opening .kind) (l .opening .end) (l .now .store) (treeOf (l .opening .end) (settled (l .opening .end) (l .now))) all
+              (treeOf-rule23 (l .opening .end) (settled (l .opening .end) (l .now)) (omega (arith, b .some-tick)) (b .end-most) (s .apart)
+              (all-map (λ x g. g .stretch .some-cell) all) (all-map (λ x g. g .by-end) all));
           rule-24 = s .apart;
           nodes-fit = k .nodes;
           entries-fit = k .entries;
@@ -150,7 +152,7 @@ law-record l h scratch o e law = go (isRead (l .now) o) refl
     old = law .open-blocks (k .still-open)
 
     go : (r : Bool) → isRead (l .now) o ≡ r
-        → LedgerLaw (record { opening = l .opening; now = cond r (readBy (l .now) o) (updateBy (l .opening .kind) (l .now) o); tree = l .tree }) (o ∷ h)
+        → LedgerLaw (withNow (cond r (readBy (l .now) o) (updateBy (l .opening .kind) (l .now) o)) l) (o ∷ h)
     go true q =
         law-open _ (o ∷ h) (k .still-open) (read-sound l o b (k .before-end) (k .not-back))
         (shown-read (l .opening) (l .now) h o old (all-map (λ p g. g .written-by-last) (b .pieces)) (k .not-back) q (law .cells))

@@ -2,9 +2,9 @@
 use mathlib.Core.Path.{_≡_, refl}
 use mathlib.Core.List.{List, [], _∷_, flatten, flatMap}
 use Rattle.lists.specs.Lists.{has, count, countFrom, sumOf}
-use Prim.Native.Nat.{ℕ}
+use Prim.Native.Nat.{ℕ, _+_, _*_}
 use Rattle.history.specs.Words.{Block}
-use Rattle.history.specs.Lent.{Lent}
+use Rattle.history.specs.Lent.{Lent, rowWidth, entryWidth, blockHead, nodeHead, entryHead}
 use Rattle.history.specs.Tree.{treeOf, addAll, addLocation, insert, entriesIn, nodeCount, entryCount, widths}
 use Rattle.history.specs.Rules.{every, halved, filled, lived, numbered, placed, sorted, ascends, summed, rule23, apart, shares}
 use Rattle.history.specs.File.{fileOf, contents, fileBytes, blockBytes, nodeBytes, bytesOf, numberOf, thoseWith, placeIn, mapTree, nodesOf, got, _>>=_, onward, give, refuse_unless_, field, number, many, readBlock, readNodes, readRoot, readFile, treeFrom, placedIn, rule20, rule21, rule22, load}
@@ -68,7 +68,7 @@ listing =
 
 -- the smallest tables that take it: six blocks, seven bytes, ten nodes, twelve entries
 abbrev pub listingLent : Lent
-listingLent = record { pieces = 0; blocks = 56; store = 7; nodes = 88; entries = 32 }
+listingLent = record { pieces = 0; blocks = blockHead + rowWidth * 6; store = 7; nodes = nodeHead + rowWidth * 10; entries = entryHead + entryWidth * 12 }
 
 pub listing-loaded : load listingLent (fileOf 1 8 listing (treeOf 8 listing)) 0
     ≡ got (record { end = 8; kind = 1; blocks = listing; tree = treeOf 8 listing }) 651

@@ -14,12 +14,12 @@ use Rattle.lists.proofs.Maps.{length-of-map, getD-of-map}
 use Rattle.lists.proofs.Counting.{count-from-below}
 use Rattle.history.specs.Words.{Block}
 use Rattle.history.specs.Tree.{Tree, hole, node, mid, blockAt, entriesIn, entryCount, noBlock}
-use Rattle.history.specs.File.{written, contents, placeIn, mapTree, nodesOf, treeFrom, Nodes, endOf}
+use Rattle.history.specs.File.{written, writtenBlocks, contents, placeIn, mapTree, nodesOf, treeFrom, Nodes, endOf}
 use Rattle.history.specs.Rules.{rule23}
 use Rattle.history.proofs.RulesLaws.{numbered-decides, rule23-decides}
 use Rattle.history.proofs.TreeEntries.{entry-life}
 use Rattle.history.proofs.FileRoundTrip.{BlockFits, NodesFit, FileFits, absent-fits, present-fits}
-use Rattle.history.proofs.FilePlaces.{thoseWith-all, thoseWith-length, thoseWith-same, placeIn-below, placeIn-countFrom}
+use Rattle.history.proofs.FilePlaces.{thoseWith-length, thoseWith-same, placeIn-below, placeIn-countFrom}
 use Rattle.history.proofs.FileRules.{Rule21, Rule22}
 use Rattle.history.proofs.FileRenumbered.{mapTree-same}
 
@@ -81,13 +81,13 @@ nodes-fit f small lo hi a b (node es l r) h =
     let few : length (map f es) < 2 ^ 64 = rw (length-of-map f es) (omega arith) in
     present-fits a b c few (all-of-map f (all-any es small)) (nodes-fit f small lo (mid lo hi) a c l (omega arith)) (nodes-fit f small (mid lo hi) hi c b r (omega arith))
 
--- what is written of an index fits if its blocks do, and the counts
+-- what is written of an index fits if its written blocks do, and the counts
 pub record IndexFits (kind end : ℕ) (bs : List Block) (tree : Tree) : Type 0 where
   pub kindly : kind ≤ 4
   pub last : end < 2 ^ 64
   pub count : length bs < 2 ^ 64
   pub entries : entryCount tree < 2 ^ 64
-  pub blocks : All (BlockFits kind) bs
+  pub blocks : All (BlockFits kind) (writtenBlocks bs tree)
 
 -- so reading gives them back
 pub contents-fits : (kind e : ℕ) (bs : List Block) (tree : Tree) → IndexFits kind e bs tree → FileFits (contents kind e bs tree)
@@ -98,6 +98,6 @@ contents-fits kind e bs tree h =
     record {
       kindly = h .kindly;
       count = rw (length-of-map (blockAt bs) ks) (omega (arith, h .count));
-      blocks = all-of-map (blockAt bs) (thoseWith-all (entriesIn tree) (all-map (λ k p. all-at noBlock (h .blocks) k (omega arith)) (count-from-below 0 (length bs))));
+      blocks = h .blocks;
       nodes = nodes-fit (placeIn ks) (λ k. omega (arith, placeIn-below ks k, h .count)) 0 e (omega arith) (h .last) tree (h .entries);
     }

@@ -2,6 +2,7 @@
 use mathlib.Core.Path.{_≡_, refl, ap₂}
 use mathlib.Core.Bool.{Bool, true, false, _&&_, true≢false}
 use Prim.Native.Nat.{ℕ, _<_, _≤_, _^_}
+use native.Mathlib.Omega.{arith}
 use lib.Dec.{eqb}
 use borrow.Author.Tests.{eqb-true, eq-eqb}
 use Rattle.lists.proofs.Numbers.{and-right, and-left, decided}
@@ -37,6 +38,12 @@ nodesOf-treeFrom lo hi (present min max middle es l r) h =
   where
     both : (s t : Bool) → (s && t) ≡ true → (s ≡ true) × (t ≡ true)
     both s t e = (and-left s t e, and-right s t e)
+
+-- where E is above 0 there is a root
+pub treeFrom-rooted : (t : Nodes) → 0 < endOf t → isHole (treeFrom t) ≡ false
+unfolding treeFrom
+treeFrom-rooted absent h = absurd (omega arith)
+treeFrom-rooted (present min max middle es l r) h = refl
 
 -- E is the root's max
 pub endOf-nodesOf : (lo hi : ℕ) (t : Tree) → isHole t ≡ false → endOf (nodesOf lo hi t) ≡ hi

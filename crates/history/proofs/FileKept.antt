@@ -4,7 +4,7 @@ use mathlib.Core.Path.{_≡_, refl, sym, _∙_, ap}
 use mathlib.Core.Logic.{inl, inr}
 use mathlib.Core.Bool.{true, false}
 use mathlib.Core.List.{List}
-use Prim.Native.Nat.{ℕ, _<_, _≤_, _^_, _-_}
+use Prim.Native.Nat.{ℕ, _<_, _≤_, _^_, _-_, _+_}
 use native.Mathlib.Omega.{arith}
 use lib.ListN.{length, getD}
 use lib.Dec.{ltb, eqb}
@@ -14,7 +14,7 @@ use Rattle.lists.proofs.Lists.{all-map, count-from-length, all-at, all-of-map, 
 use Rattle.lists.proofs.Numbers.{eq-or-ne, decided}
 use Rattle.lists.proofs.Maps.{length-of-map, getD-of-map, pairs-of-map}
 use Rattle.lists.proofs.Counting.{has-decides, count-from-below, has-count-from, count-from-pairs}
-use Rattle.history.specs.Words.{Block, firstCell, ends, life, size}
+use Rattle.history.specs.Words.{Block, firstCell, life, size}
 use Rattle.history.specs.Tree.{Tree, blockAt, keyIn, entriesIn, entryCount, widths, noBlock}
 use Rattle.history.specs.File.{written, writtenBlocks, renumbered, newNumber, placeIn, nodesOf, rule21, rule22}
 use Rattle.history.specs.Rules.{halved, filled, rule23, apart, isHole, Apart}
@@ -29,7 +29,7 @@ use Rattle.history.proofs.FileRenumbered.{mapTree-isHole, mapTree-halve
 
 -- not empty, no end above 2^64 − 1, created ≤ destroyed ≤ E, of the index's kind
 pub record WholeBlock (kind end : ℕ) (b : Block) : Type 0 where
-  pub full : filled (b .stretch) ≡ true
+  pub full : filled b ≡ true
   pub forward : b .created ≤ b .destroyed
   pub by-end : b .destroyed ≤ end
   pub own-kind : b .kind ≡ kind
@@ -121,7 +121,7 @@ module _ (kind e : ℕ) (bs : List Block) (tree : Tree) (w : Writable kind e bs 
       living : (k : ℕ) → k < length bs → has k (entriesIn tree) ≡ true → LivingBlock e (blockAt bs k)
       living k less z =
           let whole : WholeBlock kind e (blockAt bs k) = all-at noBlock (w .blocks) k less in
-          let full : (0 < size (blockAt bs k .stretch)) × (ends (blockAt bs k .stretch) ≤ 2 ^ 64 - 1) = filled-decides (blockAt bs k .stretch) .yes (whole .full) in
+          let full : (0 < size (blockAt bs k .stretch)) × (keyIn bs k + size (blockAt bs k .stretch) ≤ 2 ^ 64 - 1) = filled-decides (blockAt bs k) .yes (whole .full) in
           record {
             some-cell = full .0;
             no-wrap = full .1;

@@ -1,12 +1,26 @@
 -- Laws of lists, and of tests over lists, that the file's laws use. Assumes nothing.
 use mathlib.Core.Path.{_≡_, refl, ap₂}
-use mathlib.Core.Bool.{Bool, _&&_}
-use mathlib.Core.List.{List, map}
-use Prim.Native.Nat.{ℕ}
+use mathlib.Core.Bool.{Bool, true, false, _&&_}
+use mathlib.Core.List.{List, [], _∷_, map}
+use Prim.Native.Nat.{ℕ, _<_}
+use native.Mathlib.Omega.{arith}
+use lib.ListN.{length}
 use lib.Dec.{ltb}
 use Rattle.lists.specs.Lists.{All, all-nil, all-cons}
 use Rattle.lists.proofs.Lists.{all-map}
 use Rattle.history.specs.Rules.{every, ascends}
+use Rattle.history.specs.Sound.{isEmpty}
+
+-- ── lists without elements ──
+
+module _ {A : Type 0} where
+  pub not-empty : (xs : List A) → 0 < length xs → isEmpty xs ≡ false
+  not-empty [] h = absurd (omega arith)
+  not-empty (x ∷ xs) h = refl
+
+  pub none-empty : (xs : List A) → length xs ≡ 0 → isEmpty xs ≡ true
+  none-empty [] h = refl
+  none-empty (x ∷ xs) h = absurd (omega arith)
 
 -- ── tests of a mapped list ──
 

@@ -2,37 +2,44 @@
 -- the bytes read. Assumes nothing.
 use mathlib.Core.Path.{_≡_, refl, sym, _∙_, ap}
 use mathlib.Core.Logic.{⊎-elim}
-use mathlib.Core.Bool.{Bool, true, false}
-use mathlib.Core.List.{List, [], _∷_, _++_}
-use Prim.Native.Nat.{ℕ, _<_, _≤_, _+_, _-_}
+use mathlib.Core.Bool.{Bool, true, false, true≢false, false≢true}
+use mathlib.Core.List.{List, [], _++_}
+use Prim.Native.Nat.{ℕ, _≤_, _+_, _-_}
 use native.Mathlib.Omega.{arith}
 use lib.ListN.{length, take, drop}
 use Rattle.lists.proofs.Numbers.{le-or-lt}
 use Rattle.history.specs.Words.{Block}
-use Rattle.history.specs.Tree.{Tree}
+use Rattle.history.specs.Tree.{Tree, hole, node}
 use Rattle.history.specs.File.{fileOf, contents, fileBytes, got, _>>=_, onward, give, refuse_unless_, readFile, treeFrom, rule20, rule21, rule22, load, endOf, Read, fault, Loaded, File, loadedFrom}
-use Rattle.history.specs.Rules.{rule23, apart}
+use Rattle.history.specs.Rules.{isHole, rule23, apart}
 use Rattle.history.specs.Lent.{Lent}
 use Rattle.history.proofs.FileNumbers.{Bytes}
 use Rattle.history.proofs.FileReads.{number-cut}
 use Rattle.history.proofs.FileYields.{spans-taken, got-value, got-next, fault-got, Yielded}
 use Rattle.history.proofs.FileRoundTrip.{reads-file, gives-file, FileFits}
 use Rattle.history.proofs.FileRules.{rule21-decides, rule22-decides, Rule21, Rule22}
-use Rattle.history.proofs.FileIntervals.{nodesOf-treeFrom}
+use Rattle.history.proofs.FileIntervals.{nodesOf-treeFrom, treeFrom-rooted}
 use Rattle.history.proofs.FileContents.{rules-enter, contents-same, contents-fits, Entered, IndexFits}
 
 -- ── written and read ──
 
-fileOf-some : (kind e : ℕ) (bs : List Block) (tree : Tree) → 0 < length bs → fileOf kind e bs tree ≡ fileBytes (contents kind e bs tree)
+-- with a node it writes what it says ..
+pub file-some : (kind e : ℕ) (bs : List Block) (tree : Tree) → isHole tree ≡ false → fileOf kind e bs tree ≡ fileBytes (contents kind e bs tree)
 unfolding fileOf
-fileOf-some kind e [] tree h = absurd (omega arith)
-fileOf-some kind e (b ∷ bs) tree h = refl
+file-some kind e bs hole h = absurd (true≢false h)
+file-some kind e bs (node es l r) h = refl
+
+-- .. and without one nothing
+pub file-none : (kind e : ℕ) (bs : List Block) (tree : Tree) → isHole tree ≡ true → fileOf kind e bs tree ≡ []
+unfolding fileOf
+file-none kind e bs hole h = refl
+file-none kind e bs (node es l r) h = absurd (false≢true h)
 
 -- A file that was written is read back, wherever it stands: the blocks with an entry, and the nodes with their intervals and new numbers.
-pub read-written : (kind e : ℕ) (bs : List Block) (tree : Tree) → 0 < length bs → IndexFits kind e bs tree → (before behind : List ℕ)
+pub read-written : (kind e : ℕ) (bs : List Block) (tree : Tree) → isHole tree ≡ false → IndexFits kind e bs tree → (before behind : List ℕ)
     → readFile (before ++ (fileOf kind e bs tree ++ behind)) (length before) ≡ got (contents kind e bs tree) (length before + length (fileOf kind e bs tree))
 read-written kind e bs tree some h before behind =
-    rw (fileOf-some kind e bs tree some)
+    rw (file-some kind e bs tree some)
     ((reads-file (contents kind e bs tree) (contents-fits kind e bs tree h)) .gives _ _
     (record { before = before; behind = behind; place = refl; whole = refl }))
 
@@ -128,14 +135,14 @@ read-inside file at f next e =
 
 -- What was read, written again, is the bytes read, if rule 21 holds and every block has an entry.
 pub written-read : (file : List ℕ) → Bytes file → (at : ℕ) (f : File) (next : ℕ) → readFile file at ≡ got f next
-    → Rule21 (f .nodes) → 0 < length (f .blocks) → Entered (f .blocks) (treeFrom (f .nodes))
+    → Rule21 (f .nodes) → Entered (f .blocks) (treeFrom (f .nodes))
     → fileOf (f .kind) (endOf (f .nodes)) (f .blocks) (treeFrom (f .nodes)) ≡ take (next - at) (drop at file)
-written-read file small at f next read halves some-block entered =
+written-read file small at f next read halves entered =
     let e : ℕ = endOf (f .nodes) in
     let says : contents (f .kind) e (f .blocks) (treeFrom (f .nodes)) ≡ f =
     contents-same (f .kind) e (f .blocks) (treeFrom (f .nodes)) entered ∙ (rw (nodesOf-treeFrom 0 e (f .nodes) (halves .places)) refl) in
     let y : Yielded file (λ g w. FileFits g × (w ≡ fileBytes g)) at f next = (gives-file file small) .yields at f next (read-inside file at f next read) read in
-    fileOf-some (f .kind) e (f .blocks) (treeFrom (f .nodes)) some-block ∙ ap fileBytes says ∙ sym (y .says .1) ∙ sym (spans-taken (y .spans))
+    file-some (f .kind) e (f .blocks) (treeFrom (f .nodes)) (treeFrom-rooted (f .nodes) (halves .some-tick)) ∙ ap fileBytes says ∙ sym (y .says .1) ∙ sym (spans-taken (y .spans))
 
 -- A loaded index is written with the bytes read.
 pub loaded-written : (n : Lent) (file : List ℕ) → Bytes file → (at : ℕ) (x : Loaded) (next : ℕ) → load n file at ≡ got x next
@@ -145,4 +152,4 @@ loaded-written n file small at x next e =
     let f : File = z .said in
     let halves : Rule21 (f .nodes) = rule21-decides (f .nodes) .yes (z .rules .halves) in
     let blocks : Rule22 (endOf (f .nodes)) (f .blocks) = rule22-decides (endOf (f .nodes)) (f .blocks) .yes (z .rules .blocks) in
-    rw (z .same) (written-read file small at f next (z .read) halves (blocks .some-block) (rules-enter (f .nodes) (f .blocks) halves blocks (z .rules .entries)))
+    rw (z .same) (written-read file small at f next (z .read) halves (rules-enter (f .nodes) (f .blocks) halves blocks (z .rules .entries)))

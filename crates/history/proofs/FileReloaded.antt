@@ -7,11 +7,11 @@ use Prim.Native.Nat.{ℕ, _<_, _≤_, _+_}
 use native.Mathlib.Omega.{arith}
 use lib.ListN.{length}
 use Rattle.lists.specs.Lists.{countFrom, sumOf}
-use Rattle.lists.proofs.Lists.{all-map}
+use Rattle.lists.proofs.Lists.{all-map, all-of-map, all-at}
 use Rattle.lists.proofs.Maps.{length-of-map, map-map}
 use Rattle.lists.proofs.Numbers.{decided}
 use Rattle.history.specs.Words.{Block, size}
-use Rattle.history.specs.Tree.{Tree, blockAt, entriesIn, nodeCount, entryCount}
+use Rattle.history.specs.Tree.{Tree, noBlock, blockAt, entriesIn, nodeCount, entryCount}
 use Rattle.history.specs.File.{written, writtenBlocks, renumbered, newNumber, fileOf, contents, nodesOf, got, rule20, load, endOf, Loaded, loadedFrom}
 use Rattle.history.specs.Lent.{Lent, blockRows, nodeRows, entryRows}
 use Rattle.history.proofs.RulesLaws.{filled-decides}
@@ -22,7 +22,7 @@ use Rattle.history.proofs.FileIntervals.{treeFrom-nodesOf, endOf-nodesO
 use Rattle.history.proofs.FileRenumbered.{mapTree-nodeCount, mapTree-entryCount}
 use Rattle.history.proofs.FileContents.{map-blockAt, IndexFits}
 use Rattle.history.proofs.FileLoad.{read-written, load-taken, Accepted}
-use Rattle.history.proofs.FileKept.{written-few, renumbered-root, written-rule21, written-rule22, written-rule23, written-apart, WholeBlock, Writable}
+use Rattle.history.proofs.FileKept.{written-few, written-below, renumbered-root, written-rule21, written-rule22, written-rule23, written-apart, WholeBlock, Writable}
 
 -- ── room ──
 
@@ -51,7 +51,7 @@ room-written n kind e bs tree a b c d =
 module _ (kind e : ℕ) (bs : List Block) (tree : Tree) (w : Writable kind e bs tree) where
   block-fits : (b : Block) → WholeBlock kind e b → BlockFits kind b
   block-fits b h =
-      let (filled, no-wrap) = (filled-decides (b .stretch)) .yes (h .full) in
+      let (filled, no-wrap) = (filled-decides b) .yes (h .full) in
       record {
         own = h .own-kind;
         first = omega (arith, no-wrap);
@@ -62,7 +62,13 @@ module _ (kind e : ℕ) (bs : List Block) (tree : Tree) (w : Writable kind e bs 
 
   pub index-fits : IndexFits kind e bs tree
   index-fits =
-      record { kindly = w .known-kind; last = omega (arith, w .end-most); count = w .count; entries = w .entries; blocks = all-map block-fits (w .blocks) }
+      record {
+        kindly = w .known-kind;
+        last = omega (arith, w .end-most);
+        count = w .count;
+        entries = w .entries;
+        blocks = all-of-map (blockAt bs) (all-map (λ k less. block-fits (blockAt bs k) (all-at noBlock (w .blocks) k less)) (written-below bs tree));
+      }
 
   end-written : endOf (nodesOf 0 e (renumbered bs tree)) ≡ e
   end-written = endOf-nodesOf 0 e (renumbered bs tree) (renumbered-root kind e bs tree w)
@@ -87,5 +93,5 @@ module _ (kind e : ℕ) (bs : List Block) (tree : Tree) (w : Writable kind e bs 
       → load n (before ++ (fileOf kind e bs tree ++ behind)) (length before)
       ≡ got (record { end = e; kind = kind; blocks = writtenBlocks bs tree; tree = renumbered bs tree }) (length before + length (fileOf kind e bs tree))
   load-written n any room before behind =
-      load-taken n _ (length before) (contents kind e bs tree) _ (read-written kind e bs tree (omega (arith, written-few bs tree)) index-fits before behind) (contents-accepted n any room)
+      load-taken n _ (length before) (contents kind e bs tree) _ (read-written kind e bs tree (w .rooted) index-fits before behind) (contents-accepted n any room)
       ∙ ap (λ (x : Loaded). got x (length before + length (fileOf kind e bs tree))) contents-loaded

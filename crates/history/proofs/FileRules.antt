@@ -65,15 +65,15 @@ pub record Rule22 (end : ℕ) (bs : List Block) : Type 0 where
   pub some-block : 0 < length bs
   pub blocks : All (LivingBlock end) bs
 
-living-decides : (end : ℕ) (b : Block) → Decides (filled (b .stretch) && lived end b) (LivingBlock end b)
+living-decides : (end : ℕ) (b : Block) → Decides (filled b && lived end b) (LivingBlock end b)
 living-decides end b =
-    decides-iff (filled (b .stretch) && lived end b)
+    decides-iff (filled b && lived end b)
     (λ z. record { some-cell = z .0 .0; no-wrap = z .0 .1; lives = z .1 .0; by-end = z .1 .1 })
     (λ r. ((r .some-cell, r .no-wrap), (r .lives, r .by-end)))
-    (decides-and (filled (b .stretch)) (lived end b) (filled-decides (b .stretch)) (lived-decides end b))
+    (decides-and (filled b) (lived end b) (filled-decides b) (lived-decides end b))
 
 pub rule22-decides : (end : ℕ) (bs : List Block) → Decides (rule22 end bs) (Rule22 end bs)
 unfolding rule22
 rule22-decides end bs =
     decides-iff (rule22 end bs) (λ z. record { some-block = z .0; blocks = z .1 }) (λ r. (r .some-block, r .blocks))
-    (decides-and _ _ (decides-ltb 0 (length bs)) (every-decides (λ b. filled (b .stretch) && lived end b) (living-decides end) bs))
+    (decides-and _ _ (decides-ltb 0 (length bs)) (every-decides (λ b. filled b && lived end b) (living-decides end) bs))

@@ -1,7 +1,6 @@
 -- The file and the ledger: what is loaded is a sound closed ledger, a sound one can be written and loaded, and the two answer alike. Assumes
 -- nothing.
 use mathlib.Core.Path.{_≡_, refl, sym, _∙_, ap}
-use mathlib.Core.Bool.{false}
 use mathlib.Core.Option.{some}
 use mathlib.Core.List.{List, [], map, _∷_, flatMap, _++_, append-assoc}
 use Prim.Native.Nat.{ℕ, _<_, _^_, _+_}
@@ -15,20 +14,23 @@ use Rattle.history.specs.Words.{Block, size}
 use Rattle.history.specs.Tree.{Tree}
 use Rattle.history.specs.Find.{visited}
 use Rattle.history.specs.Reads.{findBy, cellsBy}
-use Rattle.history.specs.File.{newNumber, fileBytes, got, treeFrom, load, Nodes, endOf, absent, present, Loaded, File, loadedFrom, loadedLedger, savedLedger}
-use Rattle.history.specs.Rules.{filled, isHole}
+use Rattle.history.specs.File.{newNumber, fileBytes, got, treeFrom, load, endOf, Loaded, File, loadedFrom, loadedLedger, savedLedger}
+use Rattle.history.specs.Rules.{filled}
 use Rattle.history.specs.Lent.{Lent}
 use Rattle.history.specs.Ledger.{Ledger}
-use Rattle.history.specs.Sound.{Stored, SoundBlock, Sound, isEmpty, SoundBoard, SoundClosed}
+use Rattle.history.specs.Sound.{Stored, SoundBlock, Sound, SoundBoard, SoundClosed}
+use Rattle.history.proofs.ByKind.{rule-23-kind, closed-rule-23}
 use Rattle.history.proofs.RulesLaws.{rule23-decides, Rule23, apart-decides, filled-decides}
 use Rattle.history.proofs.FileNumbers.{Bytes}
 use Rattle.history.proofs.FileYields.{Yielded}
 use Rattle.history.proofs.FileRoundTrip.{gives-file, BlockFits, FileFits}
 use Rattle.history.proofs.FileRules.{rule20-decides, rule21-decides, rule22-decides, Rule20, Rule21, LivingBlock, Rule22}
 use Rattle.history.proofs.FileContents.{nodes-fit}
+use Rattle.history.proofs.FileIntervals.{treeFrom-rooted}
 use Rattle.history.proofs.FileLoad.{load-accepted, read-inside, Accepted, LoadedOf}
 use Rattle.history.proofs.FileKept.{WholeBlock, Writable}
 use Rattle.history.proofs.FileAlike.{written-find, written-visited, written-seen}
+use Rattle.history.proofs.FileLists.{not-empty}
 
 -- ── a loaded index is sound ──
 
@@ -51,16 +53,6 @@ unfolding flatMap sumOf
 flat-length [] = refl
 flat-length (b ∷ bs) = length-append (b .stretch .bytes) (flatMap (λ b. b .stretch .bytes) bs) ∙ ap (λ (n : ℕ). length (b .stretch .bytes) + n) (flat-length bs)
 
--- a root, as E is above 0
-rooted : (t : Nodes) → 0 < endOf t → isHole (treeFrom t) ≡ false
-unfolding treeFrom
-rooted absent h = absurd (omega arith)
-rooted (present min max middle es l r) h = refl
-
-not-empty : {A : Type 0} (xs : List A) → 0 < length xs → isEmpty xs ≡ false
-not-empty [] h = absurd (omega arith)
-not-empty (x ∷ xs) h = refl
-
 -- Whatever the loader takes is well formed.
 accepted-sound : (n : Lent) (f : File) → FileFits f → Accepted n f → Sound (loadedLedger n (loadedFrom f))
 accepted-sound n f fits rules =
@@ -68,6 +60,7 @@ accepted-sound n f fits rules =
     let halves : Rule21 (f .nodes) = rule21-decides (f .nodes) .yes (rules .halves) in
     let blocks : Rule22 (endOf (f .nodes)) (f .blocks) = rule22-decides (endOf (f .nodes)) (f .blocks) .yes (rules .blocks) in
     let stored : All (λ b. BlockFits (f .kind) b × Stored store (b .stretch)) (f .blocks) = all-both (λ b fit z. (fit, z)) (fits .blocks) (stored-each [] (f .blocks)) in
+    let each : All (SoundBlock (f .kind) (endOf (f .nodes)) store) (f .blocks) = all-both (λ b living z. sound-block b living z) (blocks .blocks) stored in
     record {
       board = record {
         some-tick = halves .some-tick;
@@ -76,16 +69,16 @@ accepted-sound n f fits rules =
         last-below-end = halves .some-tick;
         pieces = all-nil;
         in-order = pairs-nil;
-        blocks = all-both (λ b living z. sound-block b living z) (blocks .blocks) stored;
+        blocks = each;
         pieces-fit = omega arith;
         blocks-fit = omega (arith, room .blocks);
         store-fits = rw (flat-length (f .blocks)) (room .bytes);
       };
       closed = record {
         no-pieces = refl;
-        rooted = rooted (f .nodes) (halves .some-tick) ∙ sym (not-empty (f .blocks) (blocks .some-block));
+        rooted = treeFrom-rooted (f .nodes) (halves .some-tick) ∙ sym (not-empty (f .blocks) (blocks .some-block));
         rule-21 = halves .halves;
-        rule-23 = rules .entries;
+        rule-23 = rule-23-kind (f .kind) (endOf (f .nodes)) store (treeFrom (f .nodes)) each (rules .entries);
         rule-24 = apart-decides (f .blocks) .yes (rules .disjoint);
         nodes-fit = room .nodes;
         entries-fit = room .entries;
@@ -124,7 +117,7 @@ sound-writable l tree board closed some-block small narrow =
       end-most = board .end-most;
       rooted = closed .rooted ∙ not-empty (l .now .blocks) some-block;
       halves = closed .rule-21;
-      rule-23 = closed .rule-23;
+      rule-23 = closed-rule-23 l tree board closed;
       rule-24 = closed .rule-24;
       blocks = all-map whole (board .blocks);
       count = omega (arith, board .blocks-fit);
@@ -134,7 +127,7 @@ sound-writable l tree board closed some-block small narrow =
     whole : (b : Block) → SoundBlock (l .opening .kind) (l .opening .end) (l .now .store) b → WholeBlock (l .opening .kind) (l .opening .end) b
     whole b h =
         record {
-          full = decided (filled (b .stretch)) (filled-decides (b .stretch)) (h .stretch .some-cell, h .stretch .no-wrap);
+          full = decided (filled b) (filled-decides b) (h .stretch .some-cell, h .stretch .no-wrap);
           forward = h .forward;
           by-end = h .by-end;
           own-kind = h .own-kind;

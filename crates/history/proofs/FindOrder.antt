@@ -1,18 +1,20 @@
 -- The order of find's list: node by node on the way down, root first, and ascending by first cell within a node; and the nodes of that way are
 -- those that are counted as visited. Assumes nothing.
 use mathlib.Core.Path.{_≡_, refl, ap, _∙_}
-use mathlib.Core.Bool.{Bool, true, false, cond}
+use mathlib.Core.Bool.{Bool, true, false, cond, not, _&&_}
 use mathlib.Core.List.{List, [], _∷_, _++_, map, flatten}
-use Prim.Native.Nat.{ℕ, suc, _<_}
-use lib.ListN.{length}
+use Prim.Native.Nat.{ℕ, zero, suc, _<_}
+use lib.ListN.{length, getD}
 use lib.Dec.{ltb}
+use borrow.Author.Tests.{not-true}
 use Rattle.lists.specs.Lists.{All, all-nil, all-cons, Ascending, pairs-nil, pairs-cons}
+use Rattle.lists.proofs.Numbers.{and-left, and-right}
 use Rattle.lists.proofs.Lists.{all-map, all-of-map}
 use Rattle.history.specs.Words.{within, Block}
-use Rattle.history.specs.Tree.{Tree, hole, node, mid, halves, keyIn}
-use Rattle.history.specs.Find.{path, visited, window, find}
-use Rattle.history.specs.Rules.{sorted, rule23}
-use Rattle.history.proofs.RulesLaws.{ascends-decides, sorted-here, sorted-left, sorted-right, rule23-decides}
+use Rattle.history.specs.Tree.{Tree, hole, node, mid, halves, blockAt, keyIn}
+use Rattle.history.specs.Find.{path, visited, Interval, wayTo, coversAt, window, find}
+use Rattle.history.specs.Rules.{placed, sorted, rule23}
+use Rattle.history.proofs.RulesLaws.{every-all, coversNode, placed-here, placed-left, placed-right, ascends-decides, sorted-here, sorted-left, sorted-right, rule23-decides}
 
 -- ── the nodes on the way ──
 
@@ -61,6 +63,49 @@ nodes-ascend key t lo hi (node es l r) h =
     choose true false p q = q
     choose false v p q = all-nil
 
+-- ── which node of the way lists a block ──
+
+-- of the lists of the half that has the tick, or of none
+in-half : (P : Interval → ℕ → Type 0) (depth : ℕ) (u v : Bool) (x y : Interval) (a b : List (List ℕ)) → All (P x) (getD a depth []) → All (P y) (getD b depth [])
+    → All (P (cond v x y)) (getD (cond u (cond v a b) []) depth [])
+in-half P depth true true x y a b p q = p
+in-half P depth true false x y a b p q = q
+in-half P depth false v x y a b p q = all-nil
+
+module _ (at : ℕ → Block) (t : ℕ) where
+  -- the life of a listed block covers the node ..
+  pub nodes-cover : (above : ℕ → Bool) (lo hi : ℕ) (T : Tree) → placed at above lo hi T ≡ true → (depth : ℕ)
+      → All (λ k. coversAt (wayTo t lo hi depth) (at k) ≡ true) (getD (nodesTo t lo hi T) depth [])
+  unfolding nodesTo wayTo
+  nodes-cover above lo hi hole p depth = all-nil
+  nodes-cover above lo hi (node es l r) p zero =
+      all-map (λ k h. and-left (coversNode at lo hi k) (not (above k)) h) (every-all (λ k. coversNode at lo hi k && not (above k)) es (placed-here at above lo hi es l r p))
+  nodes-cover above lo hi (node es l r) p (suc depth) =
+      in-half (λ x k. coversAt x (at k) ≡ true) depth (halves lo hi) (ltb t (mid lo hi)) (wayTo t lo (mid lo hi) depth) (wayTo t (mid lo hi) hi depth) (nodesTo t lo (mid lo hi) l) (nodesTo t (mid lo hi) hi r)
+      (nodes-cover (coversNode at lo hi) lo (mid lo hi) l (placed-left at above lo hi es l r p) depth)
+      (nodes-cover (coversNode at lo hi) (mid lo hi) hi r (placed-right at above lo hi es l r p) depth)
+
+  -- .. and not the one above it
+  first-under : (above : ℕ → Bool) (lo hi : ℕ) (T : Tree) → placed at above lo hi T ≡ true → All (λ k. above k ≡ false) (getD (nodesTo t lo hi T) 0 [])
+  unfolding nodesTo
+  first-under above lo hi hole p = all-nil
+  first-under above lo hi (node es l r) p =
+      all-map (λ k h. not-true (above k) (and-right (coversNode at lo hi k) (not (above k)) h))
+      (every-all (λ k. coversNode at lo hi k && not (above k)) es (placed-here at above lo hi es l r p))
+
+  pub nodes-under : (above : ℕ → Bool) (lo hi : ℕ) (T : Tree) → placed at above lo hi T ≡ true → (depth : ℕ)
+      → All (λ k. coversAt (wayTo t lo hi depth) (at k) ≡ false) (getD (nodesTo t lo hi T) (suc depth) [])
+  unfolding nodesTo wayTo
+  nodes-under above lo hi hole p depth = all-nil
+  nodes-under above lo hi (node es l r) p zero =
+      in-half (λ _ k. coversNode at lo hi k ≡ false) 0 (halves lo hi) (ltb t (mid lo hi)) (wayTo t lo hi 0) (wayTo t lo hi 0) (nodesTo t lo (mid lo hi) l) (nodesTo t (mid lo hi) hi r)
+      (first-under (coversNode at lo hi) lo (mid lo hi) l (placed-left at above lo hi es l r p))
+      (first-under (coversNode at lo hi) (mid lo hi) hi r (placed-right at above lo hi es l r p))
+  nodes-under above lo hi (node es l r) p (suc depth) =
+      in-half (λ x k. coversAt x (at k) ≡ false) (suc depth) (halves lo hi) (ltb t (mid lo hi)) (wayTo t lo (mid lo hi) depth) (wayTo t (mid lo hi) hi depth) (nodesTo t lo (mid lo hi) l) (nodesTo t (mid lo hi) hi r)
+      (nodes-under (coversNode at lo hi) lo (mid lo hi) l (placed-left at above lo hi es l r p) depth)
+      (nodes-under (coversNode at lo hi) (mid lo hi) hi r (placed-right at above lo hi es l r p) depth)
+
 -- ── the window of each ──
 
 module _ (key : ℕ → ℕ) (s n : ℕ) where
@@ -87,6 +132,12 @@ module _ (key : ℕ → ℕ) (s n : ℕ) where
       choose true a = all-cons p a
       choose false a = a
 
+  -- of the node at a depth
+  pub window-at : {P : ℕ → Type 0} (xss : List (List ℕ)) (depth : ℕ) → All P (getD xss depth []) → All P (getD (map (window key s n) xss) depth [])
+  window-at [] depth h = h
+  window-at (xs ∷ xss) zero h = window-all h
+  window-at (xs ∷ xss) (suc depth) h = window-at xss depth h
+
   pub window-ascending : {xs : List ℕ} → Ascending key xs → Ascending key (window key s n xs)
   unfolding window
   window-ascending pairs-nil = pairs-nil
@@ -106,6 +157,17 @@ foundAt e bs tree t s n = map (window (keyIn bs) s n) (nodesTo t 0 e tree)
 pub find-nodes : (e : ℕ) (bs : List Block) (tree : Tree) (t s n : ℕ) → find e bs tree t s n ≡ flatten (foundAt e bs tree t s n)
 unfolding find
 find-nodes e bs tree t s n = ap (window (keyIn bs) s n) (path-nodes t 0 e tree) ∙ window-flatten (keyIn bs) s n (nodesTo t 0 e tree)
+
+-- Down the way to the tick: a block stands at the first node of that way that its life covers.
+pub find-covered : (e : ℕ) (bs : List Block) (tree : Tree) (t s n : ℕ) → rule23 e bs tree ≡ true → (depth : ℕ)
+    → All (λ k. coversAt (wayTo t 0 e depth) (blockAt bs k) ≡ true) (getD (foundAt e bs tree t s n) depth [])
+find-covered e bs tree t s n rule depth =
+    window-at (keyIn bs) s n (nodesTo t 0 e tree) depth (nodes-cover (blockAt bs) t (λ k. false) 0 e tree (rule23-decides e bs tree .yes rule .places) depth)
+
+pub find-not-above : (e : ℕ) (bs : List Block) (tree : Tree) (t s n : ℕ) → rule23 e bs tree ≡ true → (depth : ℕ)
+    → All (λ k. coversAt (wayTo t 0 e depth) (blockAt bs k) ≡ false) (getD (foundAt e bs tree t s n) (suc depth) [])
+find-not-above e bs tree t s n rule depth =
+    window-at (keyIn bs) s n (nodesTo t 0 e tree) (suc depth) (nodes-under (blockAt bs) t (λ k. false) 0 e tree (rule23-decides e bs tree .yes rule .places) depth)
 
 -- Ascending within a node.
 pub find-ascending : (e : ℕ) (bs : List Block) (tree : Tree) (t s n : ℕ) → rule23 e bs tree ≡ true → All (Ascending (keyIn bs)) (foundAt e bs tree t s n)

@@ -1,5 +1,6 @@
 pub mod Within
 pub mod Clip
+pub mod ByKind
 pub mod Seen
 pub mod Parts
 pub mod Apart

@@ -12,7 +12,7 @@ use Rattle.lists.specs.Tests.{Decides}
 use Rattle.lists.specs.Lists.{All, all-nil, all-cons, pairs-nil, pairs-cons, Ascending, count, countFrom}
 use Rattle.lists.proofs.Numbers.{bool-cases, and-left, and-right, and-both, or-cases, confirm, decides-iff, decides-leb, decides-ltb, decides-eqb, decides-and, decides-not}
 use Rattle.lists.proofs.Lists.{all-append, all-left, all-right, all-at, all-of-at, count-from-length, count-from-at}
-use Rattle.history.specs.Words.{Stretch, size, ends, Block, life, Holds}
+use Rattle.history.specs.Words.{size, ends, Block, life, Holds, firstCell}
 use Rattle.history.specs.Tree.{Tree, hole, node, mid, halves, covers, blockAt, keyIn, widths, entriesIn}
 use Rattle.history.specs.Rules.{every, isHole, halved, filled, lived, numbered, placed, ascends, sorted, summed, rule23, shares, apart, Apart}
 
@@ -87,9 +87,11 @@ halved-narrow lo hi es l r e n =
 
 -- ── 22: filled, lived ──
 
-pub filled-decides : (s : Stretch) → Decides (filled s) ((0 < size s) × (ends s ≤ 2 ^ 64 - 1))
+pub filled-decides : (b : Block) → Decides (filled b) ((0 < size (b .stretch)) × (firstCell b + size (b .stretch) ≤ 2 ^ 64 - 1))
 unfolding filled
-filled-decides s = decides-and (ltb 0 (size s)) (leb (ends s) (2 ^ 64 - 1)) (decides-ltb 0 (size s)) (decides-leb (ends s) (2 ^ 64 - 1))
+filled-decides b =
+    decides-and (ltb 0 (size (b .stretch))) (leb (firstCell b + size (b .stretch)) (2 ^ 64 - 1)) (decides-ltb 0 (size (b .stretch)))
+    (decides-leb (firstCell b + size (b .stretch)) (2 ^ 64 - 1))
 
 pub lived-decides : (end : ℕ) (b : Block) → Decides (lived end b) ((b .created < b .destroyed) × (b .destroyed ≤ end))
 unfolding lived

@@ -8,7 +8,7 @@ use lib.ListN.{length}
 use Rattle.lists.specs.Lists.{All, all-nil, pairs-nil}
 use Rattle.lists.proofs.Lists.{all-append, all-map, all-of-map}
 use Rattle.history.specs.Words.{Stretch, Operation, Piece, Block, size, ends, pieceOf, blockOf, stretchOf}
-use Rattle.history.specs.Ledger.{Opening, Moment, Ledger, opened, readBy, updateBy, settled}
+use Rattle.history.specs.Ledger.{Opening, Moment, Ledger, withNow, opened, readBy, updateBy, settled}
 use Rattle.history.specs.Calls.{valueAt}
 use Rattle.history.specs.Rules.{Apart}
 use Rattle.history.specs.Sound.{SoundStretch, SoundPiece, SoundBlock, SoundBoard}
@@ -48,11 +48,7 @@ module _ (l : Ledger) (o : Operation) (s : SoundBoard l) (before-end : o .tick <
   abbrev m : Moment
   m = l .now
 
-  -- the ledger with another board
-  abbrev with-board : Moment → Ledger
-  with-board n = record { opening = l .opening; now = n; tree = l .tree }
-
-  pub read-sound : SoundBoard (with-board (readBy m o))
+  pub read-sound : SoundBoard (withNow (readBy m o) l)
   unfolding readBy
   read-sound = record {
     some-tick = s .some-tick;
@@ -107,7 +103,7 @@ module _ (l : Ledger) (o : Operation) (s : SoundBoard l) (before-end : o .tick <
   unfolding next updateBy
   all-pieces own = all-updated (a .kind) o (m .pieces) (SoundPiece (a .kind) m) (SoundPiece (a .kind) next) part-sound own (s .pieces)
 
-  pub update-sound : 0 < size (stretchOf o) → ends (stretchOf o) ≤ 2 ^ 64 - 1 → Room (a .lent) (updateBy (a .kind) m o) → SoundBoard (with-board (updateBy (a .kind) m o))
+  pub update-sound : 0 < size (stretchOf o) → ends (stretchOf o) ≤ 2 ^ 64 - 1 → Room (a .lent) (updateBy (a .kind) m o) → SoundBoard (withNow (updateBy (a .kind) m o) l)
   unfolding next updateBy
   update-sound cells wrap r = record {
     some-tick = s .some-tick;

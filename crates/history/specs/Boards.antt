@@ -7,7 +7,7 @@ use lib.ListN.{length, take, replicate, set}
 use Rattle.history.specs.Words.{Piece, Block}
 use Rattle.history.specs.Lent.{Lent, rowWidth, entryWidth, pieceHead, blockHead, nodeHead, entryHead}
 use Rattle.history.specs.Tree.{Tree, hole, node}
-use Rattle.history.specs.Ledger.{Opening, opened}
+use Rattle.history.specs.Ledger.{Opening, opened, openingFor}
 use Rattle.history.specs.Reads.{Found, Cells, treeIn, clockLabel}
 use Rattle.history.specs.Refusals.{Answer, accepted, refused, openAnswer, findAnswer, cellsAnswer, blockAnswer}
 use Rattle.history.specs.Calls.{Call, recordCall, finishCall, answers, afterAll}
@@ -85,7 +85,7 @@ ample = lengths 512 1024 65536 1024 4096
 
 -- end tick and lent lengths; the kind is 1
 abbrev on : ℕ → Lent → Opening
-on e lent = record { end = e; kind = 1; lent = lent }
+on e lent = openingFor e 1 lent
 
 -- tick, first cell, bytes; with a scratch of so many rows
 abbrev opWith : (rows t first : ℕ) → List ℕ → Call
@@ -205,11 +205,11 @@ scant = lengths 2 3 6 1024 4096
 unfoldable pub edges : List Board
 edges =
     -- 1: E from 1 to 2^63, kinds 0 to 4
-    record { opening = record { end = 0; kind = 1; lent = ample }; calls = []; cases = whatOpening is opening (refused 1) ∷ [] }
-    ∷ record { opening = record { end = 1; kind = 0; lent = ample }; calls = []; cases = whatOpening is opening yes! ∷ [] }
-    ∷ record { opening = record { end = 2 ^ 63 + 1; kind = 1; lent = ample }; calls = []; cases = whatOpening is opening (refused 1) ∷ [] }
-    ∷ record { opening = record { end = 2 ^ 63; kind = 4; lent = ample }; calls = []; cases = whatOpening is opening yes! ∷ [] }
-    ∷ record { opening = record { end = 8; kind = 5; lent = ample }; calls = []; cases = whatOpening is opening (refused 1) ∷ [] }
+    record { opening = openingFor 0 1 ample; calls = []; cases = whatOpening is opening (refused 1) ∷ [] }
+    ∷ record { opening = openingFor 1 0 ample; calls = []; cases = whatOpening is opening yes! ∷ [] }
+    ∷ record { opening = openingFor (2 ^ 63 + 1) 1 ample; calls = []; cases = whatOpening is opening (refused 1) ∷ [] }
+    ∷ record { opening = openingFor (2 ^ 63) 4 ample; calls = []; cases = whatOpening is opening yes! ∷ [] }
+    ∷ record { opening = openingFor 8 5 ample; calls = []; cases = whatOpening is opening (refused 1) ∷ [] }
     -- 2: tables that cannot hold their heads
     ∷ record {
       opening = on 8 (record { pieces = 7; blocks = 8200; store = 65536; nodes = 8200; entries = 8200 });

@@ -11,7 +11,7 @@ use Rattle.history.specs.Words.{Block, size, firstCell}
 use Rattle.history.specs.Lent.{Lent, blockRows, nodeRows, entryRows}
 use Rattle.history.specs.Tree.{Tree, hole, node, mid, blockAt, nodeCount, entryCount, entriesIn}
 use Rattle.history.specs.Rules.{every, halved, filled, lived, rule23, apart}
-use Rattle.history.specs.Ledger.{Ledger}
+use Rattle.history.specs.Ledger.{Ledger, empty, withBlocks, withStore, withNow, withTree, openingFor}
 use Rattle.history.specs.Reads.{treeIn}
 use Rattle.history.specs.Refusals.{Answer, firstOf, writeRefusals}
 
@@ -108,10 +108,10 @@ nodesOf lo hi (node es l r) = present lo hi (mid lo hi) es (nodesOf lo (mid lo h
 unfoldable pub contents : (kind end : ℕ) → List Block → Tree → File
 contents kind e bs tree = record { kind = kind; blocks = writtenBlocks bs tree; nodes = nodesOf 0 e (renumbered bs tree) }
 
--- An index without blocks writes no bytes.
+-- An index without blocks has no node, and writes no bytes.
 unfoldable pub fileOf : (kind end : ℕ) → List Block → Tree → List ℕ
-fileOf kind e [] tree = []
-fileOf kind e (b ∷ bs) tree = fileBytes (contents kind e (b ∷ bs) tree)
+fileOf kind e bs hole = []
+fileOf kind e bs (node es l r) = fileBytes (contents kind e bs (node es l r))
 
 -- the file of a ledger
 abbrev pub fileBy : Ledger → List ℕ
@@ -251,7 +251,7 @@ rule21 t = (ltb 0 (endOf t) && leb (endOf t) (2 ^ 63)) && (placedIn 0 (endOf t) 
 
 -- unless 22: no block, or one with length 0, an end above 2^64 − 1, created ≥ destroyed, or destroyed > E
 unfoldable pub rule22 : (end : ℕ) → List Block → Bool
-rule22 e bs = ltb 0 (length bs) && every (λ b. filled (b .stretch) && lived e b) bs
+rule22 e bs = ltb 0 (length bs) && every (λ b. filled b && lived e b) bs
 
 -- a loaded index
 pub record Loaded : Type 0 where
@@ -267,11 +267,9 @@ loadedFrom f = record { end = endOf (f .nodes); kind = f .kind; blocks = f .bloc
 -- the ledger of a loaded index: no pieces, the last accepted tick 0, the blocks' bytes one after the other
 abbrev pub loadedLedger : Lent → Loaded → Ledger
 loadedLedger n x =
-    record {
-      opening = record { end = x .end; kind = x .kind; lent = n };
-      now = record { pieces = []; blocks = x .blocks; last = 0; store = flatMap (λ b. b .stretch .bytes) (x .blocks) };
-      tree = some (x .tree);
-    }
+    let fresh = empty (openingFor (x .end) (x .kind) n) in
+    let bytes = flatMap (λ b. b .stretch .bytes) (x .blocks) in
+    withTree (some (x .tree)) (withNow (withBlocks (x .blocks) (withStore bytes (fresh .now))) fresh)
 
 -- the ledger that loading the file of a closed one gives: the blocks with an entry, under their new numbers
 abbrev pub savedLedger : Lent → Ledger → Ledger

@@ -4,11 +4,12 @@ use mathlib.Core.Path.{_≡_}
 use mathlib.Core.Bool.{true, false, cond, _&&_}
 use mathlib.Core.Option.{none, some}
 use mathlib.Core.List.{List, [], _∷_, _++_, map, flatten, Option·toList}
-use Prim.Native.Nat.{ℕ, _≤_, _<_}
-use lib.ListN.{length}
+use Prim.Native.Nat.{ℕ, suc, _≤_, _<_}
+use lib.ListN.{length, getD}
 use Rattle.lists.specs.Lists.{All, Mem, Ascending, count, sumOf}
 use Rattle.history.specs.Words.{within, Operation, Block, firstCell, live, stretchOf, byteAt, Covers, Holds}
 use Rattle.history.specs.Tree.{keyIn}
+use Rattle.history.specs.Find.{wayTo, coversAt}
 use Rattle.history.specs.Ledger.{Ledger, Opening, opened, finished, settled}
 use Rattle.history.specs.Reads.{blockBy, findBy, seen}
 use Rattle.history.specs.Refusals.{accepted, openAnswer}
@@ -79,12 +80,16 @@ pub record FindLaw (l : Ledger) (t start stop : ℕ) : Type 0 where
   pub numbers : All (λ k. k < length (l .now .blocks)) (findBy l t start stop .numbers)
   -- they are so many;
   pub how-many : length (findBy l t start stop .numbers) ≡ sumOf (map (λ b. cond (live t b && within start stop (firstCell b)) 1 0) (l .now .blocks))
-  -- a list for each node visited, root first, ascending within a node; at most 64.
+  -- a list for each node visited, at most 64;
   pub by-node : List (List ℕ)
   pub joined : findBy l t start stop .numbers ≡ flatten by-node
-  pub ascending : All (Ascending (keyIn (l .now .blocks))) by-node
   pub as-many : findBy l t start stop .visited ≡ length by-node
   pub at-most : findBy l t start stop .visited ≤ 64
+  -- root first, down the way to the tick: a block stands in the list of the first node on that way that its life covers;
+  pub covered : (depth : ℕ) → All (λ k. coversAt (wayTo t 0 (l .opening .end) depth) (blockBy l k) ≡ true) (getD by-node depth [])
+  pub not-above : (depth : ℕ) → All (λ k. coversAt (wayTo t 0 (l .opening .end) depth) (blockBy l k) ≡ false) (getD by-node (suc depth) [])
+  -- ascending within a node.
+  pub ascending : All (Ascending (keyIn (l .now .blocks))) by-node
 
 abbrev pub LawOfFind : Type 0
 LawOfFind = (l : Ledger) → Sound l → finished l ≡ true → (t start stop : ℕ) → t < l .opening .end → FindLaw l t start stop

@@ -17,6 +17,10 @@ pub record Opening : Type 0 where
   pub kind : ℕ
   pub lent : Lent
 
+-- an opening, and no more than this: the record is written out here alone
+abbrev pub openingFor : (end kind : ℕ) → Lent → Opening
+openingFor e kind n = record { end = e; kind = kind; lent = n }
+
 -- A board at a moment: pieces ascending, blocks in recorded order, the last accepted tick, and the bytes of all accepted updates one after the other,
 -- whose number is the store use.
 pub record Moment : Type 0 where
@@ -39,11 +43,36 @@ isSome (some a) = true
 abbrev pub finished : Ledger → Bool
 finished l = isSome (l .tree)
 
+-- ── one field replaced ──
+
+-- The two records are written out here and in `empty` alone: what a call does not name stays, and so will a field that comes.
+abbrev pub withPieces : List Piece → Moment → Moment
+withPieces ps m = record { pieces = ps; blocks = m .blocks; last = m .last; store = m .store }
+
+abbrev pub withBlocks : List Block → Moment → Moment
+withBlocks bs m = record { pieces = m .pieces; blocks = bs; last = m .last; store = m .store }
+
+abbrev pub withLast : (tick : ℕ) → Moment → Moment
+withLast t m = record { pieces = m .pieces; blocks = m .blocks; last = t; store = m .store }
+
+abbrev pub withStore : (bytes : List ℕ) → Moment → Moment
+withStore bytes m = record { pieces = m .pieces; blocks = m .blocks; last = m .last; store = bytes }
+
+abbrev pub withNow : Moment → Ledger → Ledger
+withNow m l = record { opening = l .opening; now = m; tree = l .tree }
+
+abbrev pub withTree : Option Tree → Ledger → Ledger
+withTree t l = record { opening = l .opening; now = l .now; tree = t }
+
 -- ── open ──
 
--- no pieces and no blocks, the last accepted tick and the store use 0
+-- an index that keeps nothing yet: no pieces and no blocks, the last accepted tick and the store use 0
+abbrev pub empty : Opening → Ledger
+empty a = record { opening = a; now = record { pieces = []; blocks = []; last = 0; store = [] }; tree = none }
+
+-- what opening leaves
 unfoldable pub opened : Opening → Ledger
-opened a = record { opening = a; now = record { pieces = []; blocks = []; last = 0; store = [] }; tree = none }
+opened a = empty a
 
 -- ── record ──
 
@@ -67,7 +96,7 @@ isRead m o = isNone (changed m o)
 
 -- a read: nothing changes but the last accepted tick
 unfoldable pub readBy : Moment → Operation → Moment
-readBy m o = record { pieces = m .pieces; blocks = m .blocks; last = o .tick; store = m .store }
+readBy m o = withLast (o .tick) m
 
 -- An update: for each overlapped piece, ascending, the cells inside the operation become a block, destroyed at its tick; what is left of the operation
 -- stays a piece, what is right of it another, both with the old tick; the operation becomes a piece; its bytes enter the store once.
@@ -75,20 +104,12 @@ unfoldable pub updateBy : (kind : ℕ) → Moment → Operation → Moment
 updateBy kind m o =
     let f = (stretchOf o) .first in
     let e = ends (stretchOf o) in
-    record {
-      pieces = below f (m .pieces) ++ (pieceOf kind o ∷ above e (m .pieces));
-      blocks = m .blocks ++ map (blockOf (o .tick)) (inside f e (m .pieces));
-      last = o .tick;
-      store = m .store ++ o .bytes;
-    }
+    let pieces = below f (m .pieces) ++ (pieceOf kind o ∷ above e (m .pieces)) in
+    let blocks = m .blocks ++ map (blockOf (o .tick)) (inside f e (m .pieces)) in
+    withPieces pieces (withBlocks blocks (withStore (m .store ++ o .bytes) (withLast (o .tick) m)))
 
 unfoldable pub recordBy : Ledger → Operation → Ledger
-recordBy l o =
-    record {
-      opening = l .opening;
-      now = cond (isRead (l .now) o) (readBy (l .now) o) (updateBy (l .opening .kind) (l .now) o);
-      tree = l .tree;
-    }
+recordBy l o = withNow (cond (isRead (l .now) o) (readBy (l .now) o) (updateBy (l .opening .kind) (l .now) o)) l
 
 -- ── finish ──
 
@@ -100,8 +121,4 @@ settled e m = m .blocks ++ map (blockOf e) (m .pieces)
 unfoldable pub finishBy : Ledger → Ledger
 finishBy l =
     let all = settled (l .opening .end) (l .now) in
-    record {
-      opening = l .opening;
-      now = record { pieces = []; blocks = all; last = l .now .last; store = l .now .store };
-      tree = some (treeOf (l .opening .end) all);
-    }
+    withTree (some (treeOf (l .opening .end) all)) (withNow (withPieces [] (withBlocks all (l .now))) l)

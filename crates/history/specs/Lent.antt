@@ -13,12 +13,13 @@ rowWidth = 8
 abbrev pub entryWidth : ℕ
 entryWidth = 2
 
--- the heads; that of the blocks alone will grow
+-- the heads
 abbrev pub pieceHead : ℕ
 pieceHead = rowWidth
 
+-- room for what the requests keep of an index, in front of its last row (`Columns` of crate `tables`)
 abbrev pub blockHead : ℕ
-blockHead = 8
+blockHead = 2048
 
 abbrev pub nodeHead : ℕ
 nodeHead = rowWidth

@@ -6,7 +6,7 @@ use lib.Dec.{leb, ltb, eqb}
 use lib.ListN.{length, take}
 use Rattle.history.specs.Words.{Operation, Block, firstCell, size}
 use Rattle.history.specs.Lent.{Lent, rowWidth, entryWidth, pieceHead, blockHead, nodeHead, entryHead}
-use Rattle.history.specs.Ledger.{Opening, Ledger, opened}
+use Rattle.history.specs.Ledger.{Opening, Ledger, opened, openingFor}
 use Rattle.history.specs.Reads.{clockLabel}
 use Rattle.history.specs.Refusals.{Answer, accepted, refused, openAnswer}
 use Rattle.history.specs.Calls.{recordCall, finishCall, answerTo, after}
@@ -18,8 +18,18 @@ use Rattle.history.specs.File.{Read, got, fault, Reader, _>>=_, _>>_, gi
 abbrev pub inputMost : ℕ
 inputMost = 65536
 
+-- what a record books; the kind is that of the whole input
+pub record Booking : Type 0 where
+  pub tick : ℕ
+  pub first : ℕ
+  pub bytes : List ℕ
+
+-- the operation that it stands for
+abbrev pub operationOf : Booking → Operation
+operationOf b = record { tick = b .tick; first = b .first; bytes = b .bytes }
+
 -- a record: a mark of two bytes, hexadecimal B7 4F, tick (8), first cell (8), length (2), bytes
-unfoldable pub readRecord : Reader Operation
+unfoldable pub readRecord : Reader Booking
 readRecord = do
   mark ← number 2
   refuse 0 unless (eqb mark (0xb7 + 256 * 0x4f))
@@ -32,14 +42,14 @@ readRecord = do
 -- the records, or the first wrong mark or cut record K
 pub data Records : Type 0 where
   bad : (k : ℕ) → Records
-  all : List Operation → Records
+  all : List Booking → Records
 
-unfoldable pub onto : Operation → Records → Records
-onto o (bad k) = bad k
-onto o (all os) = all (o ∷ os)
+unfoldable pub onto : Booking → Records → Records
+onto b (bad k) = bad k
+onto b (all bs) = all (b ∷ bs)
 
-unfoldable pub nextRecord : (k : ℕ) → Read Operation → (ℕ → Records) → Records
-nextRecord k (got o next) rest = onto o (rest next)
+unfoldable pub nextRecord : (k : ℕ) → Read Booking → (ℕ → Records) → Records
+nextRecord k (got b next) rest = onto b (rest next)
 nextRecord k (fault n) rest = bad k
 
 -- the records from a position on, counted from k; each takes bytes, so as much fuel as there are bytes suffices
@@ -80,6 +90,10 @@ boardLent =
 
 abbrev pub boardScratch : ℕ
 boardScratch = rowWidth * 512
+
+-- what it opens with
+abbrev pub boardOpening : (end kind : ℕ) → Opening
+boardOpening e kind = openingFor e kind boardLent
 
 -- ── texts ──
 
@@ -159,22 +173,22 @@ unfoldable pub lastLines : Ledger → Answer Unit → List ℕ
 lastLines l (accepted a) = flatMap blockLine (l .now .blocks)
 lastLines l (refused n) = refusedLine finishText n
 
-unfoldable pub linesFrom : (k : ℕ) → Ledger → List Operation → List ℕ
+unfoldable pub linesFrom : (k : ℕ) → Ledger → List Booking → List ℕ
 linesFrom k l [] = lastLines (after l finishCall) (answerTo l finishCall)
-linesFrom k l (o ∷ os) =
-    let call = recordCall boardScratch o in
-    opLine k (answerTo l call) ++ linesFrom (suc k) (after l call) os
+linesFrom k l (b ∷ bs) =
+    let call = recordCall boardScratch (operationOf b) in
+    opLine k (answerTo l call) ++ linesFrom (suc k) (after l call) bs
 
 -- a refused opening prints `open refused 1` only
-unfoldable pub openLines : (a : Opening) → List Operation → Answer Unit → List ℕ
-openLines a os (accepted x) = headerText ++ (newline ∷ linesFrom 1 (opened a) os)
-openLines a os (refused n) = refusedLine openText n
+unfoldable pub openLines : (a : Opening) → List Booking → Answer Unit → List ℕ
+openLines a bs (accepted x) = headerText ++ (newline ∷ linesFrom 1 (opened a) bs)
+openLines a bs (refused n) = refusedLine openText n
 
 unfoldable pub recordLines : (end kind : ℕ) → Records → List ℕ
 recordLines e kind (bad k) = badRecordText ++ decimal k (newline ∷ [])
-recordLines e kind (all os) =
-    let a : Opening = record { end = e; kind = kind; lent = boardLent } in
-    openLines a os (openAnswer a)
+recordLines e kind (all bs) =
+    let a = boardOpening e kind in
+    openLines a bs (openAnswer a)
 
 -- all that it prints
 unfoldable pub printed : (standardInput : List ℕ) → List ℕ

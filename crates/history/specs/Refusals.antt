@@ -94,19 +94,31 @@ finishAnswer l = firstOf (finishRefusals l) tt
 
 -- ── the reads ──
 
--- of find and read cells alike; `exceeds` says whether the result exceeds a lent slice
-unfoldable pub windowRefusals : Ledger → (t start stop : ℕ) → (exceeds : Bool) → List Refusal
-windowRefusals l t s n exceeds =
+-- every read of a closed index: these two, and then its own
+abbrev pub readRefusals : Ledger → List Refusal → List Refusal
+readRefusals l own =
     2 if tooShort (l .opening .lent)
     -- it isn't finished or loaded
     ∷ 4 if not (finished l)
+    ∷ own
+
+-- of a read at a tick
+abbrev pub tickRefusals : Ledger → (t : ℕ) → List Refusal → List Refusal
+tickRefusals l t own =
+    readRefusals l
     -- tick ≥ E
-    ∷ 14 if leb (l .opening .end) t
+    (14 if leb (l .opening .end) t
+    ∷ own)
+
+-- of find and read cells alike; `exceeds` says whether the result exceeds a lent slice
+unfoldable pub windowRefusals : Ledger → (t start stop : ℕ) → (exceeds : Bool) → List Refusal
+windowRefusals l t s n exceeds =
+    tickRefusals l t
     -- start > end
-    ∷ 15 if ltb n s
+    (15 if ltb n s
     -- the result exceeds a lent slice
     ∷ 16 if exceeds
-    ∷ []
+    ∷ [])
 
 abbrev pub findAnswer : Ledger → (t start stop answer : ℕ) → Answer Found
 findAnswer l t s n answer = firstOf (windowRefusals l t s n (ltb answer (length (findBy l t s n .numbers)))) (findBy l t s n)
@@ -116,18 +128,13 @@ cellsAnswer l t s n bytes held = firstOf (windowRefusals l t s n (ltb bytes (n -
 
 unfoldable pub blockRefusals : Ledger → (k : ℕ) → List Refusal
 blockRefusals l k =
-    2 if tooShort (l .opening .lent)
-    ∷ 4 if not (finished l)
+    readRefusals l
     -- the number isn't below the block count
-    ∷ 15 if leb (length (l .now .blocks)) k
-    ∷ []
+    (15 if leb (length (l .now .blocks)) k
+    ∷ [])
 
 abbrev pub blockAnswer : Ledger → (k : ℕ) → Answer Block
 blockAnswer l k = firstOf (blockRefusals l k) (blockBy l k)
 
 unfoldable pub writeRefusals : Ledger → (out file : ℕ) → List Refusal
-writeRefusals l out file =
-    2 if tooShort (l .opening .lent)
-    ∷ 4 if not (finished l)
-    ∷ 16 if ltb out file
-    ∷ []
+writeRefusals l out file = readRefusals l (16 if ltb out file ∷ [])

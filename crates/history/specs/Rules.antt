@@ -1,11 +1,11 @@
 -- The rules of a closed index as tests over lists: refusals 21 to 24 of document 01 without the loader's own part, which is in File.
 use mathlib.Core.Bool.{Bool, true, false, _&&_, _||_, not}
 use mathlib.Core.List.{List, [], _∷_}
-use Prim.Native.Nat.{ℕ, _-_, _^_, min, max}
+use Prim.Native.Nat.{ℕ, _+_, _-_, _^_, min, max}
 use lib.ListN.{length}
 use lib.Dec.{leb, ltb, eqb}
 use Rattle.lists.specs.Lists.{Pairs, countFrom}
-use Rattle.history.specs.Words.{Stretch, size, ends, Block, life, Holds}
+use Rattle.history.specs.Words.{size, ends, Block, firstCell, life, Holds}
 use Rattle.history.specs.Tree.{Tree, hole, node, mid, halves, covers, blockAt, keyIn, widths}
 
 -- the test holds of every element
@@ -28,8 +28,8 @@ halved lo hi (node es l r) =
 -- ── 22 ──
 
 -- not empty, and no end above 2^64 − 1
-unfoldable pub filled : Stretch → Bool
-filled s = ltb 0 (size s) && leb (ends s) (2 ^ 64 - 1)
+unfoldable pub filled : Block → Bool
+filled b = ltb 0 (size (b .stretch)) && leb (firstCell b + size (b .stretch)) (2 ^ 64 - 1)
 
 -- created < destroyed ≤ E
 unfoldable pub lived : (end : ℕ) → Block → Bool

@@ -7,7 +7,7 @@ use mathlib.Core.List.{List, [], _∷_}
 use Prim.Native.Nat.{ℕ, _+_, _-_, _^_, _≤_, _<_}
 use lib.ListN.{length, take, drop}
 use Rattle.lists.specs.Lists.{All, Pairs}
-use Rattle.history.specs.Words.{Stretch, Piece, Block, size, ends}
+use Rattle.history.specs.Words.{Stretch, Piece, Block, size, ends, onlyKind}
 use Rattle.history.specs.Lent.{pieceRows, blockRows, nodeRows, entryRows}
 use Rattle.history.specs.Tree.{Tree, nodeCount, entryCount}
 use Rattle.history.specs.Rules.{isHole, halved, rule23, Apart}
@@ -73,7 +73,8 @@ pub record SoundClosed (l : Ledger) (tree : Tree) : Type 0 where
   -- 21: an index without blocks has no node, any other has a root; no child of a node of width 1
   pub rooted : isHole tree ≡ isEmpty (l .now .blocks)
   pub rule-21 : halved 0 (l .opening .end) tree ≡ true
-  pub rule-23 : rule23 (l .opening .end) (l .now .blocks) tree ≡ true
+  -- 23, of the blocks of the index's kind: all of them, as `own-kind` says
+  pub rule-23 : rule23 (l .opening .end) (onlyKind (l .opening .kind) (l .now .blocks)) tree ≡ true
   pub rule-24 : Apart (l .now .blocks)
   pub nodes-fit : nodeCount tree ≤ nodeRows (l .opening .lent)
   pub entries-fit : entryCount tree ≤ entryRows (l .opening .lent)

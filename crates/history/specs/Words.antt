@@ -2,9 +2,9 @@
 -- All ranges are half-open: [from, to) has `from` and not `to`. Definitions alone: their laws stand in proofs/.
 use mathlib.Core.Bool.{Bool, cond, _&&_}
 use mathlib.Core.Option.{Option, none, some, Option·map}
-use mathlib.Core.List.{List, filterMap}
+use mathlib.Core.List.{List, map, filterMap}
 use Prim.Native.Nat.{ℕ, _+_, _-_, _≤_, _<_, min, max}
-use lib.Dec.{leb, ltb}
+use lib.Dec.{leb, ltb, eqb}
 use lib.ListN.{length, getD, take, drop}
 
 -- the number n is in [from, to)
@@ -70,6 +70,20 @@ pieceOf kind o = record { kind = kind; stretch = stretchOf o; written = o .tick 
 
 abbrev pub blockOf : (destroyed : ℕ) → Piece → Block
 blockOf destroyed p = record { kind = p .kind; stretch = p .stretch; created = p .written; destroyed = destroyed }
+
+-- ── kinds ──
+
+-- the block is of the kind
+abbrev pub ofKind : (kind : ℕ) → Block → Bool
+ofKind kind b = eqb (b .kind) kind
+
+-- the block as a kind sees it: one of another kind has no life
+unfoldable pub ownLife : (kind : ℕ) → Block → Block
+ownLife kind b = cond (ofKind kind b) b (record { kind = b .kind; stretch = b .stretch; created = 0; destroyed = 0 })
+
+-- the blocks so, under the numbers that they have
+unfoldable pub onlyKind : (kind : ℕ) → List Block → List Block
+onlyKind kind bs = map (ownLife kind) bs
 
 -- ── cells ──
 

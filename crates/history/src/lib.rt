@@ -13,6 +13,7 @@
 //   specs/Boards     the boards to try, with what must come of them
 //
 //   proofs/Clip, Parts, Split, Seen, Cells, Storing, Apart, Reading, Value   pieces and cells
+//   proofs/ByKind                      the blocks as one kind sees them
 //   proofs/Passing, Steps, EveryList   the law, from call to call
 //   proofs/Tree*, Find*, RulesLaws     the segment tree and find
 //   proofs/File*                       the file, there and back

@@ -1,104 +1,82 @@
--- The returns of the public reads, by what the test of the tables found. Assumes nothing.
-use mathlib.Core.Path.{_≡_, refl, sym, _∙_, subst}
-use mathlib.Core.Bool.{true, false}
-use mathlib.Core.Option.{Option, none, some}
+-- The returns of the public reads: 2 and 4 by what the test of the tables found, else what the inner call hands out. Assumes nothing.
+use mathlib.Core.Path.{_≡_, ap, _∙_, subst}
 use mathlib.Core.List.{List}
 use Prim.Native.Nat.{ℕ}
 use native.Mathlib.Omega.{arith}
-use Rattle.history.specs.Lent.{tooShort}
-use Rattle.history.specs.Tree.{Tree}
-use Rattle.history.specs.Ledger.{Ledger, finished, isSome}
-use Rattle.history.specs.Refusals.{Answer, refused, firstOf, windowRefusals, blockRefusals}
-use Rattle.layout.specs.Tables.{Tables, tables}
-use Rattle.layout.specs.Encodes.{Encodes, stateOf, openState, closedState}
-use Rattle.layout.specs.Relations.{Counts, countsOf, answerLeft, FoundBy, Fields, blockOfFields, BlockGivenBy}
-use Rattle.index_test.specs.Board.{OpenFormed, ClosedFormed, Outcome}
+use lib.ListN.{length}
+use Rattle.history.specs.Refusals.{Answer, accepted, refused, firstOf, windowRefusals, blockRefusals}
+use Rattle.layout.specs.Tables.{tables}
+use Rattle.layout.specs.Relations.{Counts, FoundBy, Fields, BlockGivenBy}
+use Rattle.layout.proofs.ReadLaws.{into-refused, block-refused, block-whole}
+use Rattle.index_read.specs.Answers.{givenOf}
+use Rattle.index_read.specs.Reads.{BlockClosed, FindClosed, partOf}
+use Rattle.index_read.specs.declared.Given.{Given}
+use Rattle.index_read.specs.declared.Given.the-variants.{Block as IsBlock, Refused}
+use Rattle.index_read.proofs.Giving.{part-whole}
+use Rattle.index_test.specs.Board.{Outcome}
 use Rattle.index_test.specs.declared.State.{State}
 use Rattle.index_test.specs.declared.State.the-variants.{Bad, Open, Closed}
-use Rattle.index_test.proofs.Tested.{passes-formed, open-passes, closed-passes}
-use Rattle.index.specs.Reads.{BlockClosed, FindClosed}
-
--- ── what the state says of a ledger in the tables ──
-
-open-state : (x : Option Tree) → stateOf x ≡ openState → isSome x ≡ false
-open-state none e = refl
-open-state (some t) e = absurd (omega arith)
-
-closed-state : (x : Option Tree) → stateOf x ≡ closedState → isSome x ≡ true
-closed-state none e = absurd (omega arith)
-closed-state (some t) e = refl
-
-pub still-open : (t : Tables) (l : Ledger) → OpenFormed t → Encodes t l → finished l ≡ false
-still-open t l o e = open-state (l .tree) (sym (e .state) ∙ o .state)
-
-pub is-closed : (t : Tables) (l : Ledger) → ClosedFormed t → Encodes t l → finished l ≡ true
-is-closed t l c e = closed-state (l .tree) (sym (e .state) ∙ c .state)
-
-heads : (t : Tables) (l : Ledger) → Encodes t l → tooShort (l .opening .lent) ≡ false
-heads t l e = rw (e .lengths) (e .heads)
+use Rattle.index_test.proofs.Told.{read-2, read-4, read-on}
+use Rattle.index.specs.Answers.{bytesOf, BytesGivenBy}
 
 -- ── block by number ──
 
-module _ {t : Tables} {k : ℕ} {r : State} (told : Outcome r t) where
-  pub block-bad : r ≡ Bad → BlockGivenBy t k (refused 2)
-  block-bad e =
-      let bad = subst (λ (x : State). Outcome x t) e told in
-      record {
-        formed = λ l enc s. absurd (bad (record { ledger = l; encodes = enc; sound = s }));
-        whole = λ f w. let z : _≡_ {A = ℕ} 0 1 = cc in absurd (omega arith);
-        unformed = λ _. refl;
-      }
+module _ {pieces blocks store nodes entries : List ℕ} {k : ℕ} {r : State} (told : Outcome r (tables pieces blocks store nodes entries)) where
+  pub block-bad : r ≡ Bad → BlockGivenBy (tables pieces blocks store nodes entries) k (refused 2)
+  block-bad e = record { read = read-2 told e block-refused }
 
-  pub block-open : r ≡ Open → BlockGivenBy t k (refused 4)
-  unfolding blockRefusals firstOf blockOfFields
-  block-open e =
-      let formed : OpenFormed t = subst (λ (x : State). Outcome x t) e told in
-      record {
-        formed = λ l enc s. rw (heads t l enc, still-open t l formed enc);
-        whole = λ f w. let z : _≡_ {A = ℕ} 0 1 = cc in absurd (omega arith);
-        unformed = λ n. absurd (n (passes-formed (open-passes t formed)));
-      }
+  pub block-open : r ≡ Open → BlockGivenBy (tables pieces blocks store nodes entries) k (refused 4)
+  unfolding blockRefusals firstOf
+  block-open e = record { read = read-4 told e (λ l held still. rw (held, still)) block-refused }
 
-module _ {pieces blocks store nodes entries : List ℕ} {k : ℕ} {r : State} {a : Answer Fields} (told : Outcome r (tables pieces blocks store nodes entries)) where
-  pub block-given : r ≡ Closed → BlockClosed blocks k a → BlockGivenBy (tables pieces blocks store nodes entries) k a
-  block-given e b =
-      let t = tables pieces blocks store nodes entries in
-      let formed : ClosedFormed t = subst (λ (x : State). Outcome x t) e told in
-      let p = closed-passes t formed in
-      record {
-        formed = λ l enc s. b .given pieces store nodes entries l enc s (is-closed t l formed enc) .0;
-        whole = b .given pieces store nodes entries (p .ledger) (p .encodes) (p .sound) (is-closed t (p .ledger) formed (p .encodes)) .1;
-        unformed = λ n. absurd (n (passes-formed p));
-      }
+  pub block-given : {a : Answer Fields} → r ≡ Closed → BlockClosed blocks k a → BlockGivenBy (tables pieces blocks store nodes entries) k a
+  block-given e b = record { read = read-on told e (b .given pieces store nodes entries) }
 
 pub ruleset blocking = (block-bad, block-open, block-given)
 
 -- ── find ──
 
-module _ {t : Tables} {tick start stop : ℕ} {out : List ℕ} {r : State} (told : Outcome r t) where
-  pub find-bad : r ≡ Bad → FoundBy t tick start stop out out (refused 2)
-  find-bad e =
-      let bad = subst (λ (x : State). Outcome x t) e told in
-      record { formed = λ l enc s. absurd (bad (record { ledger = l; encodes = enc; sound = s })); unformed = λ _. (refl, refl) }
+module _ {pieces blocks store nodes entries : List ℕ} {tick start stop : ℕ} {out : List ℕ} {r : State} (told : Outcome r (tables pieces blocks store nodes entries)) where
+  pub find-bad : r ≡ Bad → FoundBy (tables pieces blocks store nodes entries) tick start stop out out (refused 2)
+  find-bad e = record { read = read-2 told e into-refused }
 
-  pub find-open : r ≡ Open → FoundBy t tick start stop out out (refused 4)
-  unfolding windowRefusals firstOf countsOf answerLeft
-  find-open e =
-      let formed : OpenFormed t = subst (λ (x : State). Outcome x t) e told in
-      record {
-        formed = λ l enc s. rw (heads t l enc, still-open t l formed enc) (refl, refl);
-        unformed = λ n. absurd (n (passes-formed (open-passes t formed)));
-      }
+  pub find-open : r ≡ Open → FoundBy (tables pieces blocks store nodes entries) tick start stop out out (refused 4)
+  unfolding windowRefusals firstOf
+  find-open e = record { read = read-4 told e (λ l held still. rw (held, still)) into-refused }
 
-module _ {pieces blocks store nodes entries : List ℕ} {tick start stop : ℕ} {out out′ : List ℕ} {r : State} {a : Answer Counts}
-    (told : Outcome r (tables pieces blocks store nodes entries)) where
-  pub find-found : r ≡ Closed → FindClosed blocks nodes entries tick start stop out out′ a → FoundBy (tables pieces blocks store nodes entries) tick start stop out out′ a
-  find-found e f =
-      let t = tables pieces blocks store nodes entries in
-      let formed : ClosedFormed t = subst (λ (x : State). Outcome x t) e told in
-      record {
-        formed = λ l enc s. f .found pieces store l enc s (is-closed t l formed enc);
-        unformed = λ n. absurd (n (passes-formed (closed-passes t formed)));
-      }
+  pub find-found : {out′ : List ℕ} {a : Answer Counts} → r ≡ Closed → FindClosed blocks nodes entries tick start stop out out′ a
+      → FoundBy (tables pieces blocks store nodes entries) tick start stop out out′ a
+  find-found e f = record { read = read-on told e (f .found pieces store) }
 
 pub ruleset looking = (find-bad, find-open, find-found)
+
+-- ── the bytes of a block ──
+
+module _ {pieces blocks store nodes entries : List ℕ} {k : ℕ} {r : Given} (told : BlockGivenBy (tables pieces blocks store nodes entries) k (givenOf r)) where
+  pub bytes-some : {kind first length′ created destroyed offset : ℕ} {bytes : List ℕ} → r ≡ IsBlock kind first length′ created destroyed offset → bytes ≡ partOf store offset length′
+      → BytesGivenBy (tables pieces blocks store nodes entries) k bytes
+  bytes-some {kind} {first} {length′} {created} {destroyed} {offset} e p =
+      let t = tables pieces blocks store nodes entries in
+      let g : BlockGivenBy t k (accepted (record { kind = kind; first = first; length = length′; created = created; destroyed = destroyed; offset = offset })) =
+      subst (λ (x : Given). BlockGivenBy t k (givenOf x)) e told in
+      let there = p ∙ part-whole store offset length′ (block-whole g) in
+      record {
+        read = record {
+          formed = λ l enc s. there ∙ ap bytesOf (g .read .formed l enc s .bytes-there);
+          unformed = λ n. there ∙ ap bytesOf (g .read .unformed n .bytes-there);
+        };
+      }
+
+  pub bytes-none : {n : ℕ} {bytes : List ℕ} → r ≡ Refused n → bytes ≡ partOf store 0 0 → BytesGivenBy (tables pieces blocks store nodes entries) k bytes
+  bytes-none {n} e p =
+      let t = tables pieces blocks store nodes entries in
+      let g : BlockGivenBy t k (refused n) = subst (λ (x : Given). BlockGivenBy t k (givenOf x)) e told in
+      let empty = p ∙ part-whole store 0 0 (omega arith) in
+      record {
+        read = record {
+          formed = λ l enc s. empty ∙ ap bytesOf (g .read .formed l enc s .bytes-there);
+          unformed = λ never. empty ∙ ap bytesOf (g .read .unformed never .bytes-there);
+        };
+      }
+
+pub ruleset carrying = (bytes-some, bytes-none)

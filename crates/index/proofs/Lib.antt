@@ -1,7 +1,4 @@
 pub mod Opens
-pub mod Reading
-pub mod Answering
-pub mod Bytes
-pub mod Finishing
 pub mod Recording
-pub mod Injective
+pub mod Finishing
+pub mod Answering

@@ -6,6 +6,8 @@ use native.Mathlib.Omega.{arith}
 use lib.ListN.{length, set, replicate}
 use borrow.Author.Tests.{eq-eqb, ne-eqb, lt-ltb, le-ltb}
 use Rattle.history.specs.Refusals.{accepted, refused, firstOf, maxEndTick, openRefusals}
+use Rattle.tables.specs.Columns.{headState, headEnd, headKind}
+use Rattle.block_table.specs.Blocks.{headPlace}
 use Rattle.layout.specs.Tables.{Tables, tables}
 use Rattle.layout.specs.Encodes.{openState}
 use Rattle.layout.specs.Relations.{openingOf, openedTables, leftBy, OpenedBy}
@@ -25,7 +27,7 @@ module _ (end kind : ℕ) (t : Tables) where
   open-kind n h k = record { answered = simp (ne-eqb end 0 n, le-ltb maxEndTick end h, lt-ltb 4 kind k); left = refl }
 
   pub open-done : {p b n e : List ℕ} → (end ≡ 0 → ⊥) → end ≤ maxEndTick → kind ≤ 4 → p ≡ replicate (length (t .pieces)) 0
-      → b ≡ set (set (set (replicate (length (t .blocks)) 0) 0 openState) 1 end) 2 kind → n ≡ replicate (length (t .nodes)) 0 → e ≡ replicate (length (t .entries)) 0
+      → b ≡ set (set (set (replicate (length (t .blocks)) 0) (headPlace headState) openState) (headPlace headEnd) end) (headPlace headKind) kind → n ≡ replicate (length (t .nodes)) 0 → e ≡ replicate (length (t .entries)) 0
       → OpenedBy end kind t (tables p b (t .store) n e) (accepted tt)
   unfolding leftBy openedTables
   open-done {p} {b} {n} {e} some most known ep eb en ee = record {

@@ -1,28 +1,24 @@
--- What the answers of the calls mean: document 01's number and values for every case of each enum. Each definition is injective (proofs/Injective).
-use Rattle.history.specs.Refusals.{Answer, accepted, refused}
-use Rattle.layout.specs.Relations.{Counts, Fields}
+-- What the answer of opening means, and what `block_bytes` gives. Definitions alone; each meaning is injective (crate promises, Meanings).
+use mathlib.Core.Path.{_≡_}
+use mathlib.Core.List.{List, []}
+use Prim.Native.Nat.{ℕ}
+use Rattle.history.specs.Words.{Block}
+use Rattle.history.specs.Refusals.{Answer, accepted, refused, blockAnswer}
+use Rattle.layout.specs.Tables.{Tables}
+use Rattle.layout.specs.Reads.{ReadBy}
 use Rattle.index.specs.declared.Opened.{Opened}
-use Rattle.index.specs.declared.Opened.the-variants.{Opened as IsOpened, Refused as OpenRefused}
-use Rattle.index.specs.declared.Finished.{Finished}
-use Rattle.index.specs.declared.Finished.the-variants.{Finished as IsFinished, Refused as FinishRefused}
-use Rattle.index.specs.declared.Found.{Found}
-use Rattle.index.specs.declared.Found.the-variants.{Listed, Refused as FindRefused}
-use Rattle.index.specs.declared.Given.{Given}
-use Rattle.index.specs.declared.Given.the-variants.{Block, Refused as BlockRefused}
+use Rattle.index.specs.declared.Opened.the-variants.{Opened as IsOpened, Refused}
 
+-- document 01's number for every case
 abbrev pub openedOf : Opened → Answer Unit
 openedOf IsOpened = accepted tt
-openedOf (OpenRefused n) = refused n
+openedOf (Refused n) = refused n
 
-abbrev pub finishedOf : Finished → Answer Unit
-finishedOf IsFinished = accepted tt
-finishedOf (FinishRefused n) = refused n
+-- the bytes of the block that an answer gives, none where it refuses
+abbrev pub bytesOf : Answer Block → List ℕ
+bytesOf (accepted b) = b .stretch .bytes
+bytesOf (refused n) = []
 
-abbrev pub foundOf : Found → Answer Counts
-foundOf (Listed count visited) = accepted (record { count = count; visited = visited })
-foundOf (FindRefused n) = refused n
-
-abbrev pub givenOf : Given → Answer Fields
-givenOf (Block kind first length created destroyed offset) =
-    accepted (record { kind = kind; first = first; length = length; created = created; destroyed = destroyed; offset = offset })
-givenOf (BlockRefused n) = refused n
+-- `block_bytes`: the bytes of the ledger's block; none where block by number refuses
+pub record BytesGivenBy (t : Tables) (k : ℕ) (bytes : List ℕ) : Type 0 where
+  pub read : ReadBy t (λ l. blockAnswer l k) (λ x. bytes ≡ bytesOf x)

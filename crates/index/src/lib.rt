@@ -1,22 +1,22 @@
 // The public calls on an index: open, record_op, finalize, block by number, find. Each is total: it takes any slices of any lengths and contents, and
 // gives its answer or the first refusal of document 01 whose condition holds, after which nothing has changed.
 //
-//   specs/Answers     document 01's number and values for every case of an answer
-//   specs/Reads, Work the inner calls, without the test of the tables
-//   reads             the reads of a closed index
-//   The contracts are the relations of `layout`, by which demand 3 links the calls.
+//   specs/Answers   the opening's number for every case of its answer, and what `block_bytes` gives
+//   proofs/Opens, Recording, Finishing, Answering   one step for each return
+//   The contracts are the relations of `layout`, by which demand 3 links the calls. The work behind them stands in `index_record`, `index_finish` and
+//   `index_read`, without the test of the tables; how a read is added is said in `index_test`.
 ghost use mathlib.Core.Path.{_≡_};
 ghost use lib.ListN.{length};
 ghost use Rattle.index_record.specs.Calls.{operation, recordedOf};
 ghost use Rattle.layout.specs.Tables.{tables};
 ghost use Rattle.layout.specs.Relations.{OpenedBy, RecordedBy, FinishedBy, FoundBy, BlockGivenBy};
-ghost use Rattle.index.specs.Answers.{openedOf, finishedOf, foundOf, givenOf};
-ghost use Rattle.index.specs.Reads.{BytesGivenBy};
-ghost use Rattle.index.specs.Work.{FinishesOpen};
-
-pub mod reads;
-
-use index_record::Recorded;
+ghost use Rattle.index_finish.specs.Answers.{finishedOf};
+ghost use Rattle.index_read.specs.Answers.{foundOf, givenOf};
+ghost use Rattle.index.specs.Answers.{openedOf, BytesGivenBy};
+pub use index_finish::Finished;
+pub use index_read::Found;
+pub use index_read::Given;
+pub use index_record::Recorded;
 use index_test::State;
 use tables::block;
 
@@ -29,34 +29,9 @@ pub enum Opened {
     Refused(u64),
 }
 
-// The answer of finish.
-pub enum Finished {
-    Finished,
-    Refused(u64),
-}
-
-// The answer of find: how many block numbers it lists, and how many nodes it visited.
-pub enum Found {
-    Listed { count: u64, visited: u64 },
-    Refused(u64),
-}
-
-// The answer of block by number: the block's fields; its bytes are the store's part of that length at the offset.
-pub enum Given {
-    Block {
-        kind: u64,
-        first: u64,
-        length: u64,
-        created: u64,
-        destroyed: u64,
-        offset: u64,
-    },
-    Refused(u64),
-}
-
 impl Index {
     // The largest end tick.
-    pub const MAX_END_TICK: u64 = 1 << 63;
+    pub const MAX_END_TICK: u64 = tables::block::MAX_END_TICK;
 
     // Opens an index of a kind with an end tick in the lent tables.
     pub fn open(
@@ -85,9 +60,9 @@ impl Index {
         tables::zero(blocks);
         tables::zero(nodes);
         tables::zero(entries);
-        block::put(blocks, 0, block::STATE, block::OPEN);
-        block::put(blocks, 0, block::END, end_tick);
-        block::put(blocks, 0, block::KIND, kind as u64);
+        block_table::set_state(blocks, block::OPEN);
+        block_table::set_end(blocks, end_tick);
+        block_table::set_kind(blocks, kind as u64);
         Opened::Opened
     }
 }
@@ -142,25 +117,8 @@ pub fn finalize(
     match state {
         State::Bad => Finished::Refused(2),
         State::Closed => Finished::Refused(3),
-        State::Open => finish_open(pieces, blocks, nodes, entries),
+        State::Open => index_finish::finish_open(pieces, blocks, nodes, entries),
     }
-}
-
-// Finishes an open index, without the test of its tables: for callers that have tested them.
-pub fn finish_open(
-    pieces: &mut [u64],
-    blocks: &mut [u64],
-    nodes: &mut [u64],
-    entries: &mut [u64],
-) -> Finished
-    ensures { λ r. ⌜ FinishesOpen (now (pieces .entry)) (now (blocks .entry)) (now (nodes .entry)) (now (entries .entry))
-        (now (pieces .exit)) (now (blocks .exit)) (now (nodes .exit)) (now (entries .exit)) (finishedOf r) ⌝ }
-{
-    let refusal = index_finish::finish_open(pieces, blocks, nodes, entries);
-    if refusal == 0 {
-        return Finished::Finished;
-    }
-    Finished::Refused(refusal)
 }
 
 // The block of a number.
@@ -178,7 +136,7 @@ pub fn block(
     match state {
         State::Bad => Given::Refused(2),
         State::Open => Given::Refused(4),
-        State::Closed => reads::block_closed(blocks, number),
+        State::Closed => index_read::block_closed(blocks, number),
     }
 }
 
@@ -201,7 +159,7 @@ pub fn find(
     match state {
         State::Bad => Found::Refused(2),
         State::Open => Found::Refused(4),
-        State::Closed => reads::find_closed(blocks, nodes, entries, tick, start, end, answer),
+        State::Closed => index_read::find_closed(blocks, nodes, entries, tick, start, end, answer),
     }
 }
 
@@ -225,7 +183,7 @@ pub fn block_bytes<'a>(
             created: _,
             destroyed: _,
             offset,
-        } => reads::part(store, offset, length),
-        Given::Refused(_) => reads::part(store, 0, 0),
+        } => index_read::part(store, offset, length),
+        Given::Refused(_) => index_read::part(store, 0, 0),
     }
 }

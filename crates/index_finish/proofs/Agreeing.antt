@@ -12,11 +12,11 @@ use Rattle.history.specs.Rules.{Apart}
 use Rattle.history.specs.Tree.{noBlock}
 use Rattle.history.specs.Ledger.{Ledger}
 use Rattle.tables.specs.Columns.{blockFirst, blockLength, blockDestroyed}
-use Rattle.ordering.specs.Order.{firstCellAt, OnlyOrder}
-use Rattle.ordering.specs.Blocks.{lengthAt, offsetAt, createdAt, destroyedAt, blockOfRow, blocksOf, Filled, Stored}
+use Rattle.block_table.specs.Blocks.{firstCellAt, lengthAt, offsetAt, createdAt, destroyedAt, blockOfRow, blocksOf, Filled, Stored}
+use Rattle.block_table.proofs.Blocks.{blocks-at, blocks-length}
+use Rattle.ordering.specs.Order.{OnlyOrder}
 use Rattle.ordering.specs.Apart.{HoldsAt}
-use Rattle.ordering.proofs.Keeping.{order-column, filled-order, stored-order}
-use Rattle.ordering.proofs.Blocks.{blocks-at, blocks-length, blocks-order}
+use Rattle.ordering.proofs.Keeping.{order-column, filled-order, stored-order, blocks-order}
 use Rattle.ordering.proofs.Agreeing.{row-holds, holds-row, unshared-apart, apart-unshared}
 use Rattle.piece_table.specs.Piece.{PieceRow}
 use Rattle.segment_apart.specs.Apart.{AllBounded}
@@ -26,7 +26,7 @@ use Rattle.layout.specs.Tables.{Tables}
 use Rattle.layout.proofs.Pieces.{shown-size}
 use Rattle.index_finish.specs.Finish.{StandsOpen, allBlocks}
 use Rattle.index_finish.specs.Apart.{Crosses, NoneShared}
-use Rattle.index_finish.proofs.Lists.{pairs-of-map}
+use Rattle.lists.proofs.Maps.{pairs-of-map}
 use Rattle.index_finish.proofs.Standing.{are-blocks, stored, filled, no-wrap, by-end, pieceRows, are-pieces, pieces-stored, pieces-some}
 
 -- ── a block and a piece ──

@@ -1,18 +1,18 @@
 -- Rule 24 of blocks against pieces: one step for each turn and each return of the tests. Assumes nothing.
-use mathlib.Core.Path.{_≡_, sym, subst}
+use mathlib.Core.Path.{_≡_, refl, sym, subst, _∙_}
 use mathlib.Core.Bool.{Bool, true, false}
 use mathlib.Core.Logic.{_⊎_, ⊎-elim}
 use mathlib.Core.List.{List, _∷_, map}
 use Prim.Native.Nat.{ℕ, _+_, _-_, _≤_, _<_, _^_}
 use native.Mathlib.Omega.{arith}
-use borrow.Author.Tests.{not-true, not-false}
+use borrow.Author.Tests.{ltb-true, ltb-false, not-true, not-false}
 use Rattle.lists.specs.Lists.{All, all-cons}
 use Rattle.lists.proofs.Lists.{all-append, all-map, all-both, all-right, all-any}
 use Rattle.lists.proofs.Numbers.{confirm, refute, decides-iff, eq-or-ne}
 use Rattle.tables.specs.Columns.{column, pieceFirst, pieceLength, pieceWritten}
-use Rattle.ordering.specs.Order.{firstCellAt}
-use Rattle.ordering.specs.Blocks.{lengthAt, createdAt, destroyedAt}
-use Rattle.segment_tree.specs.Count.{plusUpTo}
+use Rattle.tables.specs.Sums.{plusUpTo}
+use Rattle.block_table.specs.Blocks.{firstCellAt, lengthAt, createdAt, destroyedAt}
+use Rattle.merge_set.specs.Table.{firstAt, StartsBelow}
 use Rattle.piece_table.specs.Piece.{PieceRow, rowEnd, pieceAt, Follow}
 use Rattle.piece_table.specs.Rep.{Rep}
 use Rattle.piece_table.specs.Calls.{Sought}
@@ -36,9 +36,9 @@ right-clear : (place e d : ℕ) {ps : List PieceRow} → All (λ (p : PieceRow).
 right-clear place e d l = all-map (λ p h m. omega (arith, m .before)) l
 
 -- where the sought piece ends: the sum does not pass the largest number
-sought-ends : {t : List ℕ} {place link start length next : ℕ} {ps : List PieceRow} → Seen t place link ps → start ≡ column t link pieceFirst → length ≡ column t link pieceLength
-    → next ≡ plusUpTo start length → next ≡ rowEnd (pieceAt t link)
-sought-ends n at le ne = omega (arith, n .whole .near)
+sought-ends : {t : List ℕ} {place link next : ℕ} {ps : List PieceRow} → Seen t place link ps → next ≡ plusUpTo (column t link pieceFirst) (column t link pieceLength)
+    → next ≡ rowEnd (pieceAt t link)
+sought-ends n ne = omega (arith, n .whole .near)
 
 module _ {t : List ℕ} {place e d : ℕ} where
   -- no piece ends behind the largest number
@@ -49,16 +49,16 @@ module _ {t : List ℕ} {place e d : ℕ} where
   clear-none s z = record { decides = λ ps r. confirm (left-clear place e d (seen-none s r z)) }
 
   module _ {link start : ℕ} (s : Sought t place link) (nz : link ≡ 0 → ⊥) (at : start ≡ column t link pieceFirst) where
-    pub clear-past : e ≤ start → PiecesClear t place e d true
-    clear-past h = record { decides = λ ps r. confirm (go ps (seen-some s r nz)) }
+    past-of : e ≤ start → PiecesClear t place e d true
+    past-of h = record { decides = λ ps r. confirm (go ps (seen-some s r nz)) }
       where
         go : (ps : List PieceRow) → Seen t place link ps → Clear place e d ps
         go ps n =
             let f : Follow e (pieceAt t link ∷ map (pieceAt t) (n .ys)) = (omega arith, n .whole, n .after) in
             subst (Clear place e d) (sym (n .is)) (all-append (left-clear place e d (n .left)) (right-clear place e d (follow-right e e _ (omega arith) f)))
 
-    pub clear-met : {written : ℕ} → start < e → written ≡ column t link pieceWritten → written < d → PiecesClear t place e d false
-    clear-met h w l = record { decides = λ ps r. refute (go ps (seen-some s r nz)) }
+    met-of : {written : ℕ} → start < e → written ≡ column t link pieceWritten → written < d → PiecesClear t place e d false
+    met-of h w l = record { decides = λ ps r. refute (go ps (seen-some s r nz)) }
       where
         go : (ps : List PieceRow) → Seen t place link ps → Clear place e d ps → ⊥
         go ps n c = first (all-right (map (pieceAt t) (n .xs)) (pieceAt t link ∷ map (pieceAt t) (n .ys)) (subst (Clear place e d) (n .is) c))
@@ -66,9 +66,18 @@ module _ {t : List ℕ} {place e d : ℕ} where
             first : Clear place e d (pieceAt t link ∷ map (pieceAt t) (n .ys)) → ⊥
             first (all-cons p ps) = p (record { after = n .past; before = omega arith; early = omega arith })
 
-    module _ {written length next : ℕ} (w : written ≡ column t link pieceWritten) (le : length ≡ column t link pieceLength) (ne : next ≡ plusUpTo start length) where
+  -- by the test whether the sought piece starts before the end
+  module _ {link : ℕ} {starts : Bool} (s : Sought t place link) (nz : link ≡ 0 → ⊥) (tested : StartsBelow t link e starts) where
+    pub clear-past : starts ≡ false → PiecesClear t place e d true
+    clear-past h = past-of s nz refl (ltb-false (firstAt t link) e (sym (tested .is) ∙ h))
+
+    pub clear-met : {written : ℕ} → starts ≡ true → written ≡ column t link pieceWritten → written < d → PiecesClear t place e d false
+    clear-met h = met-of s nz refl (ltb-true (firstAt t link) e (sym (tested .is) ∙ h))
+
+  module _ {link : ℕ} (s : Sought t place link) (nz : link ≡ 0 → ⊥) where
+    module _ {written next : ℕ} (w : written ≡ column t link pieceWritten) (ne : next ≡ plusUpTo (column t link pieceFirst) (column t link pieceLength)) where
       pub clear-stuck : next ≤ place → PiecesClear t place e d true
-      clear-stuck h = record { decides = λ ps r. absurd (let n : Seen t place link ps = seen-some s r nz in omega (arith, n .past, sought-ends n at le ne)) }
+      clear-stuck h = record { decides = λ ps r. absurd (let n : Seen t place link ps = seen-some s r nz in omega (arith, n .past, sought-ends n ne)) }
 
       -- past a piece that does not meet, those behind it are left
       pub clear-more : {r : Bool} → d ≤ written → PiecesClear t next e d r → PiecesClear t place e d r
@@ -85,14 +94,14 @@ module _ {t : List ℕ} {place e d : ℕ} where
 
               after : All (λ (q : PieceRow). next < rowEnd q) (map (pieceAt t) (n .ys))
               after =
-                  all-both (λ q low fill. omega (arith, sought-ends n at le ne, fill .some)) (follow-right x x (map (pieceAt t) (n .ys)) (omega arith) (n .after))
+                  all-both (λ q low fill. omega (arith, sought-ends n ne, fill .some)) (follow-right x x (map (pieceAt t) (n .ys)) (omega arith) (n .after))
                   (follow-filled x (map (pieceAt t) (n .ys)) (n .after))
 
               behind : Clear place e d (map (pieceAt t) (n .ys))
               behind = all-both (λ q a c m. c (record { after = a; before = m .before; early = m .early })) after (later (all-right (map (pieceAt t) (n .xs)) (pieceAt t link ∷ map (pieceAt t) (n .ys)) (subst (Clear next e d) (n .is) c)))
 
           on : (ps : List PieceRow) → Seen t place link ps → Clear place e d ps → Clear next e d ps
-          on ps n c = all-map (λ p h m. h (record { after = omega (arith, m .after, n .past, sought-ends n at le ne); before = m .before; early = m .early })) c
+          on ps n c = all-map (λ p h m. h (record { after = omega (arith, m .after, n .past, sought-ends n ne); before = m .before; early = m .early })) c
 
 -- ── the loop of `pieces_clear` ──
 
@@ -103,15 +112,14 @@ pub record ClearAhead (t : List ℕ) (first e d place : ℕ) : Type 0 where
 pub ahead-start : {t : List ℕ} {first e d : ℕ} → ClearAhead t first e d first
 ahead-start = record { whole = λ r a. a }
 
-pub ahead-turn : {t : List ℕ} {first e d place link start written length next : ℕ} → ClearAhead t first e d place → Sought t place link → (link ≡ 0 → ⊥)
-    → start ≡ column t link pieceFirst → written ≡ column t link pieceWritten → length ≡ column t link pieceLength → next ≡ plusUpTo start length
-    → d ≤ written → ClearAhead t first e d next
-ahead-turn a s nz at w le ne l = record { whole = λ r rest. a .whole r (clear-more s nz at w le ne l rest) }
+pub ahead-turn : {t : List ℕ} {first e d place link written next : ℕ} → ClearAhead t first e d place → Sought t place link → (link ≡ 0 → ⊥)
+    → written ≡ column t link pieceWritten → next ≡ plusUpTo (column t link pieceFirst) (column t link pieceLength) → d ≤ written → ClearAhead t first e d next
+ahead-turn a s nz w ne l = record { whole = λ r rest. a .whole r (clear-more s nz w ne l rest) }
 
 pub ahead-end : {t : List ℕ} {first e d place : ℕ} {r : Bool} → ClearAhead t first e d place → PiecesClear t place e d r → PiecesClear t first e d r
 ahead-end {r = r} a b = a .whole r b
 
-pub ruleset seeking = (ahead-start, ahead-turn, ahead-end, clear-spent, clear-none, clear-past, clear-met, clear-stuck)
+pub ruleset seeking = (ahead-start, ahead-turn, ahead-end, clear-spent, clear-none, clear-past, clear-met, clear-stuck, not-true, not-false)
 
 -- ── the returns of `block_clear` ──
 

@@ -12,8 +12,8 @@ use Rattle.history.specs.Words.{blockOf}
 use Rattle.history.specs.Tree.{nodeCount, entryCount}
 use Rattle.history.specs.Ledger.{Ledger, settled}
 use Rattle.history.specs.Refusals.{Answer, accepted, refused, firstOf, finishRefusals, finishAnswer}
+use Rattle.block_table.specs.Blocks.{blockOfRow, blocksOf}
 use Rattle.ordering.specs.Order.{OnlyOrder}
-use Rattle.ordering.specs.Blocks.{blockOfRow, blocksOf}
 use Rattle.piece_table.specs.Piece.{pieceAt}
 use Rattle.piece_table.specs.Shown.{shown}
 use Rattle.piece_table.proofs.Removing.{linked-valid}

@@ -160,13 +160,13 @@ module _ {pieces blocks nodes entries b nodes′ entries′ : List ℕ} {n r : �
       unformed = λ never. sym z ∙ untold s never;
       entries-same = told s .entries-same;
       refused-same = λ nz. absurd (nz refl);
-      accepted-counted = λ _. record { stands = s; ordered = ordered s; tallied = told s .accepted-counted z; nodes-long = long };
+      accepted-counted = λ _. record { stands = s; ordered = ordered s; tallied = told s .accepted-counted z; nodes-long = long; entry-zeros = still-blank s .entries };
     };
   }
 
 pub ruleset preparing = (prepare-unformed, prepare-refused)
 
--- ── the returns of `finish_open` ──
+-- ── a refusal, and an accepted finish ──
 
 -- a refusal leaves everything as it was
 refused-leaves : (a : Answer Unit) (l : Ledger) {t t′ : Tables} → (numberOf a ≡ 0 → ⊥) → t′ ≡ t → FinishLeaves a l t t′
@@ -203,5 +203,3 @@ module _ {pieces blocks nodes entries b nodes₁ entries₁ : List ℕ} {r : ℕ
             formed = λ f. rw (a .tallied .answer) (refl, (d .encodes, d .tables-are));
             unformed = λ never. absurd (let two : r ≡ 2 = p .done store l s .unformed never in omega arith);
           }
-
-pub ruleset finishing = (finish-refused, finish-done)

@@ -1,21 +1,13 @@
 -- Laws of lists that finish needs and that know nothing of tables. Assumes nothing.
 use mathlib.Core.Path.{_≡_}
 use mathlib.Core.Logic.{inl, inr, ⊎-elim}
-use mathlib.Core.List.{List, map}
+use mathlib.Core.List.{List}
 use Prim.Native.Nat.{ℕ, _+_, _≤_, _<_}
 use native.Mathlib.Omega.{arith}
 use lib.ListN.{length}
-use Rattle.lists.specs.Lists.{Pairs, pairs-nil, pairs-cons, Mem, Distinct, count, countFrom}
-use Rattle.lists.proofs.Lists.{all-of-map}
+use Rattle.lists.specs.Lists.{Mem, Distinct, count, countFrom}
 use Rattle.lists.proofs.Numbers.{lt-or-le}
 use Rattle.lists.proofs.Counting.{mem-count, count-mem, distinct-count, count-from-out, count-from-count, dense}
-
--- ── pairs, mapped ──
-
-module _ {A B : Type 0} where
-  pub pairs-of-map : {R : B → B → Type 0} (f : A → B) {xs : List A} → Pairs (λ (x y : A). R (f x) (f y)) xs → Pairs R (map f xs)
-  pairs-of-map f pairs-nil = pairs-nil
-  pairs-of-map f (pairs-cons a p) = pairs-cons (all-of-map f a) (pairs-of-map f p)
 
 -- ── numbers in a row ──
 

@@ -8,7 +8,7 @@ use lib.ListN.{length, getD, set, take, replicate, length-set, length-replicate}
 use lib.Seq.{getD-set-same, getD-set-other}
 use Rattle.lists.specs.Lists.{All, all-nil, all-cons, Pairs, pairs-nil, pairs-cons, Ascending, count}
 use Rattle.lists.proofs.Lists.{all-map, all-both, all-at, all-of-map}
-use Rattle.lists.proofs.Maps.{length-of-map}
+use Rattle.lists.proofs.Maps.{length-of-map, getD-of-map}
 use Rattle.lists.proofs.Numbers.{le-or-lt}
 use Rattle.history.specs.Lent.{rowWidth, blockHead, nodeHead, entryHead}
 use Rattle.history.specs.Words.{Block, size}
@@ -16,28 +16,33 @@ use Rattle.history.specs.Tree.{treeOf, entryCount}
 use Rattle.history.specs.Rules.{Apart}
 use Rattle.history.specs.Ledger.{Ledger, finishBy}
 use Rattle.history.proofs.Steps.{settled-sound}
-use Rattle.tables.specs.Columns.{blockColumn, blockBase, blockLength, blockOffset, blockNext, headState, headEnd, headKind, headCount, headUsed, headLast}
+use Rattle.tables.specs.Columns.{blockColumn, blockBase, blockLength, blockOffset, blockNext, blockSpare, headState, headEnd, headKind, headCount, headUsed, headLast}
+use Rattle.block_table.specs.Blocks.{Room, lengthAt, offsetAt, blocksOf, SameRows, Stored, blockCount}
+use Rattle.block_table.proofs.Keeping.{rows-set, rows-then, kept-column}
+use Rattle.block_table.proofs.Blocks.{blocks-length, blocks-kept}
+use Rattle.block_table.specs.Appended.{blockRow}
+use Rattle.block_table.proofs.Appending.{appended-kept, appended-length, appended-other}
 use Rattle.segment_table.specs.Closed as closed
+use Rattle.segment_table.specs.Alone.{TreeAlone}
 use Rattle.ordering.specs.Order as order
-use Rattle.ordering.specs.Order.{nextAt, rankOf, Room, Trail, InOrder, numbersOf, Ordered, SortedMore}
-use Rattle.ordering.specs.Blocks.{lengthAt, offsetAt, blocksOf, SameRows, Stored}
+use Rattle.ordering.specs.Order.{nextAt, rankOf, Trail, InOrder, numbersOf, Ordered, SortedMore}
 use Rattle.ordering.proofs.Rank.{rank-first}
-use Rattle.ordering.proofs.Keeping.{rows-set, rows-then, kept-column, order-column, order-kept, stored-order}
-use Rattle.ordering.proofs.Blocks.{blocks-length, blocks-kept, blocks-order}
+use Rattle.ordering.proofs.Keeping.{order-column, order-kept, stored-order, blocks-order}
 use Rattle.ordering.proofs.Numbering.{order-counts, order-blocks}
 use Rattle.piece_table.specs.Piece.{PieceRow, pieceAt}
+use Rattle.piece_table.specs.Rep.{Links}
 use Rattle.piece_table.specs.Shown.{shown}
-use Rattle.recording.specs.Blocks as recorded
-use Rattle.recording.specs.Blocks.{blockRow, blockCount, appended}
+use Rattle.block_table.specs.Appended as appending
 use Rattle.recording.specs.Calls.{ExtractedMembers}
-use Rattle.recording.proofs.Telling.{appended-out, appended-kept, appended-blocks}
-use Rattle.recording.proofs.Blocks.{appended-length, appended-count, appended-other, appended-row}
+use Rattle.recording.specs.Recorded.{blockRowOf, recorded}
+use Rattle.recording.proofs.Recorded.{recorded-out, recorded-blocks, recorded-count, recorded-row}
 use Rattle.segment_tree.specs.Lives.{Counted, entryRowsIn}
 use Rattle.segment_tree.specs.Fill.{Met, met-end, met-next, lentTables, Closable, ClosedTree}
 use Rattle.layout.specs.Tables.{Tables, tables, lengthsOf, headAt}
 use Rattle.layout.specs.Encodes.{Encodes, closedState}
-use Rattle.layout.specs.Relations.{AppendedInOrder}
+use Rattle.layout.specs.Relations.{AppendedInOrder, SameBytes}
 use Rattle.layout.proofs.Lengths.{lent-same}
+use Rattle.layout.proofs.Unique.{links-one}
 use Rattle.layout.proofs.Opening.{getD-zeros, no-links}
 use Rattle.index_finish.specs.Finish.{StandsOpen, allBlocks, wholeTree, Accepted, Finished, SettledTables}
 use Rattle.index_finish.proofs.Standing.{heads, room, pieceRows, are-pieces, rep}
@@ -52,47 +57,47 @@ statePlace = rowWidth * 0 + (blockBase + headState)
 
 -- the table with the blocks of the pieces rs, destroyed at e, and the state set
 abbrev grown : (e : ℕ) (rs : List PieceRow) (b : List ℕ) → List ℕ
-grown e rs b = set (appended e rs b) statePlace closedState
+grown e rs b = set (recorded e rs b) statePlace closedState
 
 noPiece : PieceRow
 noPiece = record { first = 0; size = 0; written = 0; offset = 0; owner = 0 }
 
 module _ (e : ℕ) (rs : List PieceRow) (b : List ℕ) where
   grown-length : length (grown e rs b) ≡ length b
-  grown-length = length-set (appended e rs b) statePlace closedState ∙ appended-length e rs b
+  grown-length = length-set (recorded e rs b) statePlace closedState ∙ appended-length (map (blockRowOf e) rs) b
 
   -- all but the state and the count of the head is as it was, up to the last old row
   grown-other : (link c : ℕ) → c < rowWidth → link ≤ blockCount b → (link ≡ 0 → c ≡ headCount → ⊥) → (link ≡ 0 → c ≡ headState → ⊥)
       → blockColumn (grown e rs b) link c ≡ blockColumn b link c
   grown-other link c h le n s =
-      getD-set-other (appended e rs b) statePlace (rowWidth * link + (blockBase + c)) closedState 0 (λ q. s (omega arith) (omega arith))
-      ∙ appended-other e rs b link c h le n
+      getD-set-other (recorded e rs b) statePlace (rowWidth * link + (blockBase + c)) closedState 0 (λ q. s (omega arith) (omega arith))
+      ∙ appended-other (map (blockRowOf e) rs) b link c h le n
 
   grown-state : blockHead ≤ length b → blockColumn (grown e rs b) 0 headState ≡ closedState
-  grown-state h = getD-set-same (appended e rs b) statePlace closedState 0 (omega (arith, appended-length e rs b))
+  grown-state h = getD-set-same (recorded e rs b) statePlace closedState 0 (omega (arith, appended-length (map (blockRowOf e) rs) b))
 
   grown-count : blockHead ≤ length b → blockCount (grown e rs b) ≡ blockCount b + length rs
-  grown-count h = getD-set-other (appended e rs b) statePlace (rowWidth * 0 + (blockBase + headCount)) closedState 0 (λ q. omega arith) ∙ appended-count e rs b h
+  grown-count h = getD-set-other (recorded e rs b) statePlace (rowWidth * 0 + (blockBase + headCount)) closedState 0 (λ q. omega arith) ∙ recorded-count e rs b h
 
   -- the old rows, and what lies past the new ones
   grown-rows : SameRows b (grown e rs b) (blockCount b)
-  grown-rows = rows-then (appended-kept e rs b) (rows-set (appended e rs b) (blockCount b) statePlace closedState (inl (omega arith)))
+  grown-rows = rows-then (appended-kept (map (blockRowOf e) rs) b) (rows-set (recorded e rs b) (blockCount b) statePlace closedState (inl (omega arith)))
 
   grown-rest : (i : ℕ) → blockBase + rowWidth * suc (blockCount b + length rs) ≤ i → getD (grown e rs b) i 0 ≡ getD b i 0
-  grown-rest i h = getD-set-other (appended e rs b) statePlace i closedState 0 (λ q. omega arith) ∙ appended-out e rs b i (λ q. omega arith) (inr (omega arith))
+  grown-rest i h = getD-set-other (recorded e rs b) statePlace i closedState 0 (λ q. omega arith) ∙ recorded-out e rs b i (λ q. omega arith) (inr (omega arith))
 
   module _ (fits : Room b (blockCount b + length rs)) where
-    grown-column : (i c : ℕ) → i < length rs → c < rowWidth → blockColumn (grown e rs b) (suc (blockCount b) + i) c ≡ getD (blockRow e (getD rs i noPiece)) c 0
+    grown-column : (i c : ℕ) → i < length rs → c < rowWidth → blockColumn (grown e rs b) (suc (blockCount b) + i) c ≡ getD (blockRow (blockRowOf e (getD rs i noPiece))) c 0
     grown-column i c h k =
         let q : suc (blockCount b) + i ≡ blockCount b + 1 + i = omega arith in
-        getD-set-other (appended e rs b) statePlace (rowWidth * (suc (blockCount b) + i) + (blockBase + c)) closedState 0 (λ z. omega arith)
-        ∙ rw q (appended-row e rs noPiece b i c (omega arith) h k)
+        getD-set-other (recorded e rs b) statePlace (rowWidth * (suc (blockCount b) + i) + (blockBase + c)) closedState 0 (λ z. omega arith)
+        ∙ rw q (recorded-row e rs b (omega arith) noPiece i c h k)
 
     -- the rows are the old blocks, and the pieces' behind them
     grown-blocks : (store : List ℕ) → blocksOf store (grown e rs b) (blockCount b + length rs) ≡ blocksOf store b (blockCount b) ++ map (settledRow store e) rs
     grown-blocks store =
-        blocks-kept store (rows-set (appended e rs b) (blockCount b + length rs) statePlace closedState (inl (omega arith)))
-        ∙ appended-blocks store e rs b (omega arith)
+        blocks-kept store (rows-set (recorded e rs b) (blockCount b + length rs) statePlace closedState (inl (omega arith)))
+        ∙ recorded-blocks e rs b (omega arith) store
 
     grown-stored : (used : ℕ) → Stored used b (blockCount b) → All (λ (p : PieceRow). p .offset + p .size ≤ used) rs → Stored used (grown e rs b) (blockCount b + length rs)
     grown-stored used old new = record {
@@ -188,7 +193,7 @@ module _ {pieces was store blank entries b nodes : List ℕ} {l : Ledger} (a : A
   g-room : Room g (n + length rs)
   g-room = omega (arith, fits, grown-length e rs b)
 
-  countable : length was < 2 ^ 64 → recorded.Countable b (length rs)
+  countable : length was < 2 ^ 64 → appending.Countable b (length rs)
   countable few = record { head = b-headed; fits = omega (arith, few, b-long, fits) }
 
   module _ {b′ : List ℕ} (o : Ordered g b′ (n + length rs)) where
@@ -227,14 +232,36 @@ module _ {pieces was store blank entries b nodes : List ℕ} {l : Ledger} (a : A
     all-filled : All (λ (x : Block). 0 < size (x .stretch)) (allBlocks l)
     all-filled = all-map (λ x h. h .stretch .some-cell) (settled-sound l (s .sound .board))
 
-    -- the old rows but for the order, and what lies past all rows
+    -- a column of a new row, but for the order
+    new-column : (i c : ℕ) → i < length rs → c < rowWidth → (c ≡ blockNext → ⊥) → blockColumn b′ (suc n + i) c ≡ getD (blockRow (blockRowOf e (getD rs i noPiece))) c 0
+    new-column i c h k f = order-column (o .only) (suc n + i) c k f ∙ grown-column e rs b fits i c h k
+
+    same-bytes : (links : List ℕ) → Links pieces links → SameBytes pieces links b′ (length (l .now .blocks))
+    same-bytes links is = record {
+      offset = λ i h.
+          let one : links ≡ s .encodes .links = links-one pieces links (s .encodes .links) is (s .encodes .linked) in
+          let k : i < length (s .encodes .links) = rw (← one) h in
+          rw (← count-is, one)
+          (new-column i blockOffset (rw (length-of-map (pieceAt pieces) (s .encodes .links)) k) (omega arith) (λ z. omega arith)
+          ∙ ap (λ (p : PieceRow). p .offset) (getD-of-map (pieceAt pieces) (s .encodes .links) i 0 noPiece k));
+    }
+
+    -- the head and the old rows but for what is set and the order, and what lies past all rows
     appended-in-order : AppendedInOrder was b′ (length (l .now .blocks)) (length (allBlocks l))
     appended-in-order = record {
       len = b′-long;
+      head = λ i h f₁ f₂ f₃.
+          o .only .same i (λ k p q. f₃ (omega arith))
+          ∙ getD-set-other (recorded e rs b) statePlace i closedState 0 (λ q. f₁ (omega arith))
+          ∙ recorded-out e rs b i (λ q. f₂ (omega arith)) (inl (omega arith))
+          ∙ a .ordered .only .same i (λ k p q. f₃ (omega arith));
       rows = λ k c p q h f.
           order-column (o .only) k c h f
           ∙ grown-other e rs b k c h (omega (arith, count-is)) (λ z. absurd (omega arith)) (λ z. absurd (omega arith))
           ∙ order-column (a .ordered .only) k c h f;
+      spare = λ link p q.
+          let at : link ≡ suc n + (link - suc n) = omega (arith, count-is) in
+          rw at (new-column (link - suc n) blockSpare (omega (arith, count-is, all-many)) (omega arith) (λ z. omega arith));
       rest = λ i h.
           let z : length (allBlocks l) ≡ n + length rs = all-many in
           o .only .same i (λ k p q. omega arith)
@@ -248,7 +275,7 @@ module _ {pieces was store blank entries b nodes : List ℕ} {l : Ledger} (a : A
         (omega (arith, a .nodes-long, heads s .nodes)) (heads s .entries) (a .tallied .space) (a .tallied .apart) all-filled
 
     module _ {nodes′ entries′ : List ℕ} (nodes-long : length nodes′ ≡ length nodes) (entries-long : length entries′ ≡ length entries)
-        (tree : closed.Closed (lentTables b′ nodes′ entries′) (l .opening .kind) e (wholeTree l)) where
+        (tree : closed.Closed (lentTables b′ nodes′ entries′) (l .opening .kind) e (wholeTree l)) (alone : TreeAlone nodes′ entries′ (wholeTree l)) where
       abbrev t′ : Tables
       t′ = tables (replicate (length pieces) 0) b′ store nodes′ entries′
 
@@ -279,15 +306,15 @@ module _ {pieces was store blank entries b nodes : List ℕ} {l : Ledger} (a : A
 
       finished-tables : Finished l t t′
       unfolding finishBy
-      finished-tables = record { encodes = finished-encodes; tables-are = record { pieces = refl; store = refl; blocks = appended-in-order } }
+      finished-tables = record { encodes = finished-encodes; tables-are = record { pieces = refl; store = refl; blocks = appended-in-order; bytes = same-bytes; tree = alone } }
 
 -- ── the return of `settle` ──
 
-pub settle-done : {pieces b nodes entries b₁ b₂ b₃ nodes′ entries′ pieces′ : List ℕ} {end kind recorded all : ℕ} → length pieces < 2 ^ 64 → length b < 2 ^ 64
-    → length nodes′ ≡ length nodes → length entries′ ≡ length entries → end ≡ blockColumn b 0 headEnd → kind ≡ blockColumn b 0 headKind → recorded ≡ blockCount b
-    → ExtractedMembers pieces b b₁ end → b₂ ≡ set b₁ statePlace closedState → all ≡ blockCount b₂ → SortedMore b₂ b₃ recorded all
+pub settle-done : {pieces b nodes entries b₁ b₂ b₃ nodes′ entries′ pieces′ : List ℕ} {end kind old all : ℕ} → length pieces < 2 ^ 64 → length b < 2 ^ 64
+    → length nodes′ ≡ length nodes → length entries′ ≡ length entries → end ≡ blockColumn b 0 headEnd → kind ≡ blockColumn b 0 headKind → old ≡ blockCount b
+    → ExtractedMembers pieces b b₁ end → b₂ ≡ set b₁ statePlace closedState → all ≡ blockCount b₂ → SortedMore b₂ b₃ old all
     → ClosedTree (lentTables b₃ nodes entries) (lentTables b₃ nodes′ entries′) all end kind → pieces′ ≡ replicate (length pieces) 0 → SettledTables pieces b nodes entries pieces′ b₃ nodes′ entries′
-settle-done {pieces} {b} {nodes} {entries} {b₁} {b₂} {b₃} {nodes′} {entries′} {pieces′} {end} {kind} {recorded} {all} few-pieces few-blocks nodes-long entries-long
+settle-done {pieces} {b} {nodes} {entries} {b₁} {b₂} {b₃} {nodes′} {entries′} {pieces′} {end} {kind} {old} {all} few-pieces few-blocks nodes-long entries-long
     ee ek er ex put count sort close zeros = record { done = go }
   where
     go : (was blank store : List ℕ) (l : Ledger) → Accepted (tables pieces was store blank entries) b nodes l
@@ -296,10 +323,13 @@ settle-done {pieces} {b} {nodes} {entries} {b₁} {b₂} {b₃} {nodes′} {entr
         let few : length was < 2 ^ 64 = omega (arith, b-long a) in
         let end-is : end ≡ l .opening .end = ee ∙ head-is a headEnd (omega arith) (λ z. omega arith) ∙ a .stands .encodes .end in
         let kind-is : kind ≡ l .opening .kind = ek ∙ head-is a headKind (omega arith) (λ z. omega arith) ∙ a .stands .encodes .kind in
-        let b₁-is : b₁ ≡ appended end (rs a) b = ex .done (rs a) (rep (a .stands) few-pieces) (countable a few) in
-        let b₂-is : b₂ ≡ g a = put ∙ ap (λ (x : List ℕ). set x statePlace closedState) (b₁-is ∙ ap (λ (k : ℕ). appended k (rs a) b) end-is) in
+        let b₁-is : b₁ ≡ recorded end (rs a) b = ex .done (rs a) (rep (a .stands) few-pieces) (countable a few) in
+        let b₂-is : b₂ ≡ g a = put ∙ ap (λ (x : List ℕ). set x statePlace closedState) (b₁-is ∙ ap (λ (k : ℕ). recorded k (rs a) b) end-is) in
         let all-is : all ≡ n a + length (rs a) = count ∙ ap blockCount b₂-is ∙ grown-count (l .opening .end) (rs a) b (b-headed a) in
         let sorted : SortedMore (g a) b₃ (n a) (n a + length (rs a)) = rw (← b₂-is, ← all-is, ← er) sort in
         let o : Ordered (g a) b₃ (n a + length (rs a)) = sorted .done (g-order a) (omega arith) (g-room a) in
         let made : ClosedTree (lentTables b₃ nodes entries) (lentTables b₃ nodes′ entries′) (n a + length (rs a)) (l .opening .end) (l .opening .kind) = rw (← all-is, ← end-is, ← kind-is) close in
-        rw zeros (finished-tables a o nodes-long entries-long (made .done (allBlocks l) (numbersOf (o .order .links)) (tree-closable a o few)))
+        let c = tree-closable a o few in
+        rw zeros
+        (finished-tables a o nodes-long entries-long (made .done (allBlocks l) (numbersOf (o .order .links)) c)
+        (made .alone (allBlocks l) (numbersOf (o .order .links)) c (a .entry-zeros)))

@@ -15,9 +15,9 @@ use Rattle.history.specs.Tree.{noBlock}
 use Rattle.history.specs.Ledger.{Ledger, isSome}
 use Rattle.history.specs.Sound.{SoundPiece, SoundBlock, SoundBoard}
 use Rattle.tables.specs.Columns.{column, piecesCount, headUsed}
-use Rattle.ordering.specs.Order.{firstCellAt, Room, Unordered}
-use Rattle.ordering.specs.Blocks.{lengthAt, offsetAt, destroyedAt, blockOfRow, blocksOf, Filled, Stored}
-use Rattle.ordering.proofs.Blocks.{blocks-at, bytes-length}
+use Rattle.block_table.specs.Blocks.{firstCellAt, Room, lengthAt, offsetAt, destroyedAt, blockOfRow, blocksOf, Filled, Stored}
+use Rattle.block_table.proofs.Blocks.{blocks-at, bytes-length}
+use Rattle.ordering.specs.Order.{Unordered}
 use Rattle.piece_table.specs.Piece.{PieceRow, pieceAt}
 use Rattle.piece_table.specs.Rep.{Linked, Rep}
 use Rattle.piece_table.specs.Shown.{shown}

@@ -12,7 +12,7 @@ use Rattle.lists.specs.Lists.{All, count, countFrom}
 use Rattle.lists.specs.Tests.{Decides}
 use Rattle.lists.proofs.Lists.{all-of-at}
 use Rattle.lists.proofs.Numbers.{confirm}
-use Rattle.history.specs.Words.{Block, size}
+use Rattle.history.specs.Words.{Block, size, firstCell}
 use Rattle.history.specs.Tree.{Tree, noBlock, treeOf, nodeCount, entryCount}
 use Rattle.history.specs.Rules.{isHole, Apart}
 use Rattle.history.specs.Sound.{isEmpty}
@@ -20,11 +20,11 @@ use Rattle.history.proofs.TreePlaced.{treeOf-none, treeOf-some, treeOf-halved}
 use Rattle.history.proofs.TreeSorted.{treeOf-rule23}
 use Rattle.segment_table.specs.Closed.{Closed}
 use Rattle.history.specs.Ledger.{Ledger}
+use Rattle.block_table.specs.Blocks.{blockOfRow, blocksOf, Filled}
+use Rattle.block_table.proofs.Blocks.{blocks-length, blocks-at, bytes-length}
 use Rattle.ordering.specs.Order.{numbersOf, Ordered}
-use Rattle.ordering.specs.Blocks.{blockOfRow, blocksOf, Filled}
 use Rattle.ordering.specs.Apart.{Unshared, TestedApart}
 use Rattle.ordering.proofs.Agreeing.{unshared-apart}
-use Rattle.ordering.proofs.Blocks.{blocks-length, blocks-at, bytes-length}
 use Rattle.segment_tree.specs.Count.{rowsIn}
 use Rattle.segment_tree.specs.Lives.{entryRowsIn, roomFor, rowsToCount, Countable, CountedAs, CountedTree}
 use Rattle.segment_tree.specs.Fill as fill
@@ -74,7 +74,7 @@ module _ {store blocks nodes entries : List ℕ} {kind e n : ℕ} (t : Tryable s
   unfolding blockOfRow
   block-rows = record {
     many = blocks-length store blocks n;
-    first = λ k h. ap (λ (b : Block). b .stretch .first) (blocks-at store blocks n k noBlock h);
+    first = λ k h. ap firstCell (blocks-at store blocks n k noBlock h);
     created = λ k h. ap (λ (b : Block). b .created) (blocks-at store blocks n k noBlock h);
     destroyed = λ k h. ap (λ (b : Block). b .destroyed) (blocks-at store blocks n k noBlock h);
   }

@@ -6,10 +6,9 @@ use mathlib.Core.List.{List}
 use Prim.Native.Nat.{ℕ, _+_, _≤_, _<_}
 use Rattle.lists.specs.Lists.{All}
 use Rattle.lists.specs.Tests.{Decides}
+use Rattle.block_table.specs.Blocks.{firstCellAt, lengthAt, createdAt, destroyedAt}
 use Rattle.piece_table.specs.Piece.{PieceRow, rowEnd}
 use Rattle.piece_table.specs.Rep.{Rep}
-use Rattle.ordering.specs.Order.{firstCellAt}
-use Rattle.ordering.specs.Blocks.{lengthAt, createdAt, destroyedAt}
 use Rattle.ordering.specs.Apart.{Unshared}
 use Rattle.index_finish.specs.Trial.{Tryable}
 

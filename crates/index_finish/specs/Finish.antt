@@ -4,7 +4,7 @@ use mathlib.Core.Path.{_≡_}
 use mathlib.Core.Bool.{Bool, false}
 use mathlib.Core.List.{List}
 use Prim.Native.Nat.{ℕ, zero, suc, _≤_, _<_, _^_}
-use lib.ListN.{length}
+use lib.ListN.{length, replicate}
 use Rattle.lists.specs.Tests.{Decides}
 use Rattle.history.specs.Words.{Block}
 use Rattle.history.specs.Tree.{Tree, entryCount, treeOf}
@@ -59,7 +59,7 @@ pub record Finishing (l : Ledger) (t t′ : Tables) (r : ℕ) : Type 0 where
   pub formed : Finishable t l → (r ≡ numberOf (finishAnswer l)) × FinishLeaves (finishAnswer l) l t t′
   pub unformed : (Finishable t l → ⊥) → (r ≡ 2) × (t′ ≡ t)
 
--- `finish_open`
+-- of every store and ledger; `r` is the answer as a number
 pub record FinishedOpen (pieces blocks nodes entries pieces′ blocks′ nodes′ entries′ : List ℕ) (r : ℕ) : Type 0 where
   pub done : (store : List ℕ) (l : Ledger) → StandsOpen (tables pieces blocks store nodes entries) l
       → Finishing l (tables pieces blocks store nodes entries) (tables pieces′ blocks′ store nodes′ entries′) r
@@ -96,6 +96,7 @@ pub record Accepted (t : Tables) (blocks nodes : List ℕ) (l : Ledger) : Type 0
   pub ordered : Ordered (t .blocks) blocks (length (l .now .blocks))
   pub tallied : Tallied t nodes l
   pub nodes-long : length nodes ≡ length (t .nodes)
+  pub entry-zeros : t .entries ≡ replicate (length (t .entries)) 0
 
 -- the answer, and on a refusal everything as it was
 pub record Preparing (l : Ledger) (t : Tables) (blocks nodes entries : List ℕ) (r : ℕ) : Type 0 where

@@ -1,3 +1,4 @@
 pub mod Trial
 pub mod Apart
 pub mod Finish
+pub mod Answers

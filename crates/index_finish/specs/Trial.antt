@@ -8,11 +8,11 @@ use Rattle.lists.specs.Tests.{Decides}
 use Rattle.history.specs.Lent.{nodeHead, entryHead}
 use Rattle.history.specs.Words.{Block}
 use Rattle.tables.specs.Columns.{nodesCount}
+use Rattle.tables.specs.Sums.{most}
+use Rattle.block_table.specs.Blocks.{Room, Stored}
 use Rattle.segment_table.specs.Closed as closed
-use Rattle.ordering.specs.Order.{Room, InOrder}
-use Rattle.ordering.specs.Blocks.{Stored}
+use Rattle.ordering.specs.Order.{InOrder}
 use Rattle.ordering.specs.Apart.{Unshared}
-use Rattle.segment_tree.specs.Count.{most}
 use Rattle.segment_test.specs.Test.{BlockRows, ClosedTree}
 use Rattle.segment_apart.specs.Apart.{AllBounded}
 

@@ -5,6 +5,7 @@
 //   specs/Apart       which blocks and pieces share a cell at a tick, and what the tests decide
 //   specs/Trial       the same of blocks alone
 //   specs/Finish      what finish answers and leaves
+//   specs/Answers     what its answer means, and the contract of `finish_open`
 //   proofs/Lists      laws of lists that know nothing of tables
 //   proofs/Zeros      a table of zeros
 //   proofs/Clearing   one step for each turn and each return of the tests
@@ -14,21 +15,28 @@
 //   proofs/Settling   an accepted finish leaves the tables of the finished ledger
 //   proofs/Trying     one step for each return of the trial
 //   proofs/Finishing  one step for each return of the others
-//   proofs/Public     so finish does what layout's relation says
+//   proofs/Public     so finish does what layout's relation says: one step for each return of `finish_open`
 ghost use mathlib.Core.Path.{_≡_};
 ghost use lib.ListN.{length, replicate};
 ghost use Rattle.lists.specs.Tests.{Decides};
-ghost use Rattle.index_finish.specs.Finish.{TestedBlank, CountedAll, Prepared, SettledTables, FinishedOpen};
+ghost use Rattle.index_finish.specs.Finish.{TestedBlank, CountedAll, Prepared, SettledTables};
+ghost use Rattle.index_finish.specs.Answers.{finishedOf, FinishesOpen};
 use tables::block;
 use tables::piece;
 
 mod rule;
 mod trial;
 
-// What finish answers: 0 where it is accepted, else the refusal's number in document 01. Refusals 12 and 13 come from the count of the tree.
-pub const DONE: u64 = 0;
+// The answer of finish.
+pub enum Finished {
+    Finished,
+    Refused(u64),
+}
 
-pub const UNFORMED: u64 = 2;
+// What its parts tell: 0 where it is accepted, else the refusal's number in document 01. Refusals 12 and 13 come from the count of the tree.
+const DONE: u64 = 0;
+
+const UNFORMED: u64 = 2;
 
 // Whether every number of the table is 0.
 fn all_zero(table: &[u64]) -> bool
@@ -60,9 +68,9 @@ fn count_all(pieces: &[u64], blocks: &[u64], nodes: &mut [u64], entries: &mut [u
     ensures { λ r. ⌜ CountedAll (now (pieces .entry)) (now (blocks .entry)) (now (nodes .entry)) (now (entries .entry))
         (now (nodes .exit)) (now (entries .exit)) r ⌝ }
 {
-    let n = block::get(blocks, 0, block::COUNT);
-    let end = block::get(blocks, 0, block::END);
-    let kind = block::get(blocks, 0, block::KIND);
+    let n = block_table::count(blocks);
+    let end = block_table::end(blocks);
+    let kind = block_table::kind(blocks);
     if !rule::all_apart(pieces, blocks, nodes, entries, kind, end, n) {
         return UNFORMED;
     }
@@ -78,7 +86,7 @@ fn prepare(pieces: &[u64], blocks: &mut [u64], nodes: &mut [u64], entries: &mut 
     if !blank(nodes, entries) {
         return UNFORMED;
     }
-    let n = block::get(blocks, 0, block::COUNT);
+    let n = block_table::count(blocks);
     ordering::sort(blocks, n);
     let told = count_all(pieces, blocks, nodes, entries);
     if told != DONE {
@@ -93,32 +101,32 @@ fn settle(pieces: &mut [u64], blocks: &mut [u64], nodes: &mut [u64], entries: &m
     ensures { λ _. ⌜ SettledTables (now (pieces .entry)) (now (blocks .entry)) (now (nodes .entry)) (now (entries .entry))
         (now (pieces .exit)) (now (blocks .exit)) (now (nodes .exit)) (now (entries .exit)) ⌝ }
 {
-    let end = block::get(blocks, 0, block::END);
-    let kind = block::get(blocks, 0, block::KIND);
-    let recorded = block::get(blocks, 0, block::COUNT);
+    let end = block_table::end(blocks);
+    let kind = block_table::kind(blocks);
+    let recorded = block_table::count(blocks);
     recording::extract_members(pieces, blocks, end);
-    block::put(blocks, 0, block::STATE, block::CLOSED);
-    let all = block::get(blocks, 0, block::COUNT);
+    block_table::set_state(blocks, block::CLOSED);
+    let all = block_table::count(blocks);
     ordering::sort_more(blocks, recorded, all);
     segment_tree::close::close_tree(nodes, entries, blocks, all, end, kind);
     tables::zero(pieces);
 }
 
-// Finishes an index whose tables stand for an open ledger: DONE, or a refusal and everything as it was. To be called only after the test of the
-// tables: their counts are the numbers of steps.
+// Finishes an index whose tables stand for an open ledger; or tells the refusal, and leaves everything as it was. To be called only after the test of
+// the tables: their counts are the numbers of steps.
 pub fn finish_open(
     pieces: &mut [u64],
     blocks: &mut [u64],
     nodes: &mut [u64],
     entries: &mut [u64],
-) -> u64
-    ensures { λ r. ⌜ FinishedOpen (now (pieces .entry)) (now (blocks .entry)) (now (nodes .entry)) (now (entries .entry))
-        (now (pieces .exit)) (now (blocks .exit)) (now (nodes .exit)) (now (entries .exit)) r ⌝ }
+) -> Finished
+    ensures { λ r. ⌜ FinishesOpen (now (pieces .entry)) (now (blocks .entry)) (now (nodes .entry)) (now (entries .entry))
+        (now (pieces .exit)) (now (blocks .exit)) (now (nodes .exit)) (now (entries .exit)) (finishedOf r) ⌝ }
 {
     let refusal = prepare(pieces, blocks, nodes, entries);
     if refusal != DONE {
-        return refusal;
+        return Finished::Refused(refusal);
     }
     settle(pieces, blocks, nodes, entries);
-    DONE
+    Finished::Finished
 }

@@ -1,21 +1,19 @@
 // Rule 24 for finish: no two blocks share a cell at a tick, each piece counted as live up to the end.
 ghost use mathlib.Core.Path.{_≡_};
-ghost use Rattle.segment_tree.specs.Count.{plusUpTo};
+ghost use Rattle.tables.specs.Columns.{column, pieceFirst, pieceLength};
+ghost use Rattle.tables.specs.Sums.{plusUpTo};
 ghost use Rattle.index_finish.specs.Apart.{PiecesClear, BlockClear, BlocksClear, AllApart};
 use tables::block;
 use tables::piece;
 
-// The largest number: no piece ends behind it.
-const LARGEST: u64 = 18446744073709551615;
-
-// The cell after `length` cells from `first` on, or the largest number where that is passed: no piece starts there.
-fn end_of(first: u64, length: u64) -> u64
-    ensures { λ r. ⌜ r ≡ plusUpTo first length ⌝ }
+// The cell behind the piece of `link`, or the largest number where that is passed.
+fn end_of(pieces: &[u64], link: u64) -> u64
+    ensures { λ r. ⌜ r ≡ plusUpTo (column (now (pieces .entry)) link pieceFirst) (column (now (pieces .entry)) link pieceLength) ⌝ }
 {
-    if length <= LARGEST - first {
-        return first + length;
-    }
-    LARGEST
+    tables::plus(
+        tables::get(pieces, link, piece::FIRST),
+        tables::get(pieces, link, piece::LENGTH),
+    )
 }
 
 // Whether no piece that ends after `first` and starts before `end` was written before the tick `destroyed`. A seek for the first of them, and one
@@ -24,21 +22,19 @@ fn pieces_clear(pieces: &[u64], first: u64, end: u64, destroyed: u64) -> bool
     ensures { λ r. ⌜ PiecesClear (now (pieces .entry)) first end destroyed r ⌝ }
 {
     let mut place = first;
-    while place < LARGEST {
+    while place < u64::MAX {
         let link = piece_table::seek(pieces, place);
         if link == 0 {
             return true;
         }
-        let start = tables::get(pieces, link, piece::FIRST);
-        if end <= start {
+        if !merge_set::starts_below(pieces, link, end) {
             return true;
         }
         let written = tables::get(pieces, link, piece::WRITTEN);
         if written < destroyed {
             return false;
         }
-        let length = tables::get(pieces, link, piece::LENGTH);
-        let next = end_of(start, length);
+        let next = end_of(pieces, link);
         // a piece that is sought ends after the place
         if next <= place {
             return true;
@@ -59,7 +55,7 @@ fn block_clear(pieces: &[u64], blocks: &[u64], link: u64) -> bool
     }
     let first = block::get(blocks, link, block::FIRST);
     let length = block::get(blocks, link, block::LENGTH);
-    pieces_clear(pieces, first, end_of(first, length), destroyed)
+    pieces_clear(pieces, first, tables::plus(first, length), destroyed)
 }
 
 // Whether none of the blocks 1 to `n` shares a cell at a tick with a piece.

@@ -110,10 +110,10 @@ module _ {pieces blocks store : List ℕ} {scratch left made size : ℕ} where
   pub space-pieces : {rows : ℕ} → rows ≡ (length pieces - pieceHead) / rowWidth → rows < left → SpaceTested pieces blocks store scratch left made size 9
   space-pieces e h = record { finds = space-nine _ _ _ _ _ _ (omega arith) }
 
-  pub space-scratch : scratch / rowWidth < left → SpaceTested pieces blocks store scratch left made size 9
-  space-scratch h = record { finds = space-nine _ _ _ _ _ _ (omega arith) }
+  pub space-scratch : {rows : ℕ} → rows ≡ (scratch - 0) / rowWidth → rows < left → SpaceTested pieces blocks store scratch left made size 9
+  space-scratch e h = record { finds = space-nine _ _ _ _ _ _ (omega arith) }
 
-  module _ {rows space count : ℕ} {q : Bool} (er : rows ≡ (length pieces - pieceHead) / rowWidth) (hr : left ≤ rows) (hs : left ≤ scratch / rowWidth)
+  module _ {rows room space count : ℕ} {q : Bool} (er : rows ≡ (length pieces - pieceHead) / rowWidth) (hr : left ≤ rows) (et : room ≡ (scratch - 0) / rowWidth) (hs : left ≤ room)
       (es : space ≡ (length blocks - blockHead) / rowWidth) (ec : count ≡ blockColumn blocks 0 headCount) (eq : q ≡ ltb space (count + made)) where
     pub space-blocks : q ≡ true → SpaceTested pieces blocks store scratch left made size 10
     space-blocks h =

@@ -9,15 +9,16 @@ use lib.Seq.{getD-set-same, getD-set-other}
 use Rattle.history.specs.Lent.{rowWidth, blockHead}
 use Rattle.history.specs.Words.{Operation}
 use Rattle.history.specs.Tree as segment
-use Rattle.history.specs.Ledger.{Ledger, isSome, finished, isRead, readBy, updateBy, recordBy}
+use Rattle.history.specs.Ledger.{Ledger, withNow, isSome, finished, isRead, readBy, updateBy, recordBy}
 use Rattle.tables.specs.Columns.{blockBase, headState, headEnd, headKind, headCount, headUsed, headLast, blockNext}
+use Rattle.block_table.specs.Blocks.{SameRows, headPlace}
+use Rattle.block_table.proofs.Blocks.{blocks-kept}
+use Rattle.block_table.proofs.Keeping.{stored-kept}
 use Rattle.ordering.specs.Order.{Unordered}
-use Rattle.ordering.specs.Blocks.{SameRows}
-use Rattle.ordering.proofs.Blocks.{blocks-kept}
-use Rattle.ordering.proofs.Keeping.{stored-kept, unordered-kept}
+use Rattle.ordering.proofs.Keeping.{unordered-kept}
 use Rattle.layout.specs.Tables.{Tables, lengthsOf, headAt}
 use Rattle.layout.specs.Encodes.{Encodes, TreeIn}
-use Rattle.layout.specs.Relations.{headPlace, readTables}
+use Rattle.layout.specs.Relations.{readTables}
 use Rattle.layout.proofs.Lengths.{lent-same, heads-fit}
 
 -- ── an open ledger ──
@@ -32,12 +33,12 @@ open-unordered t l e still = subst (λ (x : Option segment.Tree). TreeIn t l x) 
 
 -- ── what recording leaves ──
 
-pub record-read : (l : Ledger) (o : Operation) → isRead (l .now) o ≡ true → recordBy l o ≡ record { opening = l .opening; now = readBy (l .now) o; tree = l .tree }
+pub record-read : (l : Ledger) (o : Operation) → isRead (l .now) o ≡ true → recordBy l o ≡ withNow (readBy (l .now) o) l
 unfolding recordBy
 record-read l o e = rw e
 
 pub record-update : (l : Ledger) (o : Operation) → isRead (l .now) o ≡ false
-    → recordBy l o ≡ record { opening = l .opening; now = updateBy (l .opening .kind) (l .now) o; tree = l .tree }
+    → recordBy l o ≡ withNow (updateBy (l .opening .kind) (l .now) o) l
 unfolding recordBy
 record-update l o e = rw e
 
@@ -65,7 +66,7 @@ module _ (t : Tables) (l : Ledger) (o : Operation) (e : Encodes t l) (still : fi
   read-encodes =
       let used : headAt (readTables (o .tick) t) headUsed ≡ headAt t headUsed = head-other headUsed (λ z. omega arith) in
       let count : headAt (readTables (o .tick) t) headCount ≡ headAt t headCount = head-other headCount (λ z. omega arith) in
-      let there : Encodes (readTables (o .tick) t) (record { opening = l .opening; now = readBy (l .now) o; tree = l .tree }) = record {
+      let there : Encodes (readTables (o .tick) t) (withNow (readBy (l .now) o) l) = record {
         lengths = e .lengths ∙ lens;
         heads = rw (← lens) (e .heads);
         state = head-other headState (λ z. omega arith) ∙ e .state;
@@ -81,7 +82,7 @@ module _ (t : Tables) (l : Ledger) (o : Operation) (e : Encodes t l) (still : fi
         linked = e .linked;
         pieces = e .pieces;
         pieces-stored = rw used (e .pieces-stored);
-        tree = subst (λ (x : Option segment.Tree). TreeIn (readTables (o .tick) t) (record { opening = l .opening; now = readBy (l .now) o; tree = l .tree }) x) (sym (still-none (l .tree) still))
+        tree = subst (λ (x : Option segment.Tree). TreeIn (readTables (o .tick) t) (withNow (readBy (l .now) o) l) x) (sym (still-none (l .tree) still))
             (unordered-kept (same-rows (length (l .now .blocks))) (other (rowWidth * 0 + (blockBase + blockNext)) (λ z. omega arith)) (open-unordered t l e still));
       } in
       subst (λ (m : Ledger). Encodes (readTables (o .tick) t) m) (sym (record-read l o read)) there

@@ -2,23 +2,19 @@
 use mathlib.Core.Path.{_≡_, refl, ap, ap₂, subst, _∙_}
 use mathlib.Core.Bool.{Bool, true, false, cond}
 use mathlib.Core.Option.{none, some, Option·some-injective, Option·none-ne-some}
-use mathlib.Core.List.{List, [], _∷_, _++_}
-use Prim.Native.Nat.{ℕ, suc, _+_, _-_, _≤_, _<_, min, max}
+use mathlib.Core.List.{List, _++_}
+use Prim.Native.Nat.{ℕ, _+_, _-_, _≤_, _<_, min, max}
 use native.Mathlib.Omega.{arith}
 use lib.Dec.{ltb}
-use lib.ListN.{length, set, take, drop, length-append}
-use lib.Seq.{sets, sets-eq, take-set-le, take-add, take-append-seam, drop-append-le, drop-at, length-take-le}
+use lib.ListN.{length, take, drop, length-append}
+use lib.Seq.{sets, sets-eq, take-add, take-append-seam, drop-append-le, drop-at, length-take-le}
 use borrow.Author.Tests.{ltb-true}
 use Rattle.lists.specs.Lists.{All}
 use Rattle.lists.proofs.Maps.{all-filterMap}
+use Rattle.lists.proofs.Parts.{part-sets}
 use Rattle.piece_table.specs.Piece.{PieceRow, rowEnd, part, clipRow, rowsBelow, rowsInside, rowsAbove}
 
 -- ── bytes written at a place ──
-
--- what is in front of it stays
-pub sets-front : (j at : ℕ) (l vs : List ℕ) → j ≤ at → take j (sets l at vs) ≡ take j l
-sets-front j at l [] h = refl
-sets-front j at l (v ∷ vs) h = sets-front j (suc at) (set l at v) vs (omega arith) ∙ take-set-le j l at v h
 
 -- they stand there
 pub sets-part : (at : ℕ) (l vs : List ℕ) → at + length vs ≤ length l → take (length vs) (drop at (sets l at vs)) ≡ vs
@@ -31,7 +27,7 @@ sets-part at l vs h =
 
 -- the used part grows by them
 pub sets-grow : (at : ℕ) (l vs : List ℕ) → at + length vs ≤ length l → take (at + length vs) (sets l at vs) ≡ take at l ++ vs
-sets-grow at l vs h = take-add at (length vs) (sets l at vs) ∙ ap₂ (λ (x y : List ℕ). x ++ y) (sets-front at at l vs (omega arith)) (sets-part at l vs h)
+sets-grow at l vs h = take-add at (length vs) (sets l at vs) ∙ ap₂ (λ (x y : List ℕ). x ++ y) (part-sets at 0 l at vs (omega arith)) (sets-part at l vs h)
 
 -- ── parts stay in the used part ──
 

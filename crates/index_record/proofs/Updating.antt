@@ -11,86 +11,89 @@ use lib.Seq.{sets, length-sets, getD-set-same, getD-set-other}
 use Rattle.lists.specs.Lists.{All, all-cons}
 use Rattle.lists.proofs.Lists.{all-map, all-append, all-of-map, all-un-map, all-at}
 use Rattle.lists.proofs.Numbers.{le-or-lt}
+use Rattle.lists.proofs.Parts.{part-sets}
 use Rattle.history.specs.Lent.{rowWidth, blockHead}
 use Rattle.history.specs.Words.{Operation, Piece, Block, stretchOf, pieceOf, blockOf}
 use Rattle.history.specs.Tree as segment
-use Rattle.history.specs.Ledger.{Ledger, Moment, finished, isRead, updateBy, recordBy}
+use Rattle.history.specs.Ledger.{Ledger, withNow, Moment, finished, isRead, updateBy, recordBy}
 use Rattle.history.specs.Refusals.{accepted, recordAnswer}
 use Rattle.history.specs.Sound.{Sound}
 use Rattle.history.proofs.Passing.{Taken, taken, Room, room}
 use Rattle.tables.specs.Columns.{blockColumn, blockBase, headState, headEnd, headKind, headCount, headUsed, headLast, blockNext, blockLength, blockOffset}
+use Rattle.block_table.specs.Blocks.{blocksOf, SameRows, offsetAt, lengthAt, blockAt, blockCount, headPlace}
+use Rattle.block_table.proofs.Blocks.{blocks-kept, blocks-store}
+use Rattle.block_table.proofs.Keeping.{kept-column}
+use Rattle.block_table.specs.Appended.{blockRow, Countable, Appended}
+use Rattle.block_table.proofs.Appending.{appended-length, appended-other, appended-kept}
 use Rattle.ordering.specs.Order.{nextAt, Unordered}
-use Rattle.ordering.specs.Blocks as ordered
-use Rattle.ordering.specs.Blocks.{blocksOf, SameRows, offsetAt, lengthAt}
-use Rattle.ordering.proofs.Blocks.{blocks-kept, blocks-store}
-use Rattle.ordering.proofs.Keeping.{kept-column}
+use Rattle.block_table.specs.Blocks as blocks
 use Rattle.piece_table.specs.Piece.{PieceRow, rowEnd, pieceAt, rowsBelow, rowsInside, rowsAbove, Filled}
 use Rattle.piece_table.specs.Shown.{shown, Stored}
 use Rattle.piece_table.specs.Rep.{Rep}
-use Rattle.recording.specs.Blocks.{blockRow, blockAt, blockCount, appended, Countable}
 use Rattle.recording.specs.Calls.{Updated, AppliedUpdate}
-use Rattle.recording.proofs.Blocks.{appended-length, appended-count, appended-other, appended-row}
-use Rattle.recording.proofs.Telling.{appended-out, appended-kept, appended-blocks, shown-kept, update-pieces, update-blocks}
+use Rattle.recording.proofs.Telling.{shown-kept, update-pieces, update-blocks}
+use Rattle.recording.specs.Recorded.{blockRowOf, recorded}
+use Rattle.recording.proofs.Recorded.{recorded-count, recorded-row, recorded-out, recorded-blocks}
 use Rattle.layout.specs.Tables.{Tables, tables, lengthsOf, headAt}
 use Rattle.layout.specs.Encodes.{Encodes, TreeIn}
-use Rattle.layout.specs.Relations.{headPlace, Appended, UpdatedTables}
+use Rattle.layout.specs.Relations.{UpdatedTables}
 use Rattle.layout.proofs.Lengths.{lent-same, Heads, heads-fit}
-use Rattle.layout.proofs.Pieces.{pieces-rep, pieces-shown, rep-links}
+use Rattle.layout.proofs.Pieces.{pieces-rep, pieces-shown}
 use Rattle.index_record.specs.Calls.{operation, UpdateApplied}
-use Rattle.index_record.proofs.Storing.{sets-front, sets-part, sets-grow, Within, below-stored, inside-stored, above-stored}
+use Rattle.index_record.proofs.Storing.{sets-part, sets-grow, Within, below-stored, inside-stored, above-stored}
 use Rattle.index_record.proofs.Reading.{still-none, open-unordered, record-update}
 
 -- ── the block table ──
 
 -- blocks of the pieces appended, then the head's columns used and last set
 unfoldable pub leftBlocks : (tick used : ℕ) (ps : List PieceRow) (blocks : List ℕ) → List ℕ
-leftBlocks tick used ps b = set (set (appended tick ps b) (headPlace headUsed) used) (headPlace headLast) tick
+leftBlocks tick used ps b = set (set (recorded tick ps b) (headPlace headUsed) used) (headPlace headLast) tick
 
 module _ (tick used : ℕ) (ps : List PieceRow) (b : List ℕ) (there : blockHead ≤ length b) where
   left-length : length (leftBlocks tick used ps b) ≡ length b
   unfolding leftBlocks
   left-length =
-      length-set (set (appended tick ps b) (headPlace headUsed) used) (headPlace headLast) tick ∙ length-set (appended tick ps b) (headPlace headUsed) used ∙ appended-length tick ps b
+      length-set (set (recorded tick ps b) (headPlace headUsed) used) (headPlace headLast) tick ∙ length-set (recorded tick ps b) (headPlace headUsed) used ∙ appended-length (map (blockRowOf tick) ps) b
 
   -- all but two columns of the head is as appending left it
-  left-same : (i : ℕ) → (i ≡ headPlace headUsed → ⊥) → (i ≡ headPlace headLast → ⊥) → getD (leftBlocks tick used ps b) i 0 ≡ getD (appended tick ps b) i 0
+  left-same : (i : ℕ) → (i ≡ headPlace headUsed → ⊥) → (i ≡ headPlace headLast → ⊥) → getD (leftBlocks tick used ps b) i 0 ≡ getD (recorded tick ps b) i 0
   unfolding leftBlocks
   left-same i nu nl =
-      getD-set-other (set (appended tick ps b) (headPlace headUsed) used) (headPlace headLast) i tick 0 nl ∙ getD-set-other (appended tick ps b) (headPlace headUsed) i used 0 nu
+      getD-set-other (set (recorded tick ps b) (headPlace headUsed) used) (headPlace headLast) i tick 0 nl ∙ getD-set-other (recorded tick ps b) (headPlace headUsed) i used 0 nu
 
   left-last : blockColumn (leftBlocks tick used ps b) 0 headLast ≡ tick
   unfolding leftBlocks
   left-last =
-      getD-set-same (set (appended tick ps b) (headPlace headUsed) used) (headPlace headLast) tick 0
-      (omega (arith, length-set (appended tick ps b) (headPlace headUsed) used, appended-length tick ps b))
+      getD-set-same (set (recorded tick ps b) (headPlace headUsed) used) (headPlace headLast) tick 0
+      (omega (arith, length-set (recorded tick ps b) (headPlace headUsed) used, appended-length (map (blockRowOf tick) ps) b))
 
   left-used : blockColumn (leftBlocks tick used ps b) 0 headUsed ≡ used
   unfolding leftBlocks
   left-used =
-      getD-set-other (set (appended tick ps b) (headPlace headUsed) used) (headPlace headLast) (headPlace headUsed) tick 0 (λ z. omega arith)
-      ∙ getD-set-same (appended tick ps b) (headPlace headUsed) used 0 (omega (arith, appended-length tick ps b))
+      getD-set-other (set (recorded tick ps b) (headPlace headUsed) used) (headPlace headLast) (headPlace headUsed) tick 0 (λ z. omega arith)
+      ∙ getD-set-same (recorded tick ps b) (headPlace headUsed) used 0 (omega (arith, appended-length (map (blockRowOf tick) ps) b))
 
   left-count : blockColumn (leftBlocks tick used ps b) 0 headCount ≡ blockCount b + length ps
-  left-count = left-same (headPlace headCount) (λ z. omega arith) (λ z. omega arith) ∙ appended-count tick ps b there
+  left-count = left-same (headPlace headCount) (λ z. omega arith) (λ z. omega arith) ∙ recorded-count tick ps b there
 
   -- the rest of the head
   left-head : (c : ℕ) → c < rowWidth → (c ≡ headCount → ⊥) → (c ≡ headUsed → ⊥) → (c ≡ headLast → ⊥) → blockColumn (leftBlocks tick used ps b) 0 c ≡ blockColumn b 0 c
   left-head c h nc nu nl =
-      left-same (rowWidth * 0 + (blockBase + c)) (λ z. nu (omega arith)) (λ z. nl (omega arith)) ∙ appended-other tick ps b 0 c h (omega arith) (λ z. nc)
+      left-same (rowWidth * 0 + (blockBase + c)) (λ z. nu (omega arith)) (λ z. nl (omega arith)) ∙ appended-other (map (blockRowOf tick) ps) b 0 c h (omega arith) (λ z. nc)
 
   -- the rows
-  left-rows : (n : ℕ) → SameRows (appended tick ps b) (leftBlocks tick used ps b) n
+  left-rows : (n : ℕ) → SameRows (recorded tick ps b) (leftBlocks tick used ps b) n
   left-rows n = record { same = λ i lo hi. left-same i (λ z. omega arith) (λ z. omega arith) }
 
   left-old : SameRows b (leftBlocks tick used ps b) (blockCount b)
-  left-old = record { same = λ i lo hi. left-same i (λ z. omega arith) (λ z. omega arith) ∙ appended-kept tick ps b .same i lo hi }
+  left-old = record { same = λ i lo hi. left-same i (λ z. omega arith) (λ z. omega arith) ∙ appended-kept (map (blockRowOf tick) ps) b .same i lo hi }
 
   left-appended : Appended b (leftBlocks tick used ps b) (blockCount b) (blockCount b + length ps)
   left-appended = record {
     len = left-length;
-    head = λ i h nc nu nl. left-same i nu nl ∙ appended-out tick ps b i nc (inl (omega arith));
-    rows = λ i lo hi. left-same i (λ z. omega arith) (λ z. omega arith) ∙ appended-out tick ps b i (λ z. omega arith) (inl (omega arith));
-    rest = λ i lo. left-same i (λ z. omega arith) (λ z. omega arith) ∙ appended-out tick ps b i (λ z. omega arith) (inr (omega arith));
+    head = λ i h nc nu nl. left-same i nu nl ∙ recorded-out tick ps b i nc (inl (omega arith));
+    rows = λ i lo hi. left-same i (λ z. omega arith) (λ z. omega arith) ∙ recorded-out tick ps b i (λ z. omega arith) (inl (omega arith));
+    rest = λ i lo. left-same i (λ z. omega arith) (λ z. omega arith) ∙ recorded-out tick ps b i (λ z. omega arith) (inr (omega arith));
   }
 
   module _ (fits : blockAt (blockCount b + 1 + length ps) ≤ length b) where
@@ -99,17 +102,17 @@ module _ (tick used : ℕ) (ps : List PieceRow) (b : List ℕ) (there : blockHea
 
     -- a new row holds its piece
     left-row : (link c : ℕ) → blockCount b < link → link ≤ blockCount b + length ps → c < rowWidth
-        → blockColumn (leftBlocks tick used ps b) link c ≡ getD (blockRow tick (getD ps (link - suc (blockCount b)) none-row)) c 0
+        → blockColumn (leftBlocks tick used ps b) link c ≡ getD (blockRow (blockRowOf tick (getD ps (link - suc (blockCount b)) none-row))) c 0
     left-row link c lo hi h =
         let e : blockCount b + 1 + (link - suc (blockCount b)) ≡ link = omega arith in
         kept-column (left-rows (blockCount b + length ps)) link c (omega arith) hi h
-        ∙ ap (λ (k : ℕ). blockColumn (appended tick ps b) k c) (sym e)
-        ∙ appended-row tick ps none-row b (link - suc (blockCount b)) c fits (omega arith) h
+        ∙ ap (λ (k : ℕ). blockColumn (recorded tick ps b) k c) (sym e)
+        ∙ recorded-row tick ps b fits none-row (link - suc (blockCount b)) c (omega arith) h
 
     left-blocks : (store : List ℕ) → blocksOf store (leftBlocks tick used ps b) (blockCount b + length ps) ≡ blocksOf store b (blockCount b) ++ map (λ p. blockOf tick (shown store p)) ps
-    left-blocks store = blocks-kept store (left-rows (blockCount b + length ps)) ∙ appended-blocks store tick ps b fits
+    left-blocks store = blocks-kept store (left-rows (blockCount b + length ps)) ∙ recorded-blocks tick ps b fits store
 
-    left-stored : (old : ℕ) → old ≤ used → ordered.Stored old b (blockCount b) → All (Within old) ps → ordered.Stored used (leftBlocks tick used ps b) (blockCount b + length ps)
+    left-stored : (old : ℕ) → old ≤ used → blocks.Stored old b (blockCount b) → All (Within old) ps → blocks.Stored used (leftBlocks tick used ps b) (blockCount b + length ps)
     left-stored old le was parts = record { inside = λ link lo hi. go link lo hi (le-or-lt link (blockCount b)) }
       where
         go : (link : ℕ) → 0 < link → link ≤ blockCount b + length ps → (link ≤ blockCount b) ⊎ (blockCount b < link)
@@ -124,7 +127,7 @@ module _ (tick used : ℕ) (ps : List PieceRow) (b : List ℕ) (there : blockHea
       where
         go : (k : ℕ) → k ≤ blockCount b + length ps → (k ≤ blockCount b) ⊎ (blockCount b < k) → nextAt (leftBlocks tick used ps b) k ≡ 0
         go k h (inl le) =
-            left-same (rowWidth * k + (blockBase + blockNext)) (λ z. omega arith) (λ z. omega arith) ∙ appended-other tick ps b k blockNext (omega arith) le (λ z e. omega arith) ∙ u .none k le
+            left-same (rowWidth * k + (blockBase + blockNext)) (λ z. omega arith) (λ z. omega arith) ∙ appended-other (map (blockRowOf tick) ps) b k blockNext (omega arith) le (λ z e. omega arith) ∙ u .none k le
         go k h (inr lt) = left-row k blockNext lt h (omega arith)
 
 -- ── the whole ──
@@ -181,7 +184,7 @@ module _ (t : Tables) (l : Ledger) (o : Operation) (scratch : ℕ) (e : Encodes 
   stored-after = all-map (λ p h. record { has = omega (arith, length-sets (t .store) used (o .bytes), bytes-fit) }) stored-before
 
   same-front : take used store′ ≡ take used (t .store)
-  same-front = sets-front used used (t .store) (o .bytes) (omega arith)
+  same-front = part-sets used 0 (t .store) used (o .bytes) (omega arith)
 
   shown-after : l .now .pieces ≡ map (shown store′) ps
   shown-after = pieces-shown t l e ∙ sym (shown-kept (t .store) store′ used same-front stored-before)
@@ -226,11 +229,11 @@ module _ (t : Tables) (l : Ledger) (o : Operation) (scratch : ℕ) (e : Encodes 
   pieces-fit : rowWidth * length left + rowWidth ≤ length (t .pieces)
   pieces-fit = omega (arith, space .pieces, left-after, there .pieces)
 
-  module _ (pieces′ b′ : List ℕ) (recorded : AppliedUpdate (t .pieces) pieces′ (t .blocks) b′ row) where
+  module _ (pieces′ b′ : List ℕ) (applied : AppliedUpdate (t .pieces) pieces′ (t .blocks) b′ row) where
     updated : Updated (t .pieces) pieces′ (t .blocks) b′ row ps
-    updated = recorded .done ps (pieces-rep t l e (s .board) few fits) new-filled countable pieces-fit
+    updated = applied .done ps (pieces-rep t l e (s .board) few fits) new-filled countable pieces-fit
 
-    pub blocks-left : b′ ≡ appended (o .tick) gone (t .blocks)
+    pub blocks-left : b′ ≡ recorded (o .tick) gone (t .blocks)
     blocks-left = updated .blocks
 
     abbrev blocks′ : List ℕ
@@ -279,7 +282,7 @@ module _ (t : Tables) (l : Ledger) (o : Operation) (scratch : ℕ) (e : Encodes 
     next-last = refl
 
     abbrev l′ : Ledger
-    l′ = record { opening = l .opening; now = next; tree = l .tree }
+    l′ = withNow next l
 
     pub update-encodes : Encodes t′ (recordBy l o)
     update-encodes =
@@ -300,7 +303,7 @@ module _ (t : Tables) (l : Ledger) (o : Operation) (scratch : ℕ) (e : Encodes 
           blocks-stored = rw (count-left, used-after)
               (left-stored (o .tick) (used + size) gone (t .blocks) (there .blocks) blocks-fit used (omega arith) (e .blocks-stored) (inside-stored used stored-before (row .first) (rowEnd row)));
           links = rep .links;
-          linked = rep-links pieces′ left rep;
+          linked = rep .linked .dense;
           pieces = pieces-after ∙ ap (map (shown store′)) (sym linked) ∙ map-map (shown store′) (pieceAt pieces′) (rep .links);
           pieces-stored = rw used-after (all-un-map (pieceAt pieces′) (rep .links) inside);
           tree = subst (λ (x : Option segment.Tree). TreeIn t′ l′ x) (sym (still-none (l .tree) still))
@@ -320,7 +323,7 @@ module _ (t : Tables) (l : Ledger) (o : Operation) (scratch : ℕ) (e : Encodes 
       entries = refl;
     }
 
--- ── `apply_update` ──
+-- ── `enter_update` ──
 
 module _ {p b s bytes : List ℕ} {tick first used : ℕ} (eu : used ≡ blockColumn b 0 headUsed) (few : length p < 2 ^ 64) (fewer : length b < 2 ^ 64) (fits : length s < 2 ^ 64) where
   -- an accepted update has room in the store

@@ -10,9 +10,10 @@ use Rattle.history.specs.Ledger.{Ledger, finished, isRead, recordBy}
 use Rattle.history.specs.Refusals.{Answer, accepted, refused, recordAnswer}
 use Rattle.history.specs.Sound.{Sound}
 use Rattle.tables.specs.Columns.{headLast}
+use Rattle.block_table.specs.Blocks.{headPlace}
 use Rattle.layout.specs.Tables.{tables}
 use Rattle.layout.specs.Encodes.{Encodes}
-use Rattle.layout.specs.Relations.{headPlace, UpdatedTables, RecordLeaves}
+use Rattle.layout.specs.Relations.{UpdatedTables, RecordLeaves}
 use Rattle.index_record.specs.declared.Verdict.{Verdict}
 use Rattle.index_record.specs.declared.Verdict.the-variants.{Refused, Read, Update}
 use Rattle.index_record.specs.declared.Recorded.{Recorded}
@@ -35,11 +36,11 @@ pub record Judged (pieces blocks store : List ℕ) (scratch : ℕ) (o : Operatio
 
 -- ── what an accepted operation does ──
 
--- `apply_read`
+-- `enter_read`
 pub record ReadApplied (blocks blocks′ : List ℕ) (tick : ℕ) : Type 0 where
   pub is : blocks′ ≡ set blocks (headPlace headLast) tick
 
--- `apply_update`
+-- `enter_update`
 pub record UpdateApplied (pieces blocks store pieces′ blocks′ store′ : List ℕ) (o : Operation) : Type 0 where
   pub done : (nodes entries : List ℕ) (l : Ledger) (scratch : ℕ) → Encodes (tables pieces blocks store nodes entries) l → Sound l
       → recordAnswer l scratch o ≡ accepted tt → isRead (l .now) o ≡ false

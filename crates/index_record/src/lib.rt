@@ -12,14 +12,10 @@
 ghost use mathlib.Core.Path.{_≡_};
 ghost use Prim.Native.Nat.{_+_, _-_, _/_};
 ghost use lib.Dec.{ltb};
-ghost use Rattle.history.specs.Lent.{rowWidth};
 ghost use Rattle.index_record.specs.Refusing.{CallTested, SpaceTested};
 ghost use Rattle.index_record.specs.Calls.{operation, Judged, ReadApplied, UpdateApplied, RecordedOpen};
 use tables::block;
 use tables::piece;
-
-// The largest number.
-const LARGEST: u64 = 18446744073709551615;
 
 // What becomes of an operation: the number of its refusal, or what it is.
 pub enum Verdict {
@@ -46,16 +42,6 @@ fn exceeds(limit: u64, a: u64, b: u64) -> bool
     limit - a < b
 }
 
-// How many rows a table of so many numbers has behind its head.
-fn rows(numbers: usize, head: usize) -> u64
-    ensures { λ r. ⌜ r ≡ (numbers - head) / rowWidth ⌝ }
-{
-    if numbers < head {
-        return 0;
-    }
-    ((numbers - head) / tables::ROW) as u64
-}
-
 // Which of 5 to 8 the call is refused for, or 0.
 fn call_refusal(blocks: &[u64], tick: u64, first: u64, size: u64) -> u64
     ensures { λ r. ⌜ CallTested (now (blocks .entry)) tick first size r ⌝ }
@@ -63,13 +49,13 @@ fn call_refusal(blocks: &[u64], tick: u64, first: u64, size: u64) -> u64
     if size == 0 {
         return 5;
     }
-    if exceeds(LARGEST, first, size) {
+    if exceeds(u64::MAX, first, size) {
         return 6;
     }
-    if block::get(blocks, 0, block::END) <= tick {
+    if block_table::end(blocks) <= tick {
         return 7;
     }
-    if tick < block::get(blocks, 0, block::LAST) {
+    if tick < block_table::last(blocks) {
         return 8;
     }
     0
@@ -87,21 +73,21 @@ fn space_refusal(
 ) -> u64
     ensures { λ r. ⌜ SpaceTested (now (pieces .entry)) (now (blocks .entry)) (now (store .entry)) scratch left made size r ⌝ }
 {
-    if rows(pieces.len(), piece::HEAD) < left {
+    if tables::rows(pieces.len(), piece::HEAD) < left {
         return 9;
     }
-    if scratch / (tables::ROW as u64) < left {
+    if tables::rows(scratch as usize, 0) < left {
         return 9;
     }
-    let space = rows(blocks.len(), block::HEAD);
-    let count = block::get(blocks, 0, block::COUNT);
+    let space = tables::rows(blocks.len(), block::HEAD);
+    let count = block_table::count(blocks);
     if exceeds(space, count, made) {
         return 10;
     }
     if exceeds(space, count + made, left) {
         return 10;
     }
-    let used = block::get(blocks, 0, block::USED);
+    let used = block_table::used(blocks);
     if exceeds(store.len() as u64, used, size) {
         return 11;
     }
@@ -142,14 +128,14 @@ pub fn refusal(
 // ── what an accepted operation does ──
 
 // A read: nothing changes but the last accepted tick.
-pub fn apply_read(blocks: &mut [u64], tick: u64)
+pub fn enter_read(blocks: &mut [u64], tick: u64)
     ensures { λ _. ⌜ ReadApplied (now (blocks .entry)) (now (blocks .exit)) tick ⌝ }
 {
-    block::put(blocks, 0, block::LAST, tick);
+    block_table::set_last(blocks, tick);
 }
 
 // An update: its bytes enter the store behind the used part, pieces are cut and recorded as blocks, and the operation becomes a piece.
-pub fn apply_update(
+pub fn enter_update(
     pieces: &mut [u64],
     blocks: &mut [u64],
     store: &mut [u8],
@@ -160,16 +146,16 @@ pub fn apply_update(
     ensures { λ _. ⌜ UpdateApplied (now (pieces .entry)) (now (blocks .entry)) (now (store .entry)) (now (pieces .exit)) (now (blocks .exit)) (now (store .exit))
         (operation tick first (now (bytes .entry))) ⌝ }
 {
-    let used = block::get(blocks, 0, block::USED);
-    let kind = block::get(blocks, 0, block::KIND);
+    let used = block_table::used(blocks);
+    let kind = block_table::kind(blocks);
     let size = bytes.len() as u64;
-    if LARGEST - used < size {
+    if u64::MAX - used < size {
         return;
     }
     tables::copy_in(store, used as usize, bytes);
     recording::apply_update(pieces, blocks, tick, first, size, used, kind);
-    block::put(blocks, 0, block::USED, used + size);
-    block::put(blocks, 0, block::LAST, tick);
+    block_table::set_used(blocks, used + size);
+    block_table::set_last(blocks, tick);
 }
 
 // Records an operation in the tables of an open index.
@@ -189,11 +175,11 @@ pub fn record_open(
     match verdict {
         Verdict::Refused(number) => Recorded::Refused(number),
         Verdict::Read => {
-            apply_read(blocks, tick);
+            enter_read(blocks, tick);
             Recorded::Accepted
         }
         Verdict::Update => {
-            apply_update(pieces, blocks, store, tick, first, bytes);
+            enter_update(pieces, blocks, store, tick, first, bytes);
             Recorded::Accepted
         }
     }

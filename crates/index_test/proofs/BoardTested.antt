@@ -10,9 +10,9 @@ use Rattle.lists.proofs.Numbers.{confirm, refute}
 use Rattle.history.specs.Lent.{tooShort, blockRows}
 use Rattle.history.specs.Refusals.{maxEndTick}
 use Rattle.tables.specs.Columns.{column, piecesCount, headEnd, headKind, headCount, headUsed, headLast}
+use Rattle.block_table.specs.Rows.{RowsSound}
 use Rattle.piece_table.specs.Test as piece
 use Rattle.layout.specs.Tables.{Tables, lengthsOf, headAt}
-use Rattle.index_test.specs.Rows.{RowsSound}
 use Rattle.index_test.specs.Board.{Numbers, BoardFormed}
 
 -- ── numbers ──

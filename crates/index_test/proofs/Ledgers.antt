@@ -12,19 +12,19 @@ use Rattle.lists.proofs.Maps.{length-of-map, map-map}
 use Rattle.history.specs.Words.{Block, size}
 use Rattle.history.specs.Tree as segment
 use Rattle.history.specs.Tree.{noBlock}
-use Rattle.history.specs.Ledger.{Ledger}
+use Rattle.history.specs.Ledger.{Ledger, openingFor}
 use Rattle.history.specs.Sound.{SoundBlock, SoundBoard, InOrder}
 use Rattle.tables.specs.Columns.{column, piecesCount, headState, headEnd, headKind, headCount, headUsed, headLast}
+use Rattle.block_table.specs.Blocks.{blocksOf, blockOfRow, lengthAt, offsetAt}
+use Rattle.block_table.proofs.Blocks.{blocks-length, blocks-at}
+use Rattle.block_table.specs.Rows.{Bounds, RowSound}
 use Rattle.piece_table.specs.Piece.{pieceAt, Filled}
 use Rattle.piece_table.specs.Shown.{shown}
 use Rattle.piece_table.specs.Test as piece
 use Rattle.piece_table.proofs.Order.{follow-filled}
-use Rattle.ordering.specs.Blocks.{blocksOf, blockOfRow, lengthAt, offsetAt}
-use Rattle.ordering.proofs.Blocks.{blocks-length, blocks-at}
 use Rattle.layout.specs.Tables.{Tables, lengthsOf, headAt}
 use Rattle.layout.specs.Encodes.{Encodes, TreeIn, stateOf}
-use Rattle.layout.proofs.Pieces.{used-fits, pieces-formed, rep-links, shown-sound, follow-order, part-front}
-use Rattle.index_test.specs.Rows.{Bounds, RowSound}
+use Rattle.layout.proofs.Pieces.{used-fits, pieces-formed, shown-sound, follow-order, part-front}
 use Rattle.index_test.specs.Board.{boundsOf, BoardFormed}
 
 -- ── rows and blocks ──
@@ -73,7 +73,7 @@ block-row b part store blocks link fits inside s =
 unfoldable pub ledgerOf : (t : Tables) (links : List ℕ) → Option segment.Tree → Ledger
 ledgerOf t links tree =
     record {
-      opening = record { end = headAt t headEnd; kind = headAt t headKind; lent = lengthsOf t };
+      opening = openingFor (headAt t headEnd) (headAt t headKind) (lengthsOf t);
       now = record {
         pieces = map (λ link. shown (t .store) (pieceAt (t .pieces) link)) links;
         blocks = blocksOf (t .store) (t .blocks) (headAt t headCount);
@@ -111,7 +111,7 @@ module _ (t : Tables) (b : BoardFormed t) where
     blocks = refl;
     blocks-stored = record { inside = λ link p q. b .rows .rows link p q .stored };
     links = b .pieces .rep .links;
-    linked = rep-links (t .pieces) (b .pieces .pieces) (b .pieces .rep);
+    linked = b .pieces .rep .linked .dense;
     pieces = refl;
     pieces-stored = all-map (λ link x. x .inside) links-allowed;
     tree = in-tree;
@@ -122,7 +122,7 @@ module _ (t : Tables) (b : BoardFormed t) where
   board-sound tree =
       let n = b .numbers in
       let fits = n .used-fits in
-      let counted : length (b .pieces .rep .links) ≡ column (t .pieces) 0 piecesCount = b .pieces .rep .linked .count in
+      let counted : length (b .pieces .rep .links) ≡ column (t .pieces) 0 piecesCount = b .pieces .rep .linked .dense .count in
       record {
         some-tick = n .some-tick;
         end-most = n .end-most;
@@ -140,7 +140,7 @@ module _ (t : Tables) (b : BoardFormed t) where
             (λ k h. let z = blocks-length (t .store) (t .blocks) (headAt t headCount) in
             rw (blocks-at (t .store) (t .blocks) (headAt t headCount) k noBlock (omega arith))
             (row-block (boundsOf t) (t .store) (t .blocks) (suc k) fits (b .rows .rows (suc k) (omega arith) (omega arith))));
-        pieces-fit = omega (arith, length-of-map (λ link. shown (t .store) (pieceAt (t .pieces) link)) (b .pieces .rep .links), b .pieces .rep .linked .room);
+        pieces-fit = omega (arith, length-of-map (λ link. shown (t .store) (pieceAt (t .pieces) link)) (b .pieces .rep .links), b .pieces .rep .linked .dense .room);
         blocks-fit = omega (arith, length-of-map (λ link. shown (t .store) (pieceAt (t .pieces) link)) (b .pieces .rep .links), blocks-length (t .store) (t .blocks) (headAt t headCount), n .rows-fit);
         store-fits = omega (arith, length-take (headAt t headUsed) (t .store));
       }

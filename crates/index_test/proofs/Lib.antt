@@ -1,4 +1,5 @@
-pub mod RowsTested
 pub mod BoardTested
 pub mod Ledgers
 pub mod Tested
+pub mod Told
+pub mod Deciding

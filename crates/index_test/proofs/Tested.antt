@@ -5,22 +5,23 @@ use mathlib.Core.Option.{Option, none, some}
 use mathlib.Core.List.{List, [], _∷_, map}
 use Prim.Native.Nat.{ℕ, _^_, _<_}
 use native.Mathlib.Omega.{arith}
-use lib.ListN.{length}
+use lib.ListN.{length, take}
 use borrow.Author.Tests.{not-true, not-false}
 use Rattle.lists.specs.Tests.{Decides}
 use Rattle.lists.proofs.Numbers.{refute, decides-iff}
-use Rattle.history.specs.Words.{Block}
+use Rattle.history.specs.Words.{Block, firstCell}
 use Rattle.history.specs.Lent.{Lent}
 use Rattle.history.specs.Tree.{Tree, noBlock}
 use Rattle.history.specs.Rules.{Apart}
 use Rattle.history.specs.Ledger.{Ledger}
 use Rattle.history.specs.Sound.{Sound, SoundTree, SoundClosed, SoundBoard}
-use Rattle.tables.specs.Columns.{column, piecesCount, headState, headEnd, headKind, headCount}
+use Rattle.history.proofs.ByKind.{closed-rule-23, rule-23-kind}
+use Rattle.tables.specs.Columns.{column, piecesCount, headState, headEnd, headKind, headCount, headUsed}
+use Rattle.block_table.specs.Blocks.{blocksOf, blockOfRow, Stored}
+use Rattle.block_table.proofs.Blocks.{blocks-length, blocks-at}
 use Rattle.piece_table.specs.Piece.{pieceAt}
 use Rattle.piece_table.specs.Shown.{shown}
 use Rattle.ordering.specs.Order.{InOrder, Unordered}
-use Rattle.ordering.specs.Blocks.{blocksOf, blockOfRow, Stored}
-use Rattle.ordering.proofs.Blocks.{blocks-length, blocks-at}
 use Rattle.segment_test.specs.Test.{BlockRows, ClosedTree}
 use Rattle.segment_apart.specs.Apart.{AllBounded, ClosedApart}
 use Rattle.segment_apart.proofs.Agreeing.{closed-decides}
@@ -41,7 +42,7 @@ block-rows t =
     let n = headAt t headCount in
     record {
       many = blocks-length (t .store) (t .blocks) n;
-      first = λ k h. ap (λ (b : Block). b .stretch .first) (blocks-at (t .store) (t .blocks) n k noBlock h);
+      first = λ k h. ap firstCell (blocks-at (t .store) (t .blocks) n k noBlock h);
       created = λ k h. ap (λ (b : Block). b .created) (blocks-at (t .store) (t .blocks) n k noBlock h);
       destroyed = λ k h. ap (λ (b : Block). b .destroyed) (blocks-at (t .store) (t .blocks) n k noBlock h);
     }
@@ -148,7 +149,7 @@ module _ (t : Tables) (l : Ledger) (tree : Tree) (e : Encodes t l) (s : SoundBoa
     closed = rw (e .kind, e .end) (in-tree .1);
     rooted = c .rooted;
     rule-21 = rw (e .end) (c .rule-21);
-    rule-23 = rw (e .end) (c .rule-23);
+    rule-23 = rw (e .end) (closed-rule-23 l tree s c);
   }
 
   closed-part : ClosedPart t
@@ -203,10 +204,10 @@ closed-passes t c =
       sound = record {
         board = board-sound t (c .board) (some (k .tree));
         closed = record {
-          no-pieces = none-left (λ link. shown (t .store) (pieceAt (t .pieces) link)) (boardLinks t (c .board)) (c .board .pieces .rep .linked .count ∙ c .part .no-pieces);
+          no-pieces = none-left (λ link. shown (t .store) (pieceAt (t .pieces) link)) (boardLinks t (c .board)) (c .board .pieces .rep .linked .dense .count ∙ c .part .no-pieces);
           rooted = k .rooted;
           rule-21 = k .rule-21;
-          rule-23 = k .rule-23;
+          rule-23 = rule-23-kind (headAt t headKind) (headAt t headEnd) (take (headAt t headUsed) (t .store)) (k .tree) (board-sound t (c .board) (some (k .tree)) .blocks) (k .rule-23);
           rule-24 = c .part .apart;
           nodes-fit = omega (arith, k .closed .all-rows, room);
           entries-fit = omega (arith, k .closed .all-entries, k .entry-room);

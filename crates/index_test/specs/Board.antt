@@ -8,14 +8,14 @@ use Rattle.history.specs.Lent.{tooShort, blockRows}
 use Rattle.history.specs.Refusals.{maxEndTick}
 use Rattle.history.specs.Rules.{Apart}
 use Rattle.tables.specs.Columns.{column, piecesCount, headState, headEnd, headKind, headCount, headUsed, headLast}
+use Rattle.block_table.specs.Blocks.{blocksOf}
+use Rattle.block_table.specs.Rows.{Bounds, RowsSound}
 use Rattle.piece_table.specs.Test as piece
 use Rattle.ordering.specs.Order.{InOrder, Unordered}
-use Rattle.ordering.specs.Blocks.{blocksOf}
 use Rattle.segment_test.specs.Test.{ClosedTree}
 use Rattle.layout.specs.Tables.{Tables, lengthsOf, headAt, treeTables}
 use Rattle.layout.specs.Encodes.{openState, closedState}
 use Rattle.layout.specs.Formed.{WellFormed}
-use Rattle.index_test.specs.Rows.{Bounds, RowsSound}
 use Rattle.index_test.specs.declared.State.{State}
 use Rattle.index_test.specs.declared.State.the-variants.{Bad, Open, Closed}
 

@@ -7,14 +7,10 @@ ghost use Rattle.lists.specs.Tests.{Decides};
 ghost use Rattle.history.specs.Lent.{tooShort, rowWidth, blockHead};
 ghost use Rattle.layout.specs.Tables.{tables, lengthsOf};
 ghost use Rattle.index_test.specs.Board.{Numbers, BoardFormed};
-use super::rows;
 use tables::block;
 use tables::entry;
 use tables::node;
 use tables::piece;
-
-// The largest end tick.
-const MOST_END: u64 = 1 << 63;
 
 const MOST_KIND: u64 = 4;
 
@@ -37,21 +33,11 @@ fn test_heads(pieces: &[u64], blocks: &[u64], store: &[u8], nodes: &[u64], entri
     true
 }
 
-// How many block rows there are.
-fn block_rows(blocks: &[u64]) -> u64
-    ensures { λ r. ⌜ r ≡ (length (now (blocks .entry)) - blockHead) / rowWidth ⌝ }
-{
-    if blocks.len() < block::HEAD {
-        return 0;
-    }
-    ((blocks.len() - block::HEAD) / tables::ROW) as u64
-}
-
 // Whether there are block rows for so many blocks and pieces. It subtracts, as the sum may pass 2^64.
 fn rows_fit(blocks: &[u64], count: u64, pieces: u64) -> bool
     ensures { λ r. ⌜ Decides r (count + pieces ≤ (length (now (blocks .entry)) - blockHead) / rowWidth) ⌝ }
 {
-    let rows = block_rows(blocks);
+    let rows = tables::rows(blocks.len(), block::HEAD);
     if rows < count {
         return false;
     }
@@ -71,25 +57,25 @@ fn test_numbers(
 ) -> bool
     ensures { λ r. ⌜ Decides r (Numbers (tables (now (pieces .entry)) (now (blocks .entry)) (now (store .entry)) (now (nodes .entry)) (now (entries .entry)))) ⌝ }
 {
-    let end = block::get(blocks, 0, block::END);
+    let end = block_table::end(blocks);
     if end == 0 {
         return false;
     }
-    if MOST_END < end {
+    if block::MAX_END_TICK < end {
         return false;
     }
-    if MOST_KIND < block::get(blocks, 0, block::KIND) {
+    if MOST_KIND < block_table::kind(blocks) {
         return false;
     }
-    if end <= block::get(blocks, 0, block::LAST) {
+    if end <= block_table::last(blocks) {
         return false;
     }
-    if store.len() < block::get(blocks, 0, block::USED) as usize {
+    if store.len() < block_table::used(blocks) as usize {
         return false;
     }
     if rows_fit(
         blocks,
-        block::get(blocks, 0, block::COUNT),
+        block_table::count(blocks),
         tables::get(pieces, 0, piece::COUNT),
     ) {
         return true;
@@ -113,12 +99,12 @@ pub fn test_board(
     if !test_numbers(pieces, blocks, store, nodes, entries) {
         return false;
     }
-    let kind = block::get(blocks, 0, block::KIND);
-    let end = block::get(blocks, 0, block::END);
-    let used = block::get(blocks, 0, block::USED);
-    let last = block::get(blocks, 0, block::LAST);
-    let count = block::get(blocks, 0, block::COUNT);
-    if !rows::test_rows(blocks, count, kind, end, used) {
+    let kind = block_table::kind(blocks);
+    let end = block_table::end(blocks);
+    let used = block_table::used(blocks);
+    let last = block_table::last(blocks);
+    let count = block_table::count(blocks);
+    if !block_table::rows::test_rows(blocks, count, kind, end, used) {
         return false;
     }
     if piece_table::test_pieces(pieces, kind, used, last) {

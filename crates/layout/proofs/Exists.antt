@@ -19,26 +19,20 @@ use Rattle.history.specs.Rules.{numbered, rule23}
 use Rattle.history.specs.Sound.{SoundBoard, SoundClosed, SoundTree, Sound, SoundForFinish}
 use Rattle.history.proofs.RulesLaws.{numbered-decides}
 use Rattle.history.proofs.TreeCounts.{entry-count-in}
+use Rattle.history.proofs.ByKind.{closed-rule-23}
 use Rattle.tables.specs.Columns.{blockBase, blockFirst}
+use Rattle.block_table.specs.Blocks.{BlockRow, noRow}
 use Rattle.ordering.specs.Order.{InOrder}
 use Rattle.segment_table.specs.Closed.{firstCellIn, Closed}
 use Rattle.layout.specs.Tables.{Tables, treeTables}
 use Rattle.layout.specs.Encodes.{TreeIn, Encodes}
-use Rattle.layout.specs.Formed.{WellFormed, Blank, WellFormedForFinish}
-use Rattle.layout.specs.Relations.{Fields}
+use Rattle.layout.specs.Law.{Word, Lendable, Encoded, TablesExist}
 use Rattle.layout.proofs.Lengths.{Heads, heads-fit}
-use Rattle.layout.proofs.ExistsTable.{Word, word-at}
-use Rattle.layout.proofs.ExistsBlocks.{noFields, blockTable, block-next, fields-at}
+use Rattle.layout.proofs.ExistsTable.{word-at}
+use Rattle.layout.proofs.ExistsBlocks.{blockTable, block-next, row-at}
 use Rattle.layout.proofs.ExistsOrder.{nextIn, linksBy, sorted-order, sorted-words}
 use Rattle.layout.proofs.ExistsTree.{nodeTable, node-table-length, entryTable, entry-table-length, tree-closed, node-table-words, entry-table-words}
-use Rattle.layout.proofs.ExistsBoard.{Lendable, Fits, headOf, blockRowsOf, tablesBy, blocks-many, block-room, board-encodes, replicate-all, blocks-few, blocks-fit, board-fits}
-
--- There are tables that stand for the ledger; the node and entry tables of an open one are zeros.
-pub record Encoded (l : Ledger) : Type 0 where
-  pub tables : Tables
-  pub encodes : Encodes tables l
-  pub fits : Fits tables
-  pub blank : finished l ≡ false → Blank tables
+use Rattle.layout.proofs.ExistsBoard.{headOf, blockRowsOf, tablesBy, blocks-many, block-room, board-encodes, replicate-all, blocks-few, blocks-fit, board-fits}
 
 -- ── an open index ──
 
@@ -87,12 +81,12 @@ unfolding rule23
 numbered-blocks e bs tree h = numbered-decides (length bs) tree .yes (and-left (numbered (length bs) tree) _ h)
 
 -- the key by which the blocks are ordered
-abbrev keyOf : (fs : List Fields) (k : ℕ) → ℕ
-keyOf fs k = getD fs k noFields .first
+abbrev keyOf : (fs : List BlockRow) (k : ℕ) → ℕ
+keyOf fs k = getD fs k noRow .first
 
 module _ (l : Ledger) (s : SoundBoard l) (f : Lendable l) where
   -- the rows of the blocks
-  abbrev rowsOf : List Fields
+  abbrev rowsOf : List BlockRow
   rowsOf = blockRowsOf l s .rows
 
   -- the next links in order
@@ -106,7 +100,7 @@ module _ (l : Ledger) (s : SoundBoard l) (f : Lendable l) where
   blocks-sorted : InOrder sortedBlocks (length rowsOf)
   blocks-sorted =
       sorted-order sortedBlocks (length rowsOf) (blocks-few l s f) (keyOf rowsOf)
-      (λ k h. ap (λ (b : Fields). b .first) (fields-at (l .opening .lent .blocks) (headOf l) sortedNext rowsOf (block-room l s (f .heads)) k h))
+      (λ k h. ap (λ (b : BlockRow). b .first) (row-at (l .opening .lent .blocks) (headOf l) sortedNext rowsOf (block-room l s (f .heads)) k h))
       (block-next (l .opening .lent .blocks) (headOf l) sortedNext rowsOf (block-room l s (f .heads)))
 
   -- the order column is sorted, and the tree stands in nodes and entries
@@ -152,7 +146,7 @@ module _ (l : Ledger) (s : SoundBoard l) (f : Lendable l) where
 
       numbered-words : All Word (entriesIn tree)
       numbered-words =
-          all-map (λ k p. omega (arith, blocks-many l s, blocks-few l s f)) (numbered-blocks (l .opening .end) (l .now .blocks) tree (c .rule-23))
+          all-map (λ k p. omega (arith, blocks-many l s, blocks-few l s f)) (numbered-blocks (l .opening .end) (l .now .blocks) tree (closed-rule-23 l tree s c))
 
       entry-words : All Word entries
       entry-words =
@@ -170,10 +164,9 @@ exists l s f = go (l .tree) refl (s .closed)
     go (some tree) is c = closed-exists l (s .board) f tree c is
 
 -- they are well formed, for every call but finish and for finish
-pub exists-formed : (l : Ledger) (s : Sound l) (f : Lendable l) → WellFormed (exists l s f .tables)
-exists-formed l s f = record { ledger = l; encodes = exists l s f .encodes; sound = s }
-
-pub exists-formed-for-finish : (l : Ledger) (s : SoundForFinish l) (f : Lendable l) → WellFormedForFinish (exists l (s .sound) f .tables)
-exists-formed-for-finish l s f =
-    let e = exists l (s .sound) f in
-    record { ledger = l; encodes = e .encodes; sound = s; blank = e .blank }
+pub tables-exist : TablesExist
+tables-exist = record {
+  standing = exists;
+  formed = λ l s f. record { ledger = l; encodes = exists l s f .encodes; sound = s };
+  for-finish = λ l s f. let e = exists l (s .sound) f in record { ledger = l; encodes = e .encodes; sound = s; blank = e .blank };
+}

@@ -16,38 +16,15 @@ use Rattle.history.specs.Tree as segment
 use Rattle.history.specs.Ledger.{Ledger}
 use Rattle.history.specs.Sound.{SoundPiece, SoundBlock, SoundBoard}
 use Rattle.tables.specs.Columns.{headState, headEnd, headKind, headCount, headUsed, headLast}
+use Rattle.block_table.specs.Blocks.{BlockRow, shownBlock}
 use Rattle.piece_table.specs.Piece.{PieceRow}
 use Rattle.piece_table.specs.Shown.{shown}
 use Rattle.layout.specs.Tables.{Tables, tables, lengthsOf, headAt}
 use Rattle.layout.specs.Encodes.{stateOf, TreeIn, Encodes}
-use Rattle.layout.specs.Relations.{Fields, blockIn}
+use Rattle.layout.specs.Law.{Word, Byte, Fits, Lendable}
 use Rattle.layout.proofs.Lengths.{lent-same, Heads, heads-fit}
-use Rattle.layout.proofs.ExistsTable.{Word}
 use Rattle.layout.proofs.ExistsPieces.{PieceRows, piece-rows, pieceTable, piece-table-length, piece-links, pieces-shown, pieces-inside, PieceWords, piece-table-words}
-use Rattle.layout.proofs.ExistsBlocks.{BlockRows, block-rows, Head, blockRow, blockTable, block-table-length, block-column, blocks-shown, blocks-inside, FieldsWords, HeadWords, block-table-words}
-
--- ── what can be lent ──
-
-abbrev pub Byte : ℕ → Type 0
-Byte n = n < 2 ^ 8
-
--- the heads are there, lengths are of 64 bits, and the store's used part has bytes
-pub record Lendable (l : Ledger) : Type 0 where
-  pub heads : tooShort (l .opening .lent) ≡ false
-  pub pieces : l .opening .lent .pieces < 2 ^ 64
-  pub blocks : l .opening .lent .blocks < 2 ^ 64
-  pub store : l .opening .lent .store < 2 ^ 64
-  pub nodes : l .opening .lent .nodes < 2 ^ 64
-  pub entries : l .opening .lent .entries < 2 ^ 64
-  pub bytes : All Byte (l .now .store)
-
--- tables of numbers of 64 bits, and a store of bytes
-pub record Fits (t : Tables) : Type 0 where
-  pub pieces : All Word (t .pieces)
-  pub blocks : All Word (t .blocks)
-  pub store : All Byte (t .store)
-  pub nodes : All Word (t .nodes)
-  pub entries : All Word (t .entries)
+use Rattle.layout.proofs.ExistsBlocks.{BlockRows, block-rows, Head, blockRow, blockTable, block-table-length, block-column, blocks-shown, blocks-inside, RowWords, HeadWords, block-table-words}
 
 -- ── the board ──
 
@@ -77,7 +54,7 @@ module _ (l : Ledger) (s : SoundBoard l) where
   pieces-many = sym (length-of-map (shown (l .now .store ++ unused l)) (pieceRowsOf .rows)) ∙ ap length (pieceRowsOf .shows)
 
   pub blocks-many : length (blockRowsOf .rows) ≡ length (l .now .blocks)
-  blocks-many = sym (length-of-map (blockIn (l .now .store ++ unused l)) (blockRowsOf .rows)) ∙ ap length (blockRowsOf .shows)
+  blocks-many = sym (length-of-map (shownBlock (l .now .store ++ unused l)) (blockRowsOf .rows)) ∙ ap length (blockRowsOf .shows)
 
   store-long : length (l .now .store ++ unused l) ≡ l .opening .lent .store
   unfolding unused
@@ -179,22 +156,22 @@ module _ (l : Ledger) (s : SoundBoard l) (f : Lendable l) where
             owner = omega (arith, h .own-kind, s .known-kind);
           }
 
-  block-words : All FieldsWords (blockRowsOf l s .rows)
+  block-words : All RowWords (blockRowsOf l s .rows)
   block-words = all-both words sounds (blockRowsOf l s .inside)
     where
       sounds :
-          All (λ (b : Fields). SoundBlock (l .opening .kind) (l .opening .end) (l .now .store) (blockIn (l .now .store ++ unused l) b)) (blockRowsOf l s .rows)
+          All (λ (b : BlockRow). SoundBlock (l .opening .kind) (l .opening .end) (l .now .store) (shownBlock (l .now .store ++ unused l) b)) (blockRowsOf l s .rows)
       sounds =
-          all-un-map (blockIn (l .now .store ++ unused l)) (blockRowsOf l s .rows)
+          all-un-map (shownBlock (l .now .store ++ unused l)) (blockRowsOf l s .rows)
           (subst (λ (bs : List Block). All (SoundBlock (l .opening .kind) (l .opening .end) (l .now .store)) bs) (sym (blockRowsOf l s .shows)) (s .blocks))
 
-      words : (b : Fields) → SoundBlock (l .opening .kind) (l .opening .end) (l .now .store) (blockIn (l .now .store ++ unused l) b)
-          → b .offset + b .length ≤ length (l .now .store) → FieldsWords b
+      words : (b : BlockRow) → SoundBlock (l .opening .kind) (l .opening .end) (l .now .store) (shownBlock (l .now .store ++ unused l) b)
+          → b .offset + b .size ≤ length (l .now .store) → RowWords b
       words b h i =
           record {
-            kind = omega (arith, h .own-kind, s .known-kind);
+            owner = omega (arith, h .own-kind, s .known-kind);
             first = omega (arith, h .stretch .no-wrap);
-            length = omega (arith, s .store-fits, f .store);
+            size = omega (arith, s .store-fits, f .store);
             created = omega (arith, h .forward, h .by-end, s .end-most);
             destroyed = omega (arith, h .by-end, s .end-most);
             offset = omega (arith, s .store-fits, f .store);

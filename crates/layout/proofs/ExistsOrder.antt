@@ -8,12 +8,12 @@ use lib.Dec.{eqb}
 use lib.ListN.{length}
 use borrow.Author.Tests.{eq-eqb, ne-eqb}
 use Rattle.lists.specs.Lists.{All, all-nil, all-cons, pairs-nil, pairs-cons, Ascending, Mem, here, there, Distinct, countFrom}
-use Rattle.lists.proofs.Lists.{all-map, all-mem, all-of-map, count-from-length}
+use Rattle.lists.proofs.Lists.{all-map, all-mem, all-of-map, count-from-length, ascending-distinct}
 use Rattle.lists.proofs.Maps.{length-of-map}
 use Rattle.history.specs.Tree.{insert}
 use Rattle.history.proofs.TreeInserting.{insert-length}
-use Rattle.merge_set.proofs.Order.{ascending-distinct}
-use Rattle.ordering.specs.Order.{firstCellAt, nextAt, rankOf, rank, Trail, end, link, InOrder, Ranked, orderOf}
+use Rattle.block_table.specs.Blocks.{firstCellAt}
+use Rattle.ordering.specs.Order.{nextAt, rankOf, rank, Trail, end, link, InOrder, Ranked, orderOf}
 use Rattle.ordering.proofs.Rank.{rank-some}
 use Rattle.ordering.proofs.Numbering.{ranked-all}
 
@@ -115,7 +115,7 @@ module _ (t : List ℕ) (n : ℕ) (small : n < 2 ^ 64) (key : ℕ → ℕ) (firs
       follows : Follows (nextAt t) 0 (linksBy key n)
       follows =
           follows-same (nextIn 0 (linksBy key n)) (nextAt t) 0 (linksBy key n) (λ k m. next k (inside k m))
-          (next-in-follows 0 (linksBy key n) (apart, ascending-distinct (rank t) (linksBy key n) ascending))
+          (next-in-follows 0 (linksBy key n) (apart, ascending-distinct (rank t) ascending))
 
 -- ── its numbers ──
 

@@ -8,8 +8,8 @@ use lib.Dec.{ltb, eqb}
 use lib.ListN.{length, getD, length-append}
 use borrow.Author.Tests.{eq-eqb, ne-eqb, lt-ltb, le-ltb}
 use Rattle.lists.specs.Lists.{All, all-nil, all-cons, Mem, here, there, Ascending, countFrom}
-use Rattle.lists.proofs.Lists.{all-left, all-right, all-mem, all-at, mem-left, mem-right, count-from-length}
-use Rattle.lists.proofs.Counting.{map-from-at}
+use Rattle.lists.proofs.Lists.{all-left, all-right, all-mem, all-at, mem-left, mem-right, count-from-length, ascending-distinct}
+use Rattle.lists.proofs.Counting.{map-from-at, all-count-from}
 use Rattle.history.specs.Lent.{rowWidth}
 use Rattle.history.specs.Words.{Piece, size}
 use Rattle.history.specs.Ledger.{Moment}
@@ -17,12 +17,13 @@ use Rattle.history.specs.Sound as sound
 use Rattle.tables.specs.Columns.{column, pieceFirst, pieceLength, pieceWritten, pieceOffset, pieceLeft, pieceRight, pieceDepth, pieceOwner, piecesRoot, piecesCount}
 use Rattle.merge_set.specs.Tree.{Tree, leaf, node, height, rows, Balanced, inserted, inOrder}
 use Rattle.merge_set.specs.Table.{Valid, Shape}
-use Rattle.merge_set.proofs.Order.{ascending-left, ascending-right, ascending-tail, ascending-across, ascending-head, ascending-distinct, inserted-rows}
+use Rattle.merge_set.proofs.Order.{ascending-left, ascending-right, ascending-tail, ascending-across, ascending-head, inserted-rows}
 use Rattle.merge_set.proofs.Balance.{inserted-balanced}
 use Rattle.piece_table.specs.Piece.{PieceRow, pieceAt}
+use Rattle.piece_table.specs.Rep.{Links}
 use Rattle.piece_table.specs.Shown.{shown}
-use Rattle.layout.specs.Encodes.{Links}
-use Rattle.layout.proofs.ExistsTable.{count-from-all, count-from-ascending, tableBy, table-by-length, table-by-at, part-in, Word, all-get, table-by-words}
+use Rattle.layout.specs.Law.{Word}
+use Rattle.layout.proofs.ExistsTable.{count-from-ascending, tableBy, table-by-length, table-by-at, part-in, all-get, table-by-words}
 
 -- ── a balanced tree ──
 
@@ -140,12 +141,12 @@ says-links t n root count room f =
       balanced = tree-to-balanced n;
       count = count-from-length 1 n ∙ sym count;
       within = λ link m. rw count (inside link m .1);
-      once = ascending-distinct (λ k. k) (countFrom 1 n) (count-from-ascending 1 n);
+      once = ascending-distinct (λ k. k) (count-from-ascending 1 n);
       room = rw count room;
     }
   where
     inside : (link : ℕ) → Mem link (countFrom 1 n) → (0 < link) × (link ≤ n)
-    inside link m = all-mem (count-from-all {P = λ k. (0 < k) × (k ≤ n)} 1 n (λ k h l. (omega arith, omega arith))) m
+    inside link m = all-mem (all-count-from {P = λ k. (0 < k) × (k ≤ n)} 1 n (λ k h l. (omega arith, omega arith))) m
 
 -- ── the table ──
 
@@ -230,7 +231,7 @@ module _ (many : ℕ) (ps : List PieceRow) (room : rowWidth * length ps + rowWid
 
   pub pieces-inside : (used : ℕ) → All (λ (p : PieceRow). p .offset + p .size ≤ used) ps
       → All (λ link. pieceAt (pieceTable many ps) link .offset + pieceAt (pieceTable many ps) link .size ≤ used) (countFrom 1 (length ps))
-  pieces-inside used a = count-from-all 1 (length ps) inside
+  pieces-inside used a = all-count-from 1 (length ps) inside
     where
       inside : (link : ℕ) → 1 ≤ link → link < 1 + length ps → pieceAt (pieceTable many ps) link .offset + pieceAt (pieceTable many ps) link .size ≤ used
       inside zero p q = absurd (omega arith)
@@ -309,7 +310,7 @@ unfolding pieceTable pieceRow
 piece-table-words many ps few a = table-by-words 0 many (pieceRow ps) words
   where
     links : All Word (rows (treeTo (length ps)))
-    links = rw (tree-to-rows (length ps)) (count-from-all 1 (length ps) (λ k h l. omega arith))
+    links = rw (tree-to-rows (length ps)) (all-count-from 1 (length ps) (λ k h l. omega arith))
 
     low : height (treeTo (length ps)) ≤ length ps
     low = omega (arith, height-length (treeTo (length ps)), ap length (tree-to-rows (length ps)), count-from-length 1 (length ps))

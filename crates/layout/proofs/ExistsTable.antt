@@ -5,27 +5,21 @@ use Prim.Native.Nat.{ℕ, zero, suc, _+_, _-_, _*_, _/_, _%_, _^_, _≤_, _<_}
 use native.Mathlib.Omega.{arith}
 use lib.ListN.{length, getD, take, drop, length-drop}
 use lib.Seq.{take-append-le, drop-append-le}
-use Rattle.lists.specs.Lists.{All, all-nil, all-cons, pairs-nil, pairs-cons, Ascending, countFrom}
+use Rattle.lists.proofs.Counting.{all-count-from, count-from-pairs}
+use Rattle.lists.specs.Lists.{All, all-nil, all-cons, Ascending, countFrom}
 use Rattle.lists.proofs.Lists.{all-of-map, count-from-length, count-from-at}
 use Rattle.lists.proofs.Maps.{length-of-map, getD-of-map}
 use Rattle.history.specs.Lent.{rowWidth}
 use Rattle.history.specs.Words.{Stretch, size}
 use Rattle.history.specs.Sound as sound
 use Rattle.tables.specs.Columns.{column}
+use Rattle.layout.specs.Law.{Word}
 
 -- ── numbers that follow one another ──
 
--- what holds of each number in the range holds of all
-pub count-from-all : {P : ℕ → Type 0} (n many : ℕ) → ((k : ℕ) → n ≤ k → k < n + many → P k) → All P (countFrom n many)
-unfolding countFrom
-count-from-all n zero f = all-nil
-count-from-all n (suc many) f = all-cons (f n (omega arith) (omega arith)) (count-from-all (suc n) many (λ k h l. f k (omega arith) (omega arith)))
-
 -- they ascend
 pub count-from-ascending : (n many : ℕ) → Ascending (λ k. k) (countFrom n many)
-unfolding countFrom
-count-from-ascending n zero = pairs-nil
-count-from-ascending n (suc many) = pairs-cons {x = n} (count-from-all (suc n) many (λ k h l. omega arith)) (count-from-ascending (suc n) many)
+count-from-ascending n many = count-from-pairs n many (λ i j a b c. b)
 
 -- ── lists ──
 
@@ -46,7 +40,7 @@ list-by-at many f i h =
 
 pub list-by-all : {P : ℕ → Type 0} (many : ℕ) (f : ℕ → ℕ) → ((i : ℕ) → i < many → P (f i)) → All P (listBy many f)
 unfolding listBy
-list-by-all many f g = all-of-map f (count-from-all 0 many (λ i h l. g i (omega arith)))
+list-by-all many f g = all-of-map f (all-count-from 0 many (λ i h l. g i (omega arith)))
 
 -- ── rows ──
 
@@ -78,9 +72,6 @@ part-in store rest s h =
     (sym (h .bytes))
 
 -- ── numbers of 64 bits ──
-
-abbrev pub Word : ℕ → Type 0
-Word n = n < 2 ^ 64
 
 -- what holds of all elements and of the default holds of each place
 pub all-get : {A : Type 0} {P : A → Type 0} (d : A) → P d → {xs : List A} → All P xs → (i : ℕ) → P (getD xs i d)

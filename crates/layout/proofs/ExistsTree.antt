@@ -18,7 +18,8 @@ use Rattle.history.proofs.TreeCounts.{entry-count-in}
 use Rattle.tables.specs.Columns.{column, entryColumn, nodeMin, nodeMax, nodeLeft, nodeRight, nodeFirst, nodeEntries, nodeKind, nodesCount, entryBlock, entryKey, entriesCount}
 use Rattle.segment_table.specs.Closed.{Tables, nodesUsed, leftAt, rightAt, firstAt, countAt, entriesUsed, blockIn, firstCellIn, run, TreeAt, Consecutive, Closed}
 use Rattle.segment_table.proofs.Closed.{run-length, run-at}
-use Rattle.layout.proofs.ExistsTable.{listBy, list-by-length, list-by-at, list-by-all, tableBy, table-by-length, table-by-at, Word, all-get, word-at, table-by-words}
+use Rattle.layout.specs.Law.{Word}
+use Rattle.layout.proofs.ExistsTable.{listBy, list-by-length, list-by-at, list-by-all, tableBy, table-by-length, table-by-at, all-get, word-at, table-by-words}
 
 -- ── rows of nodes ──
 

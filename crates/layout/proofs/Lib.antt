@@ -2,6 +2,7 @@ pub mod Lengths
 pub mod Opening
 pub mod Pieces
 pub mod Unique
+pub mod ReadLaws
 pub mod ExistsTable
 pub mod ExistsPieces
 pub mod ExistsBlocks
@@ -9,3 +10,5 @@ pub mod ExistsOrder
 pub mod ExistsTree
 pub mod ExistsBoard
 pub mod Exists
+pub mod Recording
+pub mod Depths

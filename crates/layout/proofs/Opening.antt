@@ -16,11 +16,12 @@ use Rattle.history.specs.Lent.{tooShort, rowWidth, blockHead}
 use Rattle.history.specs.Ledger.{Opening, opened}
 use Rattle.history.specs.Refusals.{accepted, firstOf, maxEndTick, openRefusals, openAnswer}
 use Rattle.tables.specs.Columns.{column, blockBase, headState, headEnd, headKind, headCount, headUsed, headLast, blockNext, piecesRoot, piecesCount}
+use Rattle.block_table.specs.Blocks.{blocksOf}
 use Rattle.merge_set.specs.Tree.{leaf, rows, Balanced}
 use Rattle.merge_set.specs.Table.{Shape}
-use Rattle.ordering.specs.Blocks.{blocksOf}
+use Rattle.piece_table.specs.Rep.{Links}
 use Rattle.layout.specs.Tables.{Tables, lengthsOf, headAt}
-use Rattle.layout.specs.Encodes.{Links, openState, Encodes}
+use Rattle.layout.specs.Encodes.{openState, Encodes}
 use Rattle.layout.specs.Formed.{Blank}
 use Rattle.layout.specs.Relations.{openingOf, openedTables}
 use Rattle.layout.proofs.Lengths.{lent-same, Heads, heads-fit}

@@ -5,21 +5,21 @@ use Prim.Native.Nat.{ℕ, _+_, _-_, _^_, _≤_, _<_}
 use native.Mathlib.Omega.{arith}
 use lib.ListN.{length, take, drop, length-drop, length-take}
 use lib.Seq.{length-take-le}
+use Rattle.lists.proofs.Maps.{map-map}
+use Rattle.lists.proofs.Parts.{part-part}
 use Rattle.lists.specs.Lists.{All, all-cons, pairs-nil, pairs-cons}
 use Rattle.lists.proofs.Lists.{all-map, all-both, all-of-map, all-un-map, all-any}
 use Rattle.history.specs.Words.{Piece, size, ends}
 use Rattle.history.specs.Ledger.{Ledger}
 use Rattle.history.specs.Sound.{SoundPiece, InOrder, SoundBoard}
-use Rattle.history.proofs.Storing.{part-part}
 use Rattle.tables.specs.Columns.{headKind, headUsed, headLast}
 use Rattle.piece_table.specs.Piece.{PieceRow, rowEnd, pieceAt, Filled, Follow}
 use Rattle.piece_table.specs.Shown.{shown}
 use Rattle.piece_table.specs.Rep.{Linked, Rep}
 use Rattle.piece_table.specs.Test as piece
 use Rattle.piece_table.proofs.Order.{follow-right}
-use Rattle.piece_table.proofs.Removing.{linked-good}
 use Rattle.layout.specs.Tables.{Tables, headAt}
-use Rattle.layout.specs.Encodes.{Links, Encodes}
+use Rattle.layout.specs.Encodes.{Encodes}
 
 -- ── a piece shown ──
 
@@ -72,15 +72,8 @@ module _ (t : Tables) (l : Ledger) (e : Encodes t l) (s : SoundBoard l) where
 
   pub pieces-linked : length (t .pieces) < 2 ^ 64 → length (t .store) < 2 ^ 64 → Linked (t .pieces) (e .links)
   pieces-linked few fits =
-      let k = e .linked in
       record {
-        tree = k .tree;
-        is = k .is;
-        shape = k .shape;
-        balanced = k .balanced;
-        count = k .count;
-        within = k .within;
-        room = k .room;
+        dense = e .linked;
         few = few;
         order =
             follows row (t .store) 0 (e .links) (all-any (e .links) (λ link. omega arith))
@@ -97,27 +90,8 @@ module _ (t : Tables) (l : Ledger) (e : Encodes t l) (s : SoundBoard l) where
 -- the ledger's pieces are those that the rows show
 pub pieces-shown : (t : Tables) (l : Ledger) (e : Encodes t l) → l .now .pieces ≡ map (shown (t .store)) (map (pieceAt (t .pieces)) (e .links))
 pieces-shown t l e = e .pieces ∙ sym (map-map (shown (t .store)) (pieceAt (t .pieces)) (e .links))
-  where
-    map-map : {A B C : Type 0} (f : B → C) (g : A → B) (xs : List A) → map f (map g xs) ≡ map (λ x. f (g x)) xs
-    map-map f g [] = refl
-    map-map {A} {B} {C} f g (x ∷ xs) = ap (λ (r : List C). f (g x) ∷ r) (map-map f g xs)
 
 -- ── from the table to the ledger ──
-
--- the links of a table that stands for pieces
-pub rep-links : (pieces : List ℕ) (rows : List PieceRow) (r : Rep pieces rows) → Links pieces (r .links)
-rep-links pieces rows r =
-    let k = r .linked in
-    record {
-      tree = k .tree;
-      is = k .is;
-      shape = k .shape;
-      balanced = k .balanced;
-      count = k .count;
-      within = k .within;
-      once = linked-good k .distinct;
-      room = k .room;
-    }
 
 -- a row that is allowed shows a sound piece
 pub shown-sound : (kind : ℕ) (store : List ℕ) (used : ℕ) (l : Ledger) (p : PieceRow) → used ≤ length store → l .now .store ≡ take used store

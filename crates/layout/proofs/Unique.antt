@@ -10,10 +10,11 @@ use Rattle.tables.specs.Columns.{column, pieceLeft, pieceRight, piecesRoot}
 use Rattle.merge_set.specs.Tree.{Tree, leaf, node, height, rows}
 use Rattle.merge_set.specs.Table.{Shape}
 use Rattle.piece_table.specs.Piece.{pieceAt}
+use Rattle.piece_table.specs.Rep.{Links}
 use Rattle.piece_table.specs.Shown.{shown}
 use Rattle.segment_table.proofs.Closed.{tree-one}
 use Rattle.layout.specs.Tables.{Tables, treeTables}
-use Rattle.layout.specs.Encodes.{Links, stateOf, TreeIn, Encodes}
+use Rattle.layout.specs.Encodes.{stateOf, TreeIn, Encodes}
 
 -- ── pieces ──
 

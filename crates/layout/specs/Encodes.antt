@@ -3,34 +3,20 @@ use mathlib.Core.Path.{_≡_}
 use mathlib.Core.Bool.{false}
 use mathlib.Core.Option.{Option, none, some}
 use mathlib.Core.List.{List, map}
-use Prim.Native.Nat.{ℕ, _+_, _*_, _≤_}
+use Prim.Native.Nat.{ℕ, _+_, _≤_}
 use lib.ListN.{length, take}
-use Rattle.lists.specs.Lists.{All, Mem, Distinct}
-use Rattle.history.specs.Lent.{rowWidth, tooShort}
+use Rattle.lists.specs.Lists.{All}
+use Rattle.history.specs.Lent.{tooShort}
 use Rattle.history.specs.Tree as segment
 use Rattle.history.specs.Ledger.{Ledger}
-use Rattle.tables.specs.Columns.{column, piecesRoot, piecesCount, headState, headEnd, headKind, headCount, headUsed, headLast}
-use Rattle.merge_set.specs.Tree.{Tree, rows, Balanced}
-use Rattle.merge_set.specs.Table.{Shape}
+use Rattle.tables.specs.Columns.{headState, headEnd, headKind, headCount, headUsed, headLast}
+use Rattle.block_table.specs.Blocks.{blocksOf, Stored}
 use Rattle.piece_table.specs.Piece.{pieceAt}
+use Rattle.piece_table.specs.Rep.{Links}
 use Rattle.piece_table.specs.Shown.{shown}
 use Rattle.ordering.specs.Order.{InOrder, Unordered}
-use Rattle.ordering.specs.Blocks.{blocksOf, Stored}
 use Rattle.segment_table.specs.Closed.{Closed}
 use Rattle.layout.specs.Tables.{Tables, lengthsOf, headAt, treeTables}
-
--- ── pieces ──
-
--- The links, in the order of the tree below the root, which is balanced. Dense: exactly the links 1 to the count.
-pub record Links (pieces : List ℕ) (links : List ℕ) : Type 0 where
-  pub tree : Tree
-  pub is : rows tree ≡ links
-  pub shape : Shape pieces (column pieces 0 piecesRoot) tree
-  pub balanced : Balanced tree
-  pub count : length links ≡ column pieces 0 piecesCount
-  pub within : (link : ℕ) → Mem link links → link ≤ column pieces 0 piecesCount
-  pub once : Distinct links
-  pub room : rowWidth * column pieces 0 piecesCount + rowWidth ≤ length pieces
 
 -- ── state ──
 

@@ -1,39 +1,28 @@
 -- What write and load do, as relations between the tables at entry and at exit and the answer: their public contracts. Definitions alone.
 use mathlib.Core.Path.{_≡_}
 use mathlib.Core.Bool.{cond}
-use mathlib.Core.List.{List, flatMap}
-use Prim.Native.Nat.{ℕ, suc, _+_, _*_, _≤_, max}
+use mathlib.Core.List.{List, _++_, flatMap}
+use Prim.Native.Nat.{ℕ, max}
 use lib.Dec.{ltb}
-use lib.ListN.{length, getD, replicate}
+use lib.ListN.{length, replicate}
 use lib.Seq.{sets}
-use Rattle.history.specs.Lent.{rowWidth, entryWidth, pieceHead, entryHead}
-use Rattle.history.specs.Tree.{nodeCount, entryCount}
-use Rattle.history.specs.Ledger.{Ledger}
+use Rattle.history.specs.Lent.{pieceHead}
+use Rattle.history.specs.Tree.{keyIn}
 use Rattle.history.specs.Refusals.{Answer, accepted, refused}
 use Rattle.history.specs.File.{Read, got, fault, Loaded, load, loadedLedger, writeAnswer}
-use Rattle.history.specs.Sound.{Sound}
 use Rattle.tables.specs.Columns.{blockBase}
+use Rattle.ordering.specs.Order.{ordered}
 use Rattle.layout.specs.Tables.{Tables, tables, lengthsOf}
-use Rattle.layout.specs.Encodes.{Encodes}
-use Rattle.layout.specs.Formed.{WellFormed}
+use Rattle.layout.specs.Encodes.{Encodes, closedState}
+use Rattle.layout.specs.Reads.{HandedInto, ReadBy}
 use Rattle.layout.specs.Relations.{zeros}
+use Rattle.layout.specs.Rows.{headNumbers, blocksNumbers, treeNumbers, runNumbers}
 
 -- ── write ──
 
--- how many bytes
-unfoldable pub bytesWritten : Answer (List ℕ) → Answer ℕ
-bytesWritten (accepted file) = accepted (length file)
-bytesWritten (refused n) = refused n
-
--- the file from the slice's start on, and the rest as it was
-unfoldable pub outLeft : Answer (List ℕ) → List ℕ → List ℕ
-outLeft (accepted file) out = sets out 0 file
-outLeft (refused n) out = out
-
+-- how many bytes, and the file in the lent slice
 pub record WrittenBy (t : Tables) (out out′ : List ℕ) (answer : Answer ℕ) : Type 0 where
-  pub formed : (l : Ledger) → Encodes t l → Sound l
-      → (answer ≡ bytesWritten (writeAnswer l (length out))) × (out′ ≡ outLeft (writeAnswer l (length out)) out)
-  pub unformed : (WellFormed t → ⊥) → (answer ≡ refused 2) × (out′ ≡ out)
+  pub read : ReadBy t (λ l. writeAnswer l (length out)) (HandedInto length (λ file. file) out out′ answer)
 
 -- ── load ──
 
@@ -48,15 +37,28 @@ afterFault n t = cond (ltb 20 n) (zeroedTables t) t
 abbrev pub headed : Tables → Tables
 headed t = tables (replicate (max pieceHead (length (t .pieces))) 0) (t .blocks) (t .store) (t .nodes) (t .entries)
 
--- Pieces zeros; the blocks' bytes one after the other in the store; the rest stands for the file's index. What lies past the rows is as it was.
+-- the blocks' bytes, one after the other
+abbrev pub loadedBytes : Loaded → List ℕ
+loadedBytes x = flatMap (λ b. b .stretch .bytes) (x .blocks)
+
+-- the head of its block table: zeros in the front, then the last row
+unfoldable pub loadedHead : (end kind count used : ℕ) → List ℕ
+loadedHead e kind count used = replicate blockBase 0 ++ headNumbers closedState e kind count used 0
+
+-- and behind it the rows of the blocks in file order, before they are ordered
+unfoldable pub loadedRows : Loaded → List ℕ
+loadedRows x = loadedHead (x .end) (x .kind) (length (x .blocks)) (length (loadedBytes x)) ++ blocksNumbers 0 (x .blocks)
+
+-- Every number of what is lent: each table has the file's numbers from its start on, and is as it was past them; the pieces are zeros. So the tables
+-- stand for the file's index.
 pub record LoadedTables (x : Loaded) (t t′ : Tables) : Type 0 where
-  pub lengths : lengthsOf t′ ≡ lengthsOf t
   pub pieces : t′ .pieces ≡ zeros (t .pieces)
-  pub store : t′ .store ≡ sets (t .store) 0 (flatMap (λ b. b .stretch .bytes) (x .blocks))
+  pub blocks : t′ .blocks ≡ ordered (sets (t .blocks) 0 (loadedRows x)) (length (x .blocks))
+  pub store : t′ .store ≡ sets (t .store) 0 (loadedBytes x)
+  pub nodes : t′ .nodes ≡ sets (t .nodes) 0 (treeNumbers (x .kind) (x .end) (x .tree))
+  pub entries : t′ .entries ≡ sets (t .entries) 0 (runNumbers (keyIn (x .blocks)) (x .tree))
+  pub lengths : lengthsOf t′ ≡ lengthsOf t
   pub stands : Encodes (headed t′) (loadedLedger (lengthsOf (headed t′)) x)
-  pub blocks-rest : (i : ℕ) → blockBase + rowWidth * suc (length (x .blocks)) ≤ i → getD (t′ .blocks) i 0 ≡ getD (t .blocks) i 0
-  pub nodes-rest : (i : ℕ) → rowWidth * suc (nodeCount (x .tree)) ≤ i → getD (t′ .nodes) i 0 ≡ getD (t .nodes) i 0
-  pub entries-rest : (i : ℕ) → entryHead + entryWidth * entryCount (x .tree) ≤ i → getD (t′ .entries) i 0 ≡ getD (t .entries) i 0
 
 -- the next position, or the number
 unfoldable pub positionOf : Read Loaded → Answer ℕ

@@ -6,22 +6,28 @@ use mathlib.Core.List.{List, [], _∷_}
 use Prim.Native.Nat.{ℕ, suc, _+_, _*_, _≤_, _<_}
 use lib.ListN.{length, getD, set, take, drop, replicate}
 use lib.Seq.{sets}
-use Rattle.history.specs.Words.{Operation, Block}
+use Rattle.history.specs.Words.{Operation, Block, size}
 use Rattle.history.specs.Lent.{rowWidth}
-use Rattle.history.specs.Ledger.{Opening, Ledger, isRead, recordBy, finishBy}
+use Rattle.history.specs.Tree.{treeOf}
+use Rattle.history.specs.Ledger.{Opening, Ledger, isRead, recordBy, finishBy, openingFor}
 use Rattle.history.specs.Reads.{Found}
 use Rattle.history.specs.Refusals.{Answer, accepted, refused, openAnswer, recordAnswer, finishAnswer, findAnswer, blockAnswer}
 use Rattle.history.specs.Sound.{Sound}
-use Rattle.tables.specs.Columns.{blockBase, headLast, headUsed, headCount, blockNext, blockColumn}
+use Rattle.tables.specs.Columns.{column, blockBase, blockColumn, blockOffset, blockNext, blockSpare, headState, headCount, headLast, pieceOffset}
+use Rattle.block_table.specs.Blocks.{headPlace}
+use Rattle.block_table.specs.Appended.{Appended}
+use Rattle.piece_table.specs.Rep.{Links}
+use Rattle.segment_table.specs.Alone.{TreeAlone}
 use Rattle.layout.specs.Tables.{Tables, tables, lengthsOf}
 use Rattle.layout.specs.Encodes.{Encodes, openState}
 use Rattle.layout.specs.Formed.{WellFormed, WellFormedForFinish}
+use Rattle.layout.specs.Reads.{valuesOf, HandedInto, ReadBy}
 
 -- ── open ──
 
 -- what opening is fed
 abbrev pub openingOf : (end kind : ℕ) → Tables → Opening
-openingOf e kind t = record { end = e; kind = kind; lent = lengthsOf t }
+openingOf e kind t = openingFor e kind (lengthsOf t)
 
 abbrev pub zeros : List ℕ → List ℕ
 zeros l = replicate (length l) 0
@@ -41,21 +47,9 @@ pub record OpenedBy (end kind : ℕ) (t t′ : Tables) (answer : Answer Unit) : 
 
 -- ── record ──
 
--- the place of a column of the head
-abbrev pub headPlace : (c : ℕ) → ℕ
-headPlace c = blockBase + c
-
 -- a read: blocks with the last tick set; all else as it was
 abbrev pub readTables : (tick : ℕ) → Tables → Tables
 readTables tick t = tables (t .pieces) (set (t .blocks) (headPlace headLast) tick) (t .store) (t .nodes) (t .entries)
-
--- The rows appended behind the first n, and the head's columns count, used and last: all else of the block table is as it was.
-pub record Appended (blocks blocks′ : List ℕ) (n m : ℕ) : Type 0 where
-  pub len : length blocks′ ≡ length blocks
-  pub head : (i : ℕ) → i < blockBase + rowWidth → (i ≡ headPlace headCount → ⊥) → (i ≡ headPlace headUsed → ⊥) → (i ≡ headPlace headLast → ⊥)
-      → getD blocks′ i 0 ≡ getD blocks i 0
-  pub rows : (i : ℕ) → blockBase + rowWidth ≤ i → i < blockBase + rowWidth * suc n → getD blocks′ i 0 ≡ getD blocks i 0
-  pub rest : (i : ℕ) → blockBase + rowWidth * suc m ≤ i → getD blocks′ i 0 ≡ getD blocks i 0
 
 -- an update: the bytes written at the store use; block rows appended and the head set; nodes and entries as they were; the pieces stand for the ledger's
 pub record UpdatedTables (l : Ledger) (o : Operation) (t t′ : Tables) : Type 0 where
@@ -81,17 +75,28 @@ pub record RecordedBy (scratch : ℕ) (o : Operation) (t t′ : Tables) (answer 
 
 -- ── finish ──
 
--- Rows appended behind the first n, and the order of all: every other number of the old rows, and what lies past the rows, is as it was.
+-- Rows appended behind the first n, up to m, and the order of all. The head but for state, count and first in order, every other number of the old
+-- rows, and what lies past the rows, is as it was; the spare column of a new row is 0.
 pub record AppendedInOrder (blocks blocks′ : List ℕ) (n m : ℕ) : Type 0 where
   pub len : length blocks′ ≡ length blocks
+  pub head : (i : ℕ) → i < blockBase + rowWidth → (i ≡ headPlace headState → ⊥) → (i ≡ headPlace headCount → ⊥) → (i ≡ headPlace blockNext → ⊥)
+      → getD blocks′ i 0 ≡ getD blocks i 0
   pub rows : (link c : ℕ) → 0 < link → link ≤ n → c < rowWidth → (c ≡ blockNext → ⊥) → blockColumn blocks′ link c ≡ blockColumn blocks link c
+  pub spare : (link : ℕ) → n < link → link ≤ m → blockColumn blocks′ link blockSpare ≡ 0
   pub rest : (i : ℕ) → blockBase + rowWidth * suc m ≤ i → getD blocks′ i 0 ≡ getD blocks i 0
 
--- pieces zeros; the store as it was; blocks appended, ordered and the head set. Nodes and entries stand for the ledger's tree.
+-- The blocks of the pieces stand behind the first n, in the pieces' order: each names the bytes that its piece named, which have not moved.
+pub record SameBytes (pieces links blocks′ : List ℕ) (n : ℕ) : Type 0 where
+  pub offset : (i : ℕ) → i < length links → blockColumn blocks′ (suc n + i) blockOffset ≡ column pieces (getD links i 0) pieceOffset
+
+-- Pieces zeros; the store as it was; blocks appended, ordered and the head set; the tree of all blocks alone in nodes and entries. What this leaves
+-- open of the block table and of the tree, `Encodes` says.
 pub record FinishedTables (l : Ledger) (t t′ : Tables) : Type 0 where
   pub pieces : t′ .pieces ≡ zeros (t .pieces)
   pub store : t′ .store ≡ t .store
   pub blocks : AppendedInOrder (t .blocks) (t′ .blocks) (length (l .now .blocks)) (length (finishBy l .now .blocks))
+  pub bytes : (links : List ℕ) → Links (t .pieces) links → SameBytes (t .pieces) links (t′ .blocks) (length (l .now .blocks))
+  pub tree : TreeAlone (t′ .nodes) (t′ .entries) (treeOf (l .opening .end) (finishBy l .now .blocks))
 
 abbrev pub FinishLeaves : Answer Unit → Ledger → (t t′ : Tables) → Type 0
 FinishLeaves (accepted a) l t t′ = Encodes t′ (finishBy l) × FinishedTables l t t′
@@ -108,19 +113,12 @@ pub record Counts : Type 0 where
   pub count : ℕ
   pub visited : ℕ
 
-unfoldable pub countsOf : Answer Found → Answer Counts
-countsOf (accepted f) = accepted (record { count = length (f .numbers); visited = f .visited })
-countsOf (refused n) = refused n
+abbrev pub countsOf : Found → Counts
+countsOf f = record { count = length (f .numbers); visited = f .visited }
 
--- the answer up to its count, and the rest as it was
-unfoldable pub answerLeft : Answer Found → List ℕ → List ℕ
-answerLeft (accepted f) out = sets out 0 (f .numbers)
-answerLeft (refused n) out = out
-
+-- the counts, and the numbers in the lent answer
 pub record FoundBy (t : Tables) (tick start stop : ℕ) (out out′ : List ℕ) (answer : Answer Counts) : Type 0 where
-  pub formed : (l : Ledger) → Encodes t l → Sound l
-      → (answer ≡ countsOf (findAnswer l tick start stop (length out))) × (out′ ≡ answerLeft (findAnswer l tick start stop (length out)) out)
-  pub unformed : (WellFormed t → ⊥) → (answer ≡ refused 2) × (out′ ≡ out)
+  pub read : ReadBy t (λ l. findAnswer l tick start stop (length out)) (HandedInto countsOf (λ f. f .numbers) out out′ answer)
 
 -- ── block by number ──
 
@@ -133,6 +131,11 @@ pub record Fields : Type 0 where
   pub destroyed : ℕ
   pub offset : ℕ
 
+-- the fields of a block whose bytes stand at an offset
+abbrev pub fieldsAt : (offset : ℕ) → Block → Fields
+fieldsAt offset b =
+    record { kind = b .kind; first = b .stretch .first; length = size (b .stretch); created = b .created; destroyed = b .destroyed; offset = offset }
+
 -- the block that fields stand for
 abbrev pub blockIn : (store : List ℕ) → Fields → Block
 blockIn store f =
@@ -143,12 +146,11 @@ blockIn store f =
       destroyed = f .destroyed;
     }
 
-unfoldable pub blockOfFields : (store : List ℕ) → Answer Fields → Answer Block
-blockOfFields store (accepted f) = accepted (blockIn store f)
-blockOfFields store (refused n) = refused n
-
--- the fields are the ledger's block, whole: its bytes are there
-pub record BlockGivenBy (t : Tables) (k : ℕ) (answer : Answer Fields) : Type 0 where
-  pub formed : (l : Ledger) → Encodes t l → Sound l → blockOfFields (t .store) answer ≡ blockAnswer l k
+-- The ledger's block: its fields, with the offset that the row of link k + 1 has, and its bytes there, whole.
+pub record BlockHanded (t : Tables) (k : ℕ) (answer : Answer Fields) (x : Answer Block) : Type 0 where
+  pub answered : answer ≡ valuesOf (fieldsAt (blockColumn (t .blocks) (suc k) blockOffset)) x
+  pub bytes-there : valuesOf (blockIn (t .store)) answer ≡ x
   pub whole : (f : Fields) → answer ≡ accepted f → f .offset + f .length ≤ length (t .store)
-  pub unformed : (WellFormed t → ⊥) → answer ≡ refused 2
+
+pub record BlockGivenBy (t : Tables) (k : ℕ) (answer : Answer Fields) : Type 0 where
+  pub read : ReadBy t (λ l. blockAnswer l k) (BlockHanded t k answer)

@@ -5,7 +5,7 @@ use mathlib.Core.List.{List, [], _∷_, _++_, map}
 use Prim.Native.Nat.{ℕ, zero, suc, _+_, _<_}
 use native.Mathlib.Omega.{arith}
 use lib.ListN.{length, getD}
-use Rattle.lists.specs.Lists.{All, all-nil, all-cons, Pairs, pairs-nil, pairs-cons, Mem, here, there, Distinct, count, countFrom, sumOf}
+use Rattle.lists.specs.Lists.{All, all-nil, all-cons, Pairs, pairs-nil, pairs-cons, Ascending, Mem, here, there, Distinct, count, countFrom, sumOf}
 
 -- ── All ──
 
@@ -21,6 +21,12 @@ module _ {A : Type 0} where
   pub all-right : {P : A → Type 0} (xs ys : List A) → All P (xs ++ ys) → All P ys
   all-right [] ys h = h
   all-right (x ∷ xs) ys (all-cons p ps) = all-right xs ys ps
+
+  pub all-head : {P : A → Type 0} {x : A} {xs : List A} → All P (x ∷ xs) → P x
+  all-head (all-cons p ps) = p
+
+  pub all-tail : {P : A → Type 0} {x : A} {xs : List A} → All P (x ∷ xs) → All P xs
+  all-tail (all-cons p ps) = ps
 
   pub all-map : {P Q : A → Type 0} {xs : List A} → ((x : A) → P x → Q x) → All P xs → All Q xs
   all-map f all-nil = all-nil
@@ -135,6 +141,16 @@ module _ {A : Type 0} where
   pub distinct-right : (xs ys : List A) → Distinct (xs ++ ys) → Distinct ys
   distinct-right [] ys d = d
   distinct-right (x ∷ xs) ys d = distinct-right xs ys (d .1)
+
+  pub distinct-append : (xs ys : List A) → Distinct xs → Distinct ys → ((k : A) → Mem k xs → Mem k ys → ⊥) → Distinct (xs ++ ys)
+  distinct-append [] ys d e f = e
+  distinct-append (x ∷ xs) ys d e f =
+      ((λ m. ⊎-elim (d .0) (λ z. f x (here refl) z) (mem-split xs ys m)), distinct-append xs ys (d .1) e (λ k m z. f k (there m) z))
+
+  -- keys that ascend strictly are those of distinct elements
+  pub ascending-distinct : (key : A → ℕ) {xs : List A} → Ascending key xs → Distinct xs
+  ascending-distinct key pairs-nil = tt
+  ascending-distinct key (pairs-cons {x} a p) = ((λ m. omega (arith, all-mem {P = λ y. key x < key y} a m)), ascending-distinct key p)
 
   pub distinct-apart : {k : A} (xs ys : List A) → Distinct (xs ++ ys) → Mem k xs → Mem k ys → ⊥
   distinct-apart (x ∷ xs) ys d (here e) n = d .0 (mem-right xs ys (rw (← e) n))

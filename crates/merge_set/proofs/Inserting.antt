@@ -1,18 +1,17 @@
 -- `insert`: one step for each return. Assumes nothing.
-use mathlib.Core.Bool.{true, false}
+use mathlib.Core.Bool.{Bool, true, false}
 use mathlib.Core.List.{List, [], _∷_, _++_, append-assoc}
-use mathlib.Core.Path.{_≡_, refl, sym}
-use Prim.Native.Nat.{ℕ, _-_, _<_, _≤_}
+use mathlib.Core.Path.{_≡_, refl, sym, _∙_}
+use Prim.Native.Nat.{ℕ, _-_, _≤_}
 use native.Mathlib.Omega.{arith}
 use lib.Dec.{ltb}
-use borrow.Author.Tests.{lt-ltb, le-ltb}
 use Rattle.lists.proofs.Lists.{mem-left, mem-right}
 use Rattle.lists.specs.Lists.{there}
-use Rattle.tables.specs.Columns.{column, pieceFirst, pieceRight, pieceLeft}
+use Rattle.tables.specs.Columns.{column, pieceRight, pieceLeft}
 use Rattle.merge_set.proofs.Frame.{only-then, only-wider, valid-keep, keep}
 use Rattle.merge_set.proofs.Links.{good-left, good-right, good-apart, Put, put-left, put-right, mem-put, good-put, swap}
 use Rattle.merge_set.proofs.Order.{inserted-put}
-use Rattle.merge_set.specs.Table.{Good, Valid, Shape, Result, Made, Inserted, firstAt}
+use Rattle.merge_set.specs.Table.{StartsBefore, Good, Valid, Shape, Result, Made, Inserted, firstAt}
 use Rattle.merge_set.specs.Tree.{Tree, leaf, node, height, rows, updated, inserted}
 
 -- an empty tree; no fuel, which cannot be; left, right
@@ -32,10 +31,10 @@ inserts-none {t} {k} {x} {n} nz z = record { done = go }
     go leaf s h v g = absurd (nz s)
     go (node a y b) s h v g = absurd (omega arith)
 
-module _ {t t₁ t₂ : List ℕ} {k x n l r m o d e : ℕ} (nz : k ≡ 0 → ⊥) (el : l ≡ column t k pieceLeft) (er : r ≡ column t k pieceRight) (ed : d ≡ column t x pieceFirst) (ee : e ≡ column t k pieceFirst) where
-  pub inserts-left : d < e → Inserted t t₁ l x (n - 1) m → Made t₁ t₂ m k r (updated 1) o → Inserted t t₂ k x n o
+module _ {t t₁ t₂ : List ℕ} {k x n l r m o : ℕ} {before : Bool} (nz : k ≡ 0 → ⊥) (el : l ≡ column t k pieceLeft) (er : r ≡ column t k pieceRight) (tested : StartsBefore t x k before) where
+  pub inserts-left : before ≡ true → Inserted t t₁ l x (n - 1) m → Made t₁ t₂ m k r (updated 1) o → Inserted t t₂ k x n o
   unfolding Shape height rows inserted
-  inserts-left lt p q = record { done = go }
+  inserts-left low p q = record { done = go }
     where
       go : (T : Tree) → Shape t k T → height T ≤ n → Valid t x → Good (x ∷ rows T) → Result t t₂ o (inserted (firstAt t) x T) (x ∷ rows T)
       go leaf s h v g = absurd (nz s)
@@ -43,7 +42,7 @@ module _ {t t₁ t₂ : List ℕ} {k x n l r m o d e : ℕ} (nz : k ≡ 0 → �
           let I : Tree = inserted (firstAt t) x A in
           let sA : Shape t l A = rw (el, s .is) (s .left) in
           let sB : Shape t r B = rw (er, s .is) (s .right) in
-          let test : ltb (column t x pieceFirst) (column t y pieceFirst) ≡ true = lt-ltb (column t x pieceFirst) (column t y pieceFirst) (rw (← s .is, ← ed, ← ee) lt) in
+          let test : ltb (firstAt t x) (firstAt t y) ≡ true = rw (← s .is) (sym (tested .is) ∙ low) in
           let put : Put x (rows A ++ y ∷ rows B) (rows I ++ y ∷ rows B) = put-left (y ∷ rows B) (inserted-put (firstAt t) x A) in
           let one : Result t t₁ m I (x ∷ rows A) = p .done A sA (omega arith) v (good-left (x ∷ rows A) (y ∷ rows B) g) in
           let sB₁ : Shape t₁ r B = keep r B (one .only) (λ j i i′. good-apart (x ∷ rows A) (y ∷ rows B) g i (there i′)) sB in
@@ -55,9 +54,9 @@ module _ {t t₁ t₂ : List ℕ} {k x n l r m o d e : ℕ} (nz : k ≡ 0 → �
             only = only-then (only-wider (λ j i. mem-left (x ∷ rows A) (y ∷ rows B) i) (one .only)) (only-wider (λ j i. mem-put put i) (two .only));
           })
 
-  pub inserts-right : e ≤ d → Inserted t t₁ r x (n - 1) m → Made t₁ t₂ l k m (updated 1) o → Inserted t t₂ k x n o
+  pub inserts-right : before ≡ false → Inserted t t₁ r x (n - 1) m → Made t₁ t₂ l k m (updated 1) o → Inserted t t₂ k x n o
   unfolding Shape height rows inserted
-  inserts-right le p q = record { done = go }
+  inserts-right high p q = record { done = go }
     where
       go : (T : Tree) → Shape t k T → height T ≤ n → Valid t x → Good (x ∷ rows T) → Result t t₂ o (inserted (firstAt t) x T) (x ∷ rows T)
       go leaf s h v g = absurd (nz s)
@@ -65,7 +64,7 @@ module _ {t t₁ t₂ : List ℕ} {k x n l r m o d e : ℕ} (nz : k ≡ 0 → �
           let I : Tree = inserted (firstAt t) x B in
           let sA : Shape t l A = rw (el, s .is) (s .left) in
           let sB : Shape t r B = rw (er, s .is) (s .right) in
-          let test : ltb (column t x pieceFirst) (column t y pieceFirst) ≡ false = le-ltb (column t x pieceFirst) (column t y pieceFirst) (rw (← s .is, ← ed, ← ee) le) in
+          let test : ltb (firstAt t x) (firstAt t y) ≡ false = rw (← s .is) (sym (tested .is) ∙ high) in
           let swap : Put x (rows A ++ y ∷ rows B) ((rows A ++ y ∷ []) ++ x ∷ rows B) = record { front = rows A ++ y ∷ []; back = rows B; without = sym (append-assoc (rows A) (y ∷ []) (rows B)); with-it = refl } in
           let gs : Good ((rows A ++ y ∷ []) ++ x ∷ rows B) = good-put swap g in
           let put : Put x (rows A ++ y ∷ rows B) (rows A ++ y ∷ rows I) = put-right (rows A) (put-right (y ∷ []) (inserted-put (firstAt t) x B)) in

@@ -1,3 +1,4 @@
+pub mod Places
 pub mod Links
 pub mod Order
 pub mod Ways

@@ -8,7 +8,7 @@ use native.Mathlib.Omega.{arith}
 use lib.Dec.{ltb, eqb}
 use borrow.Author.Tests.{lt-ltb, le-ltb, ltb-true, ltb-false, eqb-true, eqb-false}
 use Rattle.lists.proofs.Lists.{mem-split, pairs-across, pairs-right, all-mem, pairs-left}
-use Rattle.lists.specs.Lists.{Mem, here, there, Ascending, pairs-cons, Distinct}
+use Rattle.lists.specs.Lists.{Mem, here, there, Ascending, pairs-cons}
 use Rattle.merge_set.proofs.Links.{Put, put-left, put-right, Less, all, but, less-left, less-right, Swapped, kept, swap, swapped-left, swapped-right, Exchanged, exchanged-left, exchanged-right}
 use Rattle.merge_set.specs.Tree.{Tree, leaf, node, height, rows, Maker, rotatedLeft, rotatedRight, straightRight, straightLeft, updated, inserted, inOrder, least, withoutLeast, glued, removed, relinked}
 
@@ -31,11 +31,6 @@ module _ (key : ℕ → ℕ) where
   -- each of the first is below each of the second
   pub ascending-across : (xs ys : List ℕ) → Ascending key (xs ++ ys) → (j k : ℕ) → Mem j xs → Mem k ys → key j < key k
   ascending-across xs ys a j k i m = all-mem (all-mem (pairs-across xs ys a) i) m
-
-  -- so none stands twice
-  pub ascending-distinct : (xs : List ℕ) → Ascending key xs → Distinct xs
-  ascending-distinct [] a = tt
-  ascending-distinct (x ∷ xs) a = ((λ m. let h : key x < key x = ascending-head a x m in omega arith), ascending-distinct xs (ascending-tail a))
 
 -- ── update and the rotations keep the list of links ──
 

@@ -1,4 +1,5 @@
 -- `copy_row` and `relink`: one step for each return. Assumes nothing.
+use mathlib.Core.Bool.{Bool, true, false}
 use mathlib.Core.List.{List, [], _∷_, _++_, append-assoc}
 use mathlib.Core.Path.{_≡_, refl, sym, _∙_}
 use Prim.Native.Nat.{ℕ, _+_, _-_, _*_, _<_, _≤_}
@@ -6,16 +7,17 @@ use native.Mathlib.Decide.{decLt}
 use native.Mathlib.Omega.{arith}
 use lib.ListN.{length, set, length-set}
 use lib.Seq.{getD-set-same, getD-set-other}
-use borrow.Author.Tests.{lt-ltb, le-ltb, eq-eqb, ne-eqb}
+use lib.Dec.{ltb}
+use borrow.Author.Tests.{eq-eqb, ne-eqb}
 use Rattle.lists.proofs.Lists.{mem-left, mem-right}
 use Rattle.lists.specs.Lists.{there}
 use Rattle.history.specs.Lent.{rowWidth}
-use Rattle.tables.specs.Columns.{column, pieceFirst, pieceRight, pieceLeft}
+use Rattle.tables.specs.Columns.{column, pieceRight, pieceLeft}
 use Rattle.merge_set.proofs.Frame.{column-eq, on-left, on-right}
 use Rattle.merge_set.proofs.Links.{good-left, good-right, good-apart, Swapped, swapped-left, swapped-right, mem-swapped, good-swapped, good-put, mem-put, Put}
 use Rattle.merge_set.proofs.Order.{relinked-swapped}
 use Rattle.merge_set.proofs.Removing.{unchanged}
-use Rattle.merge_set.specs.Table.{Good, Valid, Shape, Result, Made, CopyOf, CopiedRow, Relinked, firstAt}
+use Rattle.merge_set.specs.Table.{StartsBefore, Good, Valid, Shape, Result, Made, CopyOf, CopiedRow, Relinked, firstAt}
 use Rattle.merge_set.specs.Tree.{Tree, leaf, node, height, rows, relinked}
 
 module _ {t : List ℕ} {k y x n : ℕ} where
@@ -56,26 +58,27 @@ module _ {t : List ℕ} {k y x n : ℕ} where
           go leaf s h c g = absurd (nz s)
           go (node a w b) s h c g = absurd (omega arith)
 
-      module _ {l r d e : ℕ} {t₁ t₂ : List ℕ} {m o : ℕ} (el : l ≡ column t k pieceLeft) (er : r ≡ column t k pieceRight) (ed : d ≡ column t y pieceFirst) (ee : e ≡ column t k pieceFirst) where
-        pub relinks-left : d < e → Relinked t t₁ l y x (n - 1) m → Made t₁ t₂ m k r node o → Relinked t t₂ k y x n o
+      module _ {l r m o : ℕ} {t₁ t₂ : List ℕ} {before : Bool} (el : l ≡ column t k pieceLeft) (er : r ≡ column t k pieceRight) (tested : StartsBefore t y k before) where
+        pub relinks-left : before ≡ true → Relinked t t₁ l y x (n - 1) m → Made t₁ t₂ m k r node o → Relinked t t₂ k y x n o
         unfolding Shape height rows relinked
-        relinks-left lt p q = record { done = go }
+        relinks-left low p q = record { done = go }
           where
             go : (T : Tree) → Shape t k T → height T ≤ n → CopyOf t y x → Good (x ∷ rows T) → Result t t₂ o (relinked (firstAt t) y x T) (x ∷ rows T)
             go leaf s h c g = absurd (nz s)
             go (node A w B) s h c g =
                 let sw : Swapped y x (rows A ++ w ∷ rows B) (rows (relinked (firstAt t) y x A) ++ w ∷ rows B) = swapped-left (w ∷ rows B) (relinked-swapped (firstAt t) y x A) in
                 let q′ : Made t₁ t₂ m w r node o = rw (s .is) at q in
-                rw (ne-eqb w y (λ z. ny (s .is ∙ z)), lt-ltb (column t y pieceFirst) (column t w pieceFirst) (rw (← s .is, ← ed, ← ee) lt))
+                let test : ltb (firstAt t y) (firstAt t w) ≡ true = rw (← s .is) (sym (tested .is) ∙ low) in
+                rw (ne-eqb w y (λ z. ny (s .is ∙ z)), test)
                 (on-left B (p .done A (rw (el, s .is) (s .left)) (omega arith) c (good-left (x ∷ rows A) (w ∷ rows B) g)) q′ (rw (er, s .is) (s .right)) (s .valid)
                 (λ j i i′. good-apart (x ∷ rows A) (w ∷ rows B) g i (there i′))
                 (good-swapped sw g)
                 (λ j i. mem-left (x ∷ rows A) (w ∷ rows B) i)
                 (λ j i. mem-swapped sw i))
 
-        pub relinks-right : e ≤ d → Relinked t t₁ r y x (n - 1) m → Made t₁ t₂ l k m node o → Relinked t t₂ k y x n o
+        pub relinks-right : before ≡ false → Relinked t t₁ r y x (n - 1) m → Made t₁ t₂ l k m node o → Relinked t t₂ k y x n o
         unfolding Shape height rows relinked
-        relinks-right le p q = record { done = go }
+        relinks-right high p q = record { done = go }
           where
             go : (T : Tree) → Shape t k T → height T ≤ n → CopyOf t y x → Good (x ∷ rows T) → Result t t₂ o (relinked (firstAt t) y x T) (x ∷ rows T)
             go leaf s h c g = absurd (nz s)
@@ -84,7 +87,8 @@ module _ {t : List ℕ} {k y x n : ℕ} where
                 let q′ : Made t₁ t₂ l w m node o = rw (s .is) at q in
                 let turn : Put x (rows A ++ w ∷ rows B) ((rows A ++ w ∷ []) ++ x ∷ rows B) = record { front = rows A ++ w ∷ []; back = rows B; without = sym (append-assoc (rows A) (w ∷ []) (rows B)); with-it = refl } in
                 let gs : Good ((rows A ++ w ∷ []) ++ x ∷ rows B) = good-put turn g in
-                rw (ne-eqb w y (λ z. ny (s .is ∙ z)), le-ltb (column t y pieceFirst) (column t w pieceFirst) (rw (← s .is, ← ed, ← ee) le))
+                let test : ltb (firstAt t y) (firstAt t w) ≡ false = rw (← s .is) (sym (tested .is) ∙ high) in
+                rw (ne-eqb w y (λ z. ny (s .is ∙ z)), test)
                 (on-right A (p .done B (rw (er, s .is) (s .right)) (omega arith) c (good-right (rows A ++ w ∷ []) (x ∷ rows B) gs)) q′ (rw (el, s .is) (s .left)) (s .valid)
                 (λ j i i′. good-apart (rows A ++ w ∷ []) (x ∷ rows B) gs (mem-left (rows A) (w ∷ []) i′) i)
                 (good-swapped sw g)

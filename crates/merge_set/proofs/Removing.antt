@@ -1,17 +1,18 @@
 -- `least`, `without_least`, `glue`, `remove`: one step for each return. Assumes nothing.
+use mathlib.Core.Bool.{Bool, true, false}
 use mathlib.Core.List.{List, [], _∷_, _++_}
 use mathlib.Core.Logic.{_⊎_, inl, inr}
-use mathlib.Core.Path.{_≡_, refl, ap, _∙_}
-use Prim.Native.Nat.{ℕ, _-_, _<_, _≤_}
+use mathlib.Core.Path.{_≡_, refl, sym, ap, _∙_}
+use Prim.Native.Nat.{ℕ, _-_, _≤_}
 use native.Mathlib.Omega.{arith}
-use borrow.Author.Tests.{lt-ltb, le-ltb}
+use lib.Dec.{ltb}
 use Rattle.lists.proofs.Lists.{mem-left, mem-right, mem-split}
 use Rattle.lists.specs.Lists.{Mem, here, there}
-use Rattle.tables.specs.Columns.{column, pieceFirst, pieceRight, pieceLeft}
+use Rattle.tables.specs.Columns.{column, pieceRight, pieceLeft}
 use Rattle.merge_set.proofs.Frame.{only-wider, only-refl, on-left, on-right}
 use Rattle.merge_set.proofs.Links.{good-left, good-right, good-apart, Less, but, less-left, less-right, mem-less, good-less}
 use Rattle.merge_set.proofs.Order.{withoutLeast-rows, removed-less}
-use Rattle.merge_set.specs.Table.{Good, Valid, Shape, Result, Made, Least, WithoutLeast, Glued, Removed, firstAt}
+use Rattle.merge_set.specs.Table.{StartsBefore, Good, Valid, Shape, Result, Made, Least, WithoutLeast, Glued, Removed, firstAt}
 use Rattle.merge_set.specs.Tree.{Tree, leaf, node, height, rows, updated, least, withoutLeast, glued, removed}
 
 -- nothing is changed
@@ -149,26 +150,27 @@ module _ {t : List ℕ} {k x n : ℕ} (nz : k ≡ 0 → ⊥) where
       go leaf s h g = absurd (nz s)
       go (node a y b) s h g = absurd (omega arith)
 
-  module _ {l r d e o : ℕ} {t₂ : List ℕ} (el : l ≡ column t k pieceLeft) (er : r ≡ column t k pieceRight) (ed : d ≡ column t x pieceFirst) (ee : e ≡ column t k pieceFirst) where
-    pub removes-left : {t₁ : List ℕ} {m : ℕ} → d < e → Removed t t₁ l x (n - 1) m → Made t₁ t₂ m k r (updated 1) o → Removed t t₂ k x n o
+  module _ {l r o : ℕ} {t₂ : List ℕ} {before : Bool} (el : l ≡ column t k pieceLeft) (er : r ≡ column t k pieceRight) (tested : StartsBefore t x k before) where
+    pub removes-left : {t₁ : List ℕ} {m : ℕ} → before ≡ true → Removed t t₁ l x (n - 1) m → Made t₁ t₂ m k r (updated 1) o → Removed t t₂ k x n o
     unfolding Shape height rows removed
-    removes-left {t₁} {m} lt p q = record { done = go }
+    removes-left {t₁} {m} low p q = record { done = go }
       where
         go : (T : Tree) → Shape t k T → height T ≤ n → Good (rows T) → Result t t₂ o (removed (firstAt t) x T) (rows T)
         go leaf s h g = absurd (nz s)
         go (node A y B) s h g =
             let less : Less (rows (removed (firstAt t) x A)) (rows A) = removed-less (firstAt t) x A in
-            rw (lt-ltb (column t x pieceFirst) (column t y pieceFirst) (rw (← s .is, ← ed, ← ee) lt))
+            let test : ltb (firstAt t x) (firstAt t y) ≡ true = rw (← s .is) (sym (tested .is) ∙ low) in
+            rw test
             (on-left B (p .done A (rw (el, s .is) (s .left)) (omega arith) (good-left (rows A) (y ∷ rows B) g)) (rw (s .is) at q) (rw (er, s .is) (s .right)) (s .valid)
             (λ j i i′. good-apart (rows A) (y ∷ rows B) g i (there i′))
             (good-less (less-left (y ∷ rows B) less) g)
             (λ j i. mem-left (rows A) (y ∷ rows B) i)
             (λ j i. mem-less (less-left (y ∷ rows B) less) i))
 
-    module _ (le : e ≤ d) where
-      pub removes-right : {t₁ : List ℕ} {m : ℕ} → e < d → Removed t t₁ r x (n - 1) m → Made t₁ t₂ l k m (updated 1) o → Removed t t₂ k x n o
+    module _ {after : Bool} (high : before ≡ false) (tested′ : StartsBefore t k x after) where
+      pub removes-right : {t₁ : List ℕ} {m : ℕ} → after ≡ true → Removed t t₁ r x (n - 1) m → Made t₁ t₂ l k m (updated 1) o → Removed t t₂ k x n o
       unfolding Shape height rows removed
-      removes-right {t₁} {m} lt p q = record { done = go }
+      removes-right {t₁} {m} low′ p q = record { done = go }
         where
           go : (T : Tree) → Shape t k T → height T ≤ n → Good (rows T) → Result t t₂ o (removed (firstAt t) x T) (rows T)
           go leaf s h g = absurd (nz s)
@@ -176,23 +178,27 @@ module _ {t : List ℕ} {k x n : ℕ} (nz : k ≡ 0 → ⊥) where
               let less : Less (rows (removed (firstAt t) x B)) (rows B) = removed-less (firstAt t) x B in
               let gB : Good (rows B) = good-right (y ∷ []) (rows B) (good-right (rows A) (y ∷ rows B) g) in
               let less′ : Less (rows A ++ y ∷ rows (removed (firstAt t) x B)) (rows A ++ y ∷ rows B) = less-right (rows A) (less-right (y ∷ []) less) in
-              rw (le-ltb (column t x pieceFirst) (column t y pieceFirst) (rw (← s .is, ← ed, ← ee) le), lt-ltb (column t y pieceFirst) (column t x pieceFirst) (rw (← s .is, ← ed, ← ee) lt))
+              let test : ltb (firstAt t x) (firstAt t y) ≡ false = rw (← s .is) (sym (tested .is) ∙ high) in
+              let test′ : ltb (firstAt t y) (firstAt t x) ≡ true = rw (← s .is) (sym (tested′ .is) ∙ low′) in
+              rw (test, test′)
               (on-right A (p .done B (rw (er, s .is) (s .right)) (omega arith) gB) (rw (s .is) at q) (rw (el, s .is) (s .left)) (s .valid)
               (λ j i i′. good-apart (rows A) (y ∷ rows B) g i′ (there i))
               (good-less less′ g)
               (λ j i. mem-right (rows A) (y ∷ rows B) (there i))
               (λ j i. mem-less less′ i))
 
-      pub removes-here : d ≤ e → Glued t t₂ l r n o → Removed t t₂ k x n o
+      pub removes-here : after ≡ false → Glued t t₂ l r n o → Removed t t₂ k x n o
       unfolding Shape height rows removed
-      removes-here ge p = record { done = go }
+      removes-here high′ p = record { done = go }
         where
           go : (T : Tree) → Shape t k T → height T ≤ n → Good (rows T) → Result t t₂ o (removed (firstAt t) x T) (rows T)
           go leaf s h g = absurd (nz s)
           go (node A y B) s h g =
               let less : Less (rows A ++ rows B) (rows A ++ y ∷ rows B) = but y (record { front = rows A; back = rows B; without = refl; with-it = refl }) in
               let one : Result t t₂ o (glued A B) (rows A ++ rows B) = p .done A B (rw (el, s .is) (s .left)) (rw (er, s .is) (s .right)) (omega arith) (good-less less g) in
-              rw (le-ltb (column t x pieceFirst) (column t y pieceFirst) (rw (← s .is, ← ed, ← ee) le), le-ltb (column t y pieceFirst) (column t x pieceFirst) (rw (← s .is, ← ed, ← ee) ge))
+              let test : ltb (firstAt t x) (firstAt t y) ≡ false = rw (← s .is) (sym (tested .is) ∙ high) in
+              let test′ : ltb (firstAt t y) (firstAt t x) ≡ false = rw (← s .is) (sym (tested′ .is) ∙ high′) in
+              rw (test, test′)
               (record { shape = one .shape; only = only-wider (λ j i. mem-less less i) (one .only) })
 
 -- the steps, for `search` at a return

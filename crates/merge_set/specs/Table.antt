@@ -17,6 +17,14 @@ use Rattle.merge_set.specs.Tree.{Tree, leaf, node, height, rows, Maker, 
 abbrev pub firstAt : (t : List ℕ) (link : ℕ) → ℕ
 firstAt t link = column t link pieceFirst
 
+-- `starts_below`: the piece of a link starts before a cell
+pub record StartsBelow (t : List ℕ) (link place : ℕ) (out : Bool) : Type 0 where
+  pub is : out ≡ ltb (firstAt t link) place
+
+-- `starts_before`: the piece of `one` starts before that of `other`
+pub record StartsBefore (t : List ℕ) (one other : ℕ) (out : Bool) : Type 0 where
+  pub is : out ≡ ltb (firstAt t one) (firstAt t other)
+
 -- the depth that a link says
 abbrev pub deepAt : (t : List ℕ) (link : ℕ) → ℕ
 deepAt t link = cond (eqb link 0) 0 (column t link pieceDepth)

@@ -2,6 +2,7 @@
 //
 //   specs/Tree        the model: trees of links, each operation a function
 //   specs/Table       which tree stands in the table, and what each function ensures
+//   proofs/Places     the tests of places
 //   proofs/Links      lists of links: one put in, one left out, one exchanged
 //   proofs/Order      operations keep the order
 //   proofs/Balance    and the balance
@@ -10,7 +11,7 @@
 ghost use mathlib.Core.Path.{_≡_};
 ghost use Prim.Native.Nat.{ℕ, suc, _<_, _^_, max};
 ghost use Rattle.merge_set.specs.Tree.{Tree, node, rotatedLeft, rotatedRight, updated};
-ghost use Rattle.merge_set.specs.Table.{deepAt, Made, Higher, Inserted, Least, WithoutLeast, Glued, Removed, Relinked, CopiedRow};
+ghost use Rattle.merge_set.specs.Table.{StartsBelow, StartsBefore, deepAt, Made, Higher, Inserted, Least, WithoutLeast, Glued, Removed, Relinked, CopiedRow};
 use tables::piece::DEPTH;
 use tables::piece::FIRST;
 use tables::piece::LEFT;
@@ -30,6 +31,20 @@ pub fn depth(table: &[u64], link: u64) -> u64
         return 0;
     }
     tables::get(table, link, DEPTH)
+}
+
+// Whether the piece of `link` starts before `place`.
+pub fn starts_below(table: &[u64], link: u64, place: u64) -> bool
+    ensures { λ r. ⌜ StartsBelow (now (table .entry)) link place r ⌝ }
+{
+    tables::get(table, link, FIRST) < place
+}
+
+// Whether the piece of `one` starts before that of `other`. This function and the one above alone compare the places of pieces.
+pub fn starts_before(table: &[u64], one: u64, other: u64) -> bool
+    ensures { λ r. ⌜ StartsBefore (now (table .entry)) one other r ⌝ }
+{
+    starts_below(table, one, tables::get(table, other, FIRST))
 }
 
 // One more than the larger of two depths.
@@ -143,9 +158,7 @@ pub fn insert(table: &mut [u64], link: u64, row: u64, fuel: u64) -> u64
     }
     let l = tables::get(table, link, LEFT);
     let r = tables::get(table, link, RIGHT);
-    let d = tables::get(table, row, FIRST);
-    let e = tables::get(table, link, FIRST);
-    if d < e {
+    if starts_before(table, row, link) {
         let m = insert(table, l, row, fuel - 1);
         return update(table, m, link, r, TURNS);
     }
@@ -207,13 +220,11 @@ pub fn remove(table: &mut [u64], link: u64, row: u64, fuel: u64) -> u64
     }
     let l = tables::get(table, link, LEFT);
     let r = tables::get(table, link, RIGHT);
-    let d = tables::get(table, row, FIRST);
-    let e = tables::get(table, link, FIRST);
-    if d < e {
+    if starts_before(table, row, link) {
         let m = remove(table, l, row, fuel - 1);
         return update(table, m, link, r, TURNS);
     }
-    if e < d {
+    if starts_before(table, link, row) {
         let m = remove(table, r, row, fuel - 1);
         return update(table, l, link, m, TURNS);
     }
@@ -248,9 +259,7 @@ pub fn relink(table: &mut [u64], link: u64, old: u64, new: u64, fuel: u64) -> u6
     }
     let l = tables::get(table, link, LEFT);
     let r = tables::get(table, link, RIGHT);
-    let d = tables::get(table, old, FIRST);
-    let e = tables::get(table, link, FIRST);
-    if d < e {
+    if starts_before(table, old, link) {
         let m = relink(table, l, old, new, fuel - 1);
         join(table, m, link, r);
         return link;

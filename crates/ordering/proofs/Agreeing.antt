@@ -1,22 +1,22 @@
 -- Rule 24 over the rows of a table is rule 24 of history over the blocks that they stand for. Assumes nothing.
-use mathlib.Core.Path.{_≡_, refl}
+use mathlib.Core.Path.{_≡_}
 use mathlib.Core.Logic.{_⊎_, ⊎-elim}
-use mathlib.Core.Bool.{Bool, true, false}
+use mathlib.Core.Bool.{Bool}
 use mathlib.Core.List.{List}
 use Prim.Native.Nat.{ℕ, zero, suc, _+_, _-_, _≤_, _<_}
 use native.Mathlib.Omega.{arith}
 use lib.ListN.{length, getD}
 use Rattle.lists.specs.Tests.{Decides}
 use Rattle.lists.proofs.Lists.{pairs-at, pairs-of-at}
-use Rattle.lists.proofs.Numbers.{lt-or-le, decides-iff}
+use Rattle.lists.proofs.Numbers.{lt-or-le, decides-iff, decides-same}
 use Rattle.history.specs.Words.{Holds}
 use Rattle.history.specs.Tree.{noBlock}
 use Rattle.history.specs.Rules.{apart, Apart}
 use Rattle.history.proofs.RulesLaws.{apart-decides}
+use Rattle.block_table.specs.Blocks.{lengthAt, offsetAt, blockOfRow, blocksOf, Filled, Stored}
+use Rattle.block_table.proofs.Blocks.{bytes-length, blocks-length, blocks-at}
 use Rattle.ordering.specs.Order.{InOrder}
-use Rattle.ordering.specs.Blocks.{lengthAt, offsetAt, blockOfRow, blocksOf, Filled, Stored}
 use Rattle.ordering.specs.Apart.{HoldsAt, Clash, Unshared, TestedApart}
-use Rattle.ordering.proofs.Blocks.{bytes-length, blocks-length, blocks-at}
 use Rattle.ordering.proofs.Parting.{clash-turned}
 
 -- ── a row and its block ──
@@ -42,13 +42,6 @@ module _ (store t : List ℕ) (link : ℕ) (inside : offsetAt t link + lengthAt 
       }
 
 -- ── all of them ──
-
--- two tests of one statement give one answer
-decides-same : (r q : Bool) {P : Type 0} → Decides r P → Decides q P → r ≡ q
-decides-same true true d e = refl
-decides-same true false d e = absurd (e .not refl (d .yes refl))
-decides-same false true d e = absurd (d .not refl (e .yes refl))
-decides-same false false d e = refl
 
 module _ (store : List ℕ) {t : List ℕ} {n : ℕ} (stored : Stored (length store) t n) where
   pub unshared-apart : Unshared t n → Apart (blocksOf store t n)

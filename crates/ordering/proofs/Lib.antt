@@ -7,7 +7,6 @@ pub mod Dense
 pub mod Parting
 pub mod Clearing
 pub mod Keeping
-pub mod Blocks
 pub mod Agreeing
 pub mod Unique
 pub mod Numbering

@@ -11,8 +11,8 @@ use Rattle.lists.specs.Lists.{all-nil, all-cons, pairs-nil, pairs-cons, Mem, he
 use Rattle.lists.specs.Tests.{Decides}
 use Rattle.lists.proofs.Lists.{all-mem, all-of-mem}
 use Rattle.lists.proofs.Numbers.{confirm, refute, decides-iff}
-use Rattle.ordering.specs.Order.{firstCellAt, nextAt, rank, Trail, end, link}
-use Rattle.ordering.specs.Blocks.{lengthAt, createdAt, destroyedAt, Filled}
+use Rattle.block_table.specs.Blocks.{firstCellAt, lengthAt, createdAt, destroyedAt, Filled}
+use Rattle.ordering.specs.Order.{nextAt, rank, Trail, end, link}
 use Rattle.ordering.specs.Apart.{Clash, Unshared, StartsWithin, LivesMeet, Clear, AllClear, FollowersApart, RowsApart, TestedApart}
 use Rattle.ordering.proofs.Rank.{rank-first}
 use Rattle.ordering.proofs.Trail.{trail-wider}

@@ -6,8 +6,8 @@ use Prim.Native.Nat.{ℕ, _+_, _≤_, _<_, _^_}
 use lib.ListN.{length}
 use Rattle.lists.specs.Lists.{All, Pairs}
 use Rattle.lists.specs.Tests.{Decides}
-use Rattle.ordering.specs.Order.{firstCellAt, rank, Trail, InOrder}
-use Rattle.ordering.specs.Blocks.{lengthAt, createdAt, destroyedAt, Filled}
+use Rattle.block_table.specs.Blocks.{firstCellAt, lengthAt, createdAt, destroyedAt, Filled}
+use Rattle.ordering.specs.Order.{rank, Trail, InOrder}
 
 -- ── blocks ──
 

@@ -1,11 +1,13 @@
 // Sorts three hundred blocks of several patterns, whole and in two parts, tests the orders and rule 24, and takes the orders back; then spoils single
 // links (cycles, links to itself, past the count, shared, cut), cells and lives. Every answer is compared with a plain scan of all rows or pairs.
-// Prints one line: how many were compared, how many were alike, and how many of the plain answers were yes.
+// Prints one line: how many were compared, how many of them differ, and how many of the plain answers were yes.
 ghost use Prim.Native.Nat.{_≤_, _<_};
-use libc::STDOUT_FILENO;
+use tables::ROW;
 use tables::block;
 
 const BLOCKS: u64 = 300;
+
+const NUMBERS: usize = block::HEAD + 300 * ROW;
 // The blocks that are sorted before the others are taken in.
 const EARLY: u64 = 170;
 
@@ -15,13 +17,7 @@ const STEP: u64 = 7;
 // The ways in which a row is spoiled.
 const WAYS: u64 = 5;
 
-const COMPARED: usize = 0;
-
-const ALIKE: usize = 1;
-
-const YES: usize = 2;
-
-const MANY: u64 = 1000000;
+const YES: usize = tally::OWN;
 
 // ── rows ──
 
@@ -63,10 +59,7 @@ fn fill_row(blocks: &mut [u64], i: u64, pattern: u64)
 {
     let first = place(i, pattern) * 10;
     let created = version(i, pattern) * 5;
-    block::put(blocks, i + 1, block::FIRST, first);
-    block::put(blocks, i + 1, block::LENGTH, 10);
-    block::put(blocks, i + 1, block::CREATED, created);
-    block::put(blocks, i + 1, block::DESTROYED, created + 5);
+    plain::put_block(blocks, i + 1, first, 10, created, created + 5);
 }
 
 fn fill(blocks: &mut [u64], pattern: u64) {
@@ -132,70 +125,6 @@ fn plainly_in_order(blocks: &[u64]) -> bool {
     true
 }
 
-// Whether `many` numbers from `a` on and `more` from `b` on have one in common.
-fn meet(a: u64, many: u64, b: u64, more: u64) -> bool {
-    if many == 0 {
-        return false;
-    }
-    if more == 0 {
-        return false;
-    }
-    if a <= b {
-        return b - a < many;
-    }
-    a - b < more
-}
-
-fn life(blocks: &[u64], link: u64) -> u64 {
-    let created = block::get(blocks, link, block::CREATED);
-    let destroyed = block::get(blocks, link, block::DESTROYED);
-    if destroyed <= created {
-        return 0;
-    }
-    destroyed - created
-}
-
-fn share(blocks: &[u64], j: u64, k: u64) -> bool {
-    let cells = meet(
-        block::get(blocks, j, block::FIRST),
-        block::get(blocks, j, block::LENGTH),
-        block::get(blocks, k, block::FIRST),
-        block::get(blocks, k, block::LENGTH),
-    );
-    if !cells {
-        return false;
-    }
-    meet(
-        block::get(blocks, j, block::CREATED),
-        life(blocks, j),
-        block::get(blocks, k, block::CREATED),
-        life(blocks, k),
-    )
-}
-
-// Whether block `j` shares nothing with any later one.
-fn alone(blocks: &[u64], j: u64) -> bool {
-    let mut k = j;
-    while k < BLOCKS {
-        k += 1;
-        if share(blocks, j, k) {
-            return false;
-        }
-    }
-    true
-}
-
-fn plainly_apart(blocks: &[u64]) -> bool {
-    let mut j = 0;
-    while j < BLOCKS {
-        j += 1;
-        if !alone(blocks, j) {
-            return false;
-        }
-    }
-    true
-}
-
 fn alike(a: &[u64], b: &[u64]) -> bool {
     let mut i = 0;
     while i < a.len() {
@@ -212,21 +141,10 @@ fn alike(a: &[u64], b: &[u64]) -> bool {
 
 // ── what is compared ──
 
-// Adds one to a count. There are some hundreds.
-fn count_if(tally: &mut [u64], col: usize, yes: bool) {
-    let many = tables::get(tally, 0, col);
-    if yes {
-        if many < MANY {
-            tables::put(tally, 0, col, many + 1);
-        }
-    }
-}
-
-// Counts one comparison: whether the two are alike, and whether the plain answer is yes.
+// Counts one comparison, and whether the plain answer is yes.
 fn compare(tally: &mut [u64], ours: bool, plain: bool) {
-    count_if(tally, COMPARED, true);
-    count_if(tally, ALIKE, ours == plain);
-    count_if(tally, YES, plain);
+    tally::compare(tally, ours == plain);
+    tally::count_if(tally, YES, plain);
 }
 
 // The answers for a table that is not sorted, one that is, and one that was sorted in two parts.
@@ -241,7 +159,11 @@ fn compare_sorted(tally: &mut [u64], plain: &[u64], whole: &[u64], parts: &[u64]
         ordering::in_order(whole, BLOCKS),
         plainly_in_order(whole),
     );
-    compare(tally, ordering::apart(whole, BLOCKS), plainly_apart(whole));
+    compare(
+        tally,
+        ordering::apart(whole, BLOCKS),
+        plain::apart(whole, BLOCKS),
+    );
     compare(tally, ordering::unordered(whole, BLOCKS), false);
     compare(tally, true, alike(whole, parts));
 }
@@ -332,7 +254,7 @@ fn try_block(tally: &mut [u64], blocks: &mut [u64], link: u64, way: u64) {
     compare(
         tally,
         ordering::apart(blocks, BLOCKS),
-        plainly_apart(blocks),
+        plain::apart(blocks, BLOCKS),
     );
     block::put(blocks, link, block::LENGTH, length);
     block::put(blocks, link, block::CREATED, created);
@@ -369,17 +291,12 @@ fn try_ways(tally: &mut [u64], blocks: &mut [u64]) {
 
 fn main() {
     let mut tally = [0; 8];
-    let mut plain = [0; 2408];
-    let mut whole = [0; 2408];
-    let mut parts = [0; 2408];
+    let mut plain = [0; NUMBERS];
+    let mut whole = [0; NUMBERS];
+    let mut parts = [0; NUMBERS];
     try_patterns(&mut tally, &mut plain, &mut whole, &mut parts);
     fill(&mut whole, 0);
     ordering::sort(&mut whole, BLOCKS);
     try_ways(&mut tally, &mut whole);
-    io::print_decimal(STDOUT_FILENO, tables::get(&tally, 0, COMPARED));
-    io::write_all(STDOUT_FILENO, b" compared, ");
-    io::print_decimal(STDOUT_FILENO, tables::get(&tally, 0, ALIKE));
-    io::write_all(STDOUT_FILENO, b" alike, ");
-    io::print_decimal(STDOUT_FILENO, tables::get(&tally, 0, YES));
-    io::write_all(STDOUT_FILENO, b" yes\n");
+    tally::print(&tally, YES, b" yes");
 }

@@ -4,16 +4,12 @@ use mathlib.Core.Path.{_≡_, refl, ap, ap₂}
 use Prim.Native.Nat.{ℕ, _≤_, _<_}
 use native.Mathlib.Omega.{arith}
 use borrow.Author.Tests.{lt-ltb, le-ltb}
-use Rattle.lists.proofs.Lists.{mem-right, all-mem, all-of-mem}
+use Rattle.lists.proofs.Lists.{mem-right, all-mem, all-of-mem, ascending-distinct}
+use Rattle.lists.proofs.Maps.{map-all}
 use Rattle.lists.specs.Lists.{Mem, here, there, Distinct, Ascending, All, all-nil, all-cons, pairs-nil, pairs-cons}
 use Rattle.piece_table.specs.Piece.{PieceRow, rowEnd, Filled, Follow, placed}
 
 -- ── lists ──
-
--- functions that agree on the members
-pub map-same : {B : Type 0} (f g : ℕ → B) (xs : List ℕ) → ((j : ℕ) → Mem j xs → f j ≡ g j) → map f xs ≡ map g xs
-map-same f g [] h = refl
-map-same f g (x ∷ xs) h = ap₂ _∷_ (h x (here refl)) (map-same f g xs (λ j m. h j (there m)))
 
 pub ascending-same : (f g : ℕ → ℕ) (xs : List ℕ) → ((j : ℕ) → Mem j xs → g j ≡ f j) → Ascending f xs → Ascending g xs
 ascending-same f g [] h a = pairs-nil
@@ -38,7 +34,7 @@ split-once x (y ∷ xs) ys (a ∷ us) bs d e =
 
 -- x in the place of y: the same where what f makes of x is what g makes of y
 pub map-exchange : {B : Type 0} (f g : ℕ → B) (y x : ℕ) (us bs : List ℕ) → ((j : ℕ) → Mem j (us ++ bs) → f j ≡ g j) → f x ≡ g y → map f (us ++ x ∷ bs) ≡ map g (us ++ y ∷ bs)
-map-exchange f g y x [] bs h e = ap₂ _∷_ e (map-same f g bs h)
+map-exchange f g y x [] bs h e = ap₂ _∷_ e (map-all f g (all-of-mem bs h))
 map-exchange f g y x (u ∷ us) bs h e = ap₂ _∷_ (h u (here refl)) (map-exchange f g y x us bs (λ j m. h j (there m)) e)
 
 -- ── order ──
@@ -62,6 +58,10 @@ pub follow-ascending : (at : ℕ → PieceRow) (low : ℕ) (xs : List ℕ) → F
 follow-ascending at low [] s = pairs-nil
 follow-ascending at low (x ∷ xs) s =
     pairs-cons {x = x} (all-of-mem xs (λ k m. omega (arith, follow-above at (rowEnd (at x)) xs k (s .2) m, s .1 .some))) (follow-ascending at (rowEnd (at x)) xs (s .2))
+
+-- so no link of theirs stands twice
+pub follow-distinct : (at : ℕ → PieceRow) (low : ℕ) (xs : List ℕ) → Follow low (map at xs) → Distinct xs
+follow-distinct at low xs s = ascending-distinct (λ k. at k .first) (follow-ascending at low xs s)
 
 -- every piece of them is filled, and starts at low or past it
 pub follow-filled : (low : ℕ) (ps : List PieceRow) → Follow low ps → All Filled ps

@@ -23,7 +23,7 @@ pub rep-follow : {t : List ℕ} {ps : List PieceRow} → Rep t ps → Follow 0 p
 rep-follow r = rw (← r .pieces) (r .linked .order)
 
 pub rep-count : {t : List ℕ} {ps : List PieceRow} → Rep t ps → length ps ≡ column t 0 piecesCount
-rep-count {t} r = ap length (sym (r .pieces)) ∙ length-map (r .links) (pieceAt t) ∙ r .linked .count
+rep-count {t} r = ap length (sym (r .pieces)) ∙ length-map (r .links) (pieceAt t) ∙ r .linked .dense .count
 
 -- the pieces left of the place, the link's, which ends past it, and the rest
 pub record Seen (t : List ℕ) (place link : ℕ) (ps : List PieceRow) : Type 0 where

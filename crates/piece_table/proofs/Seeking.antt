@@ -124,8 +124,8 @@ seek-done {t} {root} {place} {o} er p = record { says = go }
   where
     go : (xs : List ℕ) → Linked t xs → Met t place o xs
     go xs r =
-        let asc : Ascending (endAt t) (rows (r .tree)) = rw (r .is) (follow-ends (pieceAt t) 0 xs (r .order)) in
-        let e : o ≡ firstPast (endAt t) place 0 xs = p .says (r .tree) (rw er (r .shape)) (linked-depth r) ∙ sought-rows (endAt t) place 0 (r .tree) asc ∙ ap (firstPast (endAt t) place 0) (r .is) in
+        let asc : Ascending (endAt t) (rows (r .dense .tree)) = rw (r .dense .is) (follow-ends (pieceAt t) 0 xs (r .order)) in
+        let e : o ≡ firstPast (endAt t) place 0 xs = p .says (r .dense .tree) (rw er (r .dense .shape)) (linked-depth r) ∙ sought-rows (endAt t) place 0 (r .dense .tree) asc ∙ ap (firstPast (endAt t) place 0) (r .dense .is) in
         rw e (met t place xs)
 
 -- the steps, for `search` at a return

@@ -1,32 +1,21 @@
 -- Clipping rows is clipping the ledger's pieces: cells and bytes move together. Assumes nothing.
 use mathlib.Core.Bool.{Bool, true, false, cond}
-use mathlib.Core.List.{List, [], _∷_, _++_, map, filterMap, Option·toList}
+use mathlib.Core.List.{List, _++_, map, filterMap, Option·toList}
 use mathlib.Core.Option.{Option, none, some, Option·map}
 use mathlib.Core.Path.{_≡_, refl, sym, ap, ap₂, _∙_}
-use Prim.Native.Nat.{ℕ, zero, suc, _+_, _-_, _≤_, _<_, min, max}
+use Prim.Native.Nat.{ℕ, _+_, _-_, _<_, min, max}
 use native.Mathlib.Omega.{arith}
 use lib.Dec.{ltb}
 use lib.ListN.{length, take, drop, length-drop}
-use lib.Seq.{take-take, take-nil, drop-drop, length-take-le}
+use lib.Seq.{length-take-le}
 use borrow.Author.Tests.{ltb-true}
+use Rattle.lists.proofs.Parts.{part-part}
 use Rattle.lists.proofs.Lists.{all-map}
 use Rattle.lists.proofs.Maps.{filterMap-cons}
 use Rattle.lists.specs.Lists.{All, all-nil, all-cons}
 use Rattle.piece_table.specs.Piece.{PieceRow, rowEnd, part, clipRow, rowsBelow, rowsInside, rowsAbove}
 use Rattle.piece_table.specs.Shown.{shown, Stored}
 use Rattle.history.specs.Words.{Piece, Stretch, above, below, clip, clipPiece, ends, inside}
-
--- ── a part of a part ──
-
-drop-take : (d n : ℕ) (l : List ℕ) → drop d (take n l) ≡ take (n - d) (drop d l)
-drop-take zero n l = let e : n - 0 ≡ n = omega arith in ap (λ (k : ℕ). take k l) (sym e)
-drop-take (suc d) zero l = let e : zero - suc d ≡ 0 = omega arith in ap (λ (k : ℕ). take k (drop (suc d) l)) (sym e)
-drop-take (suc d) (suc n) [] = sym (take-nil (suc n - suc d))
-drop-take (suc d) (suc n) (x ∷ l) = let e : suc n - suc d ≡ n - d = omega arith in drop-take d n l ∙ ap (λ (k : ℕ). take k (drop d l)) (sym e)
-
-part-part : (k d n o : ℕ) (l : List ℕ) → d + k ≤ n → take k (drop d (take n (drop o l))) ≡ take k (drop (o + d) l)
-part-part k d n o l h =
-    ap (take k) (drop-take d n (drop o l) ∙ ap (take (n - d)) (drop-drop d o l)) ∙ take-take k (n - d) (drop (o + d) l) (omega arith)
 
 -- ── one piece ──
 
@@ -46,7 +35,7 @@ module _ (store : List ℕ) (p : PieceRow) (s : Stored store p) where
       go true e =
           let lt : max from (p .first) < min to (rowEnd p) = ltb-true _ _ e in
           ap {B = Option Piece} (λ (bs : List ℕ). some (record { kind = p .owner; stretch = record { first = max from (p .first); bytes = bs }; written = p .written }))
-          (part-part (min to (rowEnd p) - max from (p .first)) (max from (p .first) - p .first) (p .size) (p .offset) store (omega arith))
+          (part-part (p .offset) (p .size) (max from (p .first) - p .first) (min to (rowEnd p) - max from (p .first)) store (omega arith))
 
 -- ── lists ──
 

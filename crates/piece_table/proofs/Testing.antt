@@ -6,17 +6,17 @@ use mathlib.Core.List.{List, [], _∷_, _++_, map}
 use Prim.Native.Nat.{ℕ, suc, _+_, _-_, _*_, _/_, _≤_, _<_, _^_}
 use native.Mathlib.Omega.{arith}
 use lib.ListN.{length, length-append}
-use lib.Dec.{eqb}
-use borrow.Author.Tests.{eqb-true, eqb-false, not-true, not-false}
+use lib.Dec.{eqb, ltb}
+use borrow.Author.Tests.{eqb-true, eqb-false, ltb-true, ltb-false, not-true, not-false}
 use Rattle.lists.specs.Lists.{Mem, here, there, All, all-nil, all-cons}
 use Rattle.lists.specs.Tests.{Decides}
-use Rattle.lists.proofs.Lists.{mem-left, mem-right, mem-split, all-left, all-right, all-append}
+use Rattle.lists.proofs.Lists.{mem-left, mem-right, mem-split, all-left, all-right, all-append, all-head, all-tail}
 use Rattle.lists.proofs.Maps.{map-append}
-use Rattle.lists.proofs.Numbers.{refute}
+use Rattle.lists.proofs.Numbers.{refute, decides-iff, decides-eqb}
 use Rattle.history.specs.Lent.{rowWidth}
 use Rattle.tables.specs.Columns.{column, pieceLength, pieceWritten, pieceOffset, pieceLeft, pieceRight, pieceDepth, pieceOwner, piecesRoot, piecesCount}
 use Rattle.merge_set.specs.Tree.{Tree, leaf, node, height, rows, Balanced}
-use Rattle.merge_set.specs.Table.{firstAt, deepAt, Shape}
+use Rattle.merge_set.specs.Table.{firstAt, StartsBelow, deepAt, Shape}
 use Rattle.merge_set.proofs.Frame.{deep-at}
 use Rattle.piece_table.specs.Piece.{PieceRow, rowEnd, pieceAt, Follow}
 use Rattle.piece_table.specs.Rep.{Linked}
@@ -24,11 +24,8 @@ use Rattle.piece_table.specs.Test.{Allowed, WellFormed, RowStands, RowFi
 use Rattle.piece_table.specs.declared.Limits.{Limits}
 use Rattle.piece_table.specs.declared.Walk.{Walk}
 use Rattle.piece_table.specs.declared.Walk.the-variants.{Bad, Fine}
+use Rattle.piece_table.proofs.Order.{follow-distinct}
 use Rattle.piece_table.proofs.Removing.{linked-depth}
-
--- a test of two numbers, for what holds exactly when they are equal
-decides-eqb : {P : Type 0} (a b : ℕ) → (a ≡ b → P) → (P → a ≡ b) → Decides (eqb a b) P
-decides-eqb a b f g = record { yes = λ e. f (eqb-true a b e); not = λ e p. eqb-false a b e (g p) }
 
 -- ── `row_stands` ──
 
@@ -53,21 +50,23 @@ module _ {t : List ℕ} {count link fuel : ℕ} where
       module _ (within : link ≤ count) (some : own ≡ 0 → ⊥) (high : own ≤ fuel) where
         pub row-stands-right : d < e → e - d ≤ 1 → Decides (eqb (own - 1) e) (RowStands t count link fuel)
         row-stands-right h k =
-            decides-eqb (own - 1) e
+            decides-iff (eqb (own - 1) e)
             (λ z. record { within = within; high = omega arith; deep = omega (arith, ed ∙ ap (deepAt t) el, ee ∙ ap (deepAt t) er); left = omega (arith, ed ∙ ap (deepAt t) el, ee ∙ ap (deepAt t) er); right = omega (arith, ed ∙ ap (deepAt t) el, ee ∙ ap (deepAt t) er) })
             (λ s. omega (arith, s .deep, ed ∙ ap (deepAt t) el, ee ∙ ap (deepAt t) er))
+            (decides-eqb (own - 1) e)
 
         pub row-stands-left : e ≤ d → d - e ≤ 1 → Decides (eqb (own - 1) d) (RowStands t count link fuel)
         row-stands-left h k =
-            decides-eqb (own - 1) d
+            decides-iff (eqb (own - 1) d)
             (λ z. record { within = within; high = omega arith; deep = omega (arith, ed ∙ ap (deepAt t) el, ee ∙ ap (deepAt t) er); left = omega (arith, ed ∙ ap (deepAt t) el, ee ∙ ap (deepAt t) er); right = omega (arith, ed ∙ ap (deepAt t) el, ee ∙ ap (deepAt t) er) })
             (λ s. omega (arith, s .deep, ed ∙ ap (deepAt t) el, ee ∙ ap (deepAt t) er))
+            (decides-eqb (own - 1) d)
 
 -- ── `row_fits` ──
 
 module _ {t : List ℕ} {link low kind used last first size : ℕ} (ef : first ≡ firstAt t link) (es : size ≡ column t link pieceLength) where
-  pub row-fits-low : first < low → Decides false (RowFits t link low kind used last)
-  row-fits-low h = refute (λ s. omega (arith, s .from))
+  pub row-fits-low : {starts : Bool} → StartsBelow t link low starts → starts ≡ true → Decides false (RowFits t link low kind used last)
+  row-fits-low tested h = refute (λ s. omega (arith, s .from, ltb-true (firstAt t link) low (sym (tested .is) ∙ h)))
 
   pub row-fits-empty : size ≡ 0 → Decides false (RowFits t link low kind used last)
   row-fits-empty h = refute (λ s. omega (arith, s .filled .some))
@@ -86,16 +85,17 @@ module _ {t : List ℕ} {link low kind used last first size : ℕ} (ef : first �
       pub row-fits-late : last < written → Decides false (RowFits t link low kind used last)
       row-fits-late h = refute (λ s. omega (arith, s .allowed .known))
 
-      pub row-fits-rest : {owner : ℕ} → owner ≡ column t link pieceOwner → low ≤ first → (size ≡ 0 → ⊥) → size ≤ 18446744073709551615 - first
+      pub row-fits-rest : {owner : ℕ} {starts : Bool} → owner ≡ column t link pieceOwner → StartsBelow t link low starts → starts ≡ false → (size ≡ 0 → ⊥) → size ≤ 18446744073709551615 - first
           → size ≤ used → offset ≤ used - size → used < 2 ^ 64 → written ≤ last → Decides (eqb owner kind) (RowFits t link low kind used last)
-      row-fits-rest {owner} en lo some near small inside far known =
-          decides-eqb owner kind
+      row-fits-rest {owner} en tested high some near small inside far known =
+          decides-iff (eqb owner kind)
           (λ z. record {
-            from = omega arith;
+            from = ltb-false (firstAt t link) low (sym (tested .is) ∙ high);
             filled = record { some = omega arith; near = omega arith; stored = omega arith };
             allowed = record { inside = omega arith; known = omega arith; owned = sym en ∙ z };
           })
           (λ s. en ∙ s .allowed .owned)
+          (decides-eqb owner kind)
 
 -- ── pieces that follow one another ──
 
@@ -182,12 +182,6 @@ module _ {t : List ℕ} {limits : Limits} {link low seen fuel x : ℕ} (A B : Tr
 
   stands-few : seen + length (rows A) < limits .count
   stands-few = omega (arith, s .few, many)
-
-  all-head : {P : PieceRow → Type 0} {p : PieceRow} {ps : List PieceRow} → All P (p ∷ ps) → P p
-  all-head (all-cons h a) = h
-
-  all-tail : {P : PieceRow → Type 0} {p : PieceRow} {ps : List PieceRow} → All P (p ∷ ps) → All P ps
-  all-tail (all-cons h a) = a
 
   stands-fits : RowFits t link (lastEnd low (map (pieceAt t) (rows A))) (limits .kind) (limits .used) (limits .last)
   stands-fits =
@@ -357,7 +351,7 @@ limitsOf count kind used last = record { count = count; kind = kind; used = used
 
 module _ {t : List ℕ} {kind used last count : ℕ} (ec : count ≡ column t 0 piecesCount) where
   pub test-small : length t / rowWidth ≤ count → Decides false (WellFormed t kind used last)
-  test-small h = refute (λ w. omega (arith, w .rep .linked .room))
+  test-small h = refute (λ w. omega (arith, w .rep .linked .dense .room))
 
   module _ {root : ℕ} {w : Walk} (room : count < length t / rowWidth) (er : root ≡ column t 0 piecesRoot)
       (walked : Walked t (limitsOf count kind used last) root 0 0 92 w) where
@@ -365,28 +359,28 @@ module _ {t : List ℕ} {kind used last count : ℕ} (ec : count ≡ column t 0 
     fits = omega arith
 
     -- the tree of a well-formed table stands at its root
-    stands-whole : (r : WellFormed t kind used last) → Stands t (limitsOf count kind used last) root 0 0 92 (r .rep .linked .tree)
+    stands-whole : (r : WellFormed t kind used last) → Stands t (limitsOf count kind used last) root 0 0 92 (r .rep .linked .dense .tree)
     stands-whole r =
         let l : Linked t (r .rep .links) = r .rep .linked in
-        let is : map (pieceAt t) (rows (l .tree)) ≡ r .pieces = ap (map (pieceAt t)) (l .is) ∙ r .rep .pieces in
+        let is : map (pieceAt t) (rows (l .dense .tree)) ≡ r .pieces = ap (map (pieceAt t)) (l .dense .is) ∙ r .rep .pieces in
         record {
-          shape = rw er (l .shape);
-          balanced = l .balanced;
+          shape = rw er (l .dense .shape);
+          balanced = l .dense .balanced;
           high = linked-depth l;
-          within = λ j m. omega (arith, l .within j (rw (l .is) at m));
-          few = omega (arith, ap length (l .is), l .count);
-          order = rw (l .is) (l .order);
+          within = λ j m. omega (arith, l .dense .within j (rw (l .dense .is) at m));
+          few = omega (arith, ap length (l .dense .is), l .dense .count);
+          order = rw (l .dense .is) (l .order);
           allowed = rw is (r .allowed);
         }
 
     pub test-bad : w ≡ Bad → Decides false (WellFormed t kind used last)
-    test-bad e = refute (λ r. none (subst (Outcome t (limitsOf count kind used last) root 0 0 92) e (walked .is fits)) (r .rep .linked .tree) (stands-whole r))
+    test-bad e = refute (λ r. none (subst (Outcome t (limitsOf count kind used last) root 0 0 92) e (walked .is fits)) (r .rep .linked .dense .tree) (stands-whole r))
       where
         none : Outcome t (limitsOf count kind used last) root 0 0 92 Bad → (T : Tree) → Stands t (limitsOf count kind used last) root 0 0 92 T → ⊥
         none f = f
 
     pub test-fine : {n z : ℕ} → length t < 2 ^ 64 → w ≡ Fine n z → Decides (eqb n count) (WellFormed t kind used last)
-    test-fine {n} {z} small e = decides-eqb n count yes no
+    test-fine {n} {z} small e = decides-iff (eqb n count) yes no (decides-eqb n count)
       where
         f : Found t (limitsOf count kind used last) root 0 0 92 n z
         f = subst (Outcome t (limitsOf count kind used last) root 0 0 92) e (walked .is fits)
@@ -401,13 +395,16 @@ module _ {t : List ℕ} {kind used last count : ℕ} (ec : count ≡ column t 0 
               rep = record {
                 links = rows (f .tree);
                 linked = record {
-                  tree = f .tree;
-                  is = refl;
-                  shape = rw (← er) (s .shape);
-                  balanced = s .balanced;
-                  count = omega (arith, f .many);
-                  within = λ j m. omega (arith, s .within j m);
-                  room = omega (arith, fits);
+                  dense = record {
+                    tree = f .tree;
+                    is = refl;
+                    shape = rw (← er) (s .shape);
+                    balanced = s .balanced;
+                    count = omega (arith, f .many);
+                    within = λ j m. omega (arith, s .within j m);
+                    once = follow-distinct (pieceAt t) 0 (rows (f .tree)) (s .order);
+                    room = omega (arith, fits);
+                  };
                   few = small;
                   order = s .order;
                 };
@@ -418,8 +415,8 @@ module _ {t : List ℕ} {kind used last count : ℕ} (ec : count ≡ column t 0 
 
         no : WellFormed t kind used last → n ≡ count
         no r =
-            let one : r .rep .linked .tree ≡ f .tree = shape-one t root (r .rep .linked .tree) (f .tree) (stands-whole r .shape) (s .shape) in
-            omega (arith, f .many, ap (λ (T : Tree). length (rows T)) one, ap length (r .rep .linked .is), r .rep .linked .count)
+            let one : r .rep .linked .dense .tree ≡ f .tree = shape-one t root (r .rep .linked .dense .tree) (f .tree) (stands-whole r .shape) (s .shape) in
+            omega (arith, f .many, ap (λ (T : Tree). length (rows T)) one, ap length (r .rep .linked .dense .is), r .rep .linked .dense .count)
 
 -- the steps, for `search` at a return
 pub ruleset testing = (not-true, not-false, row-stands-past, row-stands-zero, row-stands-high, row-stands-right-heavy, row-stands-left-heavy, row-stands-right, row-stands-left, row-fits-low, row-fits-empty, row-fits-wraps, row-fits-long, row-fits-past, row-fits-late, walk-leaf, walk-stop, walk-misplaced, walk-left-bad, walk-full, walk-misfit, walk-right, test-small, test-bad)

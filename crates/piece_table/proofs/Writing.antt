@@ -7,7 +7,8 @@ use native.Mathlib.Omega.{arith}
 use lib.Dec.{ltb}
 use lib.ListN.{length, set, length-set, length-map}
 use lib.Seq.{getD-set-same, getD-set-other}
-use Rattle.lists.proofs.Maps.{map-append}
+use Rattle.lists.proofs.Lists.{all-of-mem, mem-left, mem-right}
+use Rattle.lists.proofs.Maps.{map-append, map-all}
 use Rattle.lists.specs.Lists.{Mem, here, there, Distinct, Ascending}
 use Rattle.history.specs.Lent.{rowWidth}
 use Rattle.tables.specs.Columns.{column, pieceOffset, pieceLength, pieceFirst, piecesCount, piecesRoot, pieceDepth, pieceLeft}
@@ -17,8 +18,8 @@ use Rattle.merge_set.proofs.Links.{Put, put-at, mem-put, mem-unput, distinct-pu
 use Rattle.merge_set.proofs.Order.{inserted-put, inserted-rows}
 use Rattle.merge_set.specs.Table.{Good, Valid, Shape, Result, Inserted}
 use Rattle.merge_set.specs.Tree.{Tree, rows, inserted, inOrder}
-use Rattle.piece_table.proofs.Order.{map-same, ascending-same, follow-part, follow-from}
-use Rattle.piece_table.proofs.Removing.{piece-same, linked-ascending, linked-good, linked-depth, linked-valid}
+use Rattle.piece_table.proofs.Order.{ascending-same, follow-part, follow-from, follow-distinct}
+use Rattle.piece_table.proofs.Removing.{piece-same, linked-ascending, linked-depth, linked-valid}
 use Rattle.piece_table.specs.Calls.{HeadSet, WroteRow, InsertedPiece, TrimmedBack, TrimmedFront, endAt}
 use Rattle.piece_table.specs.Piece.{PieceRow, pieceAt, part, Filled, Follow, placed}
 use Rattle.piece_table.specs.Rep.{Linked, Rep, Becomes}
@@ -65,39 +66,34 @@ write-row-done {t} {t₁} {t₂} {t₃} {t₄} {t₅} {k} {first} {size} {writte
 pub rewritten : {t t′ : List ℕ} {k : ℕ} {q : PieceRow} (xs ys : List ℕ) → Linked t (xs ++ k ∷ ys) → WroteRow t t′ k q
     → Follow 0 (map (pieceAt t) xs ++ q ∷ map (pieceAt t) ys) → Becomes t t′ (map (pieceAt t) xs ++ q ∷ map (pieceAt t) ys)
 rewritten {t} {t′} {k} {q} xs ys r w f =
-    let dk : Distinct (k ∷ (xs ++ ys)) = distinct-put (put-at k xs ys) (linked-good r .distinct) in
+    let dk : Distinct (k ∷ (xs ++ ys)) = distinct-put (put-at k xs ys) (r .dense .once) in
     let vk : Valid t k = linked-valid r (mem-unput (put-at k xs ys) (here refl)) in
     let head : (c : ℕ) → c < rowWidth → column t′ 0 c ≡ column t 0 c = λ c h. w .rest 0 c h (λ z. absurd (omega (arith, vk .some))) in
     let root : column t′ 0 piecesRoot ≡ column t 0 piecesRoot = head 0 (omega arith) in
     let count : column t′ 0 piecesCount ≡ column t 0 piecesCount = head 1 (omega arith) in
     let kept : (j : ℕ) → (j ≡ k → ⊥) → pieceAt t′ j ≡ pieceAt t j = λ j n. piece-same t t′ j j (λ c h m. w .rest j c h (λ z. absurd (n z))) in
-    let onL : map (pieceAt t′) xs ≡ map (pieceAt t) xs = map-same (pieceAt t′) (pieceAt t) xs (λ j m. kept j (λ z. dk .0 (rw z at (mem-first xs ys m)))) in
-    let onR : map (pieceAt t′) ys ≡ map (pieceAt t) ys = map-same (pieceAt t′) (pieceAt t) ys (λ j m. kept j (λ z. dk .0 (rw z at (mem-second xs ys m)))) in
+    let onL : map (pieceAt t′) xs ≡ map (pieceAt t) xs = map-all (pieceAt t′) (pieceAt t) (all-of-mem xs (λ j m. kept j (λ z. dk .0 (rw z at (mem-left xs ys m))))) in
+    let onR : map (pieceAt t′) ys ≡ map (pieceAt t) ys = map-all (pieceAt t′) (pieceAt t) (all-of-mem ys (λ j m. kept j (λ z. dk .0 (rw z at (mem-right xs ys m))))) in
     let pieces : map (pieceAt t′) (xs ++ k ∷ ys) ≡ map (pieceAt t) xs ++ q ∷ map (pieceAt t) ys = map-append (pieceAt t′) xs (k ∷ ys) ∙ ap₂ _++_ onL (ap₂ _∷_ (w .there vk) onR) in
     let rep : Rep t′ (map (pieceAt t) xs ++ q ∷ map (pieceAt t) ys) = record {
       links = xs ++ k ∷ ys;
       linked = record {
-        tree = r .tree;
-        is = r .is;
-        shape = rw root (stays t t′ (w .len) (column t 0 piecesRoot) (r .tree) (λ j c m lo hi. w .rest j c (omega arith) (λ z. (lo, hi))) (r .shape));
-        balanced = r .balanced;
-        count = r .count ∙ sym count;
-        within = λ j m. rw count (r .within j m);
-        room = rw count (omega (arith, r .room, w .len));
+        dense = record {
+          tree = r .dense .tree;
+          is = r .dense .is;
+          shape = rw root (stays t t′ (w .len) (column t 0 piecesRoot) (r .dense .tree) (λ j c m lo hi. w .rest j c (omega arith) (λ z. (lo, hi))) (r .dense .shape));
+          balanced = r .dense .balanced;
+          count = r .dense .count ∙ sym count;
+          within = λ j m. rw count (r .dense .within j m);
+          once = r .dense .once;
+          room = rw count (omega (arith, r .dense .room, w .len));
+        };
         few = omega (arith, r .few, w .len);
         order = rw pieces f;
       };
       pieces = pieces;
     } in
     record { rep = rep; len = w .len }
-  where
-    mem-first : {j : ℕ} (xs ys : List ℕ) → Mem j xs → Mem j (xs ++ ys)
-    mem-first (x ∷ xs) ys (here e) = here e
-    mem-first (x ∷ xs) ys (there m) = there (mem-first xs ys m)
-
-    mem-second : {j : ℕ} (xs ys : List ℕ) → Mem j ys → Mem j (xs ++ ys)
-    mem-second [] ys m = m
-    mem-second (x ∷ xs) ys m = there (mem-second xs ys m)
 
 -- ── `trim_back`, `trim_front` ──
 
@@ -197,7 +193,7 @@ module _ {t : List ℕ} {k first was size offset : ℕ} (ew : was ≡ column t k
 -- ── `insert_piece` ──
 
 pub insert-piece-full : {t : List ℕ} {count : ℕ} (p : PieceRow) → count ≡ column t 0 piecesCount → length t / 8 ≤ count → InsertedPiece t t p
-insert-piece-full {t} {count} p ec h = record { done = λ ps r s f. absurd (omega (arith, r .linked .room)) }
+insert-piece-full {t} {count} p ec h = record { done = λ ps r s f. absurd (omega (arith, r .linked .dense .room)) }
 
 -- a link put in order is its piece put in order
 map-inOrder : (key : ℕ → ℕ) (f : ℕ → PieceRow) (x : ℕ) (xs : List ℕ) → ((j : ℕ) → Mem j (x ∷ xs) → key j ≡ f j .first) → map f (inOrder key x xs) ≡ placed (f x) (map f xs)
@@ -225,43 +221,46 @@ module _ {t t₁ t₂ t₃ : List ℕ} {root count top : ℕ} {p : PieceRow} (er
       go ps rep space follow =
           let xs : List ℕ = rep .links in
           let r : Linked t xs = rep .linked in
-          let T : Tree = r .tree in
+          let T : Tree = r .dense .tree in
           let x : ℕ = count + 1 in
           let key : ℕ → ℕ = λ j. column t₁ j pieceFirst in
           let n : length ps ≡ length xs = ap length (sym (rep .pieces)) ∙ length-map xs (pieceAt t) in
-          let fresh : Mem x xs → ⊥ = λ m. omega (arith, r .within x m, ec) in
+          let fresh : Mem x xs → ⊥ = λ m. omega (arith, r .dense .within x m, ec) in
           let old : (j : ℕ) → Mem j xs → j ≡ count + 1 → ⊥ = λ j m z. fresh (rw z at m) in
-          let vx : Valid t x = record { some = omega arith; room = omega (arith, n, r .count, ec) } in
+          let vx : Valid t x = record { some = omega arith; room = omega (arith, n, r .dense .count, ec) } in
           let vx₁ : Valid t₁ x = record { some = omega arith; room = omega (arith, vx .room, w .len) } in
-          let shape₁ : Shape t₁ root T = stays t t₁ (w .len) root T (λ k i m lo hi. w .rest k i (omega arith) (λ z. (lo, hi))) (rw er (r .shape)) in
-          let good : Good (x ∷ rows T) = rw (r .is) (record { distinct = (fresh, linked-good r .distinct); few = omega (arith, r .count, r .few, r .room) }) in
+          let shape₁ : Shape t₁ root T = stays t t₁ (w .len) root T (λ k i m lo hi. w .rest k i (omega arith) (λ z. (lo, hi))) (rw er (r .dense .shape)) in
+          let good : Good (x ∷ rows T) = rw (r .dense .is) (record { distinct = (fresh, r .dense .once); few = omega (arith, r .dense .count, r .few, r .dense .room) }) in
           let res : Result t₁ t₂ top (inserted key x T) (x ∷ rows T) = ins .done T shape₁ (linked-depth r) vx₁ good in
           let T′ : Tree = inserted key x T in
-          let put : Put x xs (rows T′) = rw (r .is) at (inserted-put key x T) in
+          let put : Put x xs (rows T′) = rw (r .dense .is) at (inserted-put key x T) in
           let len₂ : length t₂ ≡ length t = res .only .len ∙ w .len in
           let len₃ : length t₃ ≡ length t = head .len ∙ len₂ in
-          let big : 8 ≤ length t₂ = omega (arith, r .room, len₂) in
+          let big : 8 ≤ length t₂ = omega (arith, r .dense .room, len₂) in
           let value : (j c : ℕ) → 0 < j → c < rowWidth → (pieceLeft ≤ c → c ≤ pieceDepth → ⊥) → column t₃ j c ≡ column t₁ j c = λ j c l h m. head .rest j c l ∙ res .only .same j c h (λ _ lo hi. m lo hi) in
           let some : (j : ℕ) → Mem j (x ∷ xs) → 0 < j = λ j. among (λ z. omega arith) (λ m. linked-valid r m .some) in
           let kept : (j : ℕ) → Mem j xs → pieceAt t₃ j ≡ pieceAt t j = λ j m. piece-same t t₃ j j (λ c h l. value j c (some j (there m)) h l ∙ w .rest j c h (λ z. absurd (old j m z))) in
           let new : pieceAt t₃ x ≡ p = piece-same t₁ t₃ x x (λ c h l. value x c (omega arith) h l) ∙ w .there vx in
-          let asc : Ascending key (rows T) = rw (r .is) (ascending-same (λ j. column t j pieceFirst) key xs (λ j m. w .rest j 0 (omega arith) (λ z. absurd (old j m z))) (linked-ascending r)) in
-          let order : rows T′ ≡ inOrder key x xs = inserted-rows key x T asc ∙ ap (inOrder key x) (r .is) in
-          let same : map (pieceAt t₃) xs ≡ ps = map-same (pieceAt t₃) (pieceAt t) xs kept ∙ rep .pieces in
+          let asc : Ascending key (rows T) = rw (r .dense .is) (ascending-same (λ j. column t j pieceFirst) key xs (λ j m. w .rest j 0 (omega arith) (λ z. absurd (old j m z))) (linked-ascending r)) in
+          let order : rows T′ ≡ inOrder key x xs = inserted-rows key x T asc ∙ ap (inOrder key x) (r .dense .is) in
+          let same : map (pieceAt t₃) xs ≡ ps = map-all (pieceAt t₃) (pieceAt t) (all-of-mem xs kept) ∙ rep .pieces in
           let pieces : map (pieceAt t₃) (rows T′) ≡ placed p ps
           = ap (map (pieceAt t₃)) order ∙ map-inOrder key (pieceAt t₃) x xs (λ j m. sym (value j 0 (some j m) (omega arith) (λ lo hi. omega arith))) ∙ ap₂ placed new same in
-          let bound : (j : ℕ) → Mem j (x ∷ xs) → j ≤ count + 1 = λ j. among (λ z. omega arith) (λ m. omega (arith, r .within j m, ec)) in
-          let g : Grown T T′ = inserted-balanced key x T (r .balanced) in
+          let bound : (j : ℕ) → Mem j (x ∷ xs) → j ≤ count + 1 = λ j. among (λ z. omega arith) (λ m. omega (arith, r .dense .within j m, ec)) in
+          let g : Grown T T′ = inserted-balanced key x T (r .dense .balanced) in
           let out : Rep t₃ (placed p ps) = record {
             links = rows T′;
             linked = record {
-              tree = T′;
-              is = refl;
-              shape = rw (head .is-root big) (stays t₂ t₃ (head .len) top T′ (λ k i m lo hi. head .rest k i (some k (mem-put put m))) (res .shape));
-              balanced = g .balanced;
-              count = rw (head .is-count big) (put-length put ∙ omega (arith, r .count, ec));
-              within = λ j m. rw (head .is-count big) (bound j (mem-put put m));
-              room = rw (head .is-count big) (omega (arith, len₃, n, r .count, ec));
+              dense = record {
+                tree = T′;
+                is = refl;
+                shape = rw (head .is-root big) (stays t₂ t₃ (head .len) top T′ (λ k i m lo hi. head .rest k i (some k (mem-put put m))) (res .shape));
+                balanced = g .balanced;
+                count = rw (head .is-count big) (put-length put ∙ omega (arith, r .dense .count, ec));
+                within = λ j m. rw (head .is-count big) (bound j (mem-put put m));
+                once = follow-distinct (pieceAt t₃) 0 (rows T′) (rw pieces follow);
+                room = rw (head .is-count big) (omega (arith, len₃, n, r .dense .count, ec));
+              };
               few = omega (arith, r .few, len₃);
               order = rw pieces follow;
             };

@@ -29,9 +29,6 @@ use tables::piece::WRITTEN;
 // No balanced tree of fewer than 2^63 rows is deeper.
 pub const DEEPEST: u64 = 92;
 
-// The largest number.
-const LARGEST: u64 = 18446744073709551615;
-
 // Sets the head of the table.
 fn set_head(table: &mut [u64], root: u64, count: u64)
     ensures { λ _. ⌜ HeadSet (now (table .entry)) (now (table .exit)) root count ⌝ }
@@ -165,7 +162,7 @@ pub fn trim_front(table: &mut [u64], link: u64, first: u64)
     if length < cut {
         return;
     }
-    if LARGEST - offset < cut {
+    if u64::MAX - offset < cut {
         return;
     }
     tables::put(table, link, FIRST, first);
@@ -224,13 +221,13 @@ fn row_fits(table: &[u64], link: u64, low: u64, kind: u64, used: u64, last: u64)
     let written = tables::get(table, link, WRITTEN);
     let offset = tables::get(table, link, OFFSET);
     let owner = tables::get(table, link, OWNER);
-    if first < low {
+    if merge_set::starts_below(table, link, low) {
         return false;
     }
     if length == 0 {
         return false;
     }
-    if LARGEST - first < length {
+    if u64::MAX - first < length {
         return false;
     }
     if used < length {

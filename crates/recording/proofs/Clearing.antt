@@ -7,20 +7,22 @@ use Prim.Native.Nat.{ℕ, _+_, _-_, _≤_, _<_, min, max}
 use native.Mathlib.Omega.{arith}
 use lib.ListN.{length, length-append}
 use borrow.Author.Tests.{ltb-true, ltb-false, not-true, not-false}
-use Rattle.lists.specs.Lists.{All, all-nil, all-cons}
-use Rattle.lists.proofs.Lists.{all-append, all-left, all-right}
+use Rattle.lists.specs.Lists.{all-nil, all-cons}
+use Rattle.lists.proofs.Lists.{all-append, all-left, all-right, all-tail}
 use Rattle.lists.proofs.Maps.{map-append}
 use Rattle.tables.specs.Columns.{column, pieceLength, pieceWritten, pieceOffset, pieceOwner, piecesCount}
-use Rattle.merge_set.specs.Table.{firstAt}
+use Rattle.block_table.specs.Appended.{AppendedRow}
+use Rattle.block_table.proofs.Appending.{appended-none, countable-less}
+use Rattle.merge_set.specs.Table.{firstAt, StartsBelow}
 use Rattle.piece_table.specs.Piece.{PieceRow, rowEnd, pieceAt, part, rowsBelow, rowsInside, rowsAbove}
 use Rattle.piece_table.specs.Calls.{endAt, EndsAfter, Sought, RemovedPiece, TrimmedFront}
 use Rattle.piece_table.proofs.Order.{follow-filled, follow-right}
 use Rattle.piece_table.proofs.Parts.{Left, Right, apart, covered-below, covered-above, front-cut, inside-left, inside-right, inside-skip, inside-here}
 use Rattle.piece_table.proofs.Seeing.{rep-follow, rep-count, Seen, seen-none, seen-some, becomes-same, becomes-eq, becomes-then, left-alone}
 use Rattle.piece_table.proofs.Writing.{piece-eq}
-use Rattle.recording.specs.Blocks.{appended}
-use Rattle.recording.specs.Calls.{AppendedBlock, innerPart, RecordedPart, Uncrossed, Clearing, Clear, Given, ClearedOne, Cleared}
-use Rattle.recording.proofs.Blocks.{appended-none, appended-append, countable-less, countable-more}
+use Rattle.recording.specs.Recorded.{recorded}
+use Rattle.recording.specs.Calls.{innerPart, RecordedPart, Uncrossed, Clearing, Clear, Given, ClearedOne, Cleared}
+use Rattle.recording.proofs.Recorded.{recorded-append, recorded-more}
 
 -- ── `record_part` ──
 
@@ -36,11 +38,11 @@ module _ {t b : List ℕ} {link tick first end was size offset from : ℕ} (ew :
     record-part-wide h = record { done = λ p lt lo hi c. absurd (omega (arith, p .stored)) }
 
     pub record-part-done : {b₁ : List ℕ} {written owner : ℕ} → written ≡ column t link pieceWritten → owner ≡ column t link pieceOwner
-        → AppendedBlock b b₁ tick (record { first = from; size = to - from; written = written; offset = offset + (from - was); owner = owner }) → RecordedPart t b b₁ link tick first end
+        → AppendedRow b b₁ (record { first = from; size = to - from; created = written; destroyed = tick; offset = offset + (from - was); owner = owner }) → RecordedPart t b b₁ link tick first end
     record-part-done {b₁} {written} {owner} ewr eow one =
         record {
           done = λ p lt lo hi c.
-              one .done c ∙ ap (λ (q : PieceRow). appended tick (q ∷ []) b) (piece-eq a z ewr o eow);
+              one .done c ∙ ap (λ (q : PieceRow). recorded tick (q ∷ []) b) (piece-eq a z ewr o eow);
         }
       where
         a : from ≡ max first (firstAt t link)
@@ -55,8 +57,8 @@ module _ {t b : List ℕ} {link tick first end was size offset from : ℕ} (ew :
 -- ── `clear_one` ──
 
 -- where nothing lies inside nothing is recorded
-pub nothing-inside : {b : List ℕ} (tick : ℕ) {qs : List PieceRow} → qs ≡ [] → b ≡ appended tick qs b
-nothing-inside {b} tick e = sym (ap (λ (l : List PieceRow). appended tick l b) e ∙ appended-none tick b)
+pub nothing-inside : {b : List ℕ} (tick : ℕ) {qs : List PieceRow} → qs ≡ [] → b ≡ recorded tick qs b
+nothing-inside {b} tick e = sym (ap (λ (l : List PieceRow). recorded tick l b) e ∙ appended-none b)
 
 stops : {t t′ b b′ : List ℕ} {tick f e : ℕ} → ((ps : List PieceRow) → Given t b f e ps → Uncrossed f ps → Clear t t′ b b′ tick f e ps) → ClearedOne t t′ b b′ tick f e false
 stops g = record { step = λ z. absurd (false≢true z); stop = λ _. g }
@@ -68,9 +70,6 @@ uncrossed-here {t} {f} {link} {ps} v u = go (all-right (map (pieceAt t) (v .xs))
     go : Uncrossed f (pieceAt t link ∷ map (pieceAt t) (v .ys)) → f ≤ firstAt t link
     go (all-cons (inl a) r) = absurd (omega (arith, v .past))
     go (all-cons (inr a) r) = a
-
-all-tail : {P : PieceRow → Type 0} {p : PieceRow} {ps : List PieceRow} → All P (p ∷ ps) → All P ps
-all-tail (all-cons h a) = a
 
 -- what of the pieces lies inside is what of the link's lies there, and what of those behind it
 pub inside-seen : {t : List ℕ} {f link : ℕ} {ps : List PieceRow} (e : ℕ) (v : Seen t f link ps) → f < e → firstAt t link < e
@@ -84,8 +83,8 @@ clear-one-none {t} {b} {tick} {f} {e} {link} s z =
     record { becomes = becomes-same (g .rep) (left-alone f e (g .some) l (rep-follow (g .rep))); blocks = nothing-inside tick (inside-left f e l) })
 
 module _ {t b : List ℕ} {tick f e link was : ℕ} (s : Sought t f link) (nz : link ≡ 0 → ⊥) (ew : was ≡ firstAt t link) where
-  pub clear-one-right : e ≤ was → ClearedOne t t b b tick f e false
-  clear-one-right le =
+  right-of : e ≤ was → ClearedOne t t b b tick f e false
+  right-of le =
       stops (λ ps g u.
       let v : Seen t f link ps = seen-some s (g .rep) nz in
       let p : PieceRow = pieceAt t link in
@@ -100,14 +99,14 @@ module _ {t b : List ℕ} {tick f e link was : ℕ} (s : Sought t f link) (nz : 
 
   -- so its block can be counted, and is recorded
   pub recorded-seen : {b₁ : List ℕ} {ps : List PieceRow} → RecordedPart t b b₁ link tick f e → (g : Given t b f e ps) → firstAt t link < e
-      → b₁ ≡ appended tick (innerPart t link f e ∷ []) b
+      → b₁ ≡ recorded tick (innerPart t link f e ∷ []) b
   recorded-seen rec g lt =
       let v : Seen t f link _ = seen-some s (g .rep) nz in
       rec .done (v .whole) (g .some) lt (v .past) (countable-less (omega (arith, ap length (inside-seen e v (g .some) lt))) (g .space))
 
   module _ {q : Bool} {t₁ b₁ : List ℕ} (lt : was < e) (rec : RecordedPart t b b₁ link tick f e) (eq : EndsAfter t link e q) where
-    pub clear-one-front : q ≡ true → TrimmedFront t t₁ link e → ClearedOne t t₁ b b₁ tick f e false
-    clear-one-front y trim =
+    front-met : q ≡ true → TrimmedFront t t₁ link e → ClearedOne t t₁ b b₁ tick f e false
+    front-met y trim =
         stops (λ ps g u.
         let v : Seen t f link ps = seen-some s (g .rep) nz in
         let p : PieceRow = pieceAt t link in
@@ -120,11 +119,11 @@ module _ {t b : List ℕ} {tick f e link was : ℕ} (s : Sought t f link) (nz : 
           becomes = becomes-eq (trim .done (v .xs) (v .ys) (v .linked) (omega arith) over)
               (subst (λ (l : List PieceRow). rowsBelow f l ++ rowsAbove e l ≡ A ++ part e (rowEnd p) p ∷ B) (sym (v .is))
               (front-cut f e (g .some) A p B (v .left) (v .filled) (follow-filled (rowEnd p) B (v .after)) (follow-right (rowEnd p) (rowEnd p) B (omega arith) (v .after)) over here-on (omega arith)));
-          blocks = recorded-seen rec g (omega arith) ∙ ap (λ (l : List PieceRow). appended tick l b) (sym (inside-seen e v (g .some) (omega arith) ∙ ap (λ (l : List PieceRow). innerPart t link f e ∷ l) none));
+          blocks = recorded-seen rec g (omega arith) ∙ ap (λ (l : List PieceRow). recorded tick l b) (sym (inside-seen e v (g .some) (omega arith) ∙ ap (λ (l : List PieceRow). innerPart t link f e ∷ l) none));
         })
 
-    pub clear-one-more : q ≡ false → RemovedPiece t t₁ link → ClearedOne t t₁ b b₁ tick f e true
-    clear-one-more n gone = record { step = λ _. go; stop = λ z. absurd (true≢false z) }
+    whole-met : q ≡ false → RemovedPiece t t₁ link → ClearedOne t t₁ b b₁ tick f e true
+    whole-met n gone = record { step = λ _. go; stop = λ z. absurd (true≢false z) }
       where
         go : (ps : List PieceRow) → Given t b f e ps → Uncrossed f ps → Clearing t t₁ b b₁ tick f e (length ps - 1) ps
         go ps g u =
@@ -146,6 +145,18 @@ module _ {t b : List ℕ} {tick f e link was : ℕ} (s : Sought t f link) (nz : 
               few = omega (arith, ap length (v .is), length-append A B, length-append A (p ∷ B));
             }
 
+-- by the test whether the piece starts before the end
+module _ {t b : List ℕ} {tick f e link : ℕ} {starts : Bool} (s : Sought t f link) (nz : link ≡ 0 → ⊥) (tested : StartsBelow t link e starts) where
+  pub clear-one-right : starts ≡ false → ClearedOne t t b b tick f e false
+  clear-one-right h = right-of s nz refl (ltb-false (firstAt t link) e (sym (tested .is) ∙ h))
+
+  module _ {q : Bool} {t₁ b₁ : List ℕ} (h : starts ≡ true) (rec : RecordedPart t b b₁ link tick f e) (eq : EndsAfter t link e q) where
+    pub clear-one-front : q ≡ true → TrimmedFront t t₁ link e → ClearedOne t t₁ b b₁ tick f e false
+    clear-one-front = front-met s nz refl (ltb-true (firstAt t link) e (sym (tested .is) ∙ h)) rec eq
+
+    pub clear-one-more : q ≡ false → RemovedPiece t t₁ link → ClearedOne t t₁ b b₁ tick f e true
+    clear-one-more = whole-met s nz refl (ltb-true (firstAt t link) e (sym (tested .is) ∙ h)) rec eq
+
 -- ── `clear` ──
 
 -- between the rounds: `left` rounds suffice
@@ -164,7 +175,7 @@ clear-start {t} {b} {tick} el =
             now = ps;
             gone = [];
             becomes = record { rep = g .rep; len = refl };
-            blocks = sym (appended-none tick b);
+            blocks = sym (appended-none b);
             inside = refl;
             same-below = refl;
             same-above = refl;
@@ -179,7 +190,7 @@ given-next {tick = tick} {f} {e} g k =
     record {
       rep = k .becomes .rep;
       some = g .some;
-      space = rw (k .blocks) (countable-more tick (k .gone) (rowsInside f e (k .now)) _ (rw (k .inside) at (g .space)));
+      space = rw (k .blocks) (recorded-more tick (k .gone) (rowsInside f e (k .now)) _ (rw (k .inside) at (g .space)));
     }
 
 module _ {t t₁ t₂ b b₁ b₂ : List ℕ} {tick f e left : ℕ} {q : Bool} (c : Round t t₁ b b₁ tick f e left) (o : ClearedOne t₁ t₂ b₁ b₂ tick f e q) where
@@ -194,7 +205,7 @@ module _ {t t₁ t₂ b b₁ b₂ : List ℕ} {tick f e left : ℕ} {q : Bool} (
             now = n .now;
             gone = k .gone ++ n .gone;
             becomes = becomes-then (k .becomes) (n .becomes);
-            blocks = n .blocks ∙ ap (appended tick (n .gone)) (k .blocks) ∙ appended-append tick (k .gone) (n .gone) b (g .space .head);
+            blocks = n .blocks ∙ ap (recorded tick (n .gone)) (k .blocks) ∙ recorded-append tick (k .gone) (n .gone) b (g .space .head);
             inside = k .inside ∙ ap (λ (l : List PieceRow). k .gone ++ l) (n .inside) ∙ sym (append-assoc (k .gone) (n .gone) (rowsInside f e (n .now)));
             same-below = n .same-below ∙ k .same-below;
             same-above = n .same-above ∙ k .same-above;
@@ -211,7 +222,7 @@ module _ {t t₁ t₂ b b₁ b₂ : List ℕ} {tick f e left : ℕ} {q : Bool} (
           let z : Clear t₁ t₂ b₁ b₂ tick f e (k .now) = o .stop n (k .now) (given-next g k) (k .uncrossed) in
           record {
             becomes = becomes-eq (becomes-then (k .becomes) (z .becomes)) (ap₂ (λ (x y : List PieceRow). x ++ y) (sym (k .same-below)) (sym (k .same-above)));
-            blocks = z .blocks ∙ ap (appended tick (rowsInside f e (k .now))) (k .blocks) ∙ appended-append tick (k .gone) (rowsInside f e (k .now)) b (g .space .head) ∙ ap (λ (l : List PieceRow). appended tick l b) (sym (k .inside));
+            blocks = z .blocks ∙ ap (recorded tick (rowsInside f e (k .now))) (k .blocks) ∙ recorded-append tick (k .gone) (rowsInside f e (k .now)) b (g .space .head) ∙ ap (λ (l : List PieceRow). recorded tick l b) (sym (k .inside));
           }
 
 pub clear-end : {t t′ b b′ : List ℕ} {tick f e left : ℕ} → Round t t′ b b′ tick f e left → left ≤ 0 → Cleared t t′ b b′ tick f e
@@ -227,7 +238,7 @@ clear-end {t} {t′} {b} {b′} {tick} {f} {e} {left} c z = record { done = go }
         let l : Left f (k .now) = nothing (k .now) (omega (arith, k .few)) in
         record {
           becomes = becomes-eq (k .becomes) (ap₂ (λ (x y : List PieceRow). x ++ y) (sym (k .same-below)) (sym (k .same-above)) ∙ left-alone f e (g .some) l (rep-follow (k .becomes .rep)));
-          blocks = nothing-inside tick (inside-left f e l) ∙ ap (appended tick (rowsInside f e (k .now))) (k .blocks) ∙ appended-append tick (k .gone) (rowsInside f e (k .now)) b (g .space .head) ∙ ap (λ (l : List PieceRow). appended tick l b) (sym (k .inside));
+          blocks = nothing-inside tick (inside-left f e l) ∙ ap (recorded tick (rowsInside f e (k .now))) (k .blocks) ∙ recorded-append tick (k .gone) (rowsInside f e (k .now)) b (g .space .head) ∙ ap (λ (l : List PieceRow). recorded tick l b) (sym (k .inside));
         }
 
 -- the steps, for `search` at a return

@@ -1,4 +1,4 @@
-pub mod Blocks
+pub mod Recorded
 pub mod Clearing
 pub mod Updating
 pub mod Extracting

@@ -1,70 +1,17 @@
 -- What an update leaves in the tables is what the ledger's update says: pieces, blocks, and all that stays. Assumes nothing.
-use mathlib.Core.Path.{_≡_, refl, sym, ap, ap₂, _∙_}
-use mathlib.Core.Logic.{_⊎_, inl, inr}
-use mathlib.Core.List.{List, [], _∷_, _++_, map, map-map}
-use Prim.Native.Nat.{ℕ, suc, _+_, _-_, _≤_, _<_}
-use native.Mathlib.Omega.{arith}
-use lib.ListN.{length, getD, take, drop}
-use lib.Seq.{sets, getD-set-other}
-use Rattle.lists.specs.Lists.{All, countFrom}
+use mathlib.Core.Path.{_≡_, sym, ap, ap₂, _∙_}
+use mathlib.Core.List.{List, _∷_, _++_, map, map-map}
+use Prim.Native.Nat.{ℕ, _+_, _≤_}
+use lib.ListN.{length, take}
+use Rattle.lists.specs.Lists.{All}
 use Rattle.lists.proofs.Lists.{all-map}
 use Rattle.lists.proofs.Maps.{map-append, map-all}
-use Rattle.lists.proofs.Stores.{getD-sets-out}
-use Rattle.history.specs.Lent.{rowWidth}
 use Rattle.history.specs.Words.{Piece, Block, Operation, stretchOf, pieceOf, blockOf}
 use Rattle.history.specs.Ledger.{Moment, updateBy, settled}
-use Rattle.tables.specs.Columns.{blockColumn, blockFirst, blockLength, blockCreated, blockDestroyed, blockOffset, blockOwner, headCount}
-use Rattle.ordering.specs.Blocks.{blockOfRow, blocksOf, SameRows}
-use Rattle.ordering.proofs.Blocks.{blocks-more, blocks-kept, part-of-take}
+use Rattle.block_table.proofs.Blocks.{part-kept}
 use Rattle.piece_table.specs.Piece.{PieceRow, rowEnd, rowsBelow, rowsInside, rowsAbove}
 use Rattle.piece_table.specs.Shown.{shown, Stored}
 use Rattle.piece_table.proofs.Showing.{shown-below, shown-inside, shown-above}
-use Rattle.recording.specs.Blocks.{blockRow, blockRows, blockAt, blockCount, appended}
-use Rattle.recording.proofs.Blocks.{block-rows-length, appended-row}
-
--- ── blocks ──
-
--- nothing changes but the rows behind the count and the count
-pub appended-out : (d : ℕ) (ps : List PieceRow) (b : List ℕ) (i : ℕ) → (i ≡ blockAt 0 + headCount → ⊥) → (i < blockAt (blockCount b + 1)) ⊎ (blockAt (blockCount b + 1 + length ps) ≤ i)
-    → getD (appended d ps b) i 0 ≡ getD b i 0
-unfolding appended
-appended-out d ps b i n h =
-    getD-set-other (sets b (blockAt (blockCount b + 1)) (blockRows d ps)) (blockAt 0 + headCount) i (blockCount b + length ps) 0 n ∙ getD-sets-out (blockRows d ps) b (blockAt (blockCount b + 1)) i (outside h)
-  where
-    outside : (i < blockAt (blockCount b + 1)) ⊎ (blockAt (blockCount b + 1 + length ps) ≤ i) → (i < blockAt (blockCount b + 1)) ⊎ (blockAt (blockCount b + 1) + length (blockRows d ps) ≤ i)
-    outside (inl k) = inl k
-    outside (inr k) = inr (omega (arith, block-rows-length d ps))
-
-pub appended-kept : (d : ℕ) (ps : List PieceRow) (b : List ℕ) → SameRows b (appended d ps b) (blockCount b)
-appended-kept d ps b = record { same = λ i lo hi. appended-out d ps b i (λ e. omega arith) (inl (omega arith)) }
-
--- numbered rows that stand for the blocks of pieces, one after the other
-rows-of : (f : ℕ → Block) (g : PieceRow → Block) (q : PieceRow) (ps : List PieceRow) (k : ℕ) → ((i : ℕ) → i < length ps → f (k + i) ≡ g (getD ps i q)) → map f (countFrom k (length ps)) ≡ map g ps
-unfolding countFrom
-rows-of f g q [] k h = refl
-rows-of f g q (p ∷ ps) k h =
-    let z : k + 0 ≡ k = omega arith in
-    ap₂ (λ (x : Block) (l : List Block). x ∷ l) (ap f (sym z) ∙ h 0 (omega arith))
-    (rows-of f g q ps (suc k) (λ i l. let e : suc k + i ≡ k + suc i = omega arith in ap f e ∙ h (suc i) (omega arith)))
-
--- a row that holds a piece's numbers stands for its block
-block-of-row : (store t : List ℕ) (link d : ℕ) (p : PieceRow) → ((c : ℕ) → c < rowWidth → blockColumn t link c ≡ getD (blockRow d p) c 0) → blockOfRow store t link ≡ blockOf d (shown store p)
-unfolding blockOfRow
-block-of-row store t link d p f =
-    rw (f blockFirst (omega arith), f blockLength (omega arith), f blockCreated (omega arith), f blockDestroyed (omega arith), f blockOffset (omega arith), f blockOwner (omega arith))
-
--- the rows appended stand for the blocks that the pieces become
-pub appended-blocks : (store : List ℕ) (d : ℕ) (ps : List PieceRow) (b : List ℕ) → blockAt (blockCount b + 1 + length ps) ≤ length b
-    → blocksOf store (appended d ps b) (blockCount b + length ps) ≡ blocksOf store b (blockCount b) ++ map (λ p. blockOf d (shown store p)) ps
-appended-blocks store d ps b room =
-    blocks-more store (appended d ps b) (blockCount b) (length ps)
-    ∙ ap₂ (λ (l r : List Block). l ++ r) (blocks-kept store (appended-kept d ps b))
-    (rows-of (blockOfRow store (appended d ps b)) (λ p. blockOf d (shown store p)) none ps (suc (blockCount b)) (λ i h.
-    let e : suc (blockCount b) + i ≡ blockCount b + 1 + i = omega arith in
-    ap (blockOfRow store (appended d ps b)) e ∙ block-of-row store (appended d ps b) (blockCount b + 1 + i) d (getD ps i none) (λ c k. appended-row d ps none b i c room h k)))
-  where
-    none : PieceRow
-    none = record { first = 0; size = 0; written = 0; offset = 0; owner = 0 }
 
 -- ── pieces ──
 
@@ -76,7 +23,7 @@ shown-kept store store′ used same inside = map-all (shown store′) (shown sto
     one : (p : PieceRow) → p .offset + p .size ≤ used → shown store′ p ≡ shown store p
     one p h =
         ap {B = Piece} (λ (bs : List ℕ). record { kind = p .owner; stretch = record { first = p .first; bytes = bs }; written = p .written })
-        (sym (part-of-take (p .offset) (p .size) used store′ h) ∙ ap (λ (s : List ℕ). take (p .size) (drop (p .offset) s)) same ∙ part-of-take (p .offset) (p .size) used store h)
+        (part-kept (p .offset) (p .size) used store store′ same h)
 
 module _ (store : List ℕ) (ps : List PieceRow) (stored : All (Stored store) ps) (kind : ℕ) (m : Moment) (o : Operation) (p : PieceRow) (now : m .pieces ≡ map (shown store) ps) where
   -- the pieces that `apply_update` leaves are the ledger's, where the operation's bytes stand in the store

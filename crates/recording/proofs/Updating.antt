@@ -1,27 +1,28 @@
 -- `split`, `remove_overlapping` and `apply_update`: one step for each return. Assumes nothing.
-use mathlib.Core.Path.{_≡_, sym, ap, ap₂, subst, _∙_}
+use mathlib.Core.Path.{_≡_, refl, sym, ap, ap₂, subst, _∙_}
 use mathlib.Core.Logic.{inl, inr}
 use mathlib.Core.Bool.{Bool, true, false}
 use mathlib.Core.List.{List, [], _∷_, _++_, map, append-assoc}
 use Prim.Native.Nat.{ℕ, suc, _+_, _-_, _*_, _≤_, _<_}
 use native.Mathlib.Omega.{arith}
 use lib.ListN.{length, length-append, length-map}
-use borrow.Author.Tests.{ltb-true, ltb-false}
+use borrow.Author.Tests.{ltb-true, ltb-false, not-true, not-false}
 use Rattle.lists.specs.Lists.{all-nil, all-cons}
 use Rattle.lists.proofs.Lists.{all-append, all-map}
 use Rattle.lists.proofs.Maps.{map-append}
 use Rattle.history.specs.Lent.{rowWidth}
 use Rattle.tables.specs.Columns.{column, pieceFirst, pieceLength, pieceWritten, pieceOffset, pieceOwner}
-use Rattle.merge_set.specs.Table.{firstAt}
+use Rattle.block_table.specs.Appended.{Countable}
+use Rattle.merge_set.specs.Table.{firstAt, StartsBelow}
 use Rattle.piece_table.specs.Piece.{PieceRow, rowEnd, pieceAt, part, rowsBelow, rowsInside, rowsAbove, Filled, Follow, placed}
 use Rattle.piece_table.specs.Rep.{Linked, Rep, Becomes}
 use Rattle.piece_table.specs.Calls.{endAt, EndsAfter, Sought, TrimmedBack, InsertedPiece}
 use Rattle.piece_table.proofs.Order.{follow-filled, follow-right, follow-from, follow-between, placed-between}
 use Rattle.piece_table.proofs.Parts.{Left, Right, below-within, above-within, back-below, back-above, middle-cut, inside-left, inside-right, inside-skip}
 use Rattle.piece_table.proofs.Seeing.{rep-follow, Seen, seen-none, seen-some, becomes-same, becomes-eq, becomes-then, left-alone}
-use Rattle.recording.specs.Blocks.{appended, Countable}
+use Rattle.recording.specs.Recorded.{recorded}
 use Rattle.recording.specs.Calls.{innerPart, RecordedPart, Uncrossed, Clear, Given, Cleared, SplitPiece, RemovedOverlapping, Updated, AppliedUpdate}
-use Rattle.recording.proofs.Blocks.{appended-append, countable-more}
+use Rattle.recording.proofs.Recorded.{recorded-append, recorded-more}
 use Rattle.recording.proofs.Clearing.{nothing-inside, inside-seen, recorded-seen}
 
 -- ── `split` ──
@@ -90,8 +91,8 @@ remove-overlapping-none {t} {b} {tick} {f} {e} {link} s z = record { done = go }
         record { becomes = becomes-same (g .rep) (left-alone f e (g .some) l (rep-follow (g .rep))); blocks = nothing-inside tick (inside-left f e l) }
 
 module _ {t b : List ℕ} {tick f e link was : ℕ} (s : Sought t f link) (nz : link ≡ 0 → ⊥) (ew : was ≡ firstAt t link) where
-  pub remove-overlapping-clear : {t₁ b₁ : List ℕ} → f ≤ was → Cleared t t₁ b b₁ tick f e → RemovedOverlapping t t₁ b b₁ tick f e
-  remove-overlapping-clear {t₁} {b₁} le clear = record { done = go }
+  uncut-first : {t₁ b₁ : List ℕ} → f ≤ was → Cleared t t₁ b b₁ tick f e → RemovedOverlapping t t₁ b b₁ tick f e
+  uncut-first {t₁} {b₁} le clear = record { done = go }
     where
       go : (ps : List PieceRow) → Given t b f e ps → rowWidth * length (rowsBelow f ps ++ rowsAbove e ps) + rowWidth ≤ length t → Clear t t₁ b b₁ tick f e ps
       go ps g space =
@@ -103,8 +104,8 @@ module _ {t b : List ℕ} {tick f e link was : ℕ} (s : Sought t f link) (nz : 
           clear .done ps g (subst (Uncrossed f) (sym (v .is)) u)
 
   module _ {q : Bool} {t₁ b₁ : List ℕ} (lt : was < f) (rec : RecordedPart t b b₁ link tick f e) (eq : EndsAfter t link e q) where
-    pub remove-overlapping-middle : q ≡ true → SplitPiece t t₁ link f e → RemovedOverlapping t t₁ b b₁ tick f e
-    remove-overlapping-middle y cut = record { done = go }
+    cut-middle : q ≡ true → SplitPiece t t₁ link f e → RemovedOverlapping t t₁ b b₁ tick f e
+    cut-middle y cut = record { done = go }
       where
         go : (ps : List PieceRow) → Given t b f e ps → rowWidth * length (rowsBelow f ps ++ rowsAbove e ps) + rowWidth ≤ length t → Clear t t₁ b b₁ tick f e ps
         go ps g space =
@@ -124,11 +125,11 @@ module _ {t b : List ℕ} {tick f e link was : ℕ} (s : Sought t f link) (nz : 
             let none : rowsInside f e B ≡ [] = inside-right f e (follow-right e (rowEnd p) B (omega arith) (v .after)) in
             record {
               becomes = becomes-eq (cut .done (v .xs) (v .ys) (v .linked) (omega arith) h over room) is;
-              blocks = recorded-seen s nz ew rec g (omega arith) ∙ ap (λ (l : List PieceRow). appended tick l b) (sym (inside-seen e v h (omega arith) ∙ ap (λ (l : List PieceRow). innerPart t link f e ∷ l) none));
+              blocks = recorded-seen s nz ew rec g (omega arith) ∙ ap (λ (l : List PieceRow). recorded tick l b) (sym (inside-seen e v h (omega arith) ∙ ap (λ (l : List PieceRow). innerPart t link f e ∷ l) none));
             }
 
-    pub remove-overlapping-back : {t₂ b₂ : List ℕ} → q ≡ false → TrimmedBack t t₁ link f → Cleared t₁ t₂ b₁ b₂ tick f e → RemovedOverlapping t t₂ b b₂ tick f e
-    remove-overlapping-back {t₂} {b₂} n trim clear = record { done = go }
+    cut-back : {t₂ b₂ : List ℕ} → q ≡ false → TrimmedBack t t₁ link f → Cleared t₁ t₂ b₁ b₂ tick f e → RemovedOverlapping t t₂ b b₂ tick f e
+    cut-back {t₂} {b₂} n trim clear = record { done = go }
       where
         go : (ps : List PieceRow) → Given t b f e ps → rowWidth * length (rowsBelow f ps ++ rowsAbove e ps) + rowWidth ≤ length t → Clear t t₂ b b₂ tick f e ps
         go ps g space =
@@ -145,18 +146,30 @@ module _ {t b : List ℕ} {tick f e link was : ℕ} (s : Sought t f link) (nz : 
             let u : Uncrossed f (A ++ p₁ ∷ B) = all-append (all-map (λ q l. inl l) (v .left)) (all-cons {x = p₁} (inl (omega arith)) (all-map (λ q l. inr l) (follow-right f (rowEnd p) B (omega arith) (v .after)))) in
             let rest : rowsInside f e (A ++ p₁ ∷ B) ≡ rowsInside f e B = ap (rowsInside f e) (sym (append-assoc A (p₁ ∷ []) B)) ∙ inside-skip f e (A ++ p₁ ∷ []) B left in
             let whole : rowsInside f e ps ≡ (innerPart t link f e ∷ []) ++ rowsInside f e B = inside-seen e v h (omega arith) in
-            let rec₁ : b₁ ≡ appended tick (innerPart t link f e ∷ []) b = recorded-seen s nz ew rec g (omega arith) in
+            let rec₁ : b₁ ≡ recorded tick (innerPart t link f e ∷ []) b = recorded-seen s nz ew rec g (omega arith) in
             let g₁ : Given t₁ b₁ f e (A ++ p₁ ∷ B) = record {
               rep = one .rep;
               some = h;
-              space = rw (rec₁, rest) (countable-more tick (innerPart t link f e ∷ []) (rowsInside f e B) b (rw whole at (g .space)));
+              space = rw (rec₁, rest) (recorded-more tick (innerPart t link f e ∷ []) (rowsInside f e B) b (rw whole at (g .space)));
             } in
             let two : Clear t₁ t₂ b₁ b₂ tick f e (A ++ p₁ ∷ B) = clear .done (A ++ p₁ ∷ B) g₁ u in
             record {
               becomes = becomes-then one (becomes-eq (two .becomes)
                   (ap₂ (λ (x y : List PieceRow). x ++ y) (ap (rowsBelow f) (v .is) ∙ sym (back-below f e h A p B (omega arith) (omega arith))) (ap (rowsAbove e) (v .is) ∙ sym (back-above f e h A p B (omega arith) under))));
-              blocks = two .blocks ∙ ap₂ (appended tick) rest rec₁ ∙ appended-append tick (innerPart t link f e ∷ []) (rowsInside f e B) b (g .space .head) ∙ ap (λ (l : List PieceRow). appended tick l b) (sym whole);
+              blocks = two .blocks ∙ ap₂ (recorded tick) rest rec₁ ∙ recorded-append tick (innerPart t link f e ∷ []) (rowsInside f e B) b (g .space .head) ∙ ap (λ (l : List PieceRow). recorded tick l b) (sym whole);
             }
+
+-- by the test whether the piece starts before the first cell
+module _ {t b : List ℕ} {tick f e link : ℕ} {starts : Bool} (s : Sought t f link) (nz : link ≡ 0 → ⊥) (tested : StartsBelow t link f starts) where
+  pub remove-overlapping-clear : {t₁ b₁ : List ℕ} → starts ≡ false → Cleared t t₁ b b₁ tick f e → RemovedOverlapping t t₁ b b₁ tick f e
+  remove-overlapping-clear h = uncut-first s nz refl (ltb-false (firstAt t link) f (sym (tested .is) ∙ h))
+
+  module _ {q : Bool} {t₁ b₁ : List ℕ} (h : starts ≡ true) (rec : RecordedPart t b b₁ link tick f e) (eq : EndsAfter t link e q) where
+    pub remove-overlapping-middle : q ≡ true → SplitPiece t t₁ link f e → RemovedOverlapping t t₁ b b₁ tick f e
+    remove-overlapping-middle = cut-middle s nz refl (ltb-true (firstAt t link) f (sym (tested .is) ∙ h)) rec eq
+
+    pub remove-overlapping-back : {t₂ b₂ : List ℕ} → q ≡ false → TrimmedBack t t₁ link f → Cleared t₁ t₂ b₁ b₂ tick f e → RemovedOverlapping t t₂ b b₂ tick f e
+    remove-overlapping-back = cut-back s nz refl (ltb-true (firstAt t link) f (sym (tested .is) ∙ h)) rec eq
 
 -- ── `apply_update` ──
 
@@ -179,4 +192,4 @@ apply-update-done {t} {t₁} {t₂} {b} {b₁} p gone ins = record { done = go }
         record { becomes = becomes-then one (becomes-eq (ins .done (A ++ B) (one .rep) (omega (arith, n, space, one .len)) (rw order f)) (sym order)); blocks = z .blocks }
 
 -- the steps, for `search` at a return
-pub ruleset updating = (split-low, split-high, split-far, split-done, remove-overlapping-none, remove-overlapping-clear, remove-overlapping-middle, remove-overlapping-back, apply-update-far, apply-update-done)
+pub ruleset updating = (not-true, not-false, split-low, split-high, split-far, split-done, remove-overlapping-none, remove-overlapping-clear, remove-overlapping-middle, remove-overlapping-back, apply-update-far, apply-update-done)

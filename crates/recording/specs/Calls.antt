@@ -6,25 +6,17 @@ use mathlib.Core.Bool.{Bool, true, false}
 use mathlib.Core.List.{List, [], _∷_, _++_, map}
 use Prim.Native.Nat.{ℕ, _+_, _-_, _*_, _≤_, _<_, min, max}
 use lib.ListN.{length}
-use lib.Seq.{sets}
 use Rattle.lists.specs.Lists.{All}
 use Rattle.history.specs.Lent.{rowWidth}
 use Rattle.merge_set.specs.Tree.{Tree, height, rows}
 use Rattle.merge_set.specs.Table.{firstAt, Shape}
+use Rattle.block_table.specs.Appended.{Countable}
 use Rattle.piece_table.specs.Piece.{PieceRow, rowEnd, pieceAt, part, rowsBelow, rowsInside, rowsAbove, Filled}
 use Rattle.piece_table.specs.Rep.{Linked, Rep, Becomes}
 use Rattle.piece_table.specs.Calls.{endAt}
-use Rattle.recording.specs.Blocks.{blockRow, blockAt, appended, Countable}
+use Rattle.recording.specs.Recorded.{recorded}
 
 -- ── blocks ──
-
--- `write_block`
-pub record WroteBlock (b b′ : List ℕ) (link destroyed : ℕ) (p : PieceRow) : Type 0 where
-  pub is : b′ ≡ sets b (blockAt link) (blockRow destroyed p)
-
--- `append_block`
-pub record AppendedBlock (b b′ : List ℕ) (destroyed : ℕ) (p : PieceRow) : Type 0 where
-  pub done : Countable b 1 → b′ ≡ appended destroyed (p ∷ []) b
 
 -- the part of a link's piece in [first, end), which it meets
 abbrev pub innerPart : (t : List ℕ) (link first end : ℕ) → PieceRow
@@ -33,15 +25,15 @@ innerPart t link first end = part (max first (firstAt t link)) (min end (endAt t
 -- `record_part`: of a piece that meets [first, end), the part in it becomes a block
 pub record RecordedPart (t b b′ : List ℕ) (link tick first end : ℕ) : Type 0 where
   pub done : Filled (pieceAt t link) → first < end → firstAt t link < end → first < endAt t link → Countable b 1
-      → b′ ≡ appended tick (innerPart t link first end ∷ []) b
+      → b′ ≡ recorded tick (innerPart t link first end ∷ []) b
 
 -- `extract`: the pieces of the tree at a link, in order
 pub record Extracted (t b b′ : List ℕ) (link end fuel : ℕ) : Type 0 where
-  pub done : (T : Tree) → Shape t link T → height T ≤ fuel → Countable b (length (rows T)) → b′ ≡ appended end (map (pieceAt t) (rows T)) b
+  pub done : (T : Tree) → Shape t link T → height T ≤ fuel → Countable b (length (rows T)) → b′ ≡ recorded end (map (pieceAt t) (rows T)) b
 
 -- `extract_members`: all pieces become blocks, ascending, destroyed at `end`
 pub record ExtractedMembers (t b b′ : List ℕ) (end : ℕ) : Type 0 where
-  pub done : (ps : List PieceRow) → Rep t ps → Countable b (length ps) → b′ ≡ appended end ps b
+  pub done : (ps : List PieceRow) → Rep t ps → Countable b (length ps) → b′ ≡ recorded end ps b
 
 -- ── an update ──
 
@@ -55,7 +47,7 @@ pub record Clearing (t t′ b b′ : List ℕ) (tick first end left : ℕ) (ps :
   pub now : List PieceRow
   pub gone : List PieceRow
   pub becomes : Becomes t t′ now
-  pub blocks : b′ ≡ appended tick gone b
+  pub blocks : b′ ≡ recorded tick gone b
   pub inside : rowsInside first end ps ≡ gone ++ rowsInside first end now
   pub same-below : rowsBelow first now ≡ rowsBelow first ps
   pub same-above : rowsAbove end now ≡ rowsAbove end ps
@@ -65,7 +57,7 @@ pub record Clearing (t t′ b b′ : List ℕ) (tick first end left : ℕ) (ps :
 -- At the end: what of the pieces lies below and above stands, and what lies inside is recorded.
 pub record Clear (t t′ b b′ : List ℕ) (tick first end : ℕ) (ps : List PieceRow) : Type 0 where
   pub becomes : Becomes t t′ (rowsBelow first ps ++ rowsAbove end ps)
-  pub blocks : b′ ≡ appended tick (rowsInside first end ps) b
+  pub blocks : b′ ≡ recorded tick (rowsInside first end ps) b
 
 -- what every step of an update may assume
 pub record Given (t b : List ℕ) (first end : ℕ) (ps : List PieceRow) : Type 0 where
@@ -96,7 +88,7 @@ pub record RemovedOverlapping (t t′ b b′ : List ℕ) (tick first end : ℕ) 
 -- `apply_update`: where there is space, the ledger's update: the operation's piece between what is below and above it, and a block for what it covers
 pub record Updated (t t′ b b′ : List ℕ) (p : PieceRow) (ps : List PieceRow) : Type 0 where
   pub becomes : Becomes t t′ (rowsBelow (p .first) ps ++ p ∷ rowsAbove (rowEnd p) ps)
-  pub blocks : b′ ≡ appended (p .written) (rowsInside (p .first) (rowEnd p) ps) b
+  pub blocks : b′ ≡ recorded (p .written) (rowsInside (p .first) (rowEnd p) ps) b
 
 pub record AppliedUpdate (t t′ b b′ : List ℕ) (p : PieceRow) : Type 0 where
   pub done : (ps : List PieceRow) → Rep t ps → Filled p → Countable b (length (rowsInside (p .first) (rowEnd p) ps))

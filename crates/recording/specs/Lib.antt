@@ -1,2 +1,2 @@
-pub mod Blocks
+pub mod Recorded
 pub mod Calls

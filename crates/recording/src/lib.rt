@@ -1,74 +1,16 @@
 // What one update of the board does to the pieces, and the blocks that it records. Ports the overlaps of merge_set.rs and `Indexer` of mod.rs.
 //
-//   specs/Blocks       blocks appended to the block table
+//   specs/Recorded     the blocks that pieces become
 //   specs/Calls        what each function ensures
-//   proofs/Blocks      laws of appending
+//   proofs/Recorded    laws of recording them
 //   proofs/Clearing    one step for each return: of `record_part`, `clear_one`, `clear`
 //   proofs/Updating    of `split`, `remove_overlapping`, `apply_update`
 //   proofs/Extracting  of `extract_members`
 //   proofs/Telling     what the tables then stand for is the ledger's update
 ghost use mathlib.Core.Path.{_≡_};
 ghost use Prim.Native.Nat.{_+_, min, max};
-ghost use Rattle.recording.specs.Calls.{WroteBlock, AppendedBlock, RecordedPart, Extracted, ExtractedMembers, ClearedOne, Cleared, SplitPiece, RemovedOverlapping, AppliedUpdate};
-use tables::block;
+ghost use Rattle.recording.specs.Calls.{RecordedPart, Extracted, ExtractedMembers, ClearedOne, Cleared, SplitPiece, RemovedOverlapping, AppliedUpdate};
 use tables::piece;
-
-// The largest number.
-const LARGEST: u64 = 18446744073709551615;
-
-// Writes a block to the row of a link. It is in no order yet.
-fn write_block(
-    blocks: &mut [u64],
-    link: u64,
-    first: u64,
-    length: u64,
-    created: u64,
-    destroyed: u64,
-    offset: u64,
-    owner: u64,
-)
-    ensures { λ _. ⌜ WroteBlock (now (blocks .entry)) (now (blocks .exit)) link destroyed
-        (record { first = first; size = length; written = created; offset = offset; owner = owner }) ⌝ }
-{
-    block::put(blocks, link, block::FIRST, first);
-    block::put(blocks, link, block::LENGTH, length);
-    block::put(blocks, link, block::CREATED, created);
-    block::put(blocks, link, block::DESTROYED, destroyed);
-    block::put(blocks, link, block::OFFSET, offset);
-    block::put(blocks, link, block::OWNER, owner);
-    block::put(blocks, link, block::NEXT, 0);
-    block::put(blocks, link, block::SPARE, 0);
-}
-
-// Appends a block behind those that the table has.
-fn append_block(
-    blocks: &mut [u64],
-    first: u64,
-    length: u64,
-    created: u64,
-    destroyed: u64,
-    offset: u64,
-    owner: u64,
-)
-    ensures { λ _. ⌜ AppendedBlock (now (blocks .entry)) (now (blocks .exit)) destroyed
-        (record { first = first; size = length; written = created; offset = offset; owner = owner }) ⌝ }
-{
-    let count = block::get(blocks, 0, block::COUNT);
-    if count == LARGEST {
-        return;
-    }
-    write_block(
-        blocks,
-        count + 1,
-        first,
-        length,
-        created,
-        destroyed,
-        offset,
-        owner,
-    );
-    block::put(blocks, 0, block::COUNT, count + 1);
-}
 
 fn larger(a: u64, b: u64) -> u64
     ensures { λ r. ⌜ r ≡ max a b ⌝ }
@@ -98,17 +40,17 @@ fn record_part(pieces: &[u64], blocks: &mut [u64], link: u64, tick: u64, first: 
     let offset = tables::get(pieces, link, piece::OFFSET);
     let owner = tables::get(pieces, link, piece::OWNER);
     let from = larger(first, was);
-    if LARGEST - was < length {
+    if u64::MAX - was < length {
         return;
     }
     let to = smaller(end, was + length);
     if to < from {
         return;
     }
-    if LARGEST - offset < from - was {
+    if u64::MAX - offset < from - was {
         return;
     }
-    append_block(
+    block_table::append(
         blocks,
         from,
         to - from,
@@ -135,7 +77,7 @@ fn split(pieces: &mut [u64], link: u64, from: u64, to: u64)
     if length < cut {
         return;
     }
-    if LARGEST - offset < cut {
+    if u64::MAX - offset < cut {
         return;
     }
     piece_table::trim_back(pieces, link, from);
@@ -151,8 +93,7 @@ fn clear_one(pieces: &mut [u64], blocks: &mut [u64], tick: u64, first: u64, end:
     if link == 0 {
         return false;
     }
-    let was = tables::get(pieces, link, piece::FIRST);
-    if end <= was {
+    if !merge_set::starts_below(pieces, link, end) {
         return false;
     }
     record_part(pieces, blocks, link, tick, first, end);
@@ -186,8 +127,7 @@ pub fn remove_overlapping(pieces: &mut [u64], blocks: &mut [u64], tick: u64, fir
     if link == 0 {
         return;
     }
-    let was = tables::get(pieces, link, piece::FIRST);
-    if first <= was {
+    if !merge_set::starts_below(pieces, link, first) {
         clear(pieces, blocks, tick, first, end);
         return;
     }
@@ -213,7 +153,7 @@ pub fn apply_update(
     ensures { λ _. ⌜ AppliedUpdate (now (pieces .entry)) (now (pieces .exit)) (now (blocks .entry)) (now (blocks .exit))
         (record { first = first; size = length; written = tick; offset = offset; owner = owner }) ⌝ }
 {
-    if LARGEST - first < length {
+    if u64::MAX - first < length {
         return;
     }
     remove_overlapping(pieces, blocks, tick, first, first + length);
@@ -238,7 +178,7 @@ fn extract(pieces: &[u64], blocks: &mut [u64], link: u64, end: u64, fuel: u64)
     let offset = tables::get(pieces, link, piece::OFFSET);
     let owner = tables::get(pieces, link, piece::OWNER);
     extract(pieces, blocks, l, end, fuel - 1);
-    append_block(blocks, first, length, written, end, offset, owner);
+    block_table::append(blocks, first, length, written, end, offset, owner);
     extract(pieces, blocks, r, end, fuel - 1);
 }
 

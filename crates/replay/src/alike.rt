@@ -40,11 +40,3 @@ pub fn is_listed(slice: &[u64], numbers: &[u8]) -> bool {
     }
     true
 }
-
-// Whether two slices have the same bytes.
-pub fn is_same(a: &[u8], b: &[u8]) -> bool {
-    if a.len() != b.len() {
-        return false;
-    }
-    is_filled(a, b)
-}

@@ -84,27 +84,3 @@ pub fn read_row(data: &[u8], at: usize, row: &mut [u64]) -> usize {
     }
     next
 }
-
-// So many bytes of the pool from a start on; none where it has not so many.
-pub fn part<'a>(pool: &'a [u8], start: u64, length: u64) -> &'a [u8] {
-    let from = start as usize;
-    if pool.len() < from {
-        return &pool[0..0];
-    }
-    if pool.len() - from < length as usize {
-        return &pool[0..0];
-    }
-    let to = from + length as usize;
-    &pool[from..to]
-}
-
-// The place so many bytes further on, no further than the end.
-pub fn skip(data: &[u8], at: usize, many: u64) -> usize {
-    if data.len() <= at {
-        return at;
-    }
-    if data.len() - at < many as usize {
-        return data.len();
-    }
-    at + many as usize
-}

@@ -81,15 +81,9 @@ pub fn are_zero(
     is_zero_store(store)
 }
 
-// A prime of 32 bits, and one of 16.
-const PRIME: u64 = 4294967291;
-
-const STEP: u64 = 65521;
-
-// One number into a sum in which each place counts.
+// One number into a sum in which each place counts: nine times the sum so far, and the number.
 fn mixed(sum: u64, number: u64) -> u64 {
-    let upper = number / PRIME % PRIME;
-    (sum % PRIME * STEP + upper + number % PRIME) % PRIME
+    std::num::wrapping_add_u64(sum, sum << 3) ^ number
 }
 
 fn sum_of(table: &[u64], from: u64) -> u64 {
@@ -119,4 +113,26 @@ pub fn sum(pieces: &[u64], blocks: &[u64], store: &[u8], nodes: &[u64], entries:
     let up_to_store = sum_of_store(store, up_to_blocks);
     let up_to_nodes = sum_of(nodes, up_to_store);
     sum_of(entries, up_to_nodes)
+}
+
+// The last refusal that leaves the tables; after a later one they hold zeros.
+const LEAVES: u64 = 20;
+
+// Whether the tables are left as they must be after a call: as the sum before says where it was refused, zeros where a file was refused for its contents.
+pub fn is_left(
+    pieces: &[u64],
+    blocks: &[u64],
+    store: &[u8],
+    nodes: &[u64],
+    entries: &[u64],
+    before: u64,
+    refusal: u64,
+) -> bool {
+    if refusal == 0 {
+        return true;
+    }
+    if LEAVES < refusal {
+        return are_zero(pieces, blocks, store, nodes, entries);
+    }
+    sum(pieces, blocks, store, nodes, entries) == before
 }

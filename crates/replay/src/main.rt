@@ -1,46 +1,49 @@
 // Replays a stored list of calls with their answers through the public calls (docs/STORED.md). Prints the cases that differ, how many answers were compared
 // and how many differ, and the same of the files among them.
 //
-//   input                the list as it is read
-//   rows                 the columns of its rows
-//   play                 row after row
-//   update, read, file   each call with the answer that must come
-//   alike, kept          slices and tables compared
-//   tally                what is counted
+//   input          the list as it is read
+//   rows           the columns of its rows, and what is told in them
+//   play           row after row
+//   update, read   each call
+//   damage         a file damaged at each place of a run
+//   alike, kept    slices and tables compared
+//   counts         what is counted, and what is lent
 use libc::STDIN_FILENO;
-use libc::STDOUT_FILENO;
+use tables::ROW;
+use tables::block;
+use tables::entry;
+use tables::node;
+use tables::piece;
 
 mod alike;
-mod file;
+mod counts;
+mod damage;
 mod input;
 mod kept;
 mod play;
 mod read;
 mod rows;
-mod tally;
 mod update;
 
-// More parts than a list has.
+// More parts than a list has, and the bytes of one.
 const PARTS: u64 = 1000;
 
-fn print(tally: &[u64]) {
-    io::print_decimal(STDOUT_FILENO, tally::get(tally, tally::ORACLE));
-    io::write_all(STDOUT_FILENO, b" cases of the oracle's list, ");
-    io::print_decimal(STDOUT_FILENO, tally::get(tally, tally::OWN));
-    io::write_all(STDOUT_FILENO, b" more: ");
-    io::print_decimal(STDOUT_FILENO, tally::get(tally, tally::COMPARED));
-    io::write_all(STDOUT_FILENO, b" answers compared, ");
-    io::print_decimal(STDOUT_FILENO, tally::get(tally, tally::DIFFER));
-    io::write_all(STDOUT_FILENO, b" differ\n");
-    io::print_decimal(STDOUT_FILENO, tally::get(tally, tally::FILES));
-    io::write_all(STDOUT_FILENO, b" files compared, ");
-    io::print_decimal(STDOUT_FILENO, tally::get(tally, tally::FILES_DIFFER));
-    io::write_all(STDOUT_FILENO, b" differ\n");
-}
+const PART: usize = 65536;
+
+// Numbers in each table: the rows that tools/stored.py may lend, and part of one more.
+const PIECES: usize = piece::HEAD + update::PIECES * ROW + 7;
+
+const BLOCKS: usize = block::HEAD + 256 * ROW + 7;
+
+const STORE: usize = 4103;
+
+const NODES: usize = node::HEAD + 4096 * ROW + 7;
+
+const ENTRIES: usize = entry::HEAD + 8195 * entry::WIDTH + 1;
 
 // Reads part after part, and plays it.
 fn replay(
-    tally: &mut [u64],
+    counts: &mut [u64],
     pieces: &mut [u64],
     blocks: &mut [u64],
     store: &mut [u8],
@@ -54,20 +57,20 @@ fn replay(
         if got == 0 {
             return;
         }
-        play::play(tally, pieces, blocks, store, nodes, entries, part);
+        play::play(counts, pieces, blocks, store, nodes, entries, part);
         left -= 1;
     }
 }
 
-fn run(tally: &mut [u64]) {
-    let mut pieces = [0; 527];
-    let mut blocks = [0; 2063];
-    let mut store = [0; 4103];
-    let mut nodes = [0; 32783];
-    let mut entries = [0; 16399];
-    let mut part = [0; 65536];
+fn run(counts: &mut [u64]) {
+    let mut pieces = [0; PIECES];
+    let mut blocks = [0; BLOCKS];
+    let mut store = [0; STORE];
+    let mut nodes = [0; NODES];
+    let mut entries = [0; ENTRIES];
+    let mut part = [0; PART];
     replay(
-        tally,
+        counts,
         &mut pieces,
         &mut blocks,
         &mut store,
@@ -75,10 +78,10 @@ fn run(tally: &mut [u64]) {
         &mut entries,
         &mut part,
     );
-    print(tally);
+    counts::print(counts);
 }
 
 fn main() {
-    let mut tally = [0; 16];
-    run(&mut tally);
+    let mut counts = [0; rows::COLUMNS];
+    run(&mut counts);
 }

@@ -1,18 +1,17 @@
 // Plays a part of the stored list, row after row, in lent tables.
 ghost use Prim.Native.Nat.{_≤_};
-use crate::file;
+use crate::counts;
+use crate::damage;
 use crate::input;
 use crate::kept;
 use crate::read;
 use crate::rows;
-use crate::tally;
 use crate::update;
 
 // As many rows as a part can have.
 const ROWS: u64 = 65536;
 
-// Whether a read answers as it must.
-fn read_right(
+fn read(
     pieces: &[u64],
     blocks: &[u64],
     store: &[u8],
@@ -20,28 +19,23 @@ fn read_right(
     entries: &[u64],
     row: &[u64],
     pool: &[u8],
-) -> bool {
+    told: &mut [u64],
+) {
     let code = rows::get(row, rows::CODE);
     if code == rows::BLOCK {
-        return read::block(pieces, blocks, store, nodes, entries, row, pool);
+        read::block(pieces, blocks, store, nodes, entries, row, pool, told);
+    } else if code == rows::FIND {
+        read::find(pieces, blocks, store, nodes, entries, row, pool, told);
+    } else if code == rows::CELLS {
+        read::cells(pieces, blocks, store, nodes, entries, row, pool, told);
+    } else if code == rows::WRITE {
+        read::write(pieces, blocks, store, nodes, entries, row, pool, told);
+    } else {
+        read::clock(row, told);
     }
-    if code == rows::FIND {
-        return read::find(pieces, blocks, store, nodes, entries, row, pool);
-    }
-    if code == rows::CELLS {
-        return read::cells(pieces, blocks, store, nodes, entries, row, pool);
-    }
-    if code == rows::WRITE {
-        return file::write(pieces, blocks, store, nodes, entries, row, pool);
-    }
-    if code == rows::CLOCK {
-        return read::clock(row);
-    }
-    false
 }
 
-// Whether a call answers as it must.
-fn call_right(
+fn update(
     pieces: &mut [u64],
     blocks: &mut [u64],
     store: &mut [u8],
@@ -50,37 +44,99 @@ fn call_right(
     scratch: usize,
     row: &[u64],
     pool: &[u8],
-) -> bool {
+    told: &mut [u64],
+) {
     let code = rows::get(row, rows::CODE);
     if code == rows::OPEN {
-        return update::open(pieces, blocks, store, nodes, entries, row);
+        update::open(pieces, blocks, store, nodes, entries, row, told);
+    } else if code == rows::RECORD {
+        update::record(
+            pieces,
+            blocks,
+            store,
+            nodes,
+            entries,
+            scratch,
+            row,
+            pool,
+            told,
+        );
+    } else if code == rows::FINISH {
+        update::finish(pieces, blocks, store, nodes, entries, told);
+    } else {
+        update::load(pieces, blocks, store, nodes, entries, row, pool, told);
     }
-    if code == rows::RECORD {
-        return update::record(pieces, blocks, store, nodes, entries, scratch, row, pool);
-    }
-    if code == rows::FINISH {
-        return update::finish(pieces, blocks, store, nodes, entries, row);
-    }
+}
+
+// After a refused call the tables must be left as they were, or as zeros.
+fn update_kept(
+    pieces: &mut [u64],
+    blocks: &mut [u64],
+    store: &mut [u8],
+    nodes: &mut [u64],
+    entries: &mut [u64],
+    scratch: usize,
+    row: &[u64],
+    pool: &[u8],
+    told: &mut [u64],
+) {
+    let before = kept::sum(pieces, blocks, store, nodes, entries);
+    update(
+        pieces,
+        blocks,
+        store,
+        nodes,
+        entries,
+        scratch,
+        row,
+        pool,
+        told,
+    );
+    let refusal = rows::get(told, rows::REFUSAL);
+    let left = kept::is_left(pieces, blocks, store, nodes, entries, before, refusal);
+    rows::must(told, left);
+}
+
+// Whether a call is one that may change an index.
+fn changes(code: u64) -> bool {
     if code == rows::LOAD {
-        return file::load(pieces, blocks, store, nodes, entries, row, pool);
+        return true;
     }
-    read_right(pieces, blocks, store, nodes, entries, row, pool)
+    code < rows::BLOCK
 }
 
-// A length that is lent of a table, at most its own.
-fn length(tally: &[u64], col: usize, most: usize) -> usize
-    ensures { λ r. ⌜ r ≤ most ⌝ }
-{
-    let wanted = tally::get(tally, col);
-    if wanted < most as u64 {
-        return wanted as usize;
+// Makes the call of a row.
+fn make(
+    pieces: &mut [u64],
+    blocks: &mut [u64],
+    store: &mut [u8],
+    nodes: &mut [u64],
+    entries: &mut [u64],
+    scratch: usize,
+    row: &[u64],
+    pool: &[u8],
+    told: &mut [u64],
+) {
+    if changes(rows::get(row, rows::CODE)) {
+        update_kept(
+            pieces,
+            blocks,
+            store,
+            nodes,
+            entries,
+            scratch,
+            row,
+            pool,
+            told,
+        );
+    } else {
+        read(pieces, blocks, store, nodes, entries, row, pool, told);
     }
-    most
 }
 
-// The call with the parts of the tables that are lent.
-fn lent_right(
-    tally: &[u64],
+// Makes the call of a row, and counts what came.
+fn call(
+    counts: &mut [u64],
     pieces: &mut [u64],
     blocks: &mut [u64],
     store: &mut [u8],
@@ -88,28 +144,28 @@ fn lent_right(
     entries: &mut [u64],
     row: &[u64],
     pool: &[u8],
-) -> bool {
-    let scratch = tally::get(tally, rows::SCRATCH);
-    let of_pieces = length(tally, rows::PIECES, pieces.len());
-    let of_blocks = length(tally, rows::BLOCKS, blocks.len());
-    let of_store = length(tally, rows::STORE, store.len());
-    let of_nodes = length(tally, rows::NODES, nodes.len());
-    let of_entries = length(tally, rows::ENTRIES, entries.len());
-    call_right(
-        &mut pieces[0..of_pieces],
-        &mut blocks[0..of_blocks],
-        &mut store[0..of_store],
-        &mut nodes[0..of_nodes],
-        &mut entries[0..of_entries],
-        scratch as usize,
+) {
+    let scratch = tally::get(counts, rows::SCRATCH) as usize;
+    let mut told = [0; rows::COLUMNS];
+    rows::start(&mut told, row);
+    make(
+        pieces,
+        blocks,
+        store,
+        nodes,
+        entries,
+        scratch,
         row,
         pool,
-    )
+        &mut told,
+    );
+    let code = rows::get(row, rows::CODE);
+    counts::count_answer(counts, code, rows::is_same(&told, row));
 }
 
-// Plays the row of a call.
-fn play_call(
-    tally: &mut [u64],
+// A row that is no case: a call, a damaged file, or another scratch.
+fn play_lent(
+    counts: &mut [u64],
     pieces: &mut [u64],
     blocks: &mut [u64],
     store: &mut [u8],
@@ -119,14 +175,59 @@ fn play_call(
     pool: &[u8],
 ) {
     let code = rows::get(row, rows::CODE);
-    tally::lend(tally, row, code);
-    let alike = lent_right(tally, pieces, blocks, store, nodes, entries, row, pool);
-    tally::count_answer(tally, code, alike);
+    if code == rows::LEND {
+        return;
+    }
+    counts::count_row(counts);
+    if code == rows::DAMAGED {
+        damage::play(counts, pieces, blocks, store, nodes, entries, row, pool);
+    } else {
+        call(counts, pieces, blocks, store, nodes, entries, row, pool);
+    }
+}
+
+// A length that is lent of a table, at most its own.
+fn length(counts: &[u64], col: usize, most: usize) -> usize
+    ensures { λ r. ⌜ r ≤ most ⌝ }
+{
+    let wanted = tally::get(counts, col);
+    if wanted < most as u64 {
+        return wanted as usize;
+    }
+    most
+}
+
+// The row with the parts of the tables that are lent.
+fn lend(
+    counts: &mut [u64],
+    pieces: &mut [u64],
+    blocks: &mut [u64],
+    store: &mut [u8],
+    nodes: &mut [u64],
+    entries: &mut [u64],
+    row: &[u64],
+    pool: &[u8],
+) {
+    let of_pieces = length(counts, rows::PIECES, pieces.len());
+    let of_blocks = length(counts, rows::BLOCKS, blocks.len());
+    let of_store = length(counts, rows::STORE, store.len());
+    let of_nodes = length(counts, rows::NODES, nodes.len());
+    let of_entries = length(counts, rows::ENTRIES, entries.len());
+    play_lent(
+        counts,
+        &mut pieces[0..of_pieces],
+        &mut blocks[0..of_blocks],
+        &mut store[0..of_store],
+        &mut nodes[0..of_nodes],
+        &mut entries[0..of_entries],
+        row,
+        pool,
+    );
 }
 
 // Plays the row at a place, and answers where the next one is, 0 behind the last.
 fn play_row(
-    tally: &mut [u64],
+    counts: &mut [u64],
     pieces: &mut [u64],
     blocks: &mut [u64],
     store: &mut [u8],
@@ -136,7 +237,7 @@ fn play_row(
     data: &[u8],
     at: usize,
 ) -> usize {
-    let mut row = [0; 16];
+    let mut row = [0; rows::COLUMNS];
     let next = input::read_row(data, at, &mut row);
     let code = rows::get(&row, rows::CODE);
     if code == rows::END {
@@ -144,16 +245,17 @@ fn play_row(
     }
     if code <= rows::OWN {
         kept::spoil_all(pieces, blocks, store, nodes, entries);
-        tally::count_case(tally, code);
+        counts::count_case(counts, code);
         return next;
     }
-    play_call(tally, pieces, blocks, store, nodes, entries, &row, pool);
+    counts::lend(counts, &row, code);
+    lend(counts, pieces, blocks, store, nodes, entries, &row, pool);
     next
 }
 
 // Plays a part: how many bytes its pool has, the pool, the rows.
 pub fn play(
-    tally: &mut [u64],
+    counts: &mut [u64],
     pieces: &mut [u64],
     blocks: &mut [u64],
     store: &mut [u8],
@@ -164,11 +266,21 @@ pub fn play(
     let head = input::number_at(data, 0);
     let many = head.value;
     let start = head.next;
-    let pool = input::part(data, start as u64, many);
-    let mut at = input::skip(data, start, many);
+    let pool = plain::part(data, start as u64, many);
+    let mut at = plain::skip(data, start, many);
     let mut left = ROWS;
     while 0 < left {
-        at = play_row(tally, pieces, blocks, store, nodes, entries, pool, data, at);
+        at = play_row(
+            counts,
+            pieces,
+            blocks,
+            store,
+            nodes,
+            entries,
+            pool,
+            data,
+            at,
+        );
         if at == 0 {
             return;
         }

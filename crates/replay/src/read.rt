@@ -1,9 +1,10 @@
-// The reads of an index: block by number, find, read cells; and the clock, which needs none. A slice that is lent for an answer must be as it was where
-// the answer does not reach, and after a refusal everywhere.
+// The reads of an index: block by number, find, read cells, write; and the clock, which needs none. A slice that is lent for an answer must be as it was
+// where the answer does not reach, and after a refusal everywhere.
 use crate::alike;
-use crate::input;
+use crate::damage;
 use crate::rows;
 use cells::Read;
+use file_write::Written;
 use index::Found;
 use index::Given;
 
@@ -43,29 +44,22 @@ const CELLS_BYTES: usize = 7;
 
 const CELLS_HELD: usize = 8;
 
+const WRITE_ROOM: usize = 2;
+
+const WRITE_START: usize = 3;
+
+const WRITE_LENGTH: usize = 4;
+
 const CLOCK_CELL: usize = 2;
 
 const CLOCK_LABEL: usize = 3;
 
-// Whether a block has the fields that it must have.
-fn is_block(row: &[u64], kind: u64, first: u64, length: u64, created: u64, destroyed: u64) -> bool {
-    if kind != rows::get(row, BLOCK_KIND) {
-        return false;
-    }
-    if first != rows::get(row, BLOCK_FIRST) {
-        return false;
-    }
-    if length != rows::get(row, BLOCK_LENGTH) {
-        return false;
-    }
-    if created != rows::get(row, BLOCK_CREATED) {
-        return false;
-    }
-    destroyed == rows::get(row, BLOCK_DESTROYED)
-}
+// The most numbers of an answer, and cells of a window.
+const ANSWER: usize = 64;
 
-fn is_given(row: &[u64], given: Given) -> bool {
-    let refusal = rows::get(row, rows::REFUSAL);
+const WINDOW: usize = 64;
+
+fn tell_given(told: &mut [u64], given: Given) {
     match given {
         Given::Block {
             kind,
@@ -75,12 +69,13 @@ fn is_given(row: &[u64], given: Given) -> bool {
             destroyed,
             offset: _,
         } => {
-            if refusal != 0 {
-                return false;
-            }
-            is_block(row, kind, first, length, created, destroyed)
+            rows::tell(told, BLOCK_KIND, kind);
+            rows::tell(told, BLOCK_FIRST, first);
+            rows::tell(told, BLOCK_LENGTH, length);
+            rows::tell(told, BLOCK_CREATED, created);
+            rows::tell(told, BLOCK_DESTROYED, destroyed);
         }
-        Given::Refused(n) => n == refusal,
+        Given::Refused(n) => rows::tell(told, rows::REFUSAL, n),
     }
 }
 
@@ -93,71 +88,31 @@ pub fn block(
     entries: &[u64],
     row: &[u64],
     pool: &[u8],
-) -> bool {
+    told: &mut [u64],
+) {
     let number = rows::get(row, BLOCK_NUMBER);
     let given = index::block(pieces, blocks, store, nodes, entries, number);
-    if !is_given(row, given) {
-        return false;
-    }
+    tell_given(told, given);
     let bytes = index::block_bytes(pieces, blocks, store, nodes, entries, number);
-    let right = input::part(
-        pool,
-        rows::get(row, BLOCK_START),
-        rows::get(row, BLOCK_LENGTH),
-    );
-    alike::is_same(bytes, right)
+    let start = rows::get(row, BLOCK_START);
+    let right = plain::part(pool, start, rows::get(row, BLOCK_LENGTH));
+    rows::must(told, check::same(bytes, right));
 }
 
-fn is_found(row: &[u64], found: Found) -> bool {
-    let refusal = rows::get(row, rows::REFUSAL);
+fn tell_found(told: &mut [u64], found: Found) {
     match found {
         Found::Listed { count, visited } => {
-            if refusal != 0 {
-                return false;
-            }
-            if count != rows::get(row, FIND_COUNT) {
-                return false;
-            }
-            visited == rows::get(row, FIND_VISITED)
+            rows::tell(told, FIND_COUNT, count);
+            rows::tell(told, FIND_VISITED, visited);
         }
-        Found::Refused(n) => n == refusal,
+        Found::Refused(n) => rows::tell(told, rows::REFUSAL, n),
     }
 }
 
-fn find_in(
-    pieces: &[u64],
-    blocks: &[u64],
-    store: &[u8],
-    nodes: &[u64],
-    entries: &[u64],
-    row: &[u64],
-    pool: &[u8],
-    answer: &mut [u64],
-) -> bool {
-    let room = rows::get(row, FIND_ROOM) as usize;
-    if answer.len() < room {
-        return false;
-    }
-    let found = index::find(
-        pieces,
-        blocks,
-        store,
-        nodes,
-        entries,
-        rows::get(row, TICK),
-        rows::get(row, START),
-        rows::get(row, END),
-        &mut answer[0..room],
-    );
-    if !is_found(row, found) {
-        return false;
-    }
-    let listed = input::part(
-        pool,
-        rows::get(row, FIND_LISTED),
-        rows::get(row, FIND_COUNT),
-    );
-    alike::is_listed(answer, listed)
+fn tell_listed(told: &mut [u64], row: &[u64], pool: &[u8], answer: &[u64; ANSWER]) {
+    let start = rows::get(row, FIND_LISTED);
+    let right = plain::part(pool, start, rows::get(row, FIND_COUNT));
+    rows::must(told, alike::is_listed(answer, right));
 }
 
 pub fn find(
@@ -168,18 +123,31 @@ pub fn find(
     entries: &[u64],
     row: &[u64],
     pool: &[u8],
-) -> bool {
-    let mut answer = [alike::UNTOUCHED as u64; 64];
-    find_in(
+    told: &mut [u64],
+) {
+    let mut answer = [alike::UNTOUCHED as u64; ANSWER];
+    let room = rows::get(row, FIND_ROOM) as usize;
+    if ANSWER < room {
+        rows::must(told, false);
+        return;
+    }
+    let tick = rows::get(row, TICK);
+    let start = rows::get(row, START);
+    let end = rows::get(row, END);
+    let lent = &mut answer[0..room];
+    let found = index::find(
         pieces,
         blocks,
         store,
         nodes,
         entries,
-        row,
-        pool,
-        &mut answer,
-    )
+        tick,
+        start,
+        end,
+        lent,
+    );
+    tell_found(told, found);
+    tell_listed(told, row, pool, &answer);
 }
 
 // How many cells must be shown.
@@ -195,23 +163,28 @@ fn shown(row: &[u64]) -> u64 {
     end - start
 }
 
-fn is_read(row: &[u64], read: Read) -> bool {
-    let refusal = rows::get(row, rows::REFUSAL);
+fn tell_read(told: &mut [u64], read: Read) {
     match read {
-        Read::Filled => refusal == 0,
-        Read::Refused(n) => n == refusal,
+        Read::Filled => {}
+        Read::Refused(n) => rows::tell(told, rows::REFUSAL, n),
     }
 }
 
-fn is_shown(row: &[u64], pool: &[u8], bytes: &[u8], held: &[u8]) -> bool {
+fn tell_cells(
+    told: &mut [u64],
+    row: &[u64],
+    pool: &[u8],
+    bytes: &[u8; WINDOW],
+    held: &[u8; WINDOW],
+) {
     let many = shown(row);
-    if !alike::is_filled(bytes, input::part(pool, rows::get(row, CELLS_BYTES), many)) {
-        return false;
-    }
-    alike::is_filled(held, input::part(pool, rows::get(row, CELLS_HELD), many))
+    let right_bytes = plain::part(pool, rows::get(row, CELLS_BYTES), many);
+    let right_held = plain::part(pool, rows::get(row, CELLS_HELD), many);
+    rows::must(told, alike::is_filled(bytes, right_bytes));
+    rows::must(told, alike::is_filled(held, right_held));
 }
 
-fn cells_in(
+pub fn cells(
     pieces: &[u64],
     blocks: &[u64],
     store: &[u8],
@@ -219,16 +192,19 @@ fn cells_in(
     entries: &[u64],
     row: &[u64],
     pool: &[u8],
-    bytes: &mut [u8],
-    held: &mut [u8],
-) -> bool {
+    told: &mut [u64],
+) {
+    let mut bytes = [alike::UNTOUCHED; WINDOW];
+    let mut held = [alike::UNTOUCHED; WINDOW];
     let byte_room = rows::get(row, CELLS_BYTE_ROOM) as usize;
     let held_room = rows::get(row, CELLS_HELD_ROOM) as usize;
-    if bytes.len() < byte_room {
-        return false;
+    if WINDOW < byte_room {
+        rows::must(told, false);
+        return;
     }
-    if held.len() < held_room {
-        return false;
+    if WINDOW < held_room {
+        rows::must(told, false);
+        return;
     }
     let read = cells::read_cells(
         pieces,
@@ -242,13 +218,24 @@ fn cells_in(
         &mut bytes[0..byte_room],
         &mut held[0..held_room],
     );
-    if !is_read(row, read) {
-        return false;
-    }
-    is_shown(row, pool, bytes, held)
+    tell_read(told, read);
+    tell_cells(told, row, pool, &bytes, &held);
 }
 
-pub fn cells(
+fn tell_written(told: &mut [u64], written: Written) {
+    match written {
+        Written::Bytes(many) => rows::tell(told, WRITE_LENGTH, many),
+        Written::Refused(n) => rows::tell(told, rows::REFUSAL, n),
+    }
+}
+
+fn tell_file(told: &mut [u64], row: &[u64], pool: &[u8], out: &[u8; damage::FILE]) {
+    let start = rows::get(row, WRITE_START);
+    let right = plain::part(pool, start, rows::get(row, WRITE_LENGTH));
+    rows::must(told, alike::is_filled(out, right));
+}
+
+pub fn write(
     pieces: &[u64],
     blocks: &[u64],
     store: &[u8],
@@ -256,22 +243,24 @@ pub fn cells(
     entries: &[u64],
     row: &[u64],
     pool: &[u8],
-) -> bool {
-    let mut bytes = [alike::UNTOUCHED; 64];
-    let mut held = [alike::UNTOUCHED; 64];
-    cells_in(
-        pieces,
-        blocks,
-        store,
-        nodes,
-        entries,
-        row,
-        pool,
-        &mut bytes,
-        &mut held,
-    )
+    told: &mut [u64],
+) {
+    let mut out = [alike::UNTOUCHED; damage::FILE];
+    let room = rows::get(row, WRITE_ROOM) as usize;
+    if damage::FILE < room {
+        rows::must(told, false);
+        return;
+    }
+    let lent = &mut out[0..room];
+    let written = spacetime_file::serialize_to(pieces, blocks, store, nodes, entries, lent);
+    tell_written(told, written);
+    tell_file(told, row, pool, &out);
 }
 
-pub fn clock(row: &[u64]) -> bool {
-    clock::clock_label(rows::get(row, CLOCK_CELL)) == rows::get(row, CLOCK_LABEL)
+pub fn clock(row: &[u64], told: &mut [u64]) {
+    rows::tell(
+        told,
+        CLOCK_LABEL,
+        clock::clock_label(rows::get(row, CLOCK_CELL)),
+    );
 }

@@ -1,5 +1,5 @@
 // A row of the stored list (tools/stored.py): sixteen numbers, of which the first two are the same for all. Each call names its others beside it:
-// arguments, then what must come.
+// arguments, then what must come. What came is told in a copy of the row, which is then the same.
 pub const COLUMNS: usize = 16;
 
 // What the row is.
@@ -8,7 +8,7 @@ pub const CODE: usize = 0;
 // The number of the refusal that must come, 0 where the call is taken.
 pub const REFUSAL: usize = 1;
 
-// The lengths of what is lent, in a row that opens or loads.
+// The lengths of what is lent, in a row that opens, loads or lends.
 pub const PIECES: usize = 10;
 
 pub const SCRATCH: usize = 11;
@@ -21,7 +21,7 @@ pub const NODES: usize = 14;
 
 pub const ENTRIES: usize = 15;
 
-// The end of the list; a case of the oracle's list, a case of our own; the calls.
+// The end of the list; a case of the oracle's list, a case of our own; the calls; another scratch; a file damaged at each place of a run.
 pub const END: u64 = 0;
 
 pub const CASE: u64 = 1;
@@ -46,7 +46,44 @@ pub const LOAD: u64 = 10;
 
 pub const CLOCK: u64 = 11;
 
+pub const LEND: u64 = 12;
+
+pub const DAMAGED: u64 = 13;
+
 // A column of a row.
 pub fn get(row: &[u64], col: usize) -> u64 {
     tables::get(row, 0, col)
+}
+
+// Tells what came in a column.
+pub fn tell(told: &mut [u64], col: usize, value: u64) {
+    tables::put(told, 0, col, value);
+}
+
+// Tells what no column can say: where it is not so, the row is another.
+pub fn must(told: &mut [u64], so: bool) {
+    if !so {
+        tell(told, CODE, END);
+    }
+}
+
+// What is told before a call: the row as if the call were taken.
+pub fn start(told: &mut [u64], row: &[u64]) {
+    let mut col = 0;
+    while col < COLUMNS {
+        tell(told, col, get(row, col));
+        col += 1;
+    }
+    tell(told, REFUSAL, 0);
+}
+
+pub fn is_same(told: &[u64], row: &[u64]) -> bool {
+    let mut col = 0;
+    while col < COLUMNS {
+        if get(told, col) != get(row, col) {
+            return false;
+        }
+        col += 1;
+    }
+    true
 }

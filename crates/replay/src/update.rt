@@ -1,7 +1,6 @@
-// The calls that change an index: open, record, finish. After a refusal the tables must be as they were.
-use crate::input;
-use crate::kept;
+// The calls that change an index: open, record, finish, load.
 use crate::rows;
+use file_load::Loaded;
 use index::Finished;
 use index::Index;
 use index::Opened;
@@ -31,16 +30,24 @@ const FINISH_NODES: usize = 3;
 
 const FINISH_ENTRIES: usize = 4;
 
-// Numbers in the scratch.
-const SCRATCH: usize = 519;
+const LOAD_AT: usize = 2;
 
-// Whether the refusal is the one that must come, and nothing has changed.
-fn is_refusal(row: &[u64], told: u64, kept: bool) -> bool {
-    if told != rows::get(row, rows::REFUSAL) {
-        return false;
-    }
-    kept
-}
+const LOAD_START: usize = 3;
+
+const LOAD_LENGTH: usize = 4;
+
+const LOAD_NEXT: usize = 5;
+
+const LOAD_END: usize = 6;
+
+const LOAD_KIND: usize = 7;
+
+const LOAD_BLOCKS: usize = 8;
+
+// The most rows of pieces, and numbers in the scratch.
+pub const PIECES: usize = 64;
+
+const SCRATCH: usize = PIECES * tables::ROW + 7;
 
 pub fn open(
     pieces: &mut [u64],
@@ -49,65 +56,26 @@ pub fn open(
     nodes: &mut [u64],
     entries: &mut [u64],
     row: &[u64],
-) -> bool {
-    let before = kept::sum(pieces, blocks, store, nodes, entries);
+    told: &mut [u64],
+) {
     let kind = rows::get(row, OPEN_KIND) % 256;
     let end_tick = rows::get(row, OPEN_END);
     let answer = Index::open(pieces, blocks, store, nodes, entries, end_tick, kind as u8);
     match answer {
-        Opened::Opened => rows::get(row, rows::REFUSAL) == 0,
-        Opened::Refused(n) => {
-            let after = kept::sum(pieces, blocks, store, nodes, entries);
-            is_refusal(row, n, before == after)
-        }
+        Opened::Opened => {}
+        Opened::Refused(n) => rows::tell(told, rows::REFUSAL, n),
     }
 }
 
-// Whether an operation was taken as it must: as a read, or as an update whose bytes entered the store.
-fn is_taken(row: &[u64], used_before: u64, used: u64) -> bool {
-    if rows::get(row, rows::REFUSAL) != 0 {
-        return false;
+// By how much a number has grown.
+fn growth(before: u64, after: u64) -> u64 {
+    if after < before {
+        return u64::MAX;
     }
-    if used < used_before {
-        return false;
-    }
-    used - used_before == rows::get(row, RECORD_GROWTH)
+    after - before
 }
 
-fn record_op(
-    pieces: &mut [u64],
-    blocks: &mut [u64],
-    store: &mut [u8],
-    nodes: &[u64],
-    entries: &[u64],
-    scratch: &[u64],
-    row: &[u64],
-    bytes: &[u8],
-) -> bool {
-    let before = kept::sum(pieces, blocks, store, nodes, entries);
-    let used_before = block::get(blocks, 0, block::USED);
-    let tick = rows::get(row, RECORD_TICK);
-    let first = rows::get(row, RECORD_FIRST);
-    let answer = index::record_op(
-        pieces,
-        blocks,
-        store,
-        nodes,
-        entries,
-        scratch,
-        tick,
-        first,
-        bytes,
-    );
-    match answer {
-        Recorded::Accepted => is_taken(row, used_before, block::get(blocks, 0, block::USED)),
-        Recorded::Refused(n) => {
-            let after = kept::sum(pieces, blocks, store, nodes, entries);
-            is_refusal(row, n, before == after)
-        }
-    }
-}
-
+// The store use shows whether an operation was taken as a read, or as an update whose bytes entered the store.
 pub fn record(
     pieces: &mut [u64],
     blocks: &mut [u64],
@@ -117,40 +85,39 @@ pub fn record(
     lent: usize,
     row: &[u64],
     pool: &[u8],
-) -> bool {
-    let bytes = input::part(
-        pool,
-        rows::get(row, RECORD_START),
-        rows::get(row, RECORD_LENGTH),
-    );
-    let scratch = [0; 519];
+    told: &mut [u64],
+) {
+    let start = rows::get(row, RECORD_START);
+    let bytes = plain::part(pool, start, rows::get(row, RECORD_LENGTH));
+    let scratch = [0; SCRATCH];
     if SCRATCH < lent {
-        return false;
+        return;
     }
-    record_op(
+    let before = block::get(blocks, 0, block::USED);
+    let answer = index::record_op(
         pieces,
         blocks,
         store,
         nodes,
         entries,
         &scratch[0..lent],
-        row,
+        rows::get(row, RECORD_TICK),
+        rows::get(row, RECORD_FIRST),
         bytes,
-    )
+    );
+    let used = block::get(blocks, 0, block::USED);
+    rows::tell(told, RECORD_GROWTH, growth(before, used));
+    match answer {
+        Recorded::Accepted => {}
+        Recorded::Refused(n) => rows::tell(told, rows::REFUSAL, n),
+    }
 }
 
-// Whether a closed index has as many blocks, nodes and entries as it must.
-fn is_counted(blocks: &[u64], nodes: &[u64], entries: &[u64], row: &[u64]) -> bool {
-    if rows::get(row, rows::REFUSAL) != 0 {
-        return false;
-    }
-    if block::get(blocks, 0, block::COUNT) != rows::get(row, FINISH_BLOCKS) {
-        return false;
-    }
-    if tables::get(nodes, 0, node::COUNT) != rows::get(row, FINISH_NODES) {
-        return false;
-    }
-    tables::get(entries, 0, entry::COUNT) == rows::get(row, FINISH_ENTRIES)
+// How many blocks, nodes and entries a closed index has.
+fn tell_counts(told: &mut [u64], blocks: &[u64], nodes: &[u64], entries: &[u64]) {
+    rows::tell(told, FINISH_BLOCKS, block::get(blocks, 0, block::COUNT));
+    rows::tell(told, FINISH_NODES, tables::get(nodes, 0, node::COUNT));
+    rows::tell(told, FINISH_ENTRIES, tables::get(entries, 0, entry::COUNT));
 }
 
 pub fn finish(
@@ -159,15 +126,39 @@ pub fn finish(
     store: &[u8],
     nodes: &mut [u64],
     entries: &mut [u64],
-    row: &[u64],
-) -> bool {
-    let before = kept::sum(pieces, blocks, store, nodes, entries);
+    told: &mut [u64],
+) {
     let answer = index::finalize(pieces, blocks, store, nodes, entries);
     match answer {
-        Finished::Finished => is_counted(blocks, nodes, entries, row),
-        Finished::Refused(n) => {
-            let after = kept::sum(pieces, blocks, store, nodes, entries);
-            is_refusal(row, n, before == after)
-        }
+        Finished::Finished => tell_counts(told, blocks, nodes, entries),
+        Finished::Refused(n) => rows::tell(told, rows::REFUSAL, n),
+    }
+}
+
+// Where a load ended, and what the index has.
+fn tell_loaded(told: &mut [u64], blocks: &[u64], next: u64) {
+    rows::tell(told, LOAD_NEXT, next);
+    rows::tell(told, LOAD_END, block::get(blocks, 0, block::END));
+    rows::tell(told, LOAD_KIND, block::get(blocks, 0, block::KIND));
+    rows::tell(told, LOAD_BLOCKS, block::get(blocks, 0, block::COUNT));
+}
+
+pub fn load(
+    pieces: &mut [u64],
+    blocks: &mut [u64],
+    store: &mut [u8],
+    nodes: &mut [u64],
+    entries: &mut [u64],
+    row: &[u64],
+    pool: &[u8],
+    told: &mut [u64],
+) {
+    let start = rows::get(row, LOAD_START);
+    let file = plain::part(pool, start, rows::get(row, LOAD_LENGTH));
+    let at = rows::get(row, LOAD_AT) as usize;
+    let answer = spacetime_file::deserialize(pieces, blocks, store, nodes, entries, file, at);
+    match answer {
+        Loaded::Next(next) => tell_loaded(told, blocks, next as u64),
+        Loaded::Refused(n) => rows::tell(told, rows::REFUSAL, n),
     }
 }

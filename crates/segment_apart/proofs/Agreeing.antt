@@ -6,8 +6,8 @@ use lib.ListN.{length}
 use Rattle.lists.specs.Tests.{Decides}
 use Rattle.lists.proofs.Numbers.{decides-iff}
 use Rattle.history.specs.Rules.{Apart}
+use Rattle.block_table.specs.Blocks.{blocksOf, Stored}
 use Rattle.ordering.specs.Order.{InOrder}
-use Rattle.ordering.specs.Blocks.{blocksOf, Stored}
 use Rattle.ordering.proofs.Agreeing.{unshared-apart, apart-unshared}
 use Rattle.segment_table.specs.Closed.{Tables}
 use Rattle.segment_test.specs.Test.{BlockRows, ClosedTree}

@@ -20,12 +20,12 @@ use Rattle.tables.specs.Columns.{column, blockColumn, blockBase, blockLength}
 use Rattle.segment_table.specs.Closed.{TreeAt, run, blockIn, firstCellIn}
 use Rattle.segment_table.proofs.Closed.{run-all, run-mem, run-at, run-length}
 use Rattle.segment_test.specs.Test.{createdIn, destroyedIn}
-use Rattle.segment_find.specs.declared.walk.Node.{Node}
-use Rattle.segment_find.specs.declared.rows.Rows.{Rows}
-use Rattle.segment_find.specs.Walking.{Stands, Rooted, rootAt, Absent, halfAt}
-use Rattle.segment_find.specs.Rowing.{rowsAt, RunOf, Parts, Lower}
-use Rattle.segment_find.proofs.Halving.{present, absent-hole, Down, down}
-use Rattle.segment_find.proofs.Windows.{run-of}
+use Rattle.segment_walk.specs.declared.walk.Node.{Node}
+use Rattle.segment_walk.specs.declared.rows.Rows.{Rows}
+use Rattle.segment_walk.specs.Walking.{Stands, Rooted, rootAt, Absent, halfAt}
+use Rattle.segment_walk.specs.Rowing.{rowsAt, RunOf, Parts, Lower}
+use Rattle.segment_walk.proofs.Halving.{present, absent-hole, Down, down}
+use Rattle.segment_walk.proofs.Rowing.{run-of}
 use Rattle.segment_apart.specs.declared.birth.Own.{Own}
 use Rattle.segment_apart.specs.Clear.{endIn, EndsBy, Owns, Parted, Reached, Clears, RunClear, WayClear, BirthClear}
 

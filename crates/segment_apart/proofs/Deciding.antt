@@ -22,8 +22,8 @@ use Rattle.history.proofs.TreePath.{live-none}
 use Rattle.ordering.specs.Apart.{Clash, Unshared}
 use Rattle.segment_table.specs.Closed.{Tables, firstCellIn}
 use Rattle.segment_test.specs.Test.{lent, createdIn, destroyedIn, BlockRows, ClosedTree}
-use Rattle.segment_find.specs.Walking.{Rooted}
-use Rattle.segment_find.proofs.Agreeing.{sorted-agree}
+use Rattle.segment_walk.specs.Walking.{Rooted}
+use Rattle.segment_walk.proofs.Agreeing.{sorted-agree}
 use Rattle.segment_apart.specs.Clear.{endIn, Reached, Clears, BirthClear}
 use Rattle.segment_apart.specs.Apart.{AllBounded, SeenApart, ApartByTree, ClosedApart}
 use Rattle.segment_apart.proofs.Creation.{Alive, Born, born-apart}

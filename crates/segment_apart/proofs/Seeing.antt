@@ -6,8 +6,8 @@ use Prim.Native.Nat.{ℕ, _-_, _^_, _≤_, _<_}
 use native.Mathlib.Omega.{arith}
 use borrow.Author.Tests.{not-true}
 use Rattle.lists.specs.Tests.{Decides}
+use Rattle.block_table.specs.Blocks.{createdAt, destroyedAt}
 use Rattle.ordering.specs.Order.{nextAt}
-use Rattle.ordering.specs.Blocks.{createdAt, destroyedAt}
 use Rattle.ordering.specs.Apart.{StartsWithin, LivesMeet, FollowersApart, RowsApart}
 use Rattle.ordering.proofs.Parting.{followers-lifeless, followers-none, followers-past, followers-more, rows-none, rows-more, apart-tested}
 use Rattle.segment_apart.specs.Along.{FollowersLeft, RowsSeen}

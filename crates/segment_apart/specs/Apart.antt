@@ -5,8 +5,8 @@ use mathlib.Core.List.{List}
 use Prim.Native.Nat.{ℕ, _+_, _-_, _^_, _≤_, _<_}
 use Rattle.lists.specs.Tests.{Decides}
 use Rattle.history.specs.Words.{Block}
-use Rattle.ordering.specs.Order.{firstCellAt, InOrder}
-use Rattle.ordering.specs.Blocks.{lengthAt, destroyedAt, Filled}
+use Rattle.block_table.specs.Blocks.{firstCellAt, lengthAt, destroyedAt, Filled}
+use Rattle.ordering.specs.Order.{InOrder}
 use Rattle.ordering.specs.Apart.{Unshared}
 use Rattle.segment_table.specs.Closed.{Tables}
 use Rattle.segment_test.specs.Test.{BlockRows, ClosedTree}

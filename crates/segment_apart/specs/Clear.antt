@@ -9,10 +9,10 @@ use Rattle.history.specs.Find.{path}
 use Rattle.tables.specs.Columns.{blockColumn, blockLength}
 use Rattle.segment_table.specs.Closed.{firstCellIn}
 use Rattle.segment_test.specs.Test.{createdIn, destroyedIn}
-use Rattle.segment_find.specs.declared.walk.Node.{Node}
-use Rattle.segment_find.specs.declared.rows.Rows.{Rows}
-use Rattle.segment_find.specs.Walking.{Stands, Rooted}
-use Rattle.segment_find.specs.Rowing.{RunOf}
+use Rattle.segment_walk.specs.declared.walk.Node.{Node}
+use Rattle.segment_walk.specs.declared.rows.Rows.{Rows}
+use Rattle.segment_walk.specs.Walking.{Stands, Rooted}
+use Rattle.segment_walk.specs.Rowing.{RunOf}
 use Rattle.segment_apart.specs.declared.birth.Own.{Own}
 
 -- ── blocks ──

@@ -9,10 +9,10 @@ ghost use Rattle.tables.specs.Columns.{blockColumn};
 ghost use Rattle.segment_test.specs.Test.{lent};
 ghost use Rattle.segment_apart.specs.Clear.{EndsBy, Owns, RunClear, WayClear, BirthClear};
 ghost use Rattle.segment_apart.specs.Apart.{ApartByTree};
-use segment_find::rows;
-use segment_find::rows::Rows;
-use segment_find::walk;
-use segment_find::walk::Node;
+use segment_walk::rows;
+use segment_walk::rows::Rows;
+use segment_walk::walk;
+use segment_walk::walk::Node;
 use tables::block;
 use tables::entry;
 

@@ -32,7 +32,7 @@ fn steps_for(n: u64) -> u64 {
 pub fn seen_apart(blocks: &[u64], n: u64) -> bool
     ensures { λ r. ⌜ SeenApart (now (blocks .entry)) n r ⌝ }
 {
-    let head = block::get(blocks, 0, block::NEXT);
+    let head = block_table::first(blocks);
     along::rows_seen(blocks, head, steps_for(n))
 }
 

@@ -1,8 +1,11 @@
 // Two places of ten cells each with sixty versions one after the other, so that no two blocks share a cell at a tick; and one of them spoiled.
+use tables::ROW;
 use tables::block;
 ghost use Prim.Native.Nat.{_<_};
 
 pub const BLOCKS: u64 = 120;
+
+pub const NUMBERS: usize = block::HEAD + 120 * ROW;
 
 const VERSIONS: u64 = 60;
 
@@ -16,23 +19,12 @@ pub const STEP: u64 = 7;
 
 pub const WAYS: u64 = 7;
 
-// The sum, or the largest number where that is passed.
-fn plus(a: u64, b: u64) -> u64 {
-    if b <= u64::MAX - a {
-        return a + b;
-    }
-    u64::MAX
-}
-
 // Writes a version of a place. Versions begin in different cells of it.
 fn fill_row(blocks: &mut [u64], link: u64, place: u64, version: u64, from: u64, to: u64)
     requires { ⌜ place < 2 ⌝ }
 {
     let inset = version % 3;
-    block::put(blocks, link, block::FIRST, place * CELLS + inset);
-    block::put(blocks, link, block::LENGTH, CELLS - inset);
-    block::put(blocks, link, block::CREATED, from);
-    block::put(blocks, link, block::DESTROYED, to);
+    plain::put_block(blocks, link, place * CELLS + inset, CELLS - inset, from, to);
 }
 
 // Writes all blocks; each version lasts for `part` ticks.
@@ -40,7 +32,7 @@ pub fn fill(blocks: &mut [u64], part: u64) {
     let mut from = 0;
     let mut version = 0;
     while version < VERSIONS {
-        let to = plus(from, part);
+        let to = plain::plus(from, part);
         fill_row(blocks, 2 * version + 1, 0, version, from, to);
         fill_row(blocks, 2 * version + 2, 1, version, from, to);
         from = to;
@@ -58,7 +50,7 @@ pub fn spoil(blocks: &mut [u64], link: u64, way: u64) {
     } else if way == 3 {
         block::put(blocks, link, block::FIRST, CELLS - 1);
     } else if way == 4 {
-        block::put(blocks, link, block::DESTROYED, plus(destroyed, 1));
+        block::put(blocks, link, block::DESTROYED, plain::plus(destroyed, 1));
     } else if way == 5 {
         block::put(blocks, link, block::CREATED, 0);
     } else if way == 6 {

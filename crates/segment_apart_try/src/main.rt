@@ -4,13 +4,10 @@
 // share a cell.
 //
 //   board   the blocks
-//   scan    the plain scan of all pairs
-use libc::STDOUT_FILENO;
 use segment_tree::build;
 use segment_tree::close;
 
 mod board;
-mod scan;
 
 const SMALL_END: u64 = 1000;
 
@@ -18,30 +15,7 @@ const LARGEST_END: u64 = 1 << 63;
 
 const KIND: u64 = 3;
 
-const COMPARED: usize = 0;
-
-const DIFFER: usize = 1;
-
-const APART: usize = 2;
-
-const MANY: u64 = 1000000;
-
-// ── what is counted ──
-
-// Adds one to a count. There are some hundreds.
-fn count_if(tally: &mut [u64], col: usize, yes: bool) {
-    let many = tables::get(tally, 0, col);
-    if yes {
-        if many < MANY {
-            tables::put(tally, 0, col, many + 1);
-        }
-    }
-}
-
-fn compare(tally: &mut [u64], alike: bool) {
-    count_if(tally, COMPARED, true);
-    count_if(tally, DIFFER, !alike);
-}
+const APART: usize = tally::OWN;
 
 // ── a board ──
 
@@ -56,20 +30,20 @@ fn build_tree(
     let pieces = [0; 8];
     ordering::sort(blocks, board::BLOCKS);
     let told = build::count_tree(nodes, entries, blocks, board::BLOCKS, &pieces, 0, end, KIND);
-    compare(tally, told == build::ENOUGH);
+    tally::compare(tally, told == build::ENOUGH);
     close::close_tree(nodes, entries, blocks, board::BLOCKS, end, KIND);
 }
 
 // Compares the test of the tree, rule 24 and rule 24 by the tree alone with the scan.
 fn try_apart(tally: &mut [u64], blocks: &[u64], nodes: &[u64], entries: &[u64], end: u64) {
-    let plain = scan::plainly_apart(blocks);
+    let plain = plain::apart(blocks, board::BLOCKS);
     let tree = segment_test::test_tree(blocks, nodes, entries, KIND, end, board::BLOCKS);
-    compare(tally, tree);
+    tally::compare(tally, tree);
     let apart = segment_apart::apart(blocks, nodes, entries, KIND, end, board::BLOCKS);
     let by_tree = segment_apart::birth::all_clear(blocks, nodes, entries, KIND, end, board::BLOCKS);
-    compare(tally, apart == plain);
-    compare(tally, by_tree == plain);
-    count_if(tally, APART, apart);
+    tally::compare(tally, apart == plain);
+    tally::compare(tally, by_tree == plain);
+    tally::count_if(tally, APART, apart);
 }
 
 // The board with one block spoiled.
@@ -123,7 +97,7 @@ fn try_links(
 
 fn main() {
     let mut tally = [0; 8];
-    let mut blocks = [0; 968];
+    let mut blocks = [0; board::NUMBERS];
     let mut nodes = [0; 64008];
     let mut entries = [0; 28008];
     try_links(&mut tally, &mut blocks, &mut nodes, &mut entries, SMALL_END);
@@ -134,10 +108,5 @@ fn main() {
         &mut entries,
         LARGEST_END,
     );
-    io::print_decimal(STDOUT_FILENO, tables::get(&tally, 0, COMPARED));
-    io::write_all(STDOUT_FILENO, b" compared, ");
-    io::print_decimal(STDOUT_FILENO, tables::get(&tally, 0, DIFFER));
-    io::write_all(STDOUT_FILENO, b" differ, ");
-    io::print_decimal(STDOUT_FILENO, tables::get(&tally, 0, APART));
-    io::write_all(STDOUT_FILENO, b" boards apart\n");
+    tally::print(&tally, APART, b" boards apart");
 }

@@ -8,8 +8,8 @@ use lib.Seq.{sets}
 use Rattle.lists.proofs.Stores.{sets-append}
 use Rattle.segment_table.specs.Closed.{run, blockIn}
 use Rattle.segment_table.proofs.Closed.{run-length, run-append}
-use Rattle.segment_find.specs.declared.rows.Rows.{Rows}
-use Rattle.segment_find.specs.Rowing.{tableRows}
+use Rattle.segment_walk.specs.declared.rows.Rows.{Rows}
+use Rattle.segment_walk.specs.Rowing.{tableRows}
 use Rattle.segment_find.specs.Listing.{Extends}
 
 -- ── no room ──

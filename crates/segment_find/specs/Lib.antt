@@ -1,4 +1,1 @@
-pub mod Walking
-pub mod Rowing
 pub mod Listing
-pub mod Neighbours

@@ -10,13 +10,13 @@ use lib.Dec.{leb}
 use Rattle.history.specs.Tree.{Tree}
 use Rattle.history.specs.Find.{path, visited, window}
 use Rattle.segment_table.specs.Closed.{firstCellIn}
-use Rattle.segment_find.specs.declared.walk.Node.{Node}
-use Rattle.segment_find.specs.declared.rows.Rows.{Rows}
+use Rattle.segment_walk.specs.declared.walk.Node.{Node}
+use Rattle.segment_walk.specs.declared.rows.Rows.{Rows}
 use Rattle.segment_find.specs.declared.Query.{Query}
 use Rattle.segment_find.specs.declared.Found.{Found}
 use Rattle.segment_find.specs.declared.Found.the-variants.{Listed, TooSmall}
-use Rattle.segment_find.specs.Walking.{Stands, Rooted}
-use Rattle.segment_find.specs.Rowing.{RunOf, tableRows, rowsAt, blocksIn}
+use Rattle.segment_walk.specs.Walking.{Stands, Rooted}
+use Rattle.segment_walk.specs.Rowing.{RunOf, tableRows, rowsAt, blocksIn}
 
 -- ── rows in the window ──
 

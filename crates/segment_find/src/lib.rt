@@ -1,20 +1,15 @@
-// Reads of a closed index's tree at a tick: what find lists (`search` and `extend_from_self` of segment_tree.rs), and the live block next to a place.
-// No table is tested here. On any contents these functions end, at most 66 calls deep: the width of a node, below 2^64, is halved at each call. On the
-// tables of a closed index they answer as the model of history does.
+// Find in the tree of a closed index: `search` and `extend_from_self` of segment_tree.rs. No table is tested here. On any contents these functions
+// end, at most 66 calls deep: the width of a node, below 2^64, is halved at each call. On the tables of a closed index they answer as the model of
+// history does.
 //
-//   walk        specs/Walking     proofs/Halving            the way down by halves
-//   rows        specs/Rowing      proofs/Parting, Windows   a node's rows, and binary search in them
-//   lib         specs/Listing     proofs/Extending, Searching   find
-//   neighbour   specs/Neighbours  proofs/Neighbouring       the block next to a place
-//               proofs/Agreeing   for callers: by the blocks of the model; a neighbour is the only one
+//   specs/Listing      what find answers, and what it leaves in the answer
+//   proofs/Windows     the rows of a node in the window; Extending, Searching: the returns and loops
+//   proofs/Agreeing    for callers: by the blocks of the model
 ghost use Rattle.segment_find.specs.Listing.{InWindow, Extends, Searched, Finds};
-
-pub mod neighbour;
-pub mod rows;
-pub mod walk;
-
-use rows::Rows;
-use walk::Node;
+use segment_walk::rows;
+use segment_walk::rows::Rows;
+use segment_walk::walk;
+use segment_walk::walk::Node;
 
 // What find is asked: the blocks live at a tick whose first cell is in [start, stop).
 pub struct Query {
@@ -49,7 +44,7 @@ fn extend_from_self(entries: &[u64], rows: Rows, answer: &mut [u64], at: usize)
     if to < from {
         return;
     }
-    if rows::table_rows(entries) < to {
+    if tables::entry::rows(entries) < to as u64 {
         return;
     }
     let count = to - from;

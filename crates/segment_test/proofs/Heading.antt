@@ -20,10 +20,11 @@ use Rattle.segment_test.specs.Parts.{Room, Inside, Unrooted, OtherKinds,
 pub room-head : {table : List ℕ} {head rows : ℕ} → length table < head → Decides false (Room table head rows)
 room-head h = refute (λ r. omega (arith, r .fits))
 
-pub room-rest : {table : List ℕ} {head rows : ℕ} → head ≤ length table → Decides (leb rows ((length table - head) / rowWidth)) (Room table head rows)
-room-rest {table} {head} {rows} h = record {
-  yes = λ e. record { fits = omega (arith, leb-true rows ((length table - head) / rowWidth) e) };
-  not = λ e r. omega (arith, leb-false rows ((length table - head) / rowWidth) e, r .fits);
+pub room-rest : {table : List ℕ} {head rows most : ℕ} → head ≤ length table → most ≡ (length table - head) / rowWidth
+    → Decides (leb rows most) (Room table head rows)
+room-rest {table} {head} {rows} {most} h e = record {
+  yes = λ t. record { fits = omega (arith, leb-true rows most t) };
+  not = λ t r. omega (arith, leb-false rows most t, r .fits);
 }
 
 pub ruleset testing-room = (room-head, room-rest)

@@ -8,13 +8,13 @@ use native.Mathlib.Omega.{arith}
 use lib.ListN.{length, length-append}
 use Rattle.lists.specs.Lists.{All, all-nil, all-cons, Distinct, sumOf}
 use Rattle.lists.proofs.Numbers.{le-or-lt}
-use Rattle.lists.proofs.Lists.{all-append, all-map, all-mem, mem-split, sum-append}
+use Rattle.lists.proofs.Lists.{all-append, all-map, all-mem, mem-split, sum-append, distinct-append}
 use Rattle.lists.proofs.Maps.{map-append}
 use Rattle.history.specs.Tree.{Tree, hole, node, mid, nodeCount, entryCount}
 use Rattle.tables.specs.Columns.{column, nodeMin, nodeMax}
 use Rattle.segment_table.specs.Closed.{Tables, nodesUsed, leftAt, rightAt, firstAt, countAt, NodeRow, TreeAt}
 use Rattle.segment_test.specs.Total.{sumTo, entriesOfRow, widthAt, widthsOfRow, allWidths}
-use Rattle.segment_test.proofs.Sums.{distinct-append, mem-none, sum-all}
+use Rattle.segment_test.proofs.Sums.{mem-none, sum-all}
 use Rattle.segment_table.proofs.Closed.{run-length}
 
 -- ── the links of a tree ──

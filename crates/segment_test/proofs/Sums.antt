@@ -1,17 +1,17 @@
 -- Laws of sums: up to a bound, and over a list of numbers, by how often each stands in it. Assumes nothing.
 use mathlib.Core.Path.{_≡_, refl, ap, sym, _∙_}
-use mathlib.Core.Logic.{inl, inr, ⊎-elim}
+use mathlib.Core.Logic.{inl, inr}
 use mathlib.Core.Bool.{cond}
-use mathlib.Core.List.{List, [], _∷_, _++_, map}
+use mathlib.Core.List.{List, [], _∷_, map}
 use Prim.Native.Nat.{ℕ, zero, suc, _+_, _*_, _≤_, _<_}
 use native.Mathlib.Nat.{add-mul}
 use native.Mathlib.Omega.{arith}
 use lib.ListN.{length}
 use lib.Dec.{eqb}
 use borrow.Author.Tests.{eq-eqb, ne-eqb}
-use Rattle.lists.specs.Lists.{All, all-nil, all-cons, Mem, here, there, Distinct, pairs-nil, pairs-cons, Ascending, count, sumOf}
+use Rattle.lists.proofs.Counting.{distinct-count}
+use Rattle.lists.specs.Lists.{All, all-nil, all-cons, Mem, Distinct, count, sumOf}
 use Rattle.lists.proofs.Numbers.{eq-or-ne, le-or-lt}
-use Rattle.lists.proofs.Lists.{all-mem, mem-split}
 use Rattle.segment_test.specs.Total.{sumTo}
 
 -- ── up to a bound ──
@@ -72,35 +72,10 @@ sum-front f k (suc n) h =
       | inr z ↦ (let e : k ≡ suc n = omega arith in rw e (omega arith))
     ]
 
--- ── lists without repetition ──
-
-module _ {A : Type 0} where
-  pub distinct-append : (xs ys : List A) → Distinct xs → Distinct ys → ((k : A) → Mem k xs → Mem k ys → ⊥) → Distinct (xs ++ ys)
-  distinct-append [] ys d e f = e
-  distinct-append (x ∷ xs) ys d e f =
-      ((λ m. ⊎-elim (d .0) (λ z. f x (here refl) z) (mem-split xs ys m)), distinct-append xs ys (d .1) e (λ k m z. f k (there m) z))
-
--- keys that ascend strictly are those of distinct elements
-pub ascending-distinct : (key : ℕ → ℕ) {xs : List ℕ} → Ascending key xs → Distinct xs
-ascending-distinct key pairs-nil = tt
-ascending-distinct key (pairs-cons {x} {xs} a p) = ((λ m. omega (arith, all-mem {P = λ y. key x < key y} a m)), ascending-distinct key p)
+-- ── lists without numbers ──
 
 pub mem-none : (k : ℕ) (xs : List ℕ) → length xs ≡ 0 → Mem k xs → ⊥
 mem-none k (x ∷ xs) h m = omega arith
-
-count-none : (k : ℕ) (xs : List ℕ) → (Mem k xs → ⊥) → count k xs ≡ 0
-unfolding count
-count-none k [] h = refl
-count-none k (x ∷ xs) h = rw (ne-eqb k x (λ e. h (here e))) (omega (arith, count-none k xs (λ m. h (there m))))
-
-pub count-distinct : (k : ℕ) (xs : List ℕ) → Distinct xs → count k xs ≤ 1
-unfolding count
-count-distinct k [] d = omega arith
-count-distinct k (x ∷ xs) d =
-    elim (eq-or-ne k x) [
-      | inl e ↦ rw (eq-eqb k x e) (omega (arith, count-none k xs (rw (← e) at (d .0))))
-      | inr e ↦ rw (ne-eqb k x e) (omega (arith, count-distinct k xs (d .1)))
-    ]
 
 -- ── over a list ──
 
@@ -152,5 +127,5 @@ module _ (name : ℕ → ℕ) (one-name : (j k : ℕ) → name j ≡ name k → 
     where
       once : (k : ℕ) → k < n → count (name k) xs ≡ 1
       once =
-          sum-tight (λ k. count (name k) xs) (λ k. 1) n (λ k l. count-distinct (name k) xs distinct)
+          sum-tight (λ k. count (name k) xs) (λ k. 1) n (λ k l. distinct-count (name k) xs distinct)
           (sum-length n xs within ∙ full ∙ sym (sum-bound n))

@@ -9,9 +9,10 @@ use native.Mathlib.Omega.{arith}
 use lib.ListN.{length}
 use lib.Dec.{ltb}
 use borrow.Author.Tests.{ltb-true}
+use Rattle.lists.proofs.Counting.{distinct-count}
 use Rattle.lists.specs.Lists.{All, count}
 use Rattle.lists.proofs.Numbers.{le-or-lt}
-use Rattle.lists.proofs.Lists.{all-map}
+use Rattle.lists.proofs.Lists.{all-map, ascending-distinct}
 use Rattle.history.specs.Words.{Block, life}
 use Rattle.history.specs.Tree.{Tree, hole, node, mid, covers, blockAt, keyIn, widths}
 use Rattle.history.specs.Rules.{numbered, placed, sorted}
@@ -19,7 +20,7 @@ use Rattle.history.proofs.RulesLaws.{every-all, coversNode, ascends-decides, nu
 use Rattle.history.proofs.TreeAdding.{covers-yes, covers-inside}
 use Rattle.history.proofs.TreeWidths.{overlap, overlap-split}
 use Rattle.segment_test.specs.Total.{sumTo, allWidths}
-use Rattle.segment_test.proofs.Sums.{sum-add, sum-times, sum-none, sum-same, sum-tight, sum-length, count-distinct, ascending-distinct}
+use Rattle.segment_test.proofs.Sums.{sum-add, sum-times, sum-none, sum-same, sum-tight, sum-length}
 
 -- ── the total of a tree ──
 
@@ -76,7 +77,7 @@ module _ (at : ℕ → Block) (k : ℕ) where
               overlap-split (at k .created) (at k .destroyed) lo (mid lo hi) hi (omega arith) (omega arith),
             ))
         | inr q ↦
-            let one : count k es ≡ 1 = omega (arith, count-distinct k es (ascending-distinct key (ascends-decides key es .yes (sorted-here key es l r s)))) in
+            let one : count k es ≡ 1 = omega (arith, distinct-count k es (ascending-distinct key (ascends-decides key es .yes (sorted-here key es l r s)))) in
             let here : covers (at k .created) (at k .destroyed) lo hi ≡ true = placed-covers at above lo hi es l r k p q in
             let life : (at k .created ≤ lo) × (hi ≤ at k .destroyed) = covers-inside (at k .created) (at k .destroyed) lo hi here in
             let left : widths k lo (mid lo hi) l ≡ 0 = widths-under (coversNode at lo hi) lo (mid lo hi) l (omega arith) here (life .0) (omega (arith, life .1)) (placed-left at above lo hi es l r p) in

@@ -12,7 +12,7 @@ fn room(table: &[u64], head: usize, rows: u64) -> bool
     if table.len() < head {
         return false;
     }
-    rows <= ((table.len() - head) / tables::ROW) as u64
+    rows <= tables::rows(table.len(), head)
 }
 
 // Whether `many` entry rows from `first` on lie in the table. Constant time.
@@ -22,7 +22,7 @@ pub fn inside(entries: &[u64], first: u64, many: u64) -> bool
     if entries.len() < tables::entry::HEAD {
         return false;
     }
-    let rows = ((entries.len() - tables::entry::HEAD) / tables::entry::WIDTH) as u64;
+    let rows = tables::entry::rows(entries);
     if rows < first {
         return false;
     }

@@ -31,9 +31,6 @@ pub fn test_runs(nodes: &[u64], entries: &[u64]) -> bool
     begin == total
 }
 
-// The largest word.
-const LARGEST: u64 = 18446744073709551615;
-
 // high * 2^64 + low.
 pub struct Total {
     pub high: u64,
@@ -45,7 +42,7 @@ fn plus_one(t: Total, x: u64) -> Total
     requires { ⌜ t .high + 1 < 2 ^ 64 ⌝ }
     ensures { λ r. ⌜ (twoWords (r .high) (r .low) ≡ twoWords (t .high) (t .low) + x) × (r .high ≤ t .high + 1) ⌝ }
 {
-    let room = LARGEST - t.low;
+    let room = u64::MAX - t.low;
     if x <= room {
         return Total {
             high: t.high,

@@ -15,8 +15,9 @@ use Rattle.history.proofs.TreeAdding.{made, listed, half-left, half-right, add-
 use Rattle.history.proofs.TreeInserting.{insert-length}
 use Rattle.history.proofs.TreeCounts.{node-count-add}
 use Rattle.tables.specs.Columns.{nodeLeft, nodeRight, nodeEntries}
+use Rattle.tables.specs.Sums.{most, plusUpTo}
 use Rattle.segment_table.specs.Closed.{nodesUsed, countAt}
-use Rattle.segment_tree.specs.Count.{most, plusUpTo, rowsIn, fullest, CountAt, Life, Spot, spot, linkAt, Standing, Grown, Outcome, Added, Reached, was-there, new-row, no-row}
+use Rattle.segment_tree.specs.Count.{rowsIn, fullest, CountAt, Life, Spot, spot, linkAt, Standing, Grown, Outcome, Added, Reached, was-there, new-row, no-row}
 use Rattle.segment_tree.proofs.Presence.{new-hole}
 use Rattle.segment_tree.proofs.Growing.{grown-none, standing-grown, grown-trans, made-link, grown-new, grown-entry, left-stands, right-stands, grown-left, grown-right}
 

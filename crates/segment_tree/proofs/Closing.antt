@@ -3,12 +3,12 @@
 use mathlib.Core.Path.{_≡_, refl, ap, sym, _∙_}
 use mathlib.Core.Logic.{inl, inr}
 use mathlib.Core.List.{List, [], _∷_, map}
-use Prim.Native.Nat.{ℕ, suc, _+_, _-_, _*_, _^_, _≤_, _<_}
+use Prim.Native.Nat.{ℕ, suc, _+_, _-_, _*_, _/_, _%_, _^_, _≤_, _<_}
 use native.Mathlib.Omega.{arith}
-use lib.ListN.{length, getD, set, length-set}
+use lib.ListN.{length, getD, set, replicate, length-set}
 use lib.Seq.{getD-set-same, getD-set-other}
 use Rattle.lists.specs.Lists.{All, all-cons, here, countFrom}
-use Rattle.lists.proofs.Numbers.{lt-or-le}
+use Rattle.lists.proofs.Numbers.{eq-or-ne, lt-or-le}
 use Rattle.lists.proofs.Lists.{all-any, all-mem, all-of-mem, count-from-length, count-from-at}
 use Rattle.lists.proofs.Counting.{mem-count, count-from-out}
 use Rattle.lists.proofs.Maps.{getD-of-map}
@@ -19,12 +19,14 @@ use Rattle.history.proofs.TreeCounts.{newNodes}
 use Rattle.history.proofs.TreeOrder.{addEach, treeOf-order}
 use Rattle.tables.specs.Columns.{column, blockColumn, entryColumn, blockNext, nodeMin, nodeMax, nodeLeft, nodeRight, nodeFirst, nodeEntries, nodeKind, nodesCount, entryBlock, entryKey, entriesCount}
 use Rattle.segment_table.specs.Closed.{nodesUsed, leftAt, rightAt, firstAt, countAt, firstCellIn, run, Keyed, TreeAt, Closed}
+use Rattle.segment_table.specs.Alone.{TreeAlone}
 use Rattle.segment_tree.specs.Count.{entriesTo, allEntries, CountRow, CountAt, Life, aLife}
 use Rattle.segment_tree.specs.Runs.{upTo, LikeButRuns, AssignedRuns}
 use Rattle.segment_tree.specs.Lives.{lifeOf, blockLife}
-use Rattle.segment_tree.specs.Fill.{startAt, Fillable, FillAt, Roomy, appendBlock, appendEach, FindsNodes, WrittenAll, lentTables, Closable, ClosedTree}
+use Rattle.segment_tree.specs.Fill.{startAt, Fillable, FillAt, Roomy, appendBlock, appendEach, FindsNodes, Filled, WrittenAll, lentTables, Closable, ClosedTree}
 use Rattle.segment_tree.proofs.NodeRows.{entries-same, entries-most}
-use Rattle.segment_tree.proofs.Running.{runs-length, runs-like, runs-first}
+use Rattle.segment_tree.proofs.Running.{runs-length, runs-outside, runs-like, runs-first}
+use Rattle.segment_tree.proofs.Counting.{zeros-read}
 use Rattle.segment_tree.proofs.Presence.{new-none-count, NodesOf, each-present, bare, new-bare, each-bare, in-hole, each-end}
 use Rattle.segment_tree.proofs.Writing.{run-ends, run-fits, run-same, like-self, like-trans}
 
@@ -180,7 +182,7 @@ module _ (blocks s es : List ℕ) (n e kind : ℕ) (bs : List Block) (numbers : 
     fillable : Fillable s s es
     fillable = record { like = like-self s; long = refl; inside = c .counted .stands .inside; space = space; few = omega (arith, space) }
 
-    filled-all : FillAt blocks s t₁ es₁ kind root 0 e whole
+    filled-all : Filled blocks s s es t₁ es₁ kind root 0 e (bare whole) whole
     filled-all =
         let roomy : Roomy s root (appendEach blocks e numbers (bare whole)) = rw fills (roomy-counted s kind root 0 e whole counted-here) in
         rw fills at (w .done s kind numbers (bare whole) (c .small) fillable (c .met) (c .many)
@@ -226,7 +228,7 @@ module _ (blocks s es : List ℕ) (n e kind : ℕ) (bs : List Block) (numbers : 
           let used-all : nodesUsed t₂ ≡ nodesUsed s = like-all .same 0 nodesCount (omega arith) (inl refl) in
           record {
             stands = rw root-same
-                (tree-closed blocks s t₁ es₁ t₂ es₂ kind like-all (long-entries ∙ sym (w .entries-long)) entry-rows starts (rw (w .entries-long) space) root 0 e whole counted-here filled-all);
+                (tree-closed blocks s t₁ es₁ t₂ es₂ kind like-all (long-entries ∙ sym (w .entries-long)) entry-rows starts (rw (w .entries-long) space) root 0 e whole counted-here (filled-all .here));
             other-kinds = λ k h apart. like-all .same 0 k (omega arith) (inl refl) ∙ c .counted .other-kinds k h apart;
             all-rows = used-all ∙ c .counted .rows;
             room = omega (arith, used-all, long-nodes, c .counted .stands .inside, c .nodes-headed);
@@ -241,6 +243,29 @@ module _ (blocks s es : List ℕ) (n e kind : ℕ) (bs : List Block) (numbers : 
             };
           }
 
+      -- ── nothing besides ──
+
+      -- a row that is not in use was zeros and is
+      row-alone : (k j : ℕ) → nodesUsed s < k → j < rowWidth → column t₂ k j ≡ 0
+      row-alone k j past h =
+          let runs-same : column t₂ k j ≡ column t₁ k j = rw (runs .runs) (runs-outside t₁ used k j h (inr (omega (arith, read, used-same)))) in
+          let written-same : column t₁ k j ≡ column s k j = elim (eq-or-ne j nodeFirst) [ inl q ↦ rw q (filled-all .beyond .next k past) | inr q ↦ w .like .same k j h (inr q) ] in
+          runs-same ∙ written-same ∙ c .counted .stands .clean .zeros k j past h
+
+      all-alone : es ≡ replicate (length es) 0 → TreeAlone t₂ es₂ (treeOf e bs)
+      all-alone zeros =
+          let zero-at : (i : ℕ) → getD es i 0 ≡ 0 = λ i. ap (λ (l : List ℕ). getD l i 0) zeros ∙ zeros-read (length es) i in
+          record {
+            node-free = λ k j a h. like-all .same k j h (inr (omega arith)) ∙ c .counted .free k j a h;
+            node-head = λ j a h. like-all .same 0 j h (inl refl) ∙ c .counted .head-free j a h;
+            nodes-rest = λ i h.
+                let at : rowWidth * (i / rowWidth) + i % rowWidth ≡ i = omega arith in
+                rw at at (row-alone (i / rowWidth) (i % rowWidth) (omega (arith, c .counted .rows)) (omega arith));
+            entry-head = λ i a h.
+                ap (λ (l : List ℕ). getD l i 0) head ∙ getD-set-other es₁ (rowWidth * 0 + entriesCount) i total 0 (omega arith) ∙ filled-all .beyond .outside i (inl h) ∙ zero-at i;
+            entries-rest = λ i h. entry-rows i (omega arith) ∙ filled-all .beyond .outside i (inr (omega (arith, total-is))) ∙ zero-at i;
+          }
+
 -- ── the return ──
 
 pub closed-tree : {blocks s es t₁ es₁ t₂ es₂ : List ℕ} {n e kind root used total : ℕ} → length es < 2 ^ 64 → root ≡ column s 0 kind
@@ -248,4 +273,5 @@ pub closed-tree : {blocks s es t₁ es₁ t₂ es₂ : List ℕ} {n e kind root 
     → es₂ ≡ set es₁ (rowWidth * 0 + entriesCount) total → ClosedTree (lentTables blocks s es) (lentTables blocks t₂ es₂) n e kind
 closed-tree {blocks} {s} {es} {t₁} {es₁} {t₂} {es₂} {n} {e} {kind} {root} {used} {total} lent found w read runs head = record {
   done = λ bs numbers c. all-closed blocks s es n e kind bs numbers c lent t₁ es₁ (rw found at w) used total t₂ es₂ read runs head;
+  alone = λ bs numbers c zeros. all-alone blocks s es n e kind bs numbers c lent t₁ es₁ (rw found at w) used total t₂ es₂ read runs head zeros;
 }

@@ -15,20 +15,21 @@ use Rattle.history.specs.Lent.{rowWidth}
 use Rattle.history.specs.Words.{Block}
 use Rattle.history.specs.Tree.{Tree, hole, treeOf, nodeCount, entryCount}
 use Rattle.tables.specs.Columns.{column, nodesCount}
+use Rattle.tables.specs.Sums.{most}
 use Rattle.segment_table.specs.Closed.{nodesUsed, firstAt}
-use Rattle.segment_tree.specs.Count.{most, rowsIn, fullest, entriesTo, allEntries, CountAt, Life, Standing, Grown}
+use Rattle.segment_tree.specs.Count.{rowsIn, fullest, entriesTo, allEntries, CountAt, Life, Standing, Grown}
 use Rattle.segment_tree.specs.Runs.{upTo, withRuns, AssignedRuns}
 use Rattle.segment_tree.specs.Lives.{lifeOf, blockLife, pieceLife, shape, addLife, addLives, rootSpot, AddedRows, entryRowsIn, roomFor, rowsToCount, Countable, CountedAs, CountedTree}
 use Rattle.segment_tree.proofs.NodeRows.{count-like, entries-most}
 use Rattle.segment_tree.proofs.Growing.{standing-grown, grown-trans}
 use Rattle.segment_tree.proofs.Adding.{fullest-grows}
 use Rattle.segment_tree.proofs.AddingRows.{nodes-lives}
-use Rattle.segment_tree.proofs.Running.{runs-length, runs-outside, runs-first, runs-like, runs-entries}
+use Rattle.segment_tree.proofs.Running.{runs-length, runs-other, runs-outside, runs-first, runs-like, runs-entries}
 use Rattle.segment_tree.proofs.Shapes.{shape-tree, lives-append, shape-lives, lives-order, shape-nodes, shape-entry-count, shape-stands}
 
 -- ── zeros ──
 
-zeros-read : (n i : ℕ) → getD {A = ℕ} (replicate n 0) i 0 ≡ 0
+pub zeros-read : (n i : ℕ) → getD {A = ℕ} (replicate n 0) i 0 ≡ 0
 zeros-read n i =
     elim (lt-or-le i n) [
       | inl h ↦ getD-replicate n i 0 0 h
@@ -222,6 +223,9 @@ module _ (t blocks pieces : List ℕ) (n m e kind : ℕ) (bs ps : List Block) (l
                   other-kinds = λ k h apart.
                       rw (runs .runs) (runs-outside t₂ used 0 k (omega arith) (inl refl)) ∙ grown-all .kept .head k (omega arith) (omega arith) (λ _. apart) ∙ zero-at (rowWidth * 0 + k);
                   runs = runs-all;
+                  free = λ k j a h. rw (runs .runs) (runs-other t₂ used k j h (omega arith)) ∙ grown-all .free k j a h ∙ zero-at (rowWidth * k + j);
+                  head-free = λ j a h.
+                      rw (runs .runs) (runs-outside t₂ used 0 j h (inl refl)) ∙ grown-all .kept .head j h (omega arith) (λ _ q. omega (arith, g .a-kind)) ∙ zero-at (rowWidth * 0 + j);
                 };
                 refused = λ n. absurd (n refl);
               }

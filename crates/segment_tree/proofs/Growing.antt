@@ -9,8 +9,9 @@ use Rattle.lists.proofs.Numbers.{eq-or-ne, le-or-lt}
 use Rattle.history.specs.Lent.{rowWidth}
 use Rattle.history.specs.Tree.{Tree, hole, node, mid, nodeCount, entryCount}
 use Rattle.tables.specs.Columns.{column, nodeMin, nodeMax, nodeLeft, nodeRight, nodeEntries, nodeKind, nodesCount}
+use Rattle.tables.specs.Sums.{most, plusUpTo}
 use Rattle.segment_table.specs.Closed.{nodesUsed, leftAt, rightAt, countAt}
-use Rattle.segment_tree.specs.Count.{most, plusUpTo, rowsIn, minAt, maxAt, kindAt, entriesTo, CountRow, CountAt, Spot, spot, linkAt, Outside, other-kind, starts-before, ends-after, Standing, Kept, Grown, withNode}
+use Rattle.segment_tree.specs.Count.{rowsIn, minAt, maxAt, kindAt, entriesTo, CountRow, CountAt, Spot, spot, linkAt, Outside, other-kind, starts-before, ends-after, Standing, Kept, Grown, withNode}
 use Rattle.segment_tree.proofs.NodeRows.{column-same, column-other, row-inside, tree-stays, hole-stays, entries-same, entries-more, entries-one}
 
 -- ── rows outside ──
@@ -51,6 +52,7 @@ module _ (t : List ℕ) (s : Spot) (T : Tree) (stands : Standing t s T) where
     rows = refl;
     more = omega arith;
     entries = refl;
+    free = λ k j a h. refl;
     kept = record { rows = λ k j a b c o e. refl; head = λ j a b c. refl };
     clean = stands .clean;
     inside = stands .inside;
@@ -85,6 +87,7 @@ module _ (t : List ℕ) (s : Spot) (T : Tree) (stands : Standing t s T) where
       rows = omega (arith, g .rows, h .rows);
       more = omega (arith, g .more, h .more);
       entries = omega (arith, g .entries, h .entries);
+      free = λ k j a b. h .free k j a b ∙ g .free k j a b;
       kept = record {
         rows = λ k j a b c out apart.
             h .kept .rows k j a (omega (arith, g .more)) c (outside-still k a b out) apart ∙ g .kept .rows k j a b c out apart;
@@ -126,6 +129,15 @@ module _ (t : List ℕ) (s : Spot) (stands : Standing t s hole) (room : nodesUse
       ∙ column-other linked link nodeMin (s .lo) (omega arith) k j h (λ e _. new e)
       ∙ column-other counted (s .parent) (s .col) link (omega (arith, col-small)) k j h here
       ∙ column-other t 0 nodesCount link (omega arith) k j h count
+
+  -- no write is to a free column
+  made-free : (k j : ℕ) → nodeKind < j → j < rowWidth → column (withNode t s) k j ≡ column t k j
+  made-free k j a h =
+      column-other raised link nodeKind (s .kind) (omega arith) k j h (λ _ e. omega arith)
+      ∙ column-other lowered link nodeMax (s .hi) (omega arith) k j h (λ _ e. omega arith)
+      ∙ column-other linked link nodeMin (s .lo) (omega arith) k j h (λ _ e. omega arith)
+      ∙ column-other counted (s .parent) (s .col) link (omega (arith, col-small)) k j h (λ _ e. omega (arith, col-small))
+      ∙ column-other t 0 nodesCount link (omega arith) k j h (λ _ e. omega arith)
 
   -- what the three last writes leave of the new row
   made-rest : (j : ℕ) → j < rowWidth → (j ≡ nodeKind → ⊥) → (j ≡ nodeMax → ⊥) → (j ≡ nodeMin → ⊥) → column (withNode t s) link j ≡ 0
@@ -194,6 +206,7 @@ module _ (t : List ℕ) (s : Spot) (stands : Standing t s hole) (room : nodesUse
         entries-same t (withNode t s) (nodesUsed t) (λ k a b. made-other k nodeEntries (omega arith) (omega arith) (omega arith) (λ _ e. omega (arith, col-small))) in
         let last : countAt (withNode t s) link ≡ 0 = made-rest nodeEntries (omega arith) (omega arith) (omega arith) (omega arith) in
         rw made-used (omega (arith, entries-more (withNode t s) (nodesUsed t), before, last));
+    free = made-free;
     kept = record {
       rows = λ k j a b c out apart. made-other k j c (omega arith) (omega arith) apart;
       head = λ j a b c. made-other 0 j a (omega arith) (λ _. b) c;
@@ -267,6 +280,7 @@ module _ (t : List ℕ) (s : Spot) (link : ℕ) (xs ys : List ℕ) (L R : Tree) 
         rows = omega (arith, more-used);
         more = omega (arith, more-used);
         entries = rw more-used (omega (arith, entries-one t t′ link (nodesUsed t) (row .some) (row .used) more-count (λ k e. more-other k nodeEntries (omega arith) (λ q _. e q))));
+        free = λ k j a h. more-other k j h (λ _ e. omega arith);
         kept = record {
           rows = λ k j a b c out apart. more-other k j c (λ e _. not-outside t s link (length xs) row (rw (← e) out));
           head = λ j a b c. more-other 0 j a (λ e _. omega (arith, row .some));
@@ -439,6 +453,7 @@ module _ (t t′ : List ℕ) (s : Spot) (link m : ℕ) (xs : List ℕ) (L R : Tr
           rows = omega (arith, g .rows);
           more = g .more;
           entries = omega (arith, g .entries);
+          free = g .free;
           kept = half-kept t t′ s leftSpot link xs L R left-half (g .kept) (g .more);
           clean = g .clean;
           inside = g .inside;
@@ -465,6 +480,7 @@ module _ (t t′ : List ℕ) (s : Spot) (link m : ℕ) (xs : List ℕ) (L R : Tr
           rows = omega (arith, g .rows);
           more = g .more;
           entries = omega (arith, g .entries);
+          free = g .free;
           kept = half-kept t t′ s rightSpot link xs L R right-half (g .kept) (g .more);
           clean = g .clean;
           inside = g .inside;

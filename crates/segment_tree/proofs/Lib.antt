@@ -11,4 +11,3 @@ pub mod Writing
 pub mod WritingDown
 pub mod WritingAll
 pub mod Closing
-pub mod InOrder

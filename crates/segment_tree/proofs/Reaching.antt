@@ -6,8 +6,9 @@ use native.Mathlib.Omega.{arith}
 use lib.ListN.{set}
 use Rattle.history.specs.Lent.{rowWidth}
 use Rattle.tables.specs.Columns.{nodeMin, nodeMax, nodeEntries, nodeKind, nodesCount}
+use Rattle.tables.specs.Sums.{plusUpTo}
 use Rattle.segment_table.specs.Closed.{nodesUsed, countAt}
-use Rattle.segment_tree.specs.Count.{plusUpTo, rowsIn, Spot, linkAt, Reached, was-there, new-row, no-row}
+use Rattle.segment_tree.specs.Count.{rowsIn, Spot, linkAt, Reached, was-there, new-row, no-row}
 
 pub bumped : (t : List ℕ) (link : ℕ) {t′ : List ℕ} {n v : ℕ} → n ≡ countAt t link → v ≡ plusUpTo n 1 → t′ ≡ set t (rowWidth * link + nodeEntries) v
     → t′ ≡ set t (rowWidth * link + nodeEntries) (plusUpTo (countAt t link) 1)

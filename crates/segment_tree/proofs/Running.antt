@@ -9,8 +9,9 @@ use lib.ListN.{length, set, length-set}
 use Rattle.lists.proofs.Numbers.{eq-or-ne}
 use Rattle.history.specs.Lent.{rowWidth}
 use Rattle.tables.specs.Columns.{column, nodeFirst, nodeEntries}
+use Rattle.tables.specs.Sums.{plusUpTo}
 use Rattle.segment_table.specs.Closed.{firstAt, countAt}
-use Rattle.segment_tree.specs.Count.{plusUpTo, rowsIn, entriesTo}
+use Rattle.segment_tree.specs.Count.{rowsIn, entriesTo}
 use Rattle.segment_tree.specs.Runs.{upTo, withRuns, LikeButRuns, AssignedRuns}
 use Rattle.segment_tree.proofs.NodeRows.{column-same, column-other, row-inside, entries-same}
 

@@ -13,11 +13,12 @@ use Rattle.history.specs.Tree.{Tree, hole, node, mid, insert}
 use Rattle.history.proofs.TreeInserting.{insert-nil, insert-on}
 use Rattle.history.proofs.TreeAdding.{listed}
 use Rattle.tables.specs.Columns.{entryColumn, nodeFirst, entryBlock, entryKey}
+use Rattle.tables.specs.Sums.{plusUpTo}
 use Rattle.segment_table.specs.Closed.{nodesUsed, leftAt, rightAt, firstAt, countAt, firstCellIn, blockIn, run}
 use Rattle.segment_table.proofs.Closed.{run-append}
-use Rattle.segment_tree.specs.Count.{plusUpTo, minAt, maxAt, kindAt, entriesTo, allEntries, CountRow, Spot, spot, Outside, starts-before, ends-after}
+use Rattle.segment_tree.specs.Count.{minAt, maxAt, kindAt, entriesTo, allEntries, CountRow, Spot, spot, Outside, starts-before, ends-after}
 use Rattle.segment_tree.specs.Runs.{LikeButRuns}
-use Rattle.segment_tree.specs.Fill.{startAt, Fillable, FillRow, FillAt, Untouched, Filled, WroteEntry}
+use Rattle.segment_tree.specs.Fill.{startAt, Fillable, FillRow, FillAt, Untouched, Beyond, Filled, WroteEntry}
 use Rattle.segment_tree.proofs.NodeRows.{column-same, column-other, row-inside, entries-more, entries-most}
 use Rattle.segment_tree.proofs.Growing.{outside-part, not-outside}
 
@@ -90,6 +91,9 @@ hole-kept blocks s t es t′ es′ kind link lo hi (node xs l r) z g = absurd (o
 
 pub untouched-all : (s t es : List ℕ) (out : ℕ → Type 0) → Untouched s t es t es out
 untouched-all s t es out = record { next = λ k a b o. refl; runs = λ k i c a b o y z h. refl }
+
+pub beyond-all : (s t es : List ℕ) → Beyond s t es t es
+beyond-all s t es = record { next = λ k a. refl; outside = λ i o. refl }
 
 pub like-self : (t : List ℕ) → LikeButRuns t t
 like-self t = record { same = λ k j h o. refl }
@@ -198,6 +202,17 @@ module _ (t es t′ es′ : List ℕ) (link b cell : ℕ) (some : link ≡ 0 →
           };
         }
 
+    -- the row is in use, and the place is inside its run
+    beyond : Beyond s t es t′ es′
+    beyond = record {
+      next = λ k h. next-other k (λ e. omega (arith, this .row .used));
+      outside = λ i o.
+          let inside : at < allEntries s = omega (arith, place, more, run-fits s link (this .row .some) (this .row .used)) in
+          rw (w .entries-are)
+          (getD-set-other (set es (entryHead + (entryWidth * at + entryBlock)) b) (entryHead + (entryWidth * at + entryKey)) i cell 0 (λ e. elim o [ inl h ↦ omega arith | inr h ↦ omega arith ])
+          ∙ getD-set-other es (entryHead + (entryWidth * at + entryBlock)) i b 0 (λ e. elim o [ inl h ↦ omega arith | inr h ↦ omega arith ]));
+    }
+
     pub filled-entry : Filled blocks s t es t′ es′ kind link lo hi (node xs l r) (node (insert (λ _. 0) b xs) l r)
     unfolding FillAt
     filled-entry =
@@ -216,6 +231,7 @@ module _ (t es t′ es′ : List ℕ) (link b cell : ℕ) (some : link ≡ 0 →
             next = λ k a z o. others .next k a z (apart k o);
             runs = λ k i c a z o. others .runs k i c a z (apart k o);
           };
+          beyond = beyond;
         }
       where
         apart : (k : ℕ) → Outside s (spot kind 0 0 lo hi) k → k ≡ link → ⊥
@@ -239,6 +255,7 @@ module _ (blocks s t es t′ es′ : List ℕ) (kind link lo hi : ℕ) (xs : Lis
           next = λ k a z o. f .rest .next k a z (outside-part s (spot kind 0 0 lo hi) p k refl (omega arith) (omega arith) o);
           runs = λ k i c a z o. f .rest .runs k i c a z (outside-part s (spot kind 0 0 lo hi) p k refl (omega arith) (omega arith) o);
         };
+        beyond = f .beyond;
       }
 
   pub filled-right : (r′ : Tree) → Filled blocks s t es t′ es′ kind (rightAt s link) (mid lo hi) hi r r′ → Filled blocks s t es t′ es′ kind link lo hi (node xs l r) (node xs l r′)
@@ -256,6 +273,7 @@ module _ (blocks s t es t′ es′ : List ℕ) (kind link lo hi : ℕ) (xs : Lis
           next = λ k a z o. f .rest .next k a z (outside-part s (spot kind 0 0 lo hi) p k refl (omega arith) (omega arith) o);
           runs = λ k i c a z o. f .rest .runs k i c a z (outside-part s (spot kind 0 0 lo hi) p k refl (omega arith) (omega arith) o);
         };
+        beyond = f .beyond;
       }
 
 pub filled-trans : (blocks s t es t₁ es₁ t₂ es₂ : List ℕ) (kind link lo hi : ℕ) (T X Y : Tree) → Filled blocks s t es t₁ es₁ kind link lo hi T X
@@ -266,4 +284,5 @@ filled-trans blocks s t es t₁ es₁ t₂ es₂ kind link lo hi T X Y f h = rec
     next = λ k a z o. h .rest .next k a z o ∙ f .rest .next k a z o;
     runs = λ k i c a z o y x small. h .rest .runs k i c a z o y x small ∙ f .rest .runs k i c a z o y x small;
   };
+  beyond = record { next = λ k a. h .beyond .next k a ∙ f .beyond .next k a; outside = λ i o. h .beyond .outside i o ∙ f .beyond .outside i o };
 }

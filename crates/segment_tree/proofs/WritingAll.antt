@@ -19,7 +19,8 @@ use Rattle.segment_tree.specs.Count.{Life, aLife}
 use Rattle.segment_tree.specs.Lives.{blockLife}
 use Rattle.segment_tree.specs.Fill.{Fillable, FillAt, Roomy, FindsNodes, Filled, Written, Met, met-end, met-next, appendBlock, appendEach, WrittenAll}
 use Rattle.segment_tree.proofs.Presence.{none-new, new-none-count, new-keep}
-use Rattle.segment_tree.proofs.Writing.{like-self, like-trans, fillable-like}
+use Rattle.segment_tree.proofs.Writing.{like-self, like-trans, fillable-like, filled-trans}
+use Rattle.segment_tree.proofs.WritingDown.{unchanged}
 
 -- ── a tree with room for more has room ──
 
@@ -62,7 +63,8 @@ module _ {blocks t es : List ℕ} {root e link fuel : ℕ} where
     like = like-self t;
     nodes-long = refl;
     entries-long = refl;
-    done = λ s kind numbers T w f met few g there room. let z : numbers ≡ [] = none numbers met few in rw z g;
+    done = λ s kind numbers T w f met few g there room.
+        let z : numbers ≡ [] = none numbers met few in rw z (unchanged blocks s t es kind root 0 e T T refl g);
   }
 
   pub written-end : link ≡ 0 → WrittenAll blocks t es t es root e link fuel
@@ -108,7 +110,7 @@ module _ {blocks t es : List ℕ} {root e link fuel : ℕ} where
 
         go : (s : List ℕ) (kind : ℕ) (numbers : List ℕ) (T : Tree) → e ≤ 2 ^ 63 → Fillable s t es → Met blocks link numbers → length numbers ≤ fuel
             → FillAt blocks s t es kind root 0 e T → All (λ k. FindsNodes 63 k (blockLife blocks (suc k)) 0 e T) numbers → Roomy s root (appendEach blocks e numbers T)
-            → FillAt blocks s t₂ es₂ kind root 0 e (appendEach blocks e numbers T)
+            → Filled blocks s t es t₂ es₂ kind root 0 e T (appendEach blocks e numbers T)
         go s kind [] T w f (met-end z) few g there room = absurd (some z)
         go s kind (k ∷ ks) T w f (met-next i met) few g (all-cons h hs) room =
             let X : Tree = appendBlock blocks e k T in
@@ -116,7 +118,7 @@ module _ {blocks t es : List ℕ} {root e link fuel : ℕ} where
             this k i .done blocks s kind 63 T (omega arith) f refl g h (roomy-each blocks s e root ks X room) in
             let f₁ : Fillable s t₁ es₁ = fillable-like s t es t₁ es₁ f (a .like) (a .nodes-long) (a .entries-long) in
             let others : All (λ x. FindsNodes 63 x (blockLife blocks (suc x)) 0 e X) ks = all-map (λ x y. still x k (blockLife blocks (suc x)) (blockLife blocks (suc k)) T y) hs in
-            b .done s kind ks X w f₁ (rw follows met) (omega arith) (one .here) others room
+            filled-trans blocks s t es t₁ es₁ t₂ es₂ kind root 0 e T X _ one (b .done s kind ks X w f₁ (rw follows met) (omega arith) (one .here) others room)
 
 -- ── the loop ──
 

@@ -15,13 +15,14 @@ use Rattle.history.proofs.TreeInserting.{insert-length}
 use Rattle.history.proofs.TreeAdding.{add-here, add-narrow}
 use Rattle.history.proofs.TreeCounts.{newNodes}
 use Rattle.tables.specs.Columns.{nodeLeft, nodeRight, nodeFirst, entryBlock, entryKey}
+use Rattle.tables.specs.Sums.{plusUpTo}
 use Rattle.segment_table.specs.Closed.{leftAt, rightAt, firstAt, firstCellIn}
-use Rattle.segment_tree.specs.Count.{plusUpTo, Life, spot, Outside}
+use Rattle.segment_tree.specs.Count.{Life, spot, Outside}
 use Rattle.segment_tree.specs.Runs.{LikeButRuns}
 use Rattle.segment_tree.specs.Fill.{Fillable, FillAt, Roomy, FindsNodes, Filled, Written, WroteEntry}
 use Rattle.segment_tree.proofs.Adding.{middle, wide-of, Deeper, deeper-of}
 use Rattle.segment_tree.proofs.Presence.{new-hole, none-new, new-none-count, Below, new-below}
-use Rattle.segment_tree.proofs.Writing.{untouched-all, like-self, like-trans, fillable-like, wrote-like, wrote-long, filled-entry, filled-left, filled-right, filled-trans}
+use Rattle.segment_tree.proofs.Writing.{untouched-all, beyond-all, like-self, like-trans, fillable-like, wrote-like, wrote-long, filled-entry, filled-left, filled-right, filled-trans}
 
 -- ── one entry ──
 
@@ -53,8 +54,8 @@ written t es t′ es′ link lo hi life b cell like long long-e step = record { 
         step blocks s kind n xs l r w f is g (none-new b n (life .created) (life .destroyed) lo hi (node xs l r) finds) room
 
 -- nothing is written, and nothing was to be
-unchanged : (blocks s t es : List ℕ) (kind link lo hi : ℕ) (T T′ : Tree) → T′ ≡ T → FillAt blocks s t es kind link lo hi T → Filled blocks s t es t es kind link lo hi T T′
-unchanged blocks s t es kind link lo hi T T′ e g = rw e (record { here = g; rest = untouched-all s t es (Outside s (spot kind 0 0 lo hi)) })
+pub unchanged : (blocks s t es : List ℕ) (kind link lo hi : ℕ) (T T′ : Tree) → T′ ≡ T → FillAt blocks s t es kind link lo hi T → Filled blocks s t es t es kind link lo hi T T′
+unchanged blocks s t es kind link lo hi T T′ e g = rw e (record { here = g; rest = untouched-all s t es (Outside s (spot kind 0 0 lo hi)); beyond = beyond-all s t es })
 
 -- ── the node itself ──
 

@@ -2,22 +2,15 @@
 use mathlib.Core.Path.{_≡_}
 use mathlib.Core.Bool.{Bool, true, false}
 use mathlib.Core.List.{List}
-use Prim.Native.Nat.{ℕ, zero, suc, _+_, _-_, _*_, _/_, _^_, _≤_, _<_, min, max}
+use Prim.Native.Nat.{ℕ, zero, suc, _+_, _-_, _*_, _/_, _^_, _≤_, _<_, max}
 use lib.ListN.{length, set}
 use Rattle.history.specs.Lent.{rowWidth, nodeHead}
 use Rattle.history.specs.Tree.{Tree, hole, node, mid, addLocation, nodeCount, entryCount}
 use Rattle.tables.specs.Columns.{column, nodeMin, nodeMax, nodeLeft, nodeRight, nodeKind, nodesCount}
+use Rattle.tables.specs.Sums.{most}
 use Rattle.segment_table.specs.Closed.{nodesUsed, leftAt, rightAt, countAt}
 
 -- ── numbers ──
-
--- the largest number
-abbrev pub most : ℕ
-most = 2 ^ 64 - 1
-
--- the sum, or the largest number where that is passed
-abbrev pub plusUpTo : (a b : ℕ) → ℕ
-plusUpTo a b = min (a + b) most
 
 -- how many rows the table has past its head
 abbrev pub rowsIn : (nodes : List ℕ) → ℕ
@@ -128,6 +121,8 @@ pub record Grown (nodes nodes′ : List ℕ) (s : Spot) (T T′ : Tree) : Type 0
   pub rows : nodesUsed nodes′ + nodeCount T ≡ nodesUsed nodes + nodeCount T′
   pub more : nodesUsed nodes ≤ nodesUsed nodes′
   pub entries : allEntries nodes′ + entryCount T ≡ allEntries nodes + entryCount T′
+  -- the columns behind the kind are free
+  pub free : (k j : ℕ) → nodeKind < j → j < rowWidth → column nodes′ k j ≡ column nodes k j
   pub kept : Kept nodes nodes′ s
   pub clean : Clean nodes′
   pub inside : nodesUsed nodes′ ≤ rowsIn nodes′

@@ -1,17 +1,20 @@
 -- Filling the runs: the nodes are made and counted, and the blocks go down once more, in the order of their first cells, each taking the next free
 -- place of every node that lists it. The start of a run is its next free place meanwhile. Definitions alone.
 use mathlib.Core.Path.{_≡_}
+use mathlib.Core.Logic.{_⊎_}
 use mathlib.Core.List.{List, [], _∷_, map}
 use Prim.Native.Nat.{ℕ, suc, _+_, _-_, _*_, _^_, _≤_, _<_}
-use lib.ListN.{length, set}
+use lib.ListN.{length, getD, set, replicate}
 use Rattle.lists.specs.Lists.{All, Pairs, count, countFrom}
 use Rattle.history.specs.Lent.{rowWidth, entryWidth, nodeHead, entryHead}
 use Rattle.history.specs.Words.{Block, size}
 use Rattle.history.specs.Tree.{Tree, hole, node, mid, addLocation, keyIn, nodeCount, entryCount, treeOf}
 use Rattle.history.specs.Rules.{Apart}
 use Rattle.tables.specs.Columns.{blockColumn, entryColumn, nodeFirst, blockNext, entryBlock, entryKey}
+use Rattle.tables.specs.Sums.{most, plusUpTo}
 use Rattle.segment_table.specs.Closed.{Tables, Closed, nodesUsed, leftAt, rightAt, firstAt, countAt, firstCellIn, run, Keyed}
-use Rattle.segment_tree.specs.Count.{most, plusUpTo, rowsIn, entriesTo, allEntries, CountRow, Life, spot, Outside}
+use Rattle.segment_table.specs.Alone.{TreeAlone}
+use Rattle.segment_tree.specs.Count.{rowsIn, entriesTo, allEntries, CountRow, Life, spot, Outside}
 use Rattle.segment_tree.specs.Runs.{LikeButRuns}
 use Rattle.segment_tree.specs.Lives.{lifeOf, blockLife, Counted, entryRowsIn}
 
@@ -56,6 +59,11 @@ pub record Untouched (s nodes entries nodes′ entries′ : List ℕ) (out : ℕ
   pub runs : (k i c : ℕ) → 0 < k → k ≤ nodesUsed s → out k → startAt s k ≤ i → i < startAt s k + countAt s k → c < entryWidth
       → entryColumn entries′ i c ≡ entryColumn entries i c
 
+-- So do the rows past those in use, the head of the entry table, and what lies past the runs.
+pub record Beyond (s nodes entries nodes′ entries′ : List ℕ) : Type 0 where
+  pub next : (k : ℕ) → nodesUsed s < k → firstAt nodes′ k ≡ firstAt nodes k
+  pub outside : (i : ℕ) → (i < entryHead) ⊎ (entryHead + entryWidth * allEntries s ≤ i) → getD entries′ i 0 ≡ getD entries i 0
+
 -- ── one block ──
 
 -- block b goes only to nodes that are there: adding it makes none
@@ -66,6 +74,7 @@ FindsNodes levels b life lo hi T = nodeCount (addLocation (λ _. 0) levels b (li
 pub record Filled (blocks s nodes entries nodes′ entries′ : List ℕ) (kind link lo hi : ℕ) (T T′ : Tree) : Type 0 where
   pub here : FillAt blocks s nodes′ entries′ kind link lo hi T′
   pub rest : Untouched s nodes entries nodes′ entries′ (Outside s (spot kind 0 0 lo hi))
+  pub beyond : Beyond s nodes entries nodes′ entries′
 
 -- Block b, whose first cell is `cell`, at the end of every node of the tree that its life goes to: they are all there, and have room for it. Every
 -- entry goes to the end of its run, as if the keys were all the same.
@@ -114,7 +123,7 @@ pub record WrittenAll (blocks nodes entries nodes′ entries′ : List ℕ) (roo
   pub entries-long : length entries′ ≡ length entries
   pub done : (s : List ℕ) (kind : ℕ) (numbers : List ℕ) (T : Tree) → e ≤ 2 ^ 63 → Fillable s nodes entries → Met blocks link numbers → length numbers ≤ fuel
       → FillAt blocks s nodes entries kind root 0 e T → All (λ k. FindsNodes 63 k (blockLife blocks (suc k)) 0 e T) numbers → Roomy s root (appendEach blocks e numbers T)
-      → FillAt blocks s nodes′ entries′ kind root 0 e (appendEach blocks e numbers T)
+      → Filled blocks s nodes entries nodes′ entries′ kind root 0 e T (appendEach blocks e numbers T)
 
 -- ── the closed tree ──
 
@@ -138,5 +147,8 @@ pub record Closable (t : Tables) (n e kind : ℕ) (bs : List Block) (numbers : L
   pub once : (k : ℕ) → count k numbers ≡ count k (countFrom 0 (length bs))
   pub ascends : Pairs (λ x y. keyIn bs x ≤ keyIn bs y) numbers
 
+-- the tree stands there, and alone where the entry table was zeros
 pub record ClosedTree (t t′ : Tables) (n e kind : ℕ) : Type 0 where
   pub done : (bs : List Block) (numbers : List ℕ) → Closable t n e kind bs numbers → Closed t′ kind e (treeOf e bs)
+  pub alone : (bs : List Block) (numbers : List ℕ) → Closable t n e kind bs numbers → t .entries ≡ replicate (length (t .entries)) 0
+      → TreeAlone (t′ .nodes) (t′ .entries) (treeOf e bs)

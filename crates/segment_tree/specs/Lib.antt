@@ -2,4 +2,3 @@ pub mod Count
 pub mod Runs
 pub mod Lives
 pub mod Fill
-pub mod Listing

@@ -6,12 +6,13 @@ use Prim.Native.Nat.{ℕ, suc, _+_, _-_, _/_, _^_, _≤_, _<_}
 use lib.ListN.{length, replicate}
 use lib.Dec.{ltb}
 use Rattle.lists.specs.Lists.{count, countFrom}
-use Rattle.history.specs.Lent.{entryWidth, entryHead}
+use Rattle.history.specs.Lent.{rowWidth, entryWidth, entryHead}
 use Rattle.history.specs.Words.{Block}
 use Rattle.history.specs.Tree.{Tree, hole, node, addLocation, nodeCount, entryCount, treeOf}
-use Rattle.tables.specs.Columns.{column, blockColumn, blockCreated, blockDestroyed, pieceWritten, nodesCount}
+use Rattle.tables.specs.Columns.{column, blockColumn, blockCreated, blockDestroyed, pieceWritten, nodeKind, nodesCount}
+use Rattle.tables.specs.Sums.{most}
 use Rattle.segment_table.specs.Closed.{nodesUsed, firstAt}
-use Rattle.segment_tree.specs.Count.{most, rowsIn, fullest, entriesTo, allEntries, Life, aLife, Spot, spot, Standing, Outcome}
+use Rattle.segment_tree.specs.Count.{rowsIn, fullest, entriesTo, allEntries, Life, aLife, Spot, spot, Standing, Outcome}
 
 -- ── lives ──
 
@@ -62,6 +63,9 @@ pub record Counted (nodes : List ℕ) (kind e : ℕ) (T : Tree) : Type 0 where
   pub entries : allEntries nodes ≡ entryCount T
   pub other-kinds : (k : ℕ) → k < nodesCount → (k ≡ kind → ⊥) → column nodes 0 k ≡ 0
   pub runs : (k : ℕ) → k < nodesUsed nodes → firstAt nodes (suc k) ≡ entriesTo nodes k
+  -- the free columns of rows and of the head
+  pub free : (k j : ℕ) → nodeKind < j → j < rowWidth → column nodes k j ≡ 0
+  pub head-free : (j : ℕ) → nodesCount < j → j < rowWidth → column nodes 0 j ≡ 0
 
 -- Refusals 12 and 13 go by the tree of all blocks: more nodes are needed than there are rows, or more entries; 0 if neither.
 abbrev pub roomFor : (nodeRows entryRows : ℕ) (T : Tree) → ℕ

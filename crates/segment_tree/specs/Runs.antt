@@ -6,7 +6,8 @@ use Prim.Native.Nat.{ℕ, zero, suc, _+_, _*_, _<_, min}
 use lib.ListN.{set}
 use Rattle.history.specs.Lent.{rowWidth}
 use Rattle.tables.specs.Columns.{column, nodeFirst}
-use Rattle.segment_tree.specs.Count.{most, entriesTo}
+use Rattle.tables.specs.Sums.{most}
+use Rattle.segment_tree.specs.Count.{entriesTo}
 
 -- a sum in a table that nobody has tested may pass the largest number, and stays there then
 abbrev pub upTo : (n : ℕ) → ℕ

@@ -1,5 +1,6 @@
 // Building the tree in the node table: each life goes down from its root, nodes are made, entries are counted.
 use tables::block;
+use tables::entry;
 use tables::node;
 use tables::piece;
 ghost use mathlib.Core.Path.{_≡_};
@@ -9,8 +10,9 @@ ghost use Prim.Native.Nat.{_+_, _*_};
 ghost use lib.ListN.{set};
 ghost use Rattle.history.specs.Lent.{rowWidth};
 ghost use Rattle.tables.specs.Columns.{nodeEntries};
+ghost use Rattle.tables.specs.Sums.{plusUpTo};
 ghost use Rattle.segment_table.specs.Closed.{countAt};
-ghost use Rattle.segment_tree.specs.Count.{plusUpTo, spot, aLife, Reached, Added};
+ghost use Rattle.segment_tree.specs.Count.{spot, aLife, Reached, Added};
 ghost use Rattle.segment_tree.specs.Lives.{blockLife, pieceLife, AddedRows, rowsToCount, CountedTree};
 
 // What is refused where room is too little: more nodes are needed than there are rows, or more entries.
@@ -25,7 +27,7 @@ fn bump(nodes: &mut [u64], link: u64)
     ensures { λ _. ⌜ now (nodes .exit) ≡ set (now (nodes .entry)) (rowWidth * link + nodeEntries) (plusUpTo (countAt (now (nodes .entry)) link) 1) ⌝ }
 {
     let count = tables::get(nodes, link, node::ENTRIES);
-    tables::put(nodes, link, node::ENTRIES, crate::plus(count, 1));
+    tables::put(nodes, link, node::ENTRIES, tables::plus(count, 1));
 }
 
 // The node [min, max) in column `col` of the row of `parent`, made where there is none; 0 if the rows are spent.
@@ -37,7 +39,7 @@ fn reach(nodes: &mut [u64], parent: u64, col: usize, min: u64, max: u64, kind: u
         return there;
     }
     let used = tables::get(nodes, 0, node::COUNT);
-    if crate::rows(nodes) <= used {
+    if tables::rows(nodes.len(), node::HEAD) <= used {
         return 0;
     }
     let link = used + 1;
@@ -147,7 +149,7 @@ pub fn count_tree(
     }
     let used = tables::get(nodes, 0, node::COUNT);
     let total = crate::close::assign_runs(nodes, used);
-    if crate::entry_rows(entries) < total {
+    if entry::rows(entries) < total {
         tables::zero(nodes);
         return ENTRIES_SPENT;
     }

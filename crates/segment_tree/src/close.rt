@@ -18,7 +18,7 @@ pub(crate) fn assign_runs(nodes: &mut [u64], n: u64) -> u64
         let link = j + 1;
         let count = tables::get(nodes, link, node::ENTRIES);
         tables::put(nodes, link, node::FIRST, at);
-        at = crate::plus(at, count);
+        at = tables::plus(at, count);
         j += 1;
     }
     at
@@ -31,7 +31,7 @@ fn write_entry(nodes: &mut [u64], entries: &mut [u64], link: u64, b: u64, cell: 
     let row = tables::get(nodes, link, node::FIRST);
     entry::put(entries, row, entry::BLOCK, b);
     entry::put(entries, row, entry::KEY, cell);
-    tables::put(nodes, link, node::FIRST, crate::plus(row, 1));
+    tables::put(nodes, link, node::FIRST, tables::plus(row, 1));
 }
 
 // Writes block b with the life [created, destroyed) into the nodes below the node [min, max) of `link` that list it. It goes the way of
@@ -81,7 +81,7 @@ fn write_location(
 fn write_blocks(nodes: &mut [u64], entries: &mut [u64], blocks: &[u64], n: u64, root: u64, end: u64)
     ensures { λ _. ⌜ WrittenAll (now (blocks .entry)) (now (nodes .entry)) (now (entries .entry)) (now (nodes .exit)) (now (entries .exit)) root end (blockColumn (now (blocks .entry)) 0 blockNext) n ⌝ }
 {
-    let mut link = block::get(blocks, 0, block::NEXT);
+    let mut link = block_table::first(blocks);
     let mut j = 0;
     while j < n {
         if link == 0 {

@@ -2,23 +2,15 @@
 //
 //   build          lives go down, nodes are made, entries are counted; too little room is told
 //   close          each node gets its run of the entry table, and the blocks fill the runs in order
-//   list           the nodes in the order of the file
 //   specs/Count    the node table while it is counted, and what adding a life leaves
 //   specs/Lives    the lives in the block and piece tables, and the whole count
 //   specs/Runs     the runs of entries
 //   specs/Fill     the tables while they are filled, and the whole closing
-//   specs/Listing  the order of the file
-use tables::entry;
-use tables::node;
 ghost use mathlib.Core.Path.{_≡_};
-ghost use Prim.Native.Nat.{_+_, min};
 ghost use Rattle.history.specs.Tree.{covers, halves};
-ghost use Rattle.segment_tree.specs.Count.{rowsIn, plusUpTo};
-ghost use Rattle.segment_tree.specs.Lives.{entryRowsIn};
 
 pub mod build;
 pub mod close;
-pub mod list;
 
 // The life [created, destroyed) covers [min, max).
 fn covers_node(created: u64, destroyed: u64, min: u64, max: u64) -> bool
@@ -36,34 +28,4 @@ fn has_halves(min: u64, max: u64) -> bool
     ensures { λ r. ⌜ r ≡ halves min max ⌝ }
 {
     if min < max { 1 < max - min } else { false }
-}
-
-// How many rows the node table has past its head.
-fn rows(nodes: &[u64]) -> u64
-    ensures { λ r. ⌜ r ≡ rowsIn (now (nodes .entry)) ⌝ }
-{
-    if nodes.len() < node::HEAD {
-        return 0;
-    }
-    ((nodes.len() - node::HEAD) / tables::ROW) as u64
-}
-
-// How many rows the entry table has past its head.
-fn entry_rows(entries: &[u64]) -> u64
-    ensures { λ r. ⌜ r ≡ entryRowsIn (now (entries .entry)) ⌝ }
-{
-    if entries.len() < entry::HEAD {
-        return 0;
-    }
-    ((entries.len() - entry::HEAD) / entry::WIDTH) as u64
-}
-
-// The sum, or the largest number where that is passed: counts in a table that nobody has tested may be any.
-fn plus(a: u64, b: u64) -> u64
-    ensures { λ r. ⌜ r ≡ plusUpTo a b ⌝ }
-{
-    if b <= u64::MAX - a {
-        return a + b;
-    }
-    u64::MAX
 }

@@ -1,10 +1,13 @@
 // The blocks that trees are built of. A place is ten cells of its own, and has five versions one after the other, so that no two blocks share a cell at a
 // tick.
 use crate::numbers;
+use tables::ROW;
 use tables::block;
 ghost use Prim.Native.Nat.{_≤_, _<_};
 
 pub const BLOCKS: u64 = 300;
+
+pub const NUMBERS: usize = block::HEAD + 300 * ROW;
 
 // Blocks whose lives are tried stand so far apart.
 pub const STEP: u64 = 7;
@@ -29,7 +32,7 @@ fn edge(place: u64, version: u64) -> u64
 
 // The tick of an edge: the parts are alike, up to one tick.
 fn tick_of(edge: u64, end: u64) -> u64 {
-    numbers::plus(
+    plain::plus(
         numbers::times(end / PARTS, edge),
         numbers::times(end % PARTS, edge) / PARTS,
     )
@@ -44,10 +47,14 @@ fn fill_row(blocks: &mut [u64], i: u64, end: u64)
     let inset = version % 3;
     let created = tick_of(edge(place, version), end);
     let destroyed = tick_of(edge(place, version + 1), end);
-    block::put(blocks, i + 1, block::FIRST, place * CELLS + inset);
-    block::put(blocks, i + 1, block::LENGTH, CELLS - inset);
-    block::put(blocks, i + 1, block::CREATED, created);
-    block::put(blocks, i + 1, block::DESTROYED, destroyed);
+    plain::put_block(
+        blocks,
+        i + 1,
+        place * CELLS + inset,
+        CELLS - inset,
+        created,
+        destroyed,
+    );
 }
 
 pub fn fill(blocks: &mut [u64], end: u64) {

@@ -1,9 +1,7 @@
 // What find lists at the edges of lives and in several windows, and how many nodes it visits, against the plain scans.
 use crate::Index;
 use crate::blocks;
-use crate::numbers;
 use crate::scan;
-use crate::tally;
 use segment_find::Found;
 use segment_find::Query;
 use tables::block;
@@ -21,20 +19,20 @@ fn start_of(window: u64, cell: u64) -> u64 {
         return 0;
     }
     if window == 5 {
-        return numbers::plus(cell, SPAN);
+        return plain::plus(cell, SPAN);
     }
     cell
 }
 
 fn stop_of(window: u64, cell: u64) -> u64 {
     if window == 1 {
-        return numbers::plus(cell, 1);
+        return plain::plus(cell, 1);
     }
     if window == 2 {
         return cell;
     }
     if window == 4 {
-        return numbers::plus(cell, SPAN);
+        return plain::plus(cell, SPAN);
     }
     if window == 5 {
         return cell;
@@ -114,7 +112,7 @@ fn try_block(
     let cell = block::get(blocks, link, block::FIRST);
     let created = block::get(blocks, link, block::CREATED);
     let destroyed = block::get(blocks, link, block::DESTROYED);
-    let last = numbers::less(destroyed, 1);
+    let last = plain::less(destroyed, 1);
     try_tick(tally, blocks, nodes, entries, answer, index, created, cell);
     try_tick(tally, blocks, nodes, entries, answer, index, last, cell);
     try_tick(

@@ -3,13 +3,12 @@
 // (cycles, shared rows and runs, wrong halves, kinds, counts, keys and lives): the test must say yes exactly where the number is as it was.
 // Prints one line: how many were compared, how many of them differ, and how many tables were refused.
 //
-//   numbers    numbers that are total
+//   numbers    products, and plain tests of numbers
 //   blocks     the blocks that trees are built of
 //   scan       plain scans of all rows
-//   tally      what is counted
+//   testing    the test of tables
 //   finding    find against the scans
 //   spoiling   tables with one number changed
-use libc::STDOUT_FILENO;
 use segment_tree::build;
 use segment_tree::close;
 use tables::node;
@@ -19,7 +18,7 @@ mod finding;
 mod numbers;
 mod scan;
 mod spoiling;
-mod tally;
+mod testing;
 
 const ENDS: u64 = 4;
 
@@ -67,7 +66,7 @@ fn try_close(
         index.end,
         index.kind,
     );
-    tally::try_test(tally, blocks, nodes, entries, index, true);
+    testing::try_test(tally, blocks, nodes, entries, index, true);
 }
 
 fn try_build(
@@ -139,7 +138,7 @@ fn end_of(kind: u64) -> u64 {
 // Asks of the tables as they are after they were spoiled and put right.
 fn try_right(tally: &mut [u64], blocks: &[u64], nodes: &mut [u64], entries: &[u64], index: Index) {
     let used = tables::get(nodes, 0, node::COUNT);
-    tally::try_test(tally, blocks, nodes, entries, index, true);
+    testing::try_test(tally, blocks, nodes, entries, index, true);
     finding::try_finds(tally, blocks, nodes, entries, index);
     try_few_nodes(tally, blocks, entries, index, used);
     try_few_entries(tally, blocks, nodes, index);
@@ -171,14 +170,9 @@ fn try_kinds(tally: &mut [u64], blocks: &mut [u64], nodes: &mut [u64], entries: 
 
 fn main() {
     let mut tally = [0; 8];
-    let mut blocks = [0; 2408];
+    let mut blocks = [0; blocks::NUMBERS];
     let mut nodes = [0; 28008];
     let mut entries = [0; 28408];
     try_kinds(&mut tally, &mut blocks, &mut nodes, &mut entries);
-    io::print_decimal(STDOUT_FILENO, tables::get(&tally, 0, tally::COMPARED));
-    io::write_all(STDOUT_FILENO, b" compared, ");
-    io::print_decimal(STDOUT_FILENO, tables::get(&tally, 0, tally::DIFFER));
-    io::write_all(STDOUT_FILENO, b" differ, ");
-    io::print_decimal(STDOUT_FILENO, tables::get(&tally, 0, tally::REFUSED));
-    io::write_all(STDOUT_FILENO, b" tables refused\n");
+    tally::print(&tally, tally::REFUSED, b" tables refused");
 }

@@ -1,28 +1,12 @@
-// Numbers that are total, and plain tests of them.
+// Products without a fault, and plain tests of numbers.
 ghost use Prim.Native.Nat.{_≤_};
-
-// The sum, or the largest number where that is passed.
-pub fn plus(a: u64, b: u64) -> u64 {
-    if b <= u64::MAX - a {
-        return a + b;
-    }
-    u64::MAX
-}
-
-// The difference, or 0 where there is none.
-pub fn less(a: u64, b: u64) -> u64 {
-    if b <= a {
-        return a - b;
-    }
-    0
-}
 
 // The number `many` times, or the largest number where that is passed.
 pub fn times(number: u64, many: u64) -> u64 {
     let mut sum = 0;
     let mut i = 0;
     while i < many {
-        sum = plus(sum, number);
+        sum = plain::plus(sum, number);
         i += 1;
     }
     sum

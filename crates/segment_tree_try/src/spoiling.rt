@@ -1,8 +1,7 @@
 // Tables with one number or one entry changed: the test says yes exactly where it is as it was.
 use crate::Index;
 use crate::blocks;
-use crate::numbers;
-use crate::tally;
+use crate::testing;
 use tables::block;
 use tables::entry;
 use tables::node;
@@ -32,13 +31,13 @@ fn wrong(nodes: &[u64], index: Index, link: u64, col: usize, way: u64) -> u64 {
         return 0;
     }
     if way == 3 {
-        return numbers::plus(tables::get(nodes, link, col), 1);
+        return plain::plus(tables::get(nodes, link, col), 1);
     }
     if way == 4 {
         return tables::get(nodes, link, col ^ 1);
     }
     if way == 5 {
-        return tables::get(nodes, numbers::less(link, 1), col);
+        return tables::get(nodes, plain::less(link, 1), col);
     }
     u64::MAX
 }
@@ -57,7 +56,7 @@ fn try_number(
     let right = tables::get(nodes, link, col);
     let value = wrong(nodes, index, link, col, way);
     tables::put(nodes, link, col, value);
-    tally::try_test(tally, blocks, nodes, entries, index, value == right);
+    testing::try_test(tally, blocks, nodes, entries, index, value == right);
     tables::put(nodes, link, col, right);
 }
 
@@ -112,13 +111,13 @@ fn try_nodes(tally: &mut [u64], blocks: &[u64], nodes: &mut [u64], entries: &[u6
 fn wrong_number(entries: &[u64], row: u64, way: u64) -> u64 {
     let number = entry::get(entries, row, entry::BLOCK);
     if way == 0 {
-        return numbers::plus(number, 1);
+        return plain::plus(number, 1);
     }
     if way == 1 {
         return blocks::BLOCKS;
     }
     if way == 2 {
-        return entry::get(entries, numbers::less(row, 1), entry::BLOCK);
+        return entry::get(entries, plain::less(row, 1), entry::BLOCK);
     }
     number
 }
@@ -127,10 +126,10 @@ fn wrong_number(entries: &[u64], row: u64, way: u64) -> u64 {
 fn wrong_key(entries: &[u64], row: u64, way: u64) -> u64 {
     let key = entry::get(entries, row, entry::KEY);
     if way == 2 {
-        return entry::get(entries, numbers::less(row, 1), entry::KEY);
+        return entry::get(entries, plain::less(row, 1), entry::KEY);
     }
     if way == 3 {
-        return numbers::plus(key, 1);
+        return plain::plus(key, 1);
     }
     key
 }
@@ -156,7 +155,7 @@ fn try_entry(
     };
     entry::put(entries, row, entry::BLOCK, other);
     entry::put(entries, row, entry::KEY, another);
-    tally::try_test(tally, blocks, nodes, entries, index, right);
+    testing::try_test(tally, blocks, nodes, entries, index, right);
     entry::put(entries, row, entry::BLOCK, number);
     entry::put(entries, row, entry::KEY, key);
 }
@@ -206,7 +205,7 @@ fn try_total(
 ) {
     let right = tables::get(entries, 0, entry::COUNT);
     tables::put(entries, 0, entry::COUNT, value);
-    tally::try_test(tally, blocks, nodes, entries, index, value == right);
+    testing::try_test(tally, blocks, nodes, entries, index, value == right);
     tables::put(entries, 0, entry::COUNT, right);
 }
 
@@ -220,14 +219,7 @@ fn try_heads(
 ) {
     let total = tables::get(entries, 0, entry::COUNT);
     try_row(tally, blocks, nodes, entries, index, 0, node::COUNT);
-    try_total(
-        tally,
-        blocks,
-        nodes,
-        entries,
-        index,
-        numbers::plus(total, 1),
-    );
+    try_total(tally, blocks, nodes, entries, index, plain::plus(total, 1));
     try_total(tally, blocks, nodes, entries, index, 0);
     try_total(tally, blocks, nodes, entries, index, u64::MAX);
 }
@@ -242,8 +234,8 @@ fn try_life(
     link: u64,
 ) {
     let destroyed = block::get(blocks, link, block::DESTROYED);
-    block::put(blocks, link, block::DESTROYED, numbers::plus(destroyed, 1));
-    tally::try_test(tally, blocks, nodes, entries, index, false);
+    block::put(blocks, link, block::DESTROYED, plain::plus(destroyed, 1));
+    testing::try_test(tally, blocks, nodes, entries, index, false);
     block::put(blocks, link, block::DESTROYED, destroyed);
 }
 

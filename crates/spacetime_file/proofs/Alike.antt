@@ -8,7 +8,7 @@ use native.Mathlib.Omega.{arith}
 use lib.Dec.{ltb}
 use lib.ListN.{length, getD, take}
 use lib.Seq.{sets}
-use borrow.Author.Tests.{lt-leb, le-leb, ltb-true, ltb-false}
+use borrow.Author.Tests.{ltb-true, ltb-false}
 use Rattle.lists.specs.Lists.{Ascending, has, countFrom}
 use Rattle.lists.proofs.Lists.{all-at, pairs-at}
 use Rattle.lists.proofs.Numbers.{le-or-lt, lt-or-le}
@@ -18,7 +18,7 @@ use Rattle.history.specs.Words.{Block}
 use Rattle.history.specs.Tree.{blockAt, entriesIn}
 use Rattle.history.specs.Ledger.{Ledger}
 use Rattle.history.specs.Reads.{treeIn, blockBy, Found, findBy, Cells}
-use Rattle.history.specs.Refusals.{Answer, accepted, refused, Refusal, firstOf, windowRefusals, findAnswer, cellsAnswer, blockRefusals, blockAnswer}
+use Rattle.history.specs.Refusals.{Answer, accepted, refused, Refusal, firstOf, windowRefusals, findAnswer, cellsAnswer, blockAnswer}
 use Rattle.history.specs.Sound.{Sound}
 use Rattle.history.specs.File.{written, savedLedger}
 use Rattle.history.proofs.Passing.{Passed}
@@ -28,24 +28,23 @@ use Rattle.history.proofs.FileSound.{saved-find, saved-cells}
 use Rattle.layout.specs.Tables.{Tables, lengthsOf}
 use Rattle.layout.specs.Encodes.{Encodes}
 use Rattle.layout.proofs.Unique.{unique}
-use Rattle.layout.specs.Relations.{Counts, countsOf, answerLeft, FoundBy, Fields, blockOfFields, BlockGivenBy}
-use Rattle.cells.specs.Answers.{Answers, givenBy, cellsLeft, CellsReadBy}
+use Rattle.layout.specs.Reads.{valuesOf, filledBy, HandedInto}
+use Rattle.layout.specs.Relations.{Counts, countsOf, FoundBy, Fields, blockIn, BlockGivenBy}
+use Rattle.layout.proofs.ReadLaws.{block-there, block-15}
+use Rattle.cells_read.specs.Answers.{CellsHanded}
+use Rattle.cells.specs.Answers.{CellsReadBy}
 use Rattle.spacetime_file.specs.Law.{ClosedIn, Lives, numberIn, AnswersAlike}
 use Rattle.spacetime_file.proofs.Closed.{tree-is, heads-there, take-sets}
 
 -- ── answers ──
 
-unfoldable mapAnswer : {A B : Type 0} → (A → B) → Answer A → Answer B
-mapAnswer f (accepted a) = accepted (f a)
-mapAnswer f (refused n) = refused n
-
 -- the refusals do not look at what an accepted call gives
-first-map : {A B : Type 0} (f : A → B) (rs : List Refusal) (a : A) → firstOf rs (f a) ≡ mapAnswer f (firstOf rs a)
-unfolding firstOf mapAnswer
+first-map : {A B : Type 0} (f : A → B) (rs : List Refusal) (a : A) → firstOf rs (f a) ≡ valuesOf f (firstOf rs a)
+unfolding firstOf
 first-map f [] a = refl
 first-map {A} {B} f (r ∷ rs) a = go (r .holds) (first-map f rs a)
   where
-    go : (x : Bool) → firstOf rs (f a) ≡ mapAnswer f (firstOf rs a) → cond x (refused (r .number)) (firstOf rs (f a)) ≡ mapAnswer f (cond x (refused (r .number)) (firstOf rs a))
+    go : (x : Bool) → firstOf rs (f a) ≡ valuesOf f (firstOf rs a) → cond x (refused (r .number)) (firstOf rs (f a)) ≡ valuesOf f (cond x (refused (r .number)) (firstOf rs a))
     go true e = refl
     go false e = e
 
@@ -84,7 +83,7 @@ module _ {t u : Tables} {l : Ledger} (c : ClosedIn t l) (w : Writable (l .openin
   renumber : Found → Found
   renumber f = record { numbers = map (numberIn l) (f .numbers); visited = f .visited }
 
-  same-find : (tick start stop room : ℕ) → findAnswer saved tick start stop room ≡ mapAnswer renumber (findAnswer l tick start stop room)
+  same-find : (tick start stop room : ℕ) → findAnswer saved tick start stop room ≡ valuesOf renumber (findAnswer l tick start stop room)
   unfolding renumber
   same-find tick start stop room =
       let found = findBy l tick start stop in
@@ -103,14 +102,14 @@ module _ {t u : Tables} {l : Ledger} (c : ClosedIn t l) (w : Writable (l .openin
         let p = first-accepted (windowRefusals l tick start stop (ltb (length out) (length (findBy l tick start stop .numbers)))) (findBy l tick start stop) f q in
         rw (p .1) (ltb-false (length out) (length (findBy l tick start stop .numbers)) (p .0 .1 .1 .1 .1 .0))
 
-    found-alike : (x : Answer Found) → findAnswer l tick start stop (length out) ≡ x → a ≡ countsOf x → old ≡ answerLeft x out
-        → b ≡ countsOf (mapAnswer renumber x) → new ≡ answerLeft (mapAnswer renumber x) out
+    found-alike : (x : Answer Found) → findAnswer l tick start stop (length out) ≡ x → HandedInto countsOf (λ g. g .numbers) out old a x
+        → HandedInto countsOf (λ g. g .numbers) out new b (valuesOf renumber x)
         → (b ≡ a) × ((n : Counts) → a ≡ accepted n → take (n .count) new ≡ map (numberIn l) (take (n .count) old))
-    unfolding countsOf answerLeft mapAnswer renumber
-    found-alike (accepted f) q a-is old-is b-is new-is =
+    unfolding renumber
+    found-alike (accepted f) q one two =
         let fits = found-fits f q in
         let same = length-of-map (numberIn l) (f .numbers) in
-        (b-is ∙ (rw same (sym a-is)), λ n n-is. listed n (accepted-same (sym n-is ∙ a-is)))
+        (two .answered ∙ (rw same (sym (one .answered))), λ n n-is. listed n (accepted-same (sym n-is ∙ one .answered)))
       where
         listed : (n : Counts) → n ≡ record { count = length (f .numbers); visited = f .visited } → take (n .count) new ≡ map (numberIn l) (take (n .count) old)
         listed n is =
@@ -118,37 +117,37 @@ module _ {t u : Tables} {l : Ledger} (c : ClosedIn t l) (w : Writable (l .openin
             let same = length-of-map (numberIn l) (f .numbers) in
             let put : take (length (map (numberIn l) (f .numbers))) (sets out 0 (map (numberIn l) (f .numbers))) ≡ map (numberIn l) (f .numbers)
             = take-sets (map (numberIn l) (f .numbers)) out (rw same fits) in
-            rw (is, new-is, old-is, take-sets (f .numbers) out fits) (rw same at put)
-    found-alike (refused m) q a-is old-is b-is new-is = (b-is ∙ sym a-is, λ n n-is. absurd (accepted-refused (sym n-is ∙ a-is)))
+            rw (is, two .left, one .left, take-sets (f .numbers) out fits) (rw same at put)
+    found-alike (refused m) q one two = (two .answered ∙ sym (one .answered), λ n n-is. absurd (accepted-refused (sym n-is ∙ one .answered)))
 
   finds-alike : (tick start stop : ℕ) (out old new : List ℕ) (a b : Answer Counts) → FoundBy t tick start stop out old a → FoundBy u tick start stop out new b
       → (b ≡ a) × ((n : Counts) → a ≡ accepted n → take (n .count) new ≡ map (numberIn l) (take (n .count) old))
   finds-alike tick start stop out old new a b f g =
-      let one = f .formed l (c .encodes) (c .sound) in
-      let two = g .formed saved e s in
-      let same = same-find tick start stop (length out) in
-      found-alike tick start stop out old new a b (findAnswer l tick start stop (length out)) refl (one .0) (one .1) (two .0 ∙ ap countsOf same) (two .1 ∙ ap (λ (x : Answer Found). answerLeft x out) same)
+      found-alike tick start stop out old new a b (findAnswer l tick start stop (length out)) refl (f .read .formed l (c .encodes) (c .sound))
+      (subst (λ (x : Answer Found). HandedInto countsOf (λ h. h .numbers) out new b x) (same-find tick start stop (length out)) (g .read .formed saved e s))
 
   cells-alike : (tick start stop : ℕ) (bytes bytes₁ bytes₂ held held₁ held₂ : List ℕ) (a b : Answer Unit)
       → CellsReadBy t tick start stop bytes bytes₁ held held₁ a → CellsReadBy u tick start stop bytes bytes₂ held held₂ b
       → (b ≡ a) × (bytes₂ ≡ bytes₁) × (held₂ ≡ held₁)
   cells-alike tick start stop bytes bytes₁ bytes₂ held held₁ held₂ a b f g =
-      let one = f .formed l (c .encodes) (c .sound) in
-      let two = g .formed saved e s in
+      let one = f .read .formed l (c .encodes) (c .sound) in
+      let two = g .read .formed saved e s in
       let same = same-cells tick start stop (length bytes) (length held) in (
-        two .answered ∙ ap givenBy same ∙ sym (one .answered),
-        two .in-bytes ∙ ap (λ (x : Answer Cells). cellsLeft (λ c. c .bytes) x bytes) same ∙ sym (one .in-bytes),
-        two .in-held ∙ ap (λ (x : Answer Cells). cellsLeft (λ c. c .held) x held) same ∙ sym (one .in-held),
+        two .answered ∙ ap (valuesOf (λ _. tt)) same ∙ sym (one .answered),
+        two .in-bytes ∙ ap (λ (x : Answer Cells). filledBy (λ c. c .bytes) x bytes) same ∙ sym (one .in-bytes),
+        two .in-held ∙ ap (λ (x : Answer Cells). filledBy (λ c. c .held) x held) same ∙ sym (one .in-held),
       )
 
   -- what a read of the loaded index does, a read of the index that was written does
   pub cells-back : (tick start stop : ℕ) {bytes bytes′ held held′ : List ℕ} {a : Answer Unit} → CellsReadBy u tick start stop bytes bytes′ held held′ a
       → CellsReadBy t tick start stop bytes bytes′ held held′ a
   cells-back tick start stop {bytes} {bytes′} {held} {held′} {a} g = record {
-    formed = λ m enc sound.
-        subst (λ (x : Ledger). Answers (cellsAnswer x tick start stop (length bytes) (length held)) bytes bytes′ held held′ a) (unique t l m (c .encodes) enc)
-        (subst (λ (x : Answer Cells). Answers x bytes bytes′ held held′ a) (same-cells tick start stop (length bytes) (length held)) (g .formed saved e s));
-    unformed = λ n. absurd (n (record { ledger = l; encodes = c .encodes; sound = c .sound }));
+    read = record {
+      formed = λ m enc sound.
+          subst (λ (x : Ledger). CellsHanded bytes bytes′ held held′ a (cellsAnswer x tick start stop (length bytes) (length held))) (unique t l m (c .encodes) enc)
+          (subst (λ (x : Answer Cells). CellsHanded bytes bytes′ held held′ a x) (same-cells tick start stop (length bytes) (length held)) (g .read .formed saved e s));
+      unformed = λ n. absurd (n (record { ledger = l; encodes = c .encodes; sound = c .sound }));
+    };
   }
 
   -- ── blocks ──
@@ -163,27 +162,21 @@ module _ {t u : Tables} {l : Ledger} (c : ClosedIn t l) (w : Writable (l .openin
   kept-many : length (saved .now .blocks) ≡ length kept
   kept-many = length-of-map (blockAt (l .now .blocks)) kept
 
-  block-there : (k : ℕ) → k < length (l .now .blocks) → blockAnswer l k ≡ accepted (blockBy l k)
-  unfolding blockRefusals firstOf
-  block-there k h = rw (heads-there c, c .closed, lt-leb (length (l .now .blocks)) k h)
-
   saved-there : (j : ℕ) → j < length kept → blockAnswer saved j ≡ accepted (blockBy saved j)
-  unfolding blockRefusals firstOf
-  saved-there j h = rw (e .heads, kept-many, lt-leb (length kept) j h)
+  saved-there j h = block-there e refl j (rw kept-many h)
 
   saved-past : (j : ℕ) → length kept ≤ j → blockAnswer saved j ≡ refused 15
-  unfolding blockRefusals firstOf
-  saved-past j h = rw (e .heads, kept-many, le-leb (length kept) j h)
+  saved-past j h = block-15 e refl j (rw kept-many h)
 
   blocks-alike : (k : ℕ) → Lives l k → (old new : Answer Fields) → BlockGivenBy t k old → BlockGivenBy u (numberIn l k) new
-      → blockOfFields (u .store) new ≡ blockOfFields (t .store) old
+      → valuesOf (blockIn (u .store)) new ≡ valuesOf (blockIn (t .store)) old
   blocks-alike k h old new f g =
       let has-place = lives-kept k h in
-      g .formed saved e s
+      g .read .formed saved e s .bytes-there
       ∙ saved-there (numberIn l k) (placeIn-inside kept k has-place)
       ∙ ap {B = Answer Block} accepted (written-block (l .now .blocks) (treeIn l) k has-place)
-      ∙ sym (block-there k (h .number))
-      ∙ sym (f .formed l (c .encodes) (c .sound))
+      ∙ sym (block-there (c .encodes) (c .closed) k (h .number))
+      ∙ sym (f .read .formed l (c .encodes) (c .sound) .bytes-there)
 
   -- the block that a new number is of
   kept-lives : (j : ℕ) → j < length kept → (k : ℕ) × Lives l k × (numberIn l k ≡ j)
@@ -196,9 +189,8 @@ module _ {t u : Tables} {l : Ledger} (c : ClosedIn t l) (w : Writable (l .openin
       (k, record { number = less; ticks = omega arith }, placeIn-at ascending j h)
 
   none-else : (j : ℕ) (f : Fields) → BlockGivenBy u j (accepted f) → (k : ℕ) × Lives l k × (numberIn l k ≡ j)
-  unfolding blockOfFields
   none-else j f g =
-      ⊎-elim (λ h. absurd (accepted-refused (g .formed saved e s ∙ saved-past j h))) (λ h. kept-lives j h) (le-or-lt (length kept) j)
+      ⊎-elim (λ h. absurd (accepted-refused (g .read .formed saved e s .bytes-there ∙ saved-past j h))) (λ h. kept-lives j h) (le-or-lt (length kept) j)
 
   order-kept : (j k : ℕ) → Lives l j → Lives l k → j < k → numberIn l j < numberIn l k
   order-kept j k a b less =

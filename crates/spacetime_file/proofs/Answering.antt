@@ -1,68 +1,27 @@
--- The returns of `serialize_to`, by what the test of the tables found. Assumes nothing.
-use mathlib.Core.Path.{_≡_, refl, sym, ap, _∙_, subst}
-use mathlib.Core.Bool.{true, false}
-use mathlib.Core.Option.{Option, none, some}
+-- The returns of `serialize_to`: 2 and 4 by what the test of the tables found, else what the inner call hands out. Assumes nothing.
+use mathlib.Core.Path.{_≡_}
 use mathlib.Core.List.{List}
 use Prim.Native.Nat.{ℕ}
-use native.Mathlib.Omega.{arith}
-use lib.ListN.{length}
-use Rattle.history.specs.Lent.{tooShort}
-use Rattle.history.specs.Tree.{Tree}
-use Rattle.history.specs.Ledger.{Ledger, finished, isSome}
 use Rattle.history.specs.Refusals.{Answer, refused, firstOf, writeRefusals}
-use Rattle.history.specs.File.{writeAnswer}
-use Rattle.layout.specs.Tables.{Tables, tables}
-use Rattle.layout.specs.Encodes.{Encodes, stateOf, openState, closedState}
-use Rattle.layout.specs.Files.{bytesWritten, outLeft, WrittenBy}
-use Rattle.index_test.specs.Board.{OpenFormed, ClosedFormed, Outcome}
+use Rattle.layout.specs.Tables.{tables}
+use Rattle.layout.specs.Files.{WrittenBy}
+use Rattle.layout.proofs.ReadLaws.{into-refused}
+use Rattle.index_test.specs.Board.{Outcome}
 use Rattle.index_test.specs.declared.State.{State}
 use Rattle.index_test.specs.declared.State.the-variants.{Bad, Open, Closed}
-use Rattle.index_test.proofs.Tested.{passes-formed, open-passes, closed-passes}
+use Rattle.index_test.proofs.Told.{read-2, read-4, read-on}
 use Rattle.file_write.specs.Answers.{WrittenClosed}
 
--- ── what the state says of a ledger in the tables ──
+module _ {pieces blocks store nodes entries out : List ℕ} {r : State} (told : Outcome r (tables pieces blocks store nodes entries)) where
+  pub write-bad : r ≡ Bad → WrittenBy (tables pieces blocks store nodes entries) out out (refused 2)
+  write-bad e = record { read = read-2 told e into-refused }
 
-open-state : (x : Option Tree) → stateOf x ≡ openState → isSome x ≡ false
-open-state none e = refl
-open-state (some t) e = absurd (omega arith)
+  pub write-open : r ≡ Open → WrittenBy (tables pieces blocks store nodes entries) out out (refused 4)
+  unfolding writeRefusals firstOf
+  write-open e = record { read = read-4 told e (λ l heads still. rw (heads, still)) into-refused }
 
-closed-state : (x : Option Tree) → stateOf x ≡ closedState → isSome x ≡ true
-closed-state none e = absurd (omega arith)
-closed-state (some t) e = refl
+  pub write-closed : {out′ : List ℕ} {a : Answer ℕ} → r ≡ Closed → WrittenClosed blocks store nodes entries out out′ a
+      → WrittenBy (tables pieces blocks store nodes entries) out out′ a
+  write-closed e f = record { read = read-on told e (f .written pieces) }
 
--- an index that is not finished is refused 4
-write-open : (t : Tables) (l : Ledger) → OpenFormed t → Encodes t l → (out : ℕ) → writeAnswer l out ≡ refused 4
-unfolding writeRefusals firstOf
-write-open t l o e out =
-    let heads : tooShort (l .opening .lent) ≡ false = rw (e .lengths) (e .heads) in
-    let still-open : finished l ≡ false = open-state (l .tree) (sym (e .state) ∙ o .state) in
-    rw (heads, still-open)
-
--- ── the returns ──
-
-module _ {t : Tables} {out : List ℕ} {r : State} (told : Outcome r t) where
-  pub write-bad : r ≡ Bad → WrittenBy t out out (refused 2)
-  write-bad e =
-      let bad = subst (λ (x : State). Outcome x t) e told in
-      record { formed = λ l enc s. absurd (bad (record { ledger = l; encodes = enc; sound = s })); unformed = λ _. (refl, refl) }
-
-  pub write-4 : r ≡ Open → WrittenBy t out out (refused 4)
-  unfolding bytesWritten outLeft
-  write-4 e =
-      let formed : OpenFormed t = subst (λ (x : State). Outcome x t) e told in
-      record {
-        formed = λ l enc s. let is = write-open t l formed enc (length out) in (sym (ap bytesWritten is), sym (ap (λ (x : Answer (List ℕ)). outLeft x out) is));
-        unformed = λ n. absurd (n (passes-formed (open-passes t formed)));
-      }
-
-module _ {pieces blocks store nodes entries out out′ : List ℕ} {r : State} {a : Answer ℕ} (told : Outcome r (tables pieces blocks store nodes entries)) where
-  pub write-closed : r ≡ Closed → WrittenClosed blocks store nodes entries out out′ a → WrittenBy (tables pieces blocks store nodes entries) out out′ a
-  write-closed e f =
-      let t = tables pieces blocks store nodes entries in
-      let formed : ClosedFormed t = subst (λ (x : State). Outcome x t) e told in
-      record {
-        formed = λ l enc s. f .written pieces l enc s (closed-state (l .tree) (sym (enc .state) ∙ formed .state));
-        unformed = λ n. absurd (n (passes-formed (closed-passes t formed)));
-      }
-
-pub ruleset answering = (write-bad, write-4, write-closed)
+pub ruleset answering = (write-bad, write-open, write-closed)

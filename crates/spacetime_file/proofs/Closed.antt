@@ -2,24 +2,26 @@
 use mathlib.Core.Path.{_≡_, refl, ap, _∙_}
 use mathlib.Core.Bool.{true, false, false≢true}
 use mathlib.Core.Option.{Option, none, some}
-use mathlib.Core.List.{List, [], _∷_, flatten}
+use mathlib.Core.List.{List, flatten}
 use Prim.Native.Nat.{ℕ, _+_, _≤_, _<_}
 use native.Mathlib.Omega.{arith}
 use lib.ListN.{length, take, drop}
 use lib.Seq.{sets, sets-eq, take-append-seam}
-use borrow.Author.Tests.{le-ltb, lt-ltb}
 use Rattle.history.specs.Words.{Block}
 use Rattle.history.specs.Lent.{tooShort}
 use Rattle.history.specs.Tree.{Tree}
 use Rattle.history.specs.Ledger.{Ledger, isSome}
 use Rattle.history.specs.Reads.{treeOrHole, treeIn}
-use Rattle.history.specs.Refusals.{Answer, accepted, refused, firstOf, writeRefusals}
+use Rattle.history.specs.Refusals.{Answer, accepted, refused}
 use Rattle.history.specs.Sound.{SoundTree, SoundClosed}
-use Rattle.history.specs.File.{fileBytes, fileOf, contents, bytesOf, fileBy, writeAnswer}
+use Rattle.history.specs.File.{fileBytes, fileOf, contents, bytesOf, fileBy}
+use Rattle.history.specs.Rules.{isHole}
 use Rattle.history.proofs.FileKept.{Writable}
 use Rattle.history.proofs.FileSound.{sound-writable}
+use Rattle.history.proofs.FileLoad.{file-some}
 use Rattle.layout.specs.Tables.{Tables}
-use Rattle.layout.specs.Files.{bytesWritten, outLeft, WrittenBy}
+use Rattle.layout.specs.Files.{WrittenBy}
+use Rattle.layout.proofs.ReadLaws.{heads-held, write-fits, write-16, into-gives, into-refuses}
 use Rattle.spacetime_file.specs.Law.{Slices, ClosedIn}
 
 -- ── its tree ──
@@ -41,7 +43,7 @@ module _ {t : Tables} {l : Ledger} (c : ClosedIn t l) where
 
   -- the lent tables hold their heads
   pub heads-there : tooShort (l .opening .lent) ≡ false
-  heads-there = rw (c .encodes .lengths) (c .encodes .heads)
+  heads-there = heads-held (c .encodes)
 
   -- with blocks it can be written
   pub writable : Slices t → 0 < length (l .now .blocks) → Writable (l .opening .kind) (l .opening .end) (l .now .blocks) (treeIn l)
@@ -50,30 +52,14 @@ module _ {t : Tables} {l : Ledger} (c : ClosedIn t l) where
 
   -- ── what write answers ──
 
-  write-given : (out : ℕ) → length (fileBy l) ≤ out → writeAnswer l out ≡ accepted (fileBy l)
-  unfolding writeRefusals firstOf
-  write-given out h = rw (heads-there, c .closed, le-ltb out (length (fileBy l)) h)
-
-  write-full : (out : ℕ) → out < length (fileBy l) → writeAnswer l out ≡ refused 16
-  unfolding writeRefusals firstOf
-  write-full out h = rw (heads-there, c .closed, lt-ltb out (length (fileBy l)) h)
-
   module _ {out out′ : List ℕ} {wrote : Answer ℕ} (w : WrittenBy t out out′ wrote) where
     -- the file, in a slice that holds it
     pub file-written : length (fileBy l) ≤ length out → (wrote ≡ accepted (length (fileBy l))) × (out′ ≡ sets out 0 (fileBy l))
-    unfolding bytesWritten outLeft
-    file-written h =
-        let is = write-given (length out) h in
-        let f = w .formed l (c .encodes) (c .sound) in
-        (f .0 ∙ ap bytesWritten is, f .1 ∙ ap (λ (x : Answer (List ℕ)). outLeft x out) is)
+    file-written h = into-gives (w .read .formed l (c .encodes) (c .sound)) (write-fits (c .encodes) (c .closed) (length out) h)
 
     -- else 16
     pub file-refused : length out < length (fileBy l) → (wrote ≡ refused 16) × (out′ ≡ out)
-    unfolding bytesWritten outLeft
-    file-refused h =
-        let is = write-full (length out) h in
-        let f = w .formed l (c .encodes) (c .sound) in
-        (f .0 ∙ ap bytesWritten is, f .1 ∙ ap (λ (x : Answer (List ℕ)). outLeft x out) is)
+    file-refused h = into-refuses (w .read .formed l (c .encodes) (c .sound)) (write-16 (c .encodes) (c .closed) (length out) h)
 
 -- ── bytes ──
 
@@ -81,14 +67,7 @@ module _ {t : Tables} {l : Ledger} (c : ClosedIn t l) where
 pub take-sets : (xs out : List ℕ) → length xs ≤ length out → take (length xs) (sets out 0 xs) ≡ xs
 take-sets xs out h = ap (take (length xs)) (sets-eq xs out 0 (omega arith)) ∙ take-append-seam xs (drop (0 + length xs) out)
 
--- with blocks the file has bytes
-pub file-bytes : (kind e : ℕ) (bs : List Block) (tree : Tree) → 0 < length bs → 0 < length (fileOf kind e bs tree)
-unfolding fileOf fileBytes flatten bytesOf
-file-bytes kind e [] tree h = absurd (omega arith)
-file-bytes kind e (b ∷ bs) tree h = omega arith
-
--- they are those of what it says
-pub file-some : (kind e : ℕ) (bs : List Block) (tree : Tree) → 0 < length bs → fileOf kind e bs tree ≡ fileBytes (contents kind e bs tree)
-unfolding fileOf
-file-some kind e [] tree h = absurd (omega arith)
-file-some kind e (b ∷ bs) tree h = refl
+-- with a node the file has bytes
+pub file-bytes : (kind e : ℕ) (bs : List Block) (tree : Tree) → isHole tree ≡ false → 0 < length (fileOf kind e bs tree)
+unfolding fileBytes flatten bytesOf
+file-bytes kind e bs tree root = rw (file-some kind e bs tree root) (omega arith)

@@ -17,7 +17,9 @@ use Rattle.history.specs.Tree.{Tree, nodeCount, entriesIn}
 use Rattle.history.specs.Ledger.{Ledger}
 use Rattle.history.specs.Reads.{treeIn, blockBy}
 use Rattle.history.specs.Refusals.{Answer, accepted, refused}
-use Rattle.history.specs.File.{Read, got, fault, onward, readFile, File, Loaded, load, bytesOf, nodeBytes, nodesOf, fileBytes, fileOf, fileBy, contents, thoseWith, written, mapTree, placeIn, rule20, rule22, _>>=_}
+use Rattle.history.specs.File.{Read, got, fault, onward, readFile, File, Loaded, load, bytesOf, nodeBytes, nodesOf, fileBytes, fileBy, contents, thoseWith, written, mapTree, placeIn, rule20, rule22, _>>=_}
+use Rattle.history.specs.Rules.{isHole}
+use Rattle.history.specs.Sound.{isEmpty}
 use Rattle.history.proofs.RulesLaws.{numbered-decides, rule23-decides}
 use Rattle.history.proofs.TreeCounts.{entry-count-in}
 use Rattle.history.proofs.FileReads.{number-cut}
@@ -25,12 +27,12 @@ use Rattle.history.proofs.FileRenumbered.{mapTree-same}
 use Rattle.history.proofs.FileRules.{rule20-decides}
 use Rattle.history.proofs.FileIntervals.{treeFrom-nodesOf}
 use Rattle.history.proofs.FileKept.{Writable, entered-lives, written-rule21}
-use Rattle.history.proofs.FileLoad.{load-fault, load-blocks, read-written}
+use Rattle.history.proofs.FileLoad.{load-fault, load-blocks, file-some, file-none, read-written}
 use Rattle.history.proofs.FileReloaded.{index-fits}
 use Rattle.layout.specs.Tables.{Tables, lengthsOf}
 use Rattle.layout.specs.Files.{WrittenBy, LoadLeaves, LoadedBy, positionOf, afterFault}
 use Rattle.spacetime_file.specs.Law.{Slices, ClosedIn, Lives, EmptyFiles}
-use Rattle.spacetime_file.proofs.Closed.{tree-sound, writable, file-written, file-bytes, file-some}
+use Rattle.spacetime_file.proofs.Closed.{tree-sound, writable, file-written, file-bytes}
 use Rattle.spacetime_file.proofs.Saving.{stands-at}
 
 -- ── faults ──
@@ -43,14 +45,11 @@ fault-answered {t} {t′} n e d = (d .answered ∙ ap positionOf e, subst (λ (r
 
 -- ── no bytes ──
 
-no-file : (kind e : ℕ) (bs : List Block) (tree : Tree) → bs ≡ [] → fileOf kind e bs tree ≡ []
-unfolding fileOf
-no-file kind e bs tree none = rw none refl
-
 nothing-written : (t : Tables) (l : Ledger) → ClosedIn t l → l .now .blocks ≡ [] → (out out′ : List ℕ) (wrote : Answer ℕ) → WrittenBy t out out′ wrote
     → (wrote ≡ accepted 0) × (out′ ≡ out)
 nothing-written t l c none out out′ wrote w =
-    let no-bytes : fileBy l ≡ [] = no-file (l .opening .kind) (l .opening .end) (l .now .blocks) (treeIn l) none in
+    let no-node : isHole (treeIn l) ≡ true = tree-sound c .rooted ∙ ap isEmpty none in
+    let no-bytes : fileBy l ≡ [] = file-none (l .opening .kind) (l .opening .end) (l .now .blocks) (treeIn l) no-node in
     let f = file-written c w (rw no-bytes (omega arith)) in
     (f .0 ∙ (rw no-bytes refl), f .1 ∙ (rw no-bytes refl))
 
@@ -92,7 +91,7 @@ module _ {t : Tables} {l : Ledger} (slices : Slices t) (c : ClosedIn t l) (some-
   no-entry : entriesIn tree ≡ []
   no-entry =
       no-entries (entriesIn tree) (length bs)
-      (numbered-decides (length bs) tree .yes (rule23-decides (l .opening .end) bs tree .yes (tree-sound c .rule-23) .numbers)) unlisted
+      (numbered-decides (length bs) tree .yes (rule23-decides (l .opening .end) bs tree .yes (w .rule-23) .numbers)) unlisted
 
   none-written : written bs tree ≡ []
   none-written = none-has (entriesIn tree) (countFrom 0 (length bs)) no-entry
@@ -109,7 +108,7 @@ module _ {t : Tables} {l : Ledger} (slices : Slices t) (c : ClosedIn t l) (some-
   says = rw (none-written, same-tree (placeIn [])) refl
 
   file-says : fileBy l ≡ fileBytes said
-  file-says = file-some (l .opening .kind) (l .opening .end) bs tree some-block ∙ ap fileBytes says
+  file-says = file-some (l .opening .kind) (l .opening .end) bs tree (w .rooted) ∙ ap fileBytes says
 
   lifeless-file : fileBy l ≡ bytesOf 1 (l .opening .kind) ++ (bytesOf 8 0 ++ nodeBytes (nodesOf 0 (l .opening .end) tree))
   unfolding fileBytes flatten flatMap
@@ -136,11 +135,11 @@ module _ {t : Tables} {l : Ledger} (slices : Slices t) (c : ClosedIn t l) (some-
   -- 22
   lifeless-load : (n : Lent) → nodeCount tree ≤ nodeRows n → (file : List ℕ) (at : ℕ) → take (length (fileBy l)) (drop at file) ≡ fileBy l → load n file at ≡ fault 22
   lifeless-load n room file at e =
-      let s = stands-at file (fileBy l) at (file-bytes (l .opening .kind) (l .opening .end) bs tree some-block) e in
+      let s = stands-at file (fileBy l) at (file-bytes (l .opening .kind) (l .opening .end) bs tree (w .rooted)) e in
       let read : readFile file at ≡ got said (at + length (fileBy l)) =
       subst (λ (p : ℕ). readFile file p ≡ got said (p + length (fileBy l))) (s .place)
       (subst (λ (f : List ℕ). readFile f (length (s .before)) ≡ got said (length (s .before) + length (fileBy l))) (sym (s .whole))
-      (read-written (l .opening .kind) (l .opening .end) bs tree some-block (index-fits (l .opening .kind) (l .opening .end) bs tree w) (s .before) (s .behind)
+      (read-written (l .opening .kind) (l .opening .end) bs tree (w .rooted) (index-fits (l .opening .kind) (l .opening .end) bs tree w) (s .before) (s .behind)
       ∙ ap (λ (f : File). got f (length (s .before) + length (fileBy l))) says)) in
       load-blocks n file at said _ read (lifeless-room n room) (rw (same-tree (placeIn (written bs tree))) at (written-rule21 (l .opening .kind) (l .opening .end) bs tree w))
       (no-block _)

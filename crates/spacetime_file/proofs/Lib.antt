@@ -6,5 +6,3 @@ pub mod Reached
 pub mod Taking
 pub mod Emptying
 pub mod Answering
-pub mod Cited
-pub mod Injective

@@ -14,7 +14,7 @@ use Rattle.lists.proofs.Numbers.{le-or-lt}
 use Rattle.history.specs.Words.{Operation, Piece, ends, stretchOf, below, inside, above, pieceOf, blockOf}
 use Rattle.history.specs.Lent.{Lent, rowWidth, entryWidth, blockHead, nodeHead, entryHead, blockRows}
 use Rattle.history.specs.Tree.{noBlock}
-use Rattle.history.specs.Ledger.{Opening, Ledger, opened, finished, isRead, readBy, updateBy, recordBy, settled, finishBy}
+use Rattle.history.specs.Ledger.{Opening, Ledger, withNow, opened, finished, isRead, readBy, updateBy, recordBy, settled, finishBy}
 use Rattle.history.specs.Reads.{treeIn}
 use Rattle.history.specs.Refusals.{Answer, accepted, refused, openAnswer, recordAnswer, finishAnswer}
 use Rattle.history.specs.Calls.{Call, recordCall, finishCall, answerTo, acceptedBy, leaves, after, afterAll, noted, history}
@@ -76,7 +76,7 @@ record-kept l scratch o e k = go (isRead (l .now) o)
     still : {X : Type 0} → finished l ≡ true → X
     still z = absurd (true≢false (sym z ∙ taken l scratch o e .still-open))
 
-    go : (r : Bool) → Kept (record { opening = l .opening; now = cond r (readBy (l .now) o) (updateBy (l .opening .kind) (l .now) o); tree = l .tree })
+    go : (r : Bool) → Kept (withNow (cond r (readBy (l .now) o) (updateBy (l .opening .kind) (l .now) o)) l)
     go true = record { stored = k .stored; pieces = k .pieces; living = λ z h. still z }
     go false = record { stored = update-stored (l .opening .kind) l o k; pieces = λ z h. update-pieces (l .opening .kind) l o; living = λ z h. still z }
 

@@ -76,7 +76,7 @@ module _ {t : Tables} {l : Ledger} (slices : Slices t) (c : ClosedIn t l) (k : �
   file-loaded : (u : Tables) → RoomFor l u → (file : List ℕ) (at : ℕ) → take (length (fileBy l)) (drop at file) ≡ fileBy l
       → load (lengthsOf u) file at ≡ got again (at + length (fileBy l))
   file-loaded u room file at e =
-      let some-byte = file-bytes (l .opening .kind) (l .opening .end) (l .now .blocks) (treeIn l) some-block in
+      let some-byte = file-bytes (l .opening .kind) (l .opening .end) (l .now .blocks) (treeIn l) (writable c slices some-block .rooted) in
       let s = stands-at file (fileBy l) at some-byte e in
       let there = load-written (l .opening .kind) (l .opening .end) (l .now .blocks) (treeIn l) (writable c slices some-block) (lengthsOf u) some-kept (room .room) (s .before) (s .behind) in
       subst (λ (p : ℕ). load (lengthsOf u) file p ≡ got again (p + length (fileBy l))) (s .place)

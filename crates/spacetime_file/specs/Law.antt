@@ -19,11 +19,12 @@ use Rattle.history.specs.File.{File, bytesOf, nodeBytes, nodesOf, newNumber, co
 use Rattle.layout.specs.Tables.{Tables, lengthsOf}
 use Rattle.layout.specs.Encodes.{Encodes}
 use Rattle.layout.specs.Formed.{WellFormed}
-use Rattle.layout.specs.Relations.{openingOf, OpenedBy, Counts, FoundBy, Fields, blockOfFields, BlockGivenBy}
+use Rattle.layout.specs.Reads.{valuesOf}
+use Rattle.layout.specs.Relations.{openingOf, OpenedBy, Counts, FoundBy, Fields, blockIn, BlockGivenBy}
 use Rattle.layout.specs.Files.{WrittenBy, LoadedBy, headed, zeroedTables}
 use Rattle.demand.specs.Theorem.{Run}
 use Rattle.cells.specs.Answers.{CellsReadBy}
-use Rattle.cells.specs.Law.{HistoryShown}
+use Rattle.cells.specs.Law.{ShowsHistory}
 
 -- ── slices ──
 
@@ -57,7 +58,7 @@ numberIn l = newNumber (l .now .blocks) (treeIn l)
 pub record AnswersAlike (l : Ledger) (t u : Tables) : Type 0 where
   -- a block that has a life is block by its new number,
   pub blocks : (k : ℕ) → Lives l k → (old new : Answer Fields) → BlockGivenBy t k old → BlockGivenBy u (numberIn l k) new
-      → blockOfFields (u .store) new ≡ blockOfFields (t .store) old
+      → valuesOf (blockIn (u .store)) new ≡ valuesOf (blockIn (t .store)) old
   -- no others are left,
   pub no-others : (j : ℕ) (f : Fields) → BlockGivenBy u j (accepted f) → (k : ℕ) × Lives l k × (numberIn l k ≡ j)
   -- and they are in the same order;
@@ -90,13 +91,6 @@ pub record AsLong (t u : Tables) : Type 0 where
   pub store : length (t .store) ≤ length (u .store)
   pub nodes : length (t .nodes) ≤ length (u .nodes)
   pub entries : length (t .entries) ≤ length (u .entries)
-
--- a read of a tick below the end and of a range that the slices hold shows what the accepted calls leave at the tick
-abbrev pub ShowsHistory : (a : Opening) (ks : List Call) → Tables → Type 0
-ShowsHistory a ks u =
-    (tick start stop : ℕ) (bytes bytes′ held held′ : List ℕ) (answer : Answer Unit) → tick < afterAll (opened a) ks .opening .end → start ≤ stop
-    → stop - start ≤ length bytes → stop - start ≤ length held → CellsReadBy u tick start stop bytes bytes′ held held′ answer
-    → HistoryShown a ks tick start stop bytes bytes′ held held′ answer
 
 -- an index that calls have reached, loaded again: it answers alike, and read cells shows the history
 pub record LoadedAgain (a : Opening) (ks : List Call) (t u : Tables) : Type 0 where

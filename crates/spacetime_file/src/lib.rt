@@ -6,7 +6,6 @@
 //         proofs/Closed, Alike, Saving    written and loaded: the same answers
 //         proofs/Cutting, Reached         of an index that calls have reached
 //         proofs/Taking, Emptying         what the loader takes; files that it refuses
-//         proofs/Cited, Injective         the theorems speak of the contracts; each answer's meaning is its own
 ghost use Rattle.layout.specs.Tables.{tables};
 ghost use Rattle.layout.specs.Files.{WrittenBy, LoadedBy};
 ghost use Rattle.file_write.specs.Answers.{writtenOf};

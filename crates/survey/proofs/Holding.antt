@@ -1,12 +1,12 @@
 -- Which bytes the pieces hold for a cell: that of the piece which has the cell, or none. Assumes nothing.
 use mathlib.Core.Path.{_≡_, refl, ap, ap₂, _∙_}
 use mathlib.Core.Logic.{_⊎_, inl, inr}
-use mathlib.Core.Bool.{Bool, true, false, _&&_}
+use mathlib.Core.Bool.{and-false}
 use mathlib.Core.Option.{Option, none, some}
 use mathlib.Core.List.{List, [], _∷_, _++_, map, filterMap, filterMap-append, Option·toList}
 use Prim.Native.Nat.{ℕ, _+_, _-_, _≤_, _<_}
 use native.Mathlib.Omega.{arith}
-use lib.Dec.{leb, ltb}
+use lib.Dec.{leb}
 use lib.ListN.{getD, drop}
 use lib.Seq.{getD-take, getD-drop}
 use borrow.Author.Tests.{le-leb, lt-leb, lt-ltb, le-ltb}
@@ -22,13 +22,9 @@ abbrev pub Misses : (cell : ℕ) → PieceRow → Type 0
 Misses cell p = (rowEnd p ≤ cell) ⊎ (cell < p .first)
 
 module _ (store : List ℕ) (c : ℕ) where
-  and-false : (a b : Bool) → b ≡ false → (a && b) ≡ false
-  and-false true b e = e
-  and-false false b e = refl
-
   byte-none : (p : PieceRow) → Stored store p → Misses c p → byteAt c (shown store p .stretch) ≡ none
   unfolding byteAt
-  byte-none p s (inl h) = rw (shown-size store p s, and-false (leb (p .first) c) (ltb c (rowEnd p)) (le-ltb c (rowEnd p) h))
+  byte-none p s (inl h) = rw (shown-size store p s, le-ltb c (rowEnd p) h, and-false (leb (p .first) c))
   byte-none p s (inr h) = rw (shown-size store p s, lt-leb (p .first) c h)
 
   byte-some : (p : PieceRow) → Stored store p → p .first ≤ c → c < rowEnd p → byteAt c (shown store p .stretch) ≡ some (getD store (p .offset + (c - p .first)) 0)

@@ -1,19 +1,22 @@
 -- `matching`, `held_part`, `held_bytes`, `rests_of`, `made` and `survey`: one step for each return. Assumes nothing.
 use mathlib.Core.Path.{_≡_, refl, sym, ap, ap₂, _∙_}
 use mathlib.Core.Logic.{_⊎_, inl, inr, ⊎-elim}
+use mathlib.Core.Bool.{Bool, true, false}
 use mathlib.Core.Option.{some}
 use mathlib.Core.List.{List, [], _∷_, _++_, map}
 use Prim.Native.Nat.{ℕ, _+_, _-_, _*_, _≤_, _<_, _^_, min}
 use native.Mathlib.Omega.{arith}
+use borrow.Author.Tests.{ltb-true, ltb-false, not-true, not-false}
 use lib.ListN.{length, getD, drop}
 use Rattle.lists.specs.Lists.{All, all-cons}
-use Rattle.lists.proofs.Lists.{all-left, all-right, all-map, all-append, all-any}
+use Rattle.lists.proofs.Lists.{all-left, all-right, all-map, all-append, all-any, all-head, all-tail}
 use Rattle.lists.proofs.Maps.{map-append}
 use Rattle.lists.proofs.Numbers.{lt-or-le}
 use Rattle.history.specs.Words.{Piece, heldAt}
 use Rattle.history.specs.Ledger.{firstChange}
 use Rattle.tables.specs.Columns.{column, pieceLength, pieceOffset, piecesCount}
-use Rattle.merge_set.specs.Table.{firstAt}
+use Rattle.tables.specs.Sums.{plusUpTo}
+use Rattle.merge_set.specs.Table.{firstAt, StartsBelow}
 use Rattle.piece_table.specs.Piece.{PieceRow, rowEnd, pieceAt, rowsBelow, rowsAbove, Filled, Follow}
 use Rattle.piece_table.specs.Rep.{Linked, Rep}
 use Rattle.piece_table.specs.Calls.{endAt, Sought}
@@ -21,11 +24,20 @@ use Rattle.piece_table.specs.Shown.{shown, Stored}
 use Rattle.piece_table.proofs.Order.{follow-from, follow-right, follow-filled}
 use Rattle.piece_table.proofs.Parts.{Left}
 use Rattle.piece_table.proofs.Seeing.{rep-follow, rep-count, Seen, seen-none, seen-some}
-use Rattle.survey.specs.Survey.{changeAt, Matching, Matched, HeldPart, HeldBytes, Plus, restsOf, RestsOf, Made, Counts, Surveyed}
+use Rattle.survey.specs.Survey.{changeAt, Matching, Matched, HeldPart, HeldBytes, restsOf, RestsOf, Made, Counts, Surveyed}
 use Rattle.survey.specs.declared.Report.{Report}
 use Rattle.survey.proofs.Holding.{Misses, held-none, held-one}
 use Rattle.survey.proofs.Changing.{has-none, has-same, has-other, change-here, change-run, matched-start, matched-moved, matched-tells}
 use Rattle.survey.proofs.Weighing.{weigh, past, past-left, past-turn, past-zero, past-start, weigh-one, weigh-two, crosses-yes, crosses-before, crosses-after, met, rests, met-one, rests-two, met-left, met-right, met-here, rests-left, rests-right, inside-count, parts-count}
+
+-- ── sums ──
+
+-- a sum as the survey uses it: it does not pass the largest number
+pub record Plus (a b out : ℕ) : Type 0 where
+  pub is : a + b < 2 ^ 64 → out ≡ a + b
+
+pub plus-told : {a b out : ℕ} → out ≡ plusUpTo a b → Plus a b out
+plus-told e = record { is = λ h. omega arith }
 
 -- ── `matching` ──
 
@@ -94,12 +106,6 @@ module _ {t : List ℕ} (link : ℕ) (xs ys : List ℕ) (r : Linked t (xs ++ lin
 
   misses-right : (cell : ℕ) → cell < endAt t link → All (Misses cell) (map (pieceAt t) ys)
   misses-right cell h = all-map (λ p k. inr (omega arith)) (follow-right (endAt t link) (endAt t link) (map (pieceAt t) ys) (omega arith) after)
-
-all-head : {P : PieceRow → Type 0} {p : PieceRow} {ps : List PieceRow} → All P (p ∷ ps) → P p
-all-head (all-cons h a) = h
-
-all-tail : {P : PieceRow → Type 0} {p : PieceRow} {ps : List PieceRow} → All P (p ∷ ps) → All P ps
-all-tail (all-cons h a) = a
 
 module _ {t store bytes : List ℕ} {link first place same was size offset : ℕ} (ew : was ≡ firstAt t link) (es : size ≡ column t link pieceLength) (eo : offset ≡ column t link pieceOffset) where
   -- the cell is held by no piece
@@ -222,7 +228,7 @@ survey-start {t} {store} {first} {bytes} =
 
 -- pieces are few enough to count
 few : {t : List ℕ} {ps : List PieceRow} → Rep t ps → 2 * length ps + length ps < 2 ^ 63
-few r = omega (arith, rep-count r, r .linked .room, r .linked .few)
+few r = omega (arith, rep-count r, r .linked .dense .room, r .linked .few)
 
 -- where nothing more weighs, and the place is no held cell, the numbers are told
 pub survey-tells : {t store bytes : List ℕ} {first count place m r same : ℕ} {s : Report} → count ≡ column t 0 piecesCount → Turning t store first bytes place m r same → Made count m r same s
@@ -279,8 +285,8 @@ module _ {t store bytes : List ℕ} {first count place m r same end : ℕ} {s : 
       zero ps w f b (inr c) = all-map (λ p d k. ⊎-elim (λ x. absurd (omega arith)) (λ x. f p (omega arith)) d) c
 
   module _ {link was size next : ℕ} (sought : Sought t place link) (nz : link ≡ 0 → ⊥) (ew : was ≡ firstAt t link) (es : size ≡ column t link pieceLength) (en : Plus was size next) where
-    pub survey-right : end ≤ was → Made count m r same s → Surveyed t store first bytes s
-    survey-right h made =
+    beyond : end ≤ firstAt t link → Made count m r same s → Surveyed t store first bytes s
+    beyond h made =
         survey-tells ec turn made (λ ps rep st big near k.
         let e : end ≡ first + length bytes = ee .is near in
         let v : Seen t place link ps = seen-some sought rep nz in (
@@ -296,17 +302,21 @@ module _ {t store bytes : List ℕ} {first count place m r same end : ℕ} {s : 
             (all-append (all-map (λ p q lt. absurd (omega arith)) (v .left))
             (all-cons {x = pieceAt t link} (λ lt. f (pieceAt t link) b) (all-map (λ p q lt. f p (omega arith)) (follow-right (rowEnd (pieceAt t link)) (rowEnd (pieceAt t link)) (map (pieceAt t) (v .ys)) (omega arith) (v .after)))))
 
+    pub survey-right : {starts : Bool} → StartsBelow t link end starts → starts ≡ false → Made count m r same s → Surveyed t store first bytes s
+    survey-right tested h = beyond (ltb-false (firstAt t link) end (sym (tested .is) ∙ h))
+
     pub survey-stuck : next ≤ place → Made count m r same s → Surveyed t store first bytes s
     survey-stuck h made = record { says = λ ps rep st big near. absurd (omega (arith, next-past sought nz ew es en rep)) }
 
-pub survey-turn : {t store bytes : List ℕ} {first place m r same end link was size next out more m′ r′ : ℕ} → Plus first (length bytes) end → Turning t store first bytes place m r same → Sought t place link → (link ≡ 0 → ⊥)
-    → was ≡ firstAt t link → size ≡ column t link pieceLength → Plus was size next → was < end → place < end → place < next → HeldBytes t store bytes link first place same out
+pub survey-turn : {t store bytes : List ℕ} {first place m r same end link was size next out more m′ r′ : ℕ} {starts : Bool} → Plus first (length bytes) end → Turning t store first bytes place m r same → Sought t place link → (link ≡ 0 → ⊥)
+    → was ≡ firstAt t link → size ≡ column t link pieceLength → Plus was size next → StartsBelow t link end starts → starts ≡ true → place < end → place < next → HeldBytes t store bytes link first place same out
     → RestsOf was next first end more → Plus r more r′ → Plus m 1 m′ → Turning t store first bytes next m′ r′ out
-survey-turn {t} {store} {bytes} {first} {place} {m} {r} {same} {end} {link} {was} {size} {next} {out} {more} {m′} {r′} ee turn sought nz ew es en lt before on held ro er em = record { low = omega (arith, turn .low); says = go }
+survey-turn {t} {store} {bytes} {first} {place} {m} {r} {same} {end} {link} {was} {size} {next} {out} {more} {m′} {r′} ee turn sought nz ew es en tested low before on held ro er em = record { low = omega (arith, turn .low); says = go }
   where
     go : (ps : List PieceRow) → Rep t ps → All (Stored store) ps → 0 < length bytes → first + length bytes < 2 ^ 64 → Counted store first bytes next m′ r′ out ps
     go ps rep st big near =
         let e : ℕ = first + length bytes in
+        let lt : was < end = rw ew (ltb-true (firstAt t link) end (sym (tested .is) ∙ low)) in
         let ends : end ≡ first + length bytes = ee .is near in
         let k : Counted store first bytes place m r same ps = turn .says ps rep st big near in
         let v : Seen t place link ps = seen-some sought rep nz in
@@ -336,4 +346,4 @@ survey-turn {t} {store} {bytes} {first} {place} {m} {r} {same} {end} {link} {was
         same-rests n e = rw (n, e, ew)
 
 -- the steps, for `search` at a return
-pub ruleset surveying = (matching-start, matching-more, matching-differs, matching-all, rests-of-both, rests-of-left, rests-of-right, rests-of-none, made-few, made-all, held-part-ahead, held-part-short, held-part-wide, held-part-long, held-part-few, held-part-past, held-part-done, held-bytes-before, held-bytes-found, held-bytes-part, survey-start, survey-none, survey-end, survey-right, survey-stuck, survey-turn)
+pub ruleset surveying = (plus-told, not-true, not-false, matching-start, matching-more, matching-differs, matching-all, rests-of-both, rests-of-left, rests-of-right, rests-of-none, made-few, made-all, held-part-ahead, held-part-short, held-part-wide, held-part-long, held-part-few, held-part-past, held-part-done, held-bytes-before, held-bytes-found, held-bytes-part, survey-start, survey-none, survey-end, survey-right, survey-stuck, survey-turn)

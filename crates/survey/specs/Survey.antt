@@ -49,10 +49,6 @@ pub record HeldPart (t store : List ℕ) (bytes : List ℕ) (link first place sa
 
 -- ── counting ──
 
--- `plus`
-pub record Plus (a b out : ℕ) : Type 0 where
-  pub is : a + b < 2 ^ 64 → out ≡ a + b
-
 -- 1 if a piece [was, next) reaches over the cell
 abbrev pub crosses : (was next cell : ℕ) → ℕ
 crosses was next cell = cond (ltb was cell && ltb cell next) 1 0

@@ -9,11 +9,8 @@
 ghost use mathlib.Core.Path.{_≡_};
 ghost use Prim.Native.Nat.{_+_, _≤_, min};
 ghost use lib.ListN.{length};
-ghost use Rattle.survey.specs.Survey.{Matching, HeldPart, HeldBytes, Plus, RestsOf, Made, Surveyed};
+ghost use Rattle.survey.specs.Survey.{Matching, HeldPart, HeldBytes, RestsOf, Made, Surveyed};
 use tables::piece;
-
-// The largest number.
-const LARGEST: u64 = 18446744073709551615;
 
 // What an operation meets: how many of its leading cells the pieces hold with its bytes, how many pieces there would be after an update, and how many
 // blocks it records.
@@ -69,7 +66,7 @@ fn held_part(
     if length < skip {
         return same;
     }
-    if LARGEST - offset < skip {
+    if u64::MAX - offset < skip {
         return same;
     }
     if bytes.len() < same {
@@ -107,16 +104,6 @@ fn held_bytes(
     held_part(pieces, store, bytes, link, first, place, same)
 }
 
-// The sum, or the largest number where it is larger than that.
-fn plus(a: u64, b: u64) -> u64
-    ensures { λ r. ⌜ Plus a b r ⌝ }
-{
-    if LARGEST - a < b {
-        return LARGEST;
-    }
-    a + b
-}
-
 // How many rests a piece [was, next) that meets [first, end) leaves.
 fn rests_of(was: u64, next: u64, first: u64, end: u64) -> u64
     ensures { λ r. ⌜ RestsOf was next first end r ⌝ }
@@ -146,7 +133,7 @@ fn made(count: u64, met: u64, rests: u64, same: u64) -> Report
     }
     Report {
         same: same,
-        pieces: plus(plus(count - met, rests), 1),
+        pieces: tables::plus(tables::plus(count - met, rests), 1),
         blocks: met,
     }
 }
@@ -156,7 +143,7 @@ pub fn survey(pieces: &[u64], store: &[u8], first: u64, bytes: &[u8]) -> Report
     ensures { λ s. ⌜ Surveyed (now (pieces .entry)) (now (store .entry)) first (now (bytes .entry)) s ⌝ }
 {
     let count = tables::get(pieces, 0, piece::COUNT);
-    let end = plus(first, bytes.len() as u64);
+    let end = tables::plus(first, bytes.len() as u64);
     let mut place = first;
     let mut met: u64 = 0;
     let mut rests: u64 = 0;
@@ -168,16 +155,16 @@ pub fn survey(pieces: &[u64], store: &[u8], first: u64, bytes: &[u8]) -> Report
             return made(count, met, rests, known);
         }
         let was = tables::get(pieces, link, piece::FIRST);
-        let next = plus(was, tables::get(pieces, link, piece::LENGTH));
-        if end <= was {
+        let next = tables::plus(was, tables::get(pieces, link, piece::LENGTH));
+        if !merge_set::starts_below(pieces, link, end) {
             return made(count, met, rests, same as u64);
         }
         if next <= place {
             return made(count, met, rests, same as u64);
         }
         same = held_bytes(pieces, store, bytes, link, first, place, same);
-        rests = plus(rests, rests_of(was, next, first, end));
-        met = plus(met, 1);
+        rests = tables::plus(rests, rests_of(was, next, first, end));
+        met = tables::plus(met, 1);
         place = next;
     }
     made(count, met, rests, same as u64)

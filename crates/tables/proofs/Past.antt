@@ -1,23 +1,18 @@
 -- Past its end a table reads as 0 and a write changes nothing. Assumes nothing.
-use mathlib.Core.Path.{_≡_, refl, sym, _∙_, ap}
+use mathlib.Core.Path.{_≡_, sym, _∙_, ap}
 use mathlib.Core.List.{List, [], _∷_, _++_, append-nil}
-use Prim.Native.Nat.{ℕ, suc, _+_, _≤_, _<_}
+use Prim.Native.Nat.{ℕ, _+_, _≤_, _<_}
 use native.Mathlib.Omega.{arith}
 use native.Mathlib.Numerals.{add-one}
 use lib.ListN.{length, getD, set, take, drop, replicate, List·getD-eq-default, drop-of-length-le, take-append-drop}
 use lib.Seq.{set-out, sets, length-sets, take-suc, take-all, length-take-le}
-use Rattle.lists.proofs.Stores.{sets-append}
+use Rattle.lists.proofs.Stores.{sets-append, sets-past}
 
 pub read-past : (l : List ℕ) (n : ℕ) → length l ≤ n → 0 ≡ getD l n 0
 read-past l n h = sym (List·getD-eq-default l 0 {n = n} h)
 
 pub write-past : (l : List ℕ) (n v : ℕ) → length l ≤ n → l ≡ set l n v
 write-past l n v h = sym (set-out l n v h)
-
--- a list written past the end changes nothing
-pub sets-past : (vs l : List ℕ) (at : ℕ) → length l ≤ at → sets l at vs ≡ l
-sets-past [] l at h = refl
-sets-past (v ∷ vs) l at h = rw (set-out l at v h) (sets-past vs l (suc at) (omega arith))
 
 -- what is written behind the end is as if it were not written
 pub sets-front : (l xs ys : List ℕ) (at : ℕ) → length l ≤ at + length xs → sets l at (xs ++ ys) ≡ sets l at xs

@@ -10,7 +10,7 @@ use Rattle.history.specs.Lent.{rowWidth, entryWidth, blockHead, entryHead}
 abbrev pub column : (table : List ℕ) (link c : ℕ) → ℕ
 column table link c = getD table (rowWidth * link + c) 0
 
--- in the block table the last row of the head is the row of link 0, so that the head can grow in front of it
+-- in the block table the last row of the head is the row of link 0; what stands in front of it is named below
 abbrev pub blockBase : ℕ
 blockBase = blockHead - rowWidth
 
@@ -101,6 +101,41 @@ headUsed = 4
 
 abbrev pub headLast : ℕ
 headLast = 5
+
+-- ── the front of the block table's head: places, each behind the one before it ──
+
+-- Free until the requests that fill them: zeros from open or load on, and no call reads them.
+
+-- a planner's floor, and how many pieces he holds
+abbrev pub frontFloors : ℕ
+frontFloors = 0
+
+abbrev pub frontCounts : ℕ
+frontCounts = frontFloors + 16
+
+-- the calendar: whether installed; seven days of 17; how many days of its own, and 64 of 18
+abbrev pub frontCalendar : ℕ
+frontCalendar = frontCounts + 16
+
+-- the list of days: how many, and 64 of 2
+abbrev pub frontDays : ℕ
+frontDays = frontCalendar + (1 + 7 * 17 + 1 + 64 * 18)
+
+-- how many marks there are
+abbrev pub frontMarkCount : ℕ
+frontMarkCount = frontDays + (1 + 64 * 2)
+
+-- how many calls were accepted
+abbrev pub frontCalls : ℕ
+frontCalls = frontMarkCount + 1
+
+-- 32 marks of 16: twelve bytes of the name, number, block count, store use, last tick
+abbrev pub frontMarks : ℕ
+frontMarks = frontCalls + 1
+
+-- what stands behind is free
+abbrev pub frontRest : ℕ
+frontRest = frontMarks + 32 * 16
 
 -- ── nodes: the row, then the head ──
 

@@ -1,7 +1,7 @@
 // The columns of an entry's row. Rows are numbered from 0 and stand behind a head whose first number is their count.
 ghost use mathlib.Core.Path.{_≡_};
-ghost use Prim.Native.Nat.{_+_, _*_};
-ghost use lib.ListN.{set};
+ghost use Prim.Native.Nat.{_+_, _-_, _*_, _/_};
+ghost use lib.ListN.{length, set};
 ghost use Rattle.history.specs.Lent.{entryWidth, entryHead};
 ghost use Rattle.tables.specs.Columns.{entryColumn};
 
@@ -15,6 +15,16 @@ pub const COUNT: usize = 0;
 pub const HEAD: usize = 8;
 
 pub const WIDTH: usize = 2;
+
+// How many rows the table has.
+pub fn rows(entries: &[u64]) -> u64
+    ensures { λ r. ⌜ r ≡ (length (now (entries .entry)) - entryHead) / entryWidth ⌝ }
+{
+    if entries.len() < HEAD {
+        return 0;
+    }
+    ((entries.len() - HEAD) / WIDTH) as u64
+}
 
 // Column `col` of an entry row.
 pub fn get(entries: &[u64], row: u64, col: usize) -> u64

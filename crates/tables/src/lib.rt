@@ -2,13 +2,15 @@
 // so do these, so that no caller owes an index.
 //
 //   specs/Columns   where each column stands
+//   specs/Sums      sums of numbers that nobody has tested
 //   piece, block, node, entry   its names in code
 ghost use mathlib.Core.Path.{_≡_};
-ghost use Prim.Native.Nat.{ℕ, _+_, _*_};
+ghost use Prim.Native.Nat.{ℕ, _+_, _-_, _*_, _/_};
 ghost use lib.ListN.{length, getD, set, replicate};
 ghost use lib.Seq.{sets};
 ghost use Rattle.history.specs.Lent.{rowWidth, entryWidth, entryHead};
 ghost use Rattle.tables.specs.Columns.{column, blockColumn, blockBase, entryColumn};
+ghost use Rattle.tables.specs.Sums.{plusUpTo};
 
 pub mod block;
 pub mod entry;
@@ -41,6 +43,26 @@ pub fn put(table: &mut [u64], link: u64, col: usize, value: u64)
             table[ROW * row + col] = value;
         }
     }
+}
+
+// How many rows of eight numbers a table of so many numbers has behind its head.
+pub fn rows(numbers: usize, head: usize) -> u64
+    ensures { λ r. ⌜ r ≡ (numbers - head) / rowWidth ⌝ }
+{
+    if numbers < head {
+        return 0;
+    }
+    ((numbers - head) / ROW) as u64
+}
+
+// The sum, or the largest number where that is passed: in tables that nobody has tested numbers may be any.
+pub fn plus(a: u64, b: u64) -> u64
+    ensures { λ r. ⌜ r ≡ plusUpTo a b ⌝ }
+{
+    if b <= u64::MAX - a {
+        return a + b;
+    }
+    u64::MAX
 }
 
 // Every number of the table becomes 0.

@@ -1,13 +1,23 @@
 -- `build` meets its contract: each return is a step of `proofs/Building`. Assumes nothing.
-use Rattle.file_load.proofs.Building.{build-halves, build-judged}
+use native.Mathlib.Omega.{arith}
 use borrow.Author.Needs.{needs}
+use Rattle.file_load.proofs.Building.{build-halves, build-judged}
 use Rattle.file_load.proofs.build.Statement.{statement}
 use Rattle.file_load.proofs.build.Tie as tie
 
 returns-2 : tie.Need-returns-2
 returns-2 c =
-    build-judged _ _ _ _ _ _ (c .before .before .before .before .before .before .before .before .before .before .before .before .before .before .before .before .before .before .before .before .before .before .before .before .before .fill-blocks .ensures) (c .before .before .before .before .before .before .before .before .before .before .before .before .before .before .before .before .before .fill-nodes .ensures) (c .before .before .before .before .before .before .before .before .before .before .before .before .if1 .left) (c .before .before .before .before .before .before .before .before .before .before .put-row .ensures) (c .before .before .before .before .before .before .sort .ensures) (c .judge .ensures)
+    let sorted = c .before .before .before .before .before .before in
+    let headed = sorted .before .before .before .before in
+    let ended = headed .before .before in
+    let nodes = ended .before .before .before .before .before in
+    let blocks = nodes .before .before .before .before .before .before .before .before in
+    let start = blocks .before .before .before .before .before .before .before .before in
+    build-judged _ _ _ _ _ _ (blocks .fill-blocks .ensures) (nodes .fill-nodes .ensures) (omega (arith, start .good)) (ended .if1 .left)
+    (headed .put-head .ensures) (sorted .sort .ensures) (c .judge .ensures)
 
 pub build-spec : {M : Type 1} → statement M
 build-spec =
-    tie.close (tie.spec (λ c κs. search needs) (λ c κs. search needs) (λ c. search needs) (λ c. search needs) (λ c. search needs) (λ c. search needs) (λ c. build-halves _ _ _ _ _ _ (c .before .before .before .before .before .before .before .before .before .before .before .before .before .fill-blocks .ensures) (c .before .before .before .before .before .fill-nodes .ensures) (c .if1 .taken)) (λ c κs. search needs) (λ c κs. search needs) (λ c κs. search needs) (λ c. search needs) (λ c. search needs) (λ c. search needs) (λ c. search needs) returns-2)
+    tie.close (tie.spec (λ c κs. search needs) (λ c κs. search needs) (λ c. search needs) (λ c. search needs) (λ c. search needs) (λ c. search needs)
+    (λ c. search (build-halves, needs)) (λ c κs. search needs) (λ c κs. search needs) (λ c κs. search needs) (λ c. search needs) (λ c. search needs)
+    (λ c. search needs) (λ c. search needs) returns-2)

@@ -1,6 +1,6 @@
 -- `index::block_bytes` meets its contract: each arm is a step of `carrying`. Assumes nothing.
 use borrow.Author.Needs.{needs}
-use Rattle.index.proofs.Bytes.{carrying}
+use Rattle.index.proofs.Answering.{carrying}
 use Rattle.index.proofs.block_bytes.Statement.{statement}
 use Rattle.index.proofs.block_bytes.Tie as tie
 

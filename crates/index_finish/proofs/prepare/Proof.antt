@@ -13,7 +13,7 @@ returns-3 c =
     let sorted = counted .before .before .before .before .before .before in
     let count = sorted .before .before in
     let zeros = count .before .before in
-    prepare-done (zeros .before .blank .ensures) (zeros .if1 .left) (count .get .ensures) (sorted .sort .ensures) (counted .count-all .ensures) (search needs)
+    prepare-done (zeros .before .blank .ensures) (zeros .if1 .left) (count .count .ensures) (sorted .sort .ensures) (counted .count-all .ensures) (search needs)
     (nodes-long c)
 
 pub prepare-spec : {M : Type 1} → statement M

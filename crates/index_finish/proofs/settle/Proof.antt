@@ -23,8 +23,8 @@ returns c =
     let kind = count .before .before in
     let end = kind .before .before in
     let start = end .before .before .before .before .before .before in
-    settle-done (omega (arith, start .good)) (omega (arith, start .good)) (nodes-long c) (entries-long c) (end .get .ensures) (kind .get2 .ensures) (count .get3 .ensures)
-    (extracted .extract-members .ensures) (stated .put .ensures) (counted .get4 .ensures) (sorted .sort-more .ensures) (closed .close-tree .ensures)
+    settle-done (omega (arith, start .good)) (omega (arith, start .good)) (nodes-long c) (entries-long c) (end .end .ensures) (kind .kind .ensures) (count .count .ensures)
+    (extracted .extract-members .ensures) (stated .set-state .ensures) (counted .count2 .ensures) (sorted .sort-more .ensures) (closed .close-tree .ensures)
     (zeroed .zero .ensures)
 
 pub settle-spec : {M : Type 1} → statement M

@@ -8,6 +8,7 @@ use Rattle.merge_set.proofs.relink.Reads as relink
 use Rattle.merge_set.proofs.relink.Kinds as relink-kinds
 use Rattle.merge_set.proofs.+relink.Lts-relink as relink-lts
 use Rattle.merge_set.proofs.join.Reads as join-reads
+use Rattle.merge_set.proofs.starts_before.Reads as starts-before-reads
 use Rattle.tables.proofs.get.Reads as get-reads
 use Rattle.merge_set.proofs.+relink.{statement}
 use Rattle.merge_set.proofs.+relink.Tie.{close}
@@ -23,7 +24,4 @@ relink-below t = and 1 relink-kinds.ps (falls 1 relink-kinds.ps _<_ μ-relink t)
 
 pub +relink-spec : {M : Type 1} → statement M
 +relink-spec =
-    close μ-relink λ t. relink-lts.spec (get-reads.Asked, get-reads.Learnt, relink-below t, relink.Post, join-reads.Asked, join-reads.Learnt)
-    (relink-at t) relink.Post (λ c. search relinking) (λ c. search relinking) (λ c. search relinking) (λ c κs. search needs) (λ c κs. search needs) (λ
-    c κs. search needs) (λ c κs. search needs) (λ c. search needs) (λ c κs. search needs) (λ c κs. search needs) (λ c. search needs) (λ c. search
-    relinking) (λ c. search needs) (λ c κs. search needs) (λ c κs. search needs) (λ c. search needs) (λ c. search relinking)
+    close μ-relink λ t. relink-lts.spec (get-reads.Asked, get-reads.Learnt, starts-before-reads.Asked, starts-before-reads.Learnt, relink-below t, relink.Post, join-reads.Asked, join-reads.Learnt) (relink-at t) relink.Post (λ c. search relinking) (λ c. search relinking) (λ c. search relinking) (λ c κs. search needs) (λ c κs. search needs) (λ c κs. search needs) (λ c. search needs) (λ c κs. search needs) (λ c κs. search needs) (λ c. search needs) (λ c. search relinking) (λ c. search needs) (λ c κs. search needs) (λ c κs. search needs) (λ c. search needs) (λ c. search relinking)

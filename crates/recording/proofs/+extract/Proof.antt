@@ -7,7 +7,7 @@ use Rattle.recording.proofs.Extracting.{extracting}
 use Rattle.recording.proofs.extract.Reads as extract
 use Rattle.recording.proofs.extract.Kinds as extract-kinds
 use Rattle.recording.proofs.+extract.Lts-extract as extract-lts
-use Rattle.recording.proofs.append_block.Reads as append-block-reads
+use Rattle.block_table.proofs.append.Reads as append-reads
 use Rattle.tables.proofs.get.Reads as get-reads
 use Rattle.recording.proofs.+extract.{statement}
 use Rattle.recording.proofs.+extract.Tie.{close}
@@ -23,4 +23,4 @@ extract-below t = and 2 extract-kinds.ps (falls 2 extract-kinds.ps _<_ μ-extrac
 
 pub +extract-spec : {M : Type 1} → statement M
 +extract-spec =
-    close μ-extract λ t. extract-lts.spec (get-reads.Asked, get-reads.Learnt, extract-below t, extract.Post, append-block-reads.Asked, append-block-reads.Learnt) (extract-at t) extract.Post (λ c. search extracting) (λ c. search extracting) (λ c κs. search needs) (λ c κs. search needs) (λ c κs. search needs) (λ c κs. search needs) (λ c κs. search needs) (λ c κs. search needs) (λ c κs. search needs) (λ c. search needs) (λ c κs. search needs) (λ c κs. search needs) (λ c. search needs) (λ c κs. search needs) (λ c. search needs) (λ c. search extracting)
+    close μ-extract λ t. extract-lts.spec (get-reads.Asked, get-reads.Learnt, extract-below t, extract.Post, append-reads.Asked, append-reads.Learnt) (extract-at t) extract.Post (λ c. search extracting) (λ c. search extracting) (λ c κs. search needs) (λ c κs. search needs) (λ c κs. search needs) (λ c κs. search needs) (λ c κs. search needs) (λ c κs. search needs) (λ c κs. search needs) (λ c. search needs) (λ c κs. search needs) (λ c κs. search needs) (λ c. search needs) (λ c κs. search needs) (λ c. search needs) (λ c. search extracting)

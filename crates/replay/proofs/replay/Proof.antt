@@ -6,10 +6,10 @@ use Rattle.replay.proofs.replay.Statement.{statement}
 use Rattle.replay.proofs.replay.Tie as tie
 
 abbrev Inv-loop : tie.InvT-loop
-Inv-loop tally₀ pieces₀ blocks₀ store₀ nodes₀ entries₀ part₀ left₀ tally pieces blocks store nodes entries part left = (length tally ≡ length tally₀) × (length pieces ≡ length pieces₀) × (length blocks ≡ length blocks₀) × (length store ≡ length store₀) × (length nodes ≡ length nodes₀) × (length entries ≡ length entries₀) × (length part ≡ length part₀)
+Inv-loop counts₀ pieces₀ blocks₀ store₀ nodes₀ entries₀ part₀ left₀ counts pieces blocks store nodes entries part left = (length counts ≡ length counts₀) × (length pieces ≡ length pieces₀) × (length blocks ≡ length blocks₀) × (length store ≡ length store₀) × (length nodes ≡ length nodes₀) × (length entries ≡ length entries₀) × (length part ≡ length part₀)
 
 abbrev μ-loop : tie.MeasureT-loop
-μ-loop tally₀ pieces₀ blocks₀ store₀ nodes₀ entries₀ part₀ left₀ tally pieces blocks store nodes entries part left = left
+μ-loop counts₀ pieces₀ blocks₀ store₀ nodes₀ entries₀ part₀ left₀ counts pieces blocks store nodes entries part left = left
 
 pub replay-spec : {M : Type 1} → statement M
 replay-spec =

@@ -4,14 +4,14 @@ use native.Mathlib.Omega.{arith}
 use borrow.Author.Needs.{needs}
 use borrow.Fn.Kinds.{In}
 use borrow.Fn.PlainCycle.{Measures, is, falls, and}
-use Rattle.segment_find.proofs.Halving.{present, half-falls}
+use Rattle.segment_walk.proofs.Halving.{present, half-falls}
 use Rattle.segment_find.proofs.Searching.{count-fits, searching}
 use Rattle.segment_find.proofs.search.Reads as search′
 use Rattle.segment_find.proofs.search.Kinds as search-kinds
 use Rattle.segment_find.proofs.+search.Lts-search as search-lts
 use Rattle.segment_find.proofs.extend_from_self.Reads as extend-from-self-reads
-use Rattle.segment_find.proofs.walk.absent.Reads as absent-reads
-use Rattle.segment_find.proofs.walk.half.Reads as half-reads
+use Rattle.segment_walk.proofs.walk.absent.Reads as absent-reads
+use Rattle.segment_walk.proofs.walk.half.Reads as half-reads
 use Rattle.segment_find.proofs.in_window.Reads as in-window-reads
 use Rattle.segment_find.proofs.+search.{statement}
 use Rattle.segment_find.proofs.+search.Tie.{close}

@@ -2,7 +2,8 @@
 use Prim.Native.Nat.{_-_}
 use native.Mathlib.Omega.{arith}
 use borrow.Author.Needs.{needs}
-use Rattle.survey.proofs.Surveying.{surveying, survey-turn, Turning}
+use borrow.Author.Tests.{not-false}
+use Rattle.survey.proofs.Surveying.{surveying, plus-told, survey-turn, Turning}
 use Rattle.survey.proofs.survey.Statement.{statement}
 use Rattle.survey.proofs.survey.Tie as tie
 
@@ -15,12 +16,13 @@ abbrev μ-loop : tie.MeasureT-loop
 loop-again : tie.Need-loop-again Inv-loop μ-loop
 loop-again c =
     let held = c .before .before .before in
-    let next = held .before .before .before in
+    let tested = held .before .before .before in
+    let next = tested .before in
     let sought = next .before .before .before .before in
     let turn = sought .before .before in
-    survey-turn (turn .before .plus .ensures) (turn .loop .inv) (sought .seek .ensures) (next .before .before .before .if1 .left) (next .before .before .get2 .ensures) (next .before .get3 .ensures) (next .plus2 .ensures)
-    (omega arith) (omega arith) (omega arith) (held .held-bytes .ensures) (c .before .before .rests-of .ensures) (c .before .plus3 .ensures) (c .plus4 .ensures)
+    survey-turn (plus-told (turn .before .plus .ensures)) (turn .loop .inv) (sought .seek .ensures) (next .before .before .before .if1 .left) (next .before .before .get2 .ensures) (next .before .get3 .ensures) (plus-told (next .plus2 .ensures))
+    (tested .starts-below .ensures) (not-false _ (held .before .before .if2 .left)) (omega arith) (omega arith) (held .held-bytes .ensures) (c .before .before .rests-of .ensures) (plus-told (c .before .plus3 .ensures)) (plus-told (c .plus4 .ensures))
 
 pub survey-spec : {M : Type 1} → statement M
 survey-spec =
-    tie.close (tie.spec Inv-loop μ-loop (λ c κs. search needs) (λ c κs. search needs) (λ c. search surveying) (λ c κs. search needs) (λ c κs. search needs) (λ c. search surveying) (λ c κs. search needs) (λ c κs. search needs) (λ c κs. search needs) (λ c κs. search needs) (λ c. search surveying) (λ c κs. search needs) (λ c. search surveying) (λ c κs. search needs) (λ c κs. search needs) (λ c κs. search needs) (λ c κs. search needs) (λ c. search needs) loop-again (λ c κs. search needs) (λ c. search surveying))
+    tie.close (tie.spec Inv-loop μ-loop (λ c κs. search needs) (λ c κs. search needs) (λ c. search surveying) (λ c κs. search needs) (λ c κs. search needs) (λ c. search surveying) (λ c κs. search needs) (λ c κs. search needs) (λ c κs. search needs) (λ c κs. search needs) (λ c κs. search needs) (λ c. search surveying) (λ c κs. search needs) (λ c. search surveying) (λ c κs. search needs) (λ c κs. search needs) (λ c κs. search needs) (λ c κs. search needs) (λ c. search needs) loop-again (λ c κs. search needs) (λ c. search surveying))

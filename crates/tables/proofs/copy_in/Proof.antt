@@ -5,7 +5,8 @@ use native.Mathlib.Omega.{arith}
 use borrow.Author.Needs.{needs}
 use lib.ListN.{length, take}
 use lib.Seq.{sets}
-use Rattle.tables.proofs.Past.{sets-past, sets-cut, sets-more, sets-all}
+use Rattle.lists.proofs.Stores.{sets-past}
+use Rattle.tables.proofs.Past.{sets-cut, sets-more, sets-all}
 use Rattle.tables.proofs.copy_in.Statement.{statement}
 use Rattle.tables.proofs.copy_in.Tie as tie
 

@@ -14,5 +14,6 @@ abbrev μ-loop : tie.MeasureT-loop
 pub pieces-clear-spec : {M : Type 1} → statement M
 pieces-clear-spec =
     tie.close (tie.spec Inv-loop μ-loop (λ c. search seeking) (λ c κs. search needs) (λ c. search seeking) (λ c κs. search needs) (λ c. search seeking)
-    (λ c κs. search needs) (λ c. search seeking) (λ c κs. search needs) (λ c κs. search needs) (λ c. search seeking) (λ c. search needs) (λ c. search seeking)
+    (λ c κs. search needs) (λ c. search seeking) (λ c κs. search needs) (λ c. search seeking)
+    (λ c. search needs) (λ c. search seeking)
     (λ c. search seeking))

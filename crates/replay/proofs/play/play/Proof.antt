@@ -6,11 +6,11 @@ use Rattle.replay.proofs.play.play.Statement.{statement}
 use Rattle.replay.proofs.play.play.Tie as tie
 
 abbrev Inv-loop : tie.InvT-loop
-Inv-loop tally₀ pieces₀ blocks₀ store₀ nodes₀ entries₀ «data» many start pool at₀ left₀ tally pieces blocks store nodes entries at left =
-    (length tally ≡ length tally₀) × (length pieces ≡ length pieces₀) × (length blocks ≡ length blocks₀) × (length store ≡ length store₀) × (length nodes ≡ length nodes₀) × (length entries ≡ length entries₀)
+Inv-loop counts₀ pieces₀ blocks₀ store₀ nodes₀ entries₀ «data» many start pool at₀ left₀ counts pieces blocks store nodes entries at left =
+    (length counts ≡ length counts₀) × (length pieces ≡ length pieces₀) × (length blocks ≡ length blocks₀) × (length store ≡ length store₀) × (length nodes ≡ length nodes₀) × (length entries ≡ length entries₀)
 
 abbrev μ-loop : tie.MeasureT-loop
-μ-loop tally₀ pieces₀ blocks₀ store₀ nodes₀ entries₀ «data» many start pool at₀ left₀ tally pieces blocks store nodes entries at left =
+μ-loop counts₀ pieces₀ blocks₀ store₀ nodes₀ entries₀ «data» many start pool at₀ left₀ counts pieces blocks store nodes entries at left =
     left
 
 pub play-spec : {M : Type 1} → statement M

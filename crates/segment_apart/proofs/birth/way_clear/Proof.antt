@@ -2,7 +2,7 @@
 use Prim.Native.Nat.{_-_}
 use borrow.Author.Needs.{needs}
 use borrow.Author.Tests.{not-true}
-use Rattle.segment_find.proofs.Halving.{present, half-falls}
+use Rattle.segment_walk.proofs.Halving.{present, half-falls}
 use Rattle.segment_apart.proofs.Clearing.{Leads, going}
 use Rattle.segment_apart.proofs.birth.way_clear.Statement.{statement}
 use Rattle.segment_apart.proofs.birth.way_clear.Tie as tie

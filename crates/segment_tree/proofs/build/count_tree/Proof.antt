@@ -21,6 +21,6 @@ count-tree-spec =
     (λ c κs. search needs)
     (λ c κs. search needs)
     (λ c. search needs)
-    (λ c. count-spent-entries (c .before .before .before .before .before .before .before .before .before .before .before .before .before .before .before .before .before .before .before .before .add-blocks .ensures) (c .before .before .before .before .before .before .before .before .before .before .before .before .before .before .before .before .before .before .before .before .add-blocks .kept .0) (c .before .before .before .before .before .before .before .before .before .before .before .before .before .before .before .before .before .if1 .left) (c .before .before .before .before .before .before .before .before .before .before .before .before .before .before .before .add-pieces .ensures) (c .before .before .before .before .before .before .before .before .before .before .before .before .before .before .before .add-pieces .kept .0) (c .before .before .before .before .before .before .before .before .before .before .before .before .if2 .left) (c .before .before .before .before .before .before .before .before .before .before .get .ensures) (c .before .before .before .before .before .before .before .before .assign-runs .ensures) (search needs) (c .before .before .before .before .before .entry-rows .ensures) (c .before .before .before .before .if3 .taken) (c .before .before .zero3 .ensures))
+    (λ c. count-spent-entries (c .before .before .before .before .before .before .before .before .before .before .before .before .before .before .before .before .before .before .before .before .add-blocks .ensures) (c .before .before .before .before .before .before .before .before .before .before .before .before .before .before .before .before .before .before .before .before .add-blocks .kept .0) (c .before .before .before .before .before .before .before .before .before .before .before .before .before .before .before .before .before .if1 .left) (c .before .before .before .before .before .before .before .before .before .before .before .before .before .before .before .add-pieces .ensures) (c .before .before .before .before .before .before .before .before .before .before .before .before .before .before .before .add-pieces .kept .0) (c .before .before .before .before .before .before .before .before .before .before .before .before .if2 .left) (c .before .before .before .before .before .before .before .before .before .before .get .ensures) (c .before .before .before .before .before .before .before .before .assign-runs .ensures) (search needs) (c .before .before .before .before .before .rows .ensures) (c .before .before .before .before .if3 .taken) (c .before .before .zero3 .ensures))
     (λ c. search needs)
-    (λ c. count-all (c .before .before .before .before .before .before .before .before .before .before .before .before .before .before .before .before .add-blocks .ensures) (c .before .before .before .before .before .before .before .before .before .before .before .before .before .before .before .before .add-blocks .kept .0) (c .before .before .before .before .before .before .before .before .before .before .before .before .before .if1 .left) (c .before .before .before .before .before .before .before .before .before .before .before .add-pieces .ensures) (c .before .before .before .before .before .before .before .before .before .before .before .add-pieces .kept .0) (c .before .before .before .before .before .before .before .before .if2 .left) (c .before .before .before .before .before .before .get .ensures) (c .before .before .before .before .assign-runs .ensures) (search needs) (c .before .entry-rows .ensures) (c .if3 .left)))
+    (λ c. count-all (c .before .before .before .before .before .before .before .before .before .before .before .before .before .before .before .before .add-blocks .ensures) (c .before .before .before .before .before .before .before .before .before .before .before .before .before .before .before .before .add-blocks .kept .0) (c .before .before .before .before .before .before .before .before .before .before .before .before .before .if1 .left) (c .before .before .before .before .before .before .before .before .before .before .before .add-pieces .ensures) (c .before .before .before .before .before .before .before .before .before .before .before .add-pieces .kept .0) (c .before .before .before .before .before .before .before .before .if2 .left) (c .before .before .before .before .before .before .get .ensures) (c .before .before .before .before .assign-runs .ensures) (search needs) (c .before .rows .ensures) (c .if3 .left)))

@@ -24,7 +24,7 @@ write-blocks-spec =
     Inv-loop
     μ-loop
     (λ c κs. search needs)
-    (λ c. (omega arith, refl, refl, onward-start (c .get .ensures)))
+    (λ c. (omega arith, refl, refl, onward-start (c .first .ensures)))
     (λ c. search needs)
     (λ c. search needs)
     (λ c. search (onward-met, needs))
@@ -40,7 +40,7 @@ write-blocks-spec =
       omega arith,
       c .before .before .before .before .before .write-location .kept .0 ∙ c .before .before .before .before .before .before .before .before .before .before .before .before .before .loop .inv .1,
       c .before .before .before .before .before .write-location .kept .1 .0 ∙ c .before .before .before .before .before .before .before .before .before .before .before .before .before .loop .inv .2,
-      onward-more (c .before .before .before .before .before .before .before .before .before .before .before .before .before .loop .inv .3) (omega arith) (c .before .before .before .before .before .before .before .before .before .before .before .if1 .left) (c .before .before .before .before .before .before .before .before .before .before .get2 .ensures) (c .before .before .before .before .before .before .before .before .before .get3 .ensures) (c .before .before .before .before .before .before .before .before .get4 .ensures) (c .before .before .before .before .before .write-location .ensures) (c .get5 .ensures),
+      onward-more (c .before .before .before .before .before .before .before .before .before .before .before .before .before .loop .inv .3) (omega arith) (c .before .before .before .before .before .before .before .before .before .before .before .if1 .left) (c .before .before .before .before .before .before .before .before .before .before .get .ensures) (c .before .before .before .before .before .before .before .before .before .get2 .ensures) (c .before .before .before .before .before .before .before .before .get3 .ensures) (c .before .before .before .before .before .write-location .ensures) (c .get4 .ensures),
     ))
     (λ c. search needs)
     (λ c. search needs)

@@ -1,0 +1,4 @@
+pub mod Keeping
+pub mod Blocks
+pub mod Appending
+pub mod RowsTested

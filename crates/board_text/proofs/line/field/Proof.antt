@@ -1,8 +1,0 @@
--- `board_text::line::field` meets its contract. Assumes nothing.
-use borrow.Author.Needs.{needs}
-use Rattle.board_text.proofs.Lines.{field-put}
-use Rattle.board_text.proofs.line.field.Statement.{statement}
-use Rattle.board_text.proofs.line.field.Tie as tie
-
-pub field-spec : {M : Type 1} → statement M
-field-spec = tie.close (tie.spec (λ c κs. search needs) (λ c κs. search needs) (λ c. search needs) (λ c. search field-put))

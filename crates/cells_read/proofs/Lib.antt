@@ -1,0 +1,3 @@
+pub mod Filling
+pub mod Showing
+pub mod Reading

@@ -1,8 +1,0 @@
--- `file_write::nodes::put_no_halves` meets its contract. Assumes nothing.
-use borrow.Author.Needs.{needs}
-use Rattle.file_write.proofs.Putting.{put-append}
-use Rattle.file_write.proofs.nodes.put_no_halves.Statement.{statement}
-use Rattle.file_write.proofs.nodes.put_no_halves.Tie as tie
-
-pub put-no-halves-spec : {M : Type 1} → statement M
-put-no-halves-spec = tie.close (tie.spec (λ c κs. search needs) (λ c κs. search needs) (λ c. search needs) (λ c. search put-append))

@@ -1,0 +1,112 @@
+-- Each answer can be told from its meaning: a meaning that can be undone is injective. Assumes nothing.
+use mathlib.Core.Path.{_≡_, refl, ap, sym, _∙_}
+use Prim.Native.Nat.{ℕ}
+use Rattle.history.specs.Refusals.{Answer, accepted, refused}
+use Rattle.layout.specs.Relations.{Counts, Fields}
+use Rattle.index_record.specs.Calls.{recordedOf}
+use Rattle.index_record.specs.declared.Recorded.{Recorded}
+use Rattle.index_record.specs.declared.Recorded.the-variants.{Accepted, Refused as RecordRefused}
+use Rattle.index_finish.specs.Answers.{finishedOf}
+use Rattle.index_read.specs.Answers.{foundOf, givenOf}
+use Rattle.index.specs.Answers.{openedOf}
+use Rattle.index.specs.declared.Opened.{Opened}
+use Rattle.index.specs.declared.Opened.the-variants.{Opened as IsOpened, Refused as OpenRefused}
+use Rattle.index_finish.specs.declared.Finished.{Finished}
+use Rattle.index_finish.specs.declared.Finished.the-variants.{Finished as IsFinished, Refused as FinishRefused}
+use Rattle.index_read.specs.declared.Found.{Found}
+use Rattle.index_read.specs.declared.Found.the-variants.{Listed, Refused as FindRefused}
+use Rattle.index_read.specs.declared.Given.{Given}
+use Rattle.index_read.specs.declared.Given.the-variants.{Block, Refused as BlockRefused}
+use Rattle.cells_read.specs.Answers.{readOf}
+use Rattle.cells_read.specs.declared.Read.{Read}
+use Rattle.cells_read.specs.declared.Read.the-variants.{Filled, Refused as ReadRefused}
+use Rattle.file_write.specs.Answers.{writtenOf}
+use Rattle.file_write.specs.declared.Written.{Written}
+use Rattle.file_write.specs.declared.Written.the-variants.{Bytes, Refused as WriteRefused}
+use Rattle.file_load.specs.Load.{loadedOf}
+use Rattle.file_load.specs.declared.Loaded.{Loaded}
+use Rattle.file_load.specs.declared.Loaded.the-variants.{Next, Refused as LoadRefused}
+use Rattle.promises.specs.Meanings.{Injective, Meanings}
+
+undone : {A B : Type 0} (of : A → B) (back : B → A) → ((x : A) → back (of x) ≡ x) → Injective of
+undone of back same x y e = sym (same x) ∙ (ap back e ∙ same y)
+
+-- ── the answers from their meanings ──
+
+abbrev openedBack : Answer Unit → Opened
+openedBack (accepted u) = IsOpened
+openedBack (refused n) = OpenRefused n
+
+opened-same : (x : Opened) → openedBack (openedOf x) ≡ x
+opened-same IsOpened = refl
+opened-same (OpenRefused n) = refl
+
+abbrev recordedBack : Answer Unit → Recorded
+recordedBack (accepted u) = Accepted
+recordedBack (refused n) = RecordRefused n
+
+recorded-same : (x : Recorded) → recordedBack (recordedOf x) ≡ x
+recorded-same Accepted = refl
+recorded-same (RecordRefused n) = refl
+
+abbrev finishedBack : Answer Unit → Finished
+finishedBack (accepted u) = IsFinished
+finishedBack (refused n) = FinishRefused n
+
+finished-same : (x : Finished) → finishedBack (finishedOf x) ≡ x
+finished-same IsFinished = refl
+finished-same (FinishRefused n) = refl
+
+abbrev foundBack : Answer Counts → Found
+foundBack (accepted c) = Listed (c .count) (c .visited)
+foundBack (refused n) = FindRefused n
+
+found-same : (x : Found) → foundBack (foundOf x) ≡ x
+found-same (Listed count visited) = refl
+found-same (FindRefused n) = refl
+
+abbrev givenBack : Answer Fields → Given
+givenBack (accepted f) = Block (f .kind) (f .first) (f .length) (f .created) (f .destroyed) (f .offset)
+givenBack (refused n) = BlockRefused n
+
+given-same : (x : Given) → givenBack (givenOf x) ≡ x
+given-same (Block kind first length created destroyed offset) = refl
+given-same (BlockRefused n) = refl
+
+abbrev readBack : Answer Unit → Read
+readBack (accepted u) = Filled
+readBack (refused n) = ReadRefused n
+
+read-same : (x : Read) → readBack (readOf x) ≡ x
+read-same Filled = refl
+read-same (ReadRefused n) = refl
+
+abbrev writtenBack : Answer ℕ → Written
+writtenBack (accepted n) = Bytes n
+writtenBack (refused n) = WriteRefused n
+
+written-same : (x : Written) → writtenBack (writtenOf x) ≡ x
+written-same (Bytes n) = refl
+written-same (WriteRefused n) = refl
+
+abbrev loadedBack : Answer ℕ → Loaded
+loadedBack (accepted n) = Next n
+loadedBack (refused n) = LoadRefused n
+
+loaded-same : (x : Loaded) → loadedBack (loadedOf x) ≡ x
+loaded-same (Next n) = refl
+loaded-same (LoadRefused n) = refl
+
+-- ── all of them ──
+
+pub meanings : Meanings
+meanings = record {
+  opening = undone openedOf openedBack opened-same;
+  record-op = undone recordedOf recordedBack recorded-same;
+  finalize = undone finishedOf finishedBack finished-same;
+  block = undone givenOf givenBack given-same;
+  find = undone foundOf foundBack found-same;
+  read-cells = undone readOf readBack read-same;
+  serialize-to = undone writtenOf writtenBack written-same;
+  deserialize = undone loadedOf loadedBack loaded-same;
+}

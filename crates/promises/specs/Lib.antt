@@ -1,0 +1,4 @@
+pub mod Contracts
+pub mod Exported
+pub mod Meanings
+pub mod Promises

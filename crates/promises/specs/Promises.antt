@@ -1,0 +1,49 @@
+-- What is proved, in the order in which README tells it. Each statement stands, in words and clause by clause, in the file that it is taken from.
+use Rattle.history.specs.Law.{ValueAt, LawOfCalls, LawOfFind}
+use Rattle.history.specs.Boards.{MarkedBoards}
+use Rattle.layout.specs.Law.{OneLedger, TablesExist, ShallowTrees}
+use Rattle.index_test.specs.Law.{TestDecides}
+use Rattle.demand.specs.Theorem.{Demand3}
+use Rattle.demand.specs.Cells.{CellsShown}
+use Rattle.spacetime_file.specs.Law.{SavedAndLoaded, LoadedAndWritten, TakenAndNotRefused, EmptyFiles}
+use Rattle.board_input.specs.Walk.{LawOfInput}
+use Rattle.board_text.specs.Line.{LawOfLines}
+use Rattle.lengths.specs.Lengths.{LengthsHold}
+use Rattle.promises.specs.Contracts.{Contracts}
+use Rattle.promises.specs.Exported.{Exported}
+use Rattle.promises.specs.Meanings.{Meanings}
+
+-- over every list of calls, by the contracts of the public calls
+pub record OfCalls : Type 0 where
+  pub demand-3 : Demand3
+  pub shows-history : CellsShown
+  pub contracts-are-relations : Contracts
+  pub answers-told : Meanings
+
+-- which tables are well formed
+pub record OfTables : Type 0 where
+  pub one-ledger : OneLedger
+  pub tables-exist : TablesExist
+  pub test-decides : TestDecides
+  pub shallow-trees : ShallowTrees
+
+-- of the definitions, over plain lists
+pub record OfHistory : Type 0 where
+  pub value-at : ValueAt
+  pub law-of-calls : LawOfCalls
+  pub law-of-find : LawOfFind
+  pub marked-boards : MarkedBoards
+
+-- of write and load together
+pub record OfFiles : Type 0 where
+  pub saved-and-loaded : SavedAndLoaded
+  pub loaded-and-written : LoadedAndWritten
+  pub taken-and-not-refused : TakenAndNotRefused
+  pub empty-files : EmptyFiles
+
+-- of the program `board`, and of the calls for Rust and C
+pub record OfPrograms : Type 0 where
+  pub law-of-input : LawOfInput
+  pub law-of-lines : LawOfLines
+  pub lengths-hold : LengthsHold
+  pub exported-calls : Exported

@@ -1,0 +1,76 @@
+// Every promise at once: the functions without work of all crates are called here, in the order in which README tells what is proved, and their
+// statements are the contracts. So none of them can be left out or changed unseen.
+//
+//   specs/Promises    the statements, gathered
+//   specs/Contracts   the contracts of the public calls are the relations that the theorems speak of (proofs/Citing)
+//   specs/Exported    and so are those of the calls for Rust and C, at the number that they give
+//   specs/Meanings    no two answers of a call mean the same (proofs/Telling)
+ghost use Rattle.promises.specs.Contracts.{Contracts};
+ghost use Rattle.promises.specs.Exported.{Exported};
+ghost use Rattle.promises.specs.Meanings.{Meanings};
+ghost use Rattle.promises.specs.Promises.{OfCalls, OfTables, OfHistory, OfFiles, OfPrograms};
+
+// The contract of each public call is its relation, and asks nothing of the caller.
+pub fn contracts_are_relations()
+    ensures { λ _. ⌜ Contracts ⌝ }
+{}
+
+// So is that of each call for Rust and C, at the answer that its number and values stand for.
+pub fn exported_calls()
+    ensures { λ _. ⌜ Exported ⌝ }
+{}
+
+// Each answer can be told from its meaning.
+pub fn answers_told()
+    ensures { λ _. ⌜ Meanings ⌝ }
+{}
+
+// Over every list of calls.
+pub fn of_calls()
+    ensures { λ _. ⌜ OfCalls ⌝ }
+{
+    demand::demand_3();
+    demand::shows_history();
+    contracts_are_relations();
+    answers_told();
+}
+
+// Which tables are well formed.
+pub fn of_tables()
+    ensures { λ _. ⌜ OfTables ⌝ }
+{
+    layout::one_ledger();
+    layout::tables_exist();
+    index_test::test_decides();
+    layout::shallow_trees();
+}
+
+// The definitions, over plain lists.
+pub fn of_history()
+    ensures { λ _. ⌜ OfHistory ⌝ }
+{
+    history::value_at();
+    history::law_of_calls();
+    history::law_of_find();
+    history::marked_boards();
+}
+
+// Files, there and back.
+pub fn of_files()
+    ensures { λ _. ⌜ OfFiles ⌝ }
+{
+    spacetime_file::saved_and_loaded();
+    spacetime_file::loaded_and_written();
+    spacetime_file::taken_and_not_refused();
+    spacetime_file::empty_files();
+}
+
+// The program and the library.
+pub fn of_programs()
+    ensures { λ _. ⌜ OfPrograms ⌝ }
+{
+    board_input::law_of_input();
+    board_text::law_of_lines();
+    lengths::lengths_hold();
+    exported_calls();
+}

@@ -1,0 +1,3 @@
+pub mod Seeing
+pub mod Living
+pub mod Runs

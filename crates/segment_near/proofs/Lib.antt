@@ -1,0 +1,2 @@
+pub mod Neighbouring
+pub mod Agreeing

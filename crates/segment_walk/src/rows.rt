@@ -1,0 +1,48 @@
+// The rows of a node's entries, which ascend by key, and the first of them from a key on.
+ghost use mathlib.Core.Path.{_≡_};
+ghost use Rattle.segment_walk.specs.Rowing.{rowsAt, Lower};
+
+// Rows of the entry table, [from, to).
+pub struct Rows {
+    pub from: usize,
+    pub to: usize,
+}
+
+// The rows of a node's run. Of a run that does not stand in the table, which no closed index has, none.
+pub fn rows_of(nodes: &[u64], entries: &[u64], link: u64) -> Rows
+    ensures { λ r. ⌜ r ≡ rowsAt (now (nodes .entry)) (now (entries .entry)) link ⌝ }
+{
+    let from = tables::get(nodes, link, tables::node::FIRST) as usize;
+    let count = tables::get(nodes, link, tables::node::ENTRIES) as usize;
+    let room = tables::entry::rows(entries) as usize;
+    if count <= room {
+        if from <= room - count {
+            return Rows {
+                from,
+                to: from + count,
+            };
+        }
+    }
+    Rows { from: 0, to: 0 }
+}
+
+// The first of the rows whose key is not below `key`, or their end: a binary search. Rows past the table's end, which `rows_of` does not give, are
+// not searched.
+pub fn lower(entries: &[u64], rows: Rows, key: u64) -> usize
+    ensures { λ r. ⌜ Lower (now (entries .entry)) rows key r ⌝ }
+{
+    let mut lo = rows.from;
+    let mut hi = rows.to;
+    if tables::entry::rows(entries) < hi as u64 {
+        return lo;
+    }
+    while lo < hi {
+        let mid = lo + (hi - lo) / 2;
+        if entries[tables::entry::HEAD + (tables::entry::WIDTH * mid + tables::entry::KEY)] < key {
+            lo = mid + 1;
+        } else {
+            hi = mid;
+        }
+    }
+    lo
+}

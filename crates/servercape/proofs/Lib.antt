@@ -1,0 +1,3 @@
+pub mod Positive
+pub mod PositiveLoad
+pub mod Answering
