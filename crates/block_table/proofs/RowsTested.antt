@@ -12,7 +12,7 @@ use Rattle.block_table.specs.Rows.{Bounds, RowSound, RowsSound}
 -- ── rows from the last one down ──
 
 -- a statement about every link above `low` up to n, and one about the link below, make one about one link more
-above-more : (P : ℕ → Type 0) (low n : ℕ) → 0 < low → P low → ((link : ℕ) → low < link → link ≤ n → P link) → (link : ℕ) → low - 1 < link → link ≤ n → P link
+pub above-more : (P : ℕ → Type 0) (low n : ℕ) → 0 < low → P low → ((link : ℕ) → low < link → link ≤ n → P link) → (link : ℕ) → low - 1 < link → link ≤ n → P link
 above-more P low n some here above link a b = go (eq-or-ne link low)
   where
     go : (link ≡ low) ⊎ (link ≡ low → ⊥) → P link

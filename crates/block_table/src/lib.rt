@@ -105,6 +105,12 @@ pub fn set_last(blocks: &mut [u64], value: u64)
     block::put(blocks, 0, block::LAST, value);
 }
 
+pub fn set_first(blocks: &mut [u64], value: u64)
+    ensures { λ _. ⌜ now (blocks .exit) ≡ set (now (blocks .entry)) (headPlace blockNext) value ⌝ }
+{
+    block::put(blocks, 0, block::NEXT, value);
+}
+
 // ── rows ──
 
 // Whether the block of `one` starts before that of `other`. No other function compares the places of blocks.
@@ -115,7 +121,7 @@ pub fn starts_before(blocks: &[u64], one: u64, other: u64) -> bool
 }
 
 // Writes the row of a link. It is in no order yet.
-fn write_row(
+pub fn write_row(
     blocks: &mut [u64],
     link: u64,
     first: u64,

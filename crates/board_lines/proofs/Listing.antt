@@ -18,6 +18,8 @@ use Rattle.history.specs.Sound.{Sound}
 use Rattle.history.specs.Printed.{blockLine, refusedLine, finishText, lastLines}
 use Rattle.history.proofs.EveryList.{law-after}
 use Rattle.tables.specs.Columns.{blockColumn, headCount, headState}
+use Rattle.tables.specs.Parts.{partOf}
+use Rattle.tables.proofs.Parts.{part-whole}
 use Rattle.layout.specs.Tables.{Tables, tables, headAt}
 use Rattle.layout.specs.Encodes.{Encodes, stateOf, openState}
 use Rattle.layout.specs.Formed.{WellFormed, WellFormedForFinish}
@@ -25,10 +27,9 @@ use Rattle.layout.specs.Reads.{valuesOf}
 use Rattle.layout.specs.Relations.{Fields, blockIn, FinishLeaves}
 use Rattle.layout.proofs.ReadLaws.{block-there}
 use Rattle.index_read.specs.Answers.{givenOf}
-use Rattle.index_read.specs.Reads.{BlockClosed, partOf}
+use Rattle.index_read.specs.Reads.{BlockClosed}
 use Rattle.index_read.specs.declared.Given.{Given}
 use Rattle.index_read.specs.declared.Given.the-variants.{Block as IsBlock, Refused}
-use Rattle.index_read.proofs.Giving.{part-whole}
 use Rattle.index_finish.specs.Answers.{finishedOf, FinishesOpen}
 use Rattle.index_finish.specs.declared.Finished.{Finished}
 use Rattle.index_finish.specs.declared.Finished.the-variants.{Finished as IsFinished, Refused as FinishRefused}

@@ -18,7 +18,7 @@ fn list_one(blocks: &[u64], store: &[u8], number: u64, out: &mut [u8], at: usize
             destroyed,
             offset,
         } => {
-            let bytes = index_read::part(store, offset, length);
+            let bytes = tables::part(store, offset, length);
             board_text::block_line(out, at, first, created, destroyed, bytes)
         }
     }

@@ -54,7 +54,7 @@ pub fn put(out: &mut [u8], at: usize, character: u8) -> usize
 }
 
 // Characters one after the other.
-fn text(out: &mut [u8], at: usize, characters: &[u8]) -> usize
+pub fn text(out: &mut [u8], at: usize, characters: &[u8]) -> usize
     ensures { λ r. ⌜ Put (now (out .entry)) at (now (characters .entry)) (now (out .exit)) r ⌝ }
 {
     let mut next = at;
@@ -69,7 +69,7 @@ fn text(out: &mut [u8], at: usize, characters: &[u8]) -> usize
 // ── numbers ──
 
 // A number in decimal. Its digits are spelled from the last to the first.
-fn decimal(out: &mut [u8], at: usize, n: u64) -> usize
+pub fn decimal(out: &mut [u8], at: usize, n: u64) -> usize
     ensures { λ r. ⌜ Put (now (out .entry)) at (Printed·decimal n []) (now (out .exit)) r ⌝ }
 {
     let mut digits = [0u8; DIGITS];

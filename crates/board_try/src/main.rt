@@ -38,7 +38,7 @@ fn number_at(data: &[u8], at: usize) -> usize
 // The text whose length stands at a position; the empty one where the data is cut.
 fn text_at<'a>(data: &'a [u8], at: usize) -> &'a [u8] {
     let start = plain::skip(data, at, NUMBER as u64);
-    plain::part(data, start as u64, number_at(data, at) as u64)
+    tables::part(data, start as u64, number_at(data, at) as u64)
 }
 
 // The position behind that text, or the end of the data.
@@ -52,14 +52,20 @@ fn prints(input: &[u8], wanted: &[u8], out: &mut [u8]) -> bool {
     check::same(&out[..printed], wanted)
 }
 
+// Prints the number of a board that differs.
+fn say(tally: &[u64]) {
+    let mut line = [0; tally::LINE];
+    io::write_all(STDOUT_FILENO, b"differs: ");
+    tally::print_count(&mut line, tally, tally::COMPARED, b"\n");
+}
+
 // Plays the board at a position.
 fn play_one(tally: &mut [u64], data: &[u8], at: usize, out: &mut [u8]) {
     let input = text_at(data, at);
     let wanted = text_at(data, behind(data, at));
     let alike = prints(input, wanted, out);
     if !alike {
-        io::write_all(STDOUT_FILENO, b"differs: ");
-        tally::print_count(tally, tally::COMPARED, b"\n");
+        say(tally);
     }
     tally::compare(tally, alike);
 }
@@ -86,10 +92,11 @@ fn buffer() -> [u8; DATA]
 
 fn main() {
     let mut tally = [0; 8];
+    let mut line = [0; tally::LINE];
     let mut data = buffer();
     let mut out = board_run::buffer();
     let given = io::read_full(STDIN_FILENO, &mut data);
     play_all(&mut tally, &data[..given], &mut out);
-    tally::print_count(&tally, tally::COMPARED, b" boards compared, ");
-    tally::print_count(&tally, tally::DIFFER, b" differ\n");
+    tally::print_count(&mut line, &tally, tally::COMPARED, b" boards compared, ");
+    tally::print_count(&mut line, &tally, tally::DIFFER, b" differ\n");
 }

@@ -280,6 +280,7 @@ fn try_garbage(tally: &mut [u64]) {
 
 fn main() {
     let mut tally = [0; 8];
+    let mut line = [0; tally::LINE];
     try_garbage(&mut tally);
-    tally::print(&tally, tally::REFUSED, b" calls refused");
+    tally::print(&mut line, &tally, tally::REFUSED, b" calls refused");
 }

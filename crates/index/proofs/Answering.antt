@@ -5,14 +5,15 @@ use Prim.Native.Nat.{ℕ}
 use native.Mathlib.Omega.{arith}
 use lib.ListN.{length}
 use Rattle.history.specs.Refusals.{Answer, accepted, refused, firstOf, windowRefusals, blockRefusals}
+use Rattle.tables.specs.Parts.{partOf}
+use Rattle.tables.proofs.Parts.{part-whole}
 use Rattle.layout.specs.Tables.{tables}
 use Rattle.layout.specs.Relations.{Counts, FoundBy, Fields, BlockGivenBy}
 use Rattle.layout.proofs.ReadLaws.{into-refused, block-refused, block-whole}
 use Rattle.index_read.specs.Answers.{givenOf}
-use Rattle.index_read.specs.Reads.{BlockClosed, FindClosed, partOf}
+use Rattle.index_read.specs.Reads.{BlockClosed, FindClosed}
 use Rattle.index_read.specs.declared.Given.{Given}
 use Rattle.index_read.specs.declared.Given.the-variants.{Block as IsBlock, Refused}
-use Rattle.index_read.proofs.Giving.{part-whole}
 use Rattle.index_test.specs.Board.{Outcome}
 use Rattle.index_test.specs.declared.State.{State}
 use Rattle.index_test.specs.declared.State.the-variants.{Bad, Open, Closed}

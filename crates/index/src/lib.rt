@@ -183,7 +183,7 @@ pub fn block_bytes<'a>(
             created: _,
             destroyed: _,
             offset,
-        } => index_read::part(store, offset, length),
-        Given::Refused(_) => index_read::part(store, 0, 0),
+        } => tables::part(store, offset, length),
+        Given::Refused(_) => tables::part(store, 0, 0),
     }
 }

@@ -1,5 +1,4 @@
 pub mod Lists
-pub mod Zeros
 pub mod Clearing
 pub mod Standing
 pub mod Agreeing

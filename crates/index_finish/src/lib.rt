@@ -7,7 +7,6 @@
 //   specs/Finish      what finish answers and leaves
 //   specs/Answers     what its answer means, and the contract of `finish_open`
 //   proofs/Lists      laws of lists that know nothing of tables
-//   proofs/Zeros      a table of zeros
 //   proofs/Clearing   one step for each turn and each return of the tests
 //   proofs/Standing   what tables that stand for an open ledger have
 //   proofs/Agreeing   rule 24 over rows is history's over all blocks
@@ -16,9 +15,6 @@
 //   proofs/Trying     one step for each return of the trial
 //   proofs/Finishing  one step for each return of the others
 //   proofs/Public     so finish does what layout's relation says: one step for each return of `finish_open`
-ghost use mathlib.Core.Path.{_≡_};
-ghost use lib.ListN.{length, replicate};
-ghost use Rattle.lists.specs.Tests.{Decides};
 ghost use Rattle.index_finish.specs.Finish.{TestedBlank, CountedAll, Prepared, SettledTables};
 ghost use Rattle.index_finish.specs.Answers.{finishedOf, FinishesOpen};
 use tables::block;
@@ -38,28 +34,14 @@ const DONE: u64 = 0;
 
 const UNFORMED: u64 = 2;
 
-// Whether every number of the table is 0.
-fn all_zero(table: &[u64]) -> bool
-    ensures { λ r. ⌜ Decides r (now (table .entry) ≡ replicate (length (now (table .entry))) 0) ⌝ }
-{
-    let mut i = 0;
-    while i < table.len() {
-        if table[i] != 0 {
-            return false;
-        }
-        i += 1;
-    }
-    true
-}
-
 // Whether the tables that finish builds in are zeros.
 fn blank(nodes: &[u64], entries: &[u64]) -> bool
     ensures { λ r. ⌜ TestedBlank (now (nodes .entry)) (now (entries .entry)) r ⌝ }
 {
-    if !all_zero(nodes) {
+    if !tables::all_zero(nodes) {
         return false;
     }
-    all_zero(entries)
+    tables::all_zero(entries)
 }
 
 // Tests rule 24 on blocks in order and on the pieces, and counts the tree of all of them; or tells the refusal, and leaves the nodes zeros. The

@@ -1,11 +1,10 @@
--- The returns of `block_closed` and `part`: over a closed index they are the ledger's block and its bytes. Assumes nothing.
+-- The returns of `block_closed`: over a closed index they are the ledger's block. Assumes nothing.
 use mathlib.Core.Path.{_≡_, refl, ap, _∙_, subst}
-use mathlib.Core.List.{List, []}
-use Prim.Native.Nat.{ℕ, suc, _+_, _-_, _≤_, _<_}
+use mathlib.Core.List.{List}
+use Prim.Native.Nat.{ℕ, suc, _+_, _≤_, _<_}
 use native.Mathlib.Omega.{arith}
 use native.Mathlib.Numerals.{add-one}
-use lib.ListN.{length, getD, take, drop}
-use borrow.Author.Tests.{le-leb, lt-leb}
+use lib.ListN.{length, getD}
 use Rattle.history.specs.Words.{Block}
 use Rattle.history.specs.Tree.{noBlock}
 use Rattle.history.specs.Reads.{blockBy}
@@ -17,7 +16,7 @@ use Rattle.layout.specs.Tables.{Tables, tables, headAt}
 use Rattle.layout.specs.Relations.{Fields, fieldsAt, BlockHanded}
 use Rattle.layout.proofs.Pieces.{used-fits}
 use Rattle.layout.proofs.ReadLaws.{block-there, block-15, block-refused, closed-refuses}
-use Rattle.index_read.specs.Reads.{BlockClosed, partOf}
+use Rattle.index_read.specs.Reads.{BlockClosed}
 
 -- ── block by number ──
 
@@ -77,20 +76,3 @@ block-some {blocks} {count} {k} {link} e h at a b c d x o =
     rw (a, b, c, d, x, o, row) (row-given blocks k (omega arith))
 
 pub ruleset giving = (block-none, block-some, arith)
-
--- ── its bytes ──
-
-pub part-none : (store : List ℕ) (offset n : ℕ) → length store < offset + n → [] ≡ partOf store offset n
-unfolding partOf
-part-none store offset n h = rw (lt-leb (offset + n) (length store) h)
-
-pub part-some : (store : List ℕ) (offset n to : ℕ) → to ≡ offset + n → to ≤ length store → take (to - offset) (drop offset store) ≡ partOf store offset n
-unfolding partOf
-part-some store offset n to e h =
-    let w : to - offset ≡ n = omega arith in
-    rw (le-leb (offset + n) (length store) (omega arith), w)
-
--- a part that the store has
-pub part-whole : (store : List ℕ) (offset n : ℕ) → offset + n ≤ length store → partOf store offset n ≡ take n (drop offset store)
-unfolding partOf
-part-whole store offset n h = rw (le-leb (offset + n) (length store) h)

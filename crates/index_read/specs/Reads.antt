@@ -1,9 +1,7 @@
 -- What the reads of a closed index hand out, for the ledger that its tables stand for. Definitions alone.
-use mathlib.Core.Bool.{cond}
-use mathlib.Core.List.{List, []}
-use Prim.Native.Nat.{ℕ, _+_}
-use lib.Dec.{leb}
-use lib.ListN.{length, take, drop}
+use mathlib.Core.List.{List}
+use Prim.Native.Nat.{ℕ}
+use lib.ListN.{length}
 use Rattle.history.specs.Refusals.{Answer, findAnswer, blockAnswer}
 use Rattle.layout.specs.Tables.{tables}
 use Rattle.layout.specs.Reads.{HandedInto, ClosedBy}
@@ -18,7 +16,3 @@ pub record BlockClosed (blocks : List ℕ) (k : ℕ) (answer : Answer Fields) : 
 pub record FindClosed (blocks nodes entries : List ℕ) (tick start stop : ℕ) (out out′ : List ℕ) (answer : Answer Counts) : Type 0 where
   pub found : (pieces store : List ℕ)
       → ClosedBy (tables pieces blocks store nodes entries) (λ l. findAnswer l tick start stop (length out)) (HandedInto countsOf (λ f. f .numbers) out out′ answer)
-
--- `part`: so many bytes of the store from an offset on, none where it has not so many
-unfoldable pub partOf : (store : List ℕ) (offset length : ℕ) → List ℕ
-partOf store offset n = cond (leb (offset + n) (length store)) (take n (drop offset store)) []

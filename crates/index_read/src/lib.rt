@@ -2,11 +2,10 @@
 //
 //   specs/Answers   document 01's number and values for every case of an answer
 //   specs/Reads     what each call hands out of the ledger that the tables stand for
-//   proofs/Giving   one step for each return of `block_closed` and `part`
+//   proofs/Giving   one step for each return of `block_closed`
 //   proofs/Finding  and of `find_closed`
-ghost use mathlib.Core.Path.{_≡_};
 ghost use Rattle.index_read.specs.Answers.{foundOf, givenOf};
-ghost use Rattle.index_read.specs.Reads.{BlockClosed, FindClosed, partOf};
+ghost use Rattle.index_read.specs.Reads.{BlockClosed, FindClosed};
 use tables::block;
 
 // The answer of find: how many block numbers it lists, and how many nodes it visited.
@@ -74,19 +73,4 @@ pub fn find_closed(
         },
         segment_find::Found::TooSmall => Found::Refused(16),
     }
-}
-
-// The part of the store of so many bytes from an offset on; the empty part where it has not so many.
-pub fn part<'a>(store: &'a [u8], offset: u64, length: u64) -> &'a [u8]
-    ensures { λ r. ⌜ now r ≡ partOf (now (store .entry)) offset length ⌝ }
-{
-    let from = offset as usize;
-    if store.len() < from {
-        return &store[0..0];
-    }
-    if store.len() - from < length as usize {
-        return &store[0..0];
-    }
-    let to = from + length as usize;
-    &store[from..to]
 }

@@ -1,6 +1,6 @@
-// Builds tables of pieces in ascending, descending and shuffled order, and prints for each: how many pieces stand there in order, how deep the tree
-// is, and whether the table is well formed; then the same again after every second piece was removed. Then it tests tables that no call leaves: a chain
-// of many rows, a row that is its own child, and rows that many paths share.
+// Builds tables of pieces in ascending, descending and shuffled order, and thins the last one by every second piece. Of each it compares how many pieces are
+// found at their first cells, how deep the tree is, and that the table is well formed. Then it tests tables that no call leaves: a chain of many rows, a row
+// that is its own child, and rows that many paths share. Prints one line: how many were compared, how many of them differ, and how many tables were refused.
 ghost use Prim.Native.Nat.{_<_};
 use tables::piece;
 
@@ -15,22 +15,52 @@ const APART: u64 = 10;
 // The depth that a tree of links cannot pass.
 const DEEPEST: u64 = 92;
 
+// The step of the shuffled order, which is odd.
+const STEP: u64 = 1597;
+
 fn main() {
-    let mut table = [0u64; NUMBERS];
-    build(&mut table, 0, 1);
-    report(b"ascending", &table);
-    build(&mut table, PIECES - 1, PIECES - 1);
-    report(b"descending", &table);
-    build(&mut table, 0, 1597);
-    report(b"shuffled", &table);
-    thin(&mut table);
-    report(b"thinned", &table);
-    chain(&mut table);
-    answer(b"chain", &table);
-    own_child(&mut table);
-    answer(b"own child", &table);
-    shared(&mut table);
-    answer(b"shared rows", &table);
+    let mut tally = [0; 8];
+    let mut table = [0; NUMBERS];
+    let mut line = [0; tally::LINE];
+    try_orders(&mut tally, &mut table);
+    try_spoiled(&mut tally, &mut table);
+    tally::print(&mut line, &tally, tally::REFUSED, b" tables refused");
+}
+
+// The depths are those that a balanced tree gets by rotations: 4,096 pieces need 13, and 2,048 need 12.
+fn try_orders(tally: &mut [u64], table: &mut [u64]) {
+    build(table, 0, 1);
+    try_pieces(tally, table, PIECES, 13);
+    build(table, PIECES - 1, PIECES - 1);
+    try_pieces(tally, table, PIECES, 13);
+    build(table, 0, STEP);
+    try_pieces(tally, table, PIECES, 14);
+    thin(table);
+    try_pieces(tally, table, PIECES / 2, 12);
+}
+
+fn try_spoiled(tally: &mut [u64], table: &mut [u64]) {
+    chain(table);
+    try_test(tally, table, false);
+    own_child(table);
+    try_test(tally, table, false);
+    shared(table);
+    try_test(tally, table, false);
+}
+
+// Compares how many pieces are found and how deep the tree is; the table is well formed.
+fn try_pieces(tally: &mut [u64], table: &[u64], many: u64, deep: u64) {
+    let root = tables::get(table, 0, piece::ROOT);
+    tally::compare(tally, found(table) == many);
+    tally::compare(tally, merge_set::depth(table, root) == deep);
+    try_test(tally, table, true);
+}
+
+// Tests the table, which is well formed or not.
+fn try_test(tally: &mut [u64], table: &[u64], right: bool) {
+    let yes = piece_table::test_pieces(table, 0, CELLS * PIECES, 1);
+    tally::compare(tally, yes == right);
+    tally::count_if(tally, tally::REFUSED, !yes);
 }
 
 // Inserts the pieces, each `step` after the one before, from number `start` on. An odd step comes to all of them.
@@ -81,35 +111,6 @@ fn counted(table: &[u64], cell: u64, n: u64) -> u64 {
         return n + 1;
     }
     n
-}
-
-// Whether the table is well formed, as a number.
-fn tested(table: &[u64]) -> u64 {
-    if piece_table::test_pieces(table, 0, CELLS * PIECES, 1) {
-        return 1;
-    }
-    0
-}
-
-fn report(label: &[u8], table: &[u64]) {
-    io::write_all(1, label);
-    io::write_all(1, b" ");
-    io::print_decimal(1, found(table));
-    io::write_all(1, b" ");
-    io::print_decimal(
-        1,
-        merge_set::depth(table, tables::get(table, 0, piece::ROOT)),
-    );
-    io::write_all(1, b" ");
-    io::print_decimal(1, tested(table));
-    io::write_all(1, b"\n");
-}
-
-fn answer(label: &[u8], table: &[u64]) {
-    io::write_all(1, label);
-    io::write_all(1, b" ");
-    io::print_decimal(1, tested(table));
-    io::write_all(1, b"\n");
 }
 
 // Writes a row as it may stand in a table that nobody has tested.

@@ -59,7 +59,7 @@ fn fill_row(blocks: &mut [u64], i: u64, pattern: u64)
 {
     let first = place(i, pattern) * 10;
     let created = version(i, pattern) * 5;
-    plain::put_block(blocks, i + 1, first, 10, created, created + 5);
+    block_table::write_row(blocks, i + 1, first, 10, created, created + 5, 0, 0);
 }
 
 fn fill(blocks: &mut [u64], pattern: u64) {
@@ -205,7 +205,7 @@ fn wrong(blocks: &[u64], link: u64, way: u64) -> u64 {
         return link;
     }
     if way == 1 {
-        return block::get(blocks, 0, block::NEXT);
+        return block_table::first(blocks);
     }
     if way == 2 {
         return BLOCKS + 1;
@@ -294,9 +294,10 @@ fn main() {
     let mut plain = [0; NUMBERS];
     let mut whole = [0; NUMBERS];
     let mut parts = [0; NUMBERS];
+    let mut line = [0; tally::LINE];
     try_patterns(&mut tally, &mut plain, &mut whole, &mut parts);
     fill(&mut whole, 0);
     ordering::sort(&mut whole, BLOCKS);
     try_ways(&mut tally, &mut whole);
-    tally::print(&tally, YES, b" yes");
+    tally::print(&mut line, &tally, YES, b" yes");
 }

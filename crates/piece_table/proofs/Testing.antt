@@ -350,10 +350,10 @@ abbrev limitsOf : (count kind used last : ℕ) → Limits
 limitsOf count kind used last = record { count = count; kind = kind; used = used; last = last }
 
 module _ {t : List ℕ} {kind used last count : ℕ} (ec : count ≡ column t 0 piecesCount) where
-  pub test-small : length t / rowWidth ≤ count → Decides false (WellFormed t kind used last)
-  test-small h = refute (λ w. omega (arith, w .rep .linked .dense .room))
+  pub test-small : {many : ℕ} → many ≡ (length t - 0) / rowWidth → many ≤ count → Decides false (WellFormed t kind used last)
+  test-small em h = refute (λ w. omega (arith, w .rep .linked .dense .room))
 
-  module _ {root : ℕ} {w : Walk} (room : count < length t / rowWidth) (er : root ≡ column t 0 piecesRoot)
+  module _ {root many : ℕ} {w : Walk} (em : many ≡ (length t - 0) / rowWidth) (room : count < many) (er : root ≡ column t 0 piecesRoot)
       (walked : Walked t (limitsOf count kind used last) root 0 0 92 w) where
     fits : rowWidth * count + rowWidth ≤ length t
     fits = omega arith

@@ -192,8 +192,9 @@ module _ {t : List ℕ} {k first was size offset : ℕ} (ew : was ≡ column t k
 
 -- ── `insert_piece` ──
 
-pub insert-piece-full : {t : List ℕ} {count : ℕ} (p : PieceRow) → count ≡ column t 0 piecesCount → length t / 8 ≤ count → InsertedPiece t t p
-insert-piece-full {t} {count} p ec h = record { done = λ ps r s f. absurd (omega (arith, r .linked .dense .room)) }
+pub insert-piece-full : {t : List ℕ} {count many : ℕ} (p : PieceRow) → count ≡ column t 0 piecesCount → many ≡ (length t - 0) / rowWidth → many ≤ count
+    → InsertedPiece t t p
+insert-piece-full {t} {count} p ec em h = record { done = λ ps r s f. absurd (omega (arith, r .linked .dense .room)) }
 
 -- a link put in order is its piece put in order
 map-inOrder : (key : ℕ → ℕ) (f : ℕ → PieceRow) (x : ℕ) (xs : List ℕ) → ((j : ℕ) → Mem j (x ∷ xs) → key j ≡ f j .first) → map f (inOrder key x xs) ≡ placed (f x) (map f xs)

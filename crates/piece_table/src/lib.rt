@@ -128,7 +128,7 @@ pub fn insert_piece(
 {
     let root = tables::get(table, 0, ROOT);
     let count = tables::get(table, 0, COUNT);
-    if table.len() / tables::ROW <= count as usize {
+    if tables::rows(table.len(), 0) <= count {
         return;
     }
     let link = count + 1;
@@ -281,7 +281,7 @@ pub fn test_pieces(table: &[u64], kind: u64, used: u64, last: u64) -> bool
     ensures { λ r. ⌜ Decides r (WellFormed (now (table .entry)) kind used last) ⌝ }
 {
     let count = tables::get(table, 0, COUNT);
-    if table.len() / tables::ROW <= count as usize {
+    if tables::rows(table.len(), 0) <= count {
         return false;
     }
     let root = tables::get(table, 0, ROOT);

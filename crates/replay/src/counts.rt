@@ -35,9 +35,10 @@ fn say(counts: &[u64]) {
     if SHOWN < tally::get(counts, tally::DIFFER) {
         return;
     }
+    let mut line = [0; tally::LINE];
     io::write_all(STDOUT_FILENO, b"case ");
-    tally::print_count(counts, CASES, b", call ");
-    tally::print_count(counts, CALL, b" differs\n");
+    tally::print_count(&mut line, counts, CASES, b", call ");
+    tally::print_count(&mut line, counts, CALL, b" differs\n");
 }
 
 fn count_call(counts: &mut [u64], alike: bool) {
@@ -89,10 +90,11 @@ pub fn lend(counts: &mut [u64], row: &[u64], code: u64) {
 }
 
 pub fn print(counts: &[u64]) {
-    tally::print_count(counts, ORACLE, b" cases of the oracle's list, ");
-    tally::print_count(counts, OWN, b" more: ");
-    tally::print_count(counts, tally::COMPARED, b" answers compared, ");
-    tally::print_count(counts, tally::DIFFER, b" differ\n");
-    tally::print_count(counts, FILES, b" files compared, ");
-    tally::print_count(counts, FILES_DIFFER, b" differ\n");
+    let mut line = [0; tally::LINE];
+    tally::print_count(&mut line, counts, ORACLE, b" cases of the oracle's list, ");
+    tally::print_count(&mut line, counts, OWN, b" more: ");
+    tally::print_count(&mut line, counts, tally::COMPARED, b" answers compared, ");
+    tally::print_count(&mut line, counts, tally::DIFFER, b" differ\n");
+    tally::print_count(&mut line, counts, FILES, b" files compared, ");
+    tally::print_count(&mut line, counts, FILES_DIFFER, b" differ\n");
 }

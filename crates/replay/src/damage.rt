@@ -44,7 +44,7 @@ fn is_written(
             if plain::skip(file, at, many) != next {
                 return false;
             }
-            alike::is_filled(&out, plain::part(file, at as u64, many))
+            alike::is_filled(&out, tables::part(file, at as u64, many))
         }
         Written::Refused(_) => false,
     }
@@ -101,7 +101,7 @@ fn load_damaged(
     let at = rows::get(row, AT) as usize;
     let by = rows::get(row, BY) % 256;
     if by == 0 {
-        let cut = plain::part(file, 0, place as u64);
+        let cut = tables::part(file, 0, place as u64);
         return load(pieces, blocks, store, nodes, entries, cut, at);
     }
     raise(file, place, by);
@@ -151,7 +151,7 @@ pub fn play(
     tables::copy_in(
         &mut file,
         0,
-        plain::part(pool, rows::get(row, START), length),
+        tables::part(pool, rows::get(row, START), length),
     );
     play_places(
         counts,

@@ -32,14 +32,6 @@ fn byte_at(data: &[u8], at: usize) -> u64
     wide(data[at])
 }
 
-// The place behind a byte, no further than the end.
-fn behind(data: &[u8], at: usize) -> usize {
-    if data.len() <= at {
-        return at;
-    }
-    at + 1
-}
-
 // A number of `width` bytes.
 fn long_at(data: &[u8], at: usize, width: u64) -> Number {
     let mut value = 0;
@@ -47,7 +39,7 @@ fn long_at(data: &[u8], at: usize, width: u64) -> Number {
     let mut left = width;
     while 0 < left {
         value = value % UPPER * BASE + byte_at(data, next);
-        next = behind(data, next);
+        next = plain::skip(data, next, 1);
         left -= 1;
     }
     Number { value, next }
@@ -55,7 +47,7 @@ fn long_at(data: &[u8], at: usize, width: u64) -> Number {
 
 pub fn number_at(data: &[u8], at: usize) -> Number {
     let lead = byte_at(data, at);
-    let next = behind(data, at);
+    let next = plain::skip(data, at, 1);
     if lead < LONG {
         return Number { value: lead, next };
     }

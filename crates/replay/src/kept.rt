@@ -36,17 +36,6 @@ pub fn spoil_all(
     spoil(entries);
 }
 
-fn is_zero(table: &[u64]) -> bool {
-    let mut i = 0;
-    while i < table.len() {
-        if table[i] != 0 {
-            return false;
-        }
-        i += 1;
-    }
-    true
-}
-
 fn is_zero_store(store: &[u8]) -> bool {
     let mut i = 0;
     while i < store.len() {
@@ -66,16 +55,16 @@ pub fn are_zero(
     nodes: &[u64],
     entries: &[u64],
 ) -> bool {
-    if !is_zero(pieces) {
+    if !tables::all_zero(pieces) {
         return false;
     }
-    if !is_zero(blocks) {
+    if !tables::all_zero(blocks) {
         return false;
     }
-    if !is_zero(nodes) {
+    if !tables::all_zero(nodes) {
         return false;
     }
-    if !is_zero(entries) {
+    if !tables::all_zero(entries) {
         return false;
     }
     is_zero_store(store)

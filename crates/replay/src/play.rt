@@ -266,7 +266,7 @@ pub fn play(
     let head = input::number_at(data, 0);
     let many = head.value;
     let start = head.next;
-    let pool = plain::part(data, start as u64, many);
+    let pool = tables::part(data, start as u64, many);
     let mut at = plain::skip(data, start, many);
     let mut left = ROWS;
     while 0 < left {

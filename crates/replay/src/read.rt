@@ -95,7 +95,7 @@ pub fn block(
     tell_given(told, given);
     let bytes = index::block_bytes(pieces, blocks, store, nodes, entries, number);
     let start = rows::get(row, BLOCK_START);
-    let right = plain::part(pool, start, rows::get(row, BLOCK_LENGTH));
+    let right = tables::part(pool, start, rows::get(row, BLOCK_LENGTH));
     rows::must(told, check::same(bytes, right));
 }
 
@@ -111,7 +111,7 @@ fn tell_found(told: &mut [u64], found: Found) {
 
 fn tell_listed(told: &mut [u64], row: &[u64], pool: &[u8], answer: &[u64; ANSWER]) {
     let start = rows::get(row, FIND_LISTED);
-    let right = plain::part(pool, start, rows::get(row, FIND_COUNT));
+    let right = tables::part(pool, start, rows::get(row, FIND_COUNT));
     rows::must(told, alike::is_listed(answer, right));
 }
 
@@ -178,8 +178,8 @@ fn tell_cells(
     held: &[u8; WINDOW],
 ) {
     let many = shown(row);
-    let right_bytes = plain::part(pool, rows::get(row, CELLS_BYTES), many);
-    let right_held = plain::part(pool, rows::get(row, CELLS_HELD), many);
+    let right_bytes = tables::part(pool, rows::get(row, CELLS_BYTES), many);
+    let right_held = tables::part(pool, rows::get(row, CELLS_HELD), many);
     rows::must(told, alike::is_filled(bytes, right_bytes));
     rows::must(told, alike::is_filled(held, right_held));
 }
@@ -231,7 +231,7 @@ fn tell_written(told: &mut [u64], written: Written) {
 
 fn tell_file(told: &mut [u64], row: &[u64], pool: &[u8], out: &[u8; damage::FILE]) {
     let start = rows::get(row, WRITE_START);
-    let right = plain::part(pool, start, rows::get(row, WRITE_LENGTH));
+    let right = tables::part(pool, start, rows::get(row, WRITE_LENGTH));
     rows::must(told, alike::is_filled(out, right));
 }
 

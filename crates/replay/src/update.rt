@@ -5,7 +5,6 @@ use index::Finished;
 use index::Index;
 use index::Opened;
 use index_record::Recorded;
-use tables::block;
 use tables::entry;
 use tables::node;
 
@@ -88,12 +87,12 @@ pub fn record(
     told: &mut [u64],
 ) {
     let start = rows::get(row, RECORD_START);
-    let bytes = plain::part(pool, start, rows::get(row, RECORD_LENGTH));
+    let bytes = tables::part(pool, start, rows::get(row, RECORD_LENGTH));
     let scratch = [0; SCRATCH];
     if SCRATCH < lent {
         return;
     }
-    let before = block::get(blocks, 0, block::USED);
+    let before = block_table::used(blocks);
     let answer = index::record_op(
         pieces,
         blocks,
@@ -105,7 +104,7 @@ pub fn record(
         rows::get(row, RECORD_FIRST),
         bytes,
     );
-    let used = block::get(blocks, 0, block::USED);
+    let used = block_table::used(blocks);
     rows::tell(told, RECORD_GROWTH, growth(before, used));
     match answer {
         Recorded::Accepted => {}
@@ -115,7 +114,7 @@ pub fn record(
 
 // How many blocks, nodes and entries a closed index has.
 fn tell_counts(told: &mut [u64], blocks: &[u64], nodes: &[u64], entries: &[u64]) {
-    rows::tell(told, FINISH_BLOCKS, block::get(blocks, 0, block::COUNT));
+    rows::tell(told, FINISH_BLOCKS, block_table::count(blocks));
     rows::tell(told, FINISH_NODES, tables::get(nodes, 0, node::COUNT));
     rows::tell(told, FINISH_ENTRIES, tables::get(entries, 0, entry::COUNT));
 }
@@ -138,9 +137,9 @@ pub fn finish(
 // Where a load ended, and what the index has.
 fn tell_loaded(told: &mut [u64], blocks: &[u64], next: u64) {
     rows::tell(told, LOAD_NEXT, next);
-    rows::tell(told, LOAD_END, block::get(blocks, 0, block::END));
-    rows::tell(told, LOAD_KIND, block::get(blocks, 0, block::KIND));
-    rows::tell(told, LOAD_BLOCKS, block::get(blocks, 0, block::COUNT));
+    rows::tell(told, LOAD_END, block_table::end(blocks));
+    rows::tell(told, LOAD_KIND, block_table::kind(blocks));
+    rows::tell(told, LOAD_BLOCKS, block_table::count(blocks));
 }
 
 pub fn load(
@@ -154,7 +153,7 @@ pub fn load(
     told: &mut [u64],
 ) {
     let start = rows::get(row, LOAD_START);
-    let file = plain::part(pool, start, rows::get(row, LOAD_LENGTH));
+    let file = tables::part(pool, start, rows::get(row, LOAD_LENGTH));
     let at = rows::get(row, LOAD_AT) as usize;
     let answer = spacetime_file::deserialize(pieces, blocks, store, nodes, entries, file, at);
     match answer {

@@ -24,7 +24,16 @@ fn fill_row(blocks: &mut [u64], link: u64, place: u64, version: u64, from: u64, 
     requires { ⌜ place < 2 ⌝ }
 {
     let inset = version % 3;
-    plain::put_block(blocks, link, place * CELLS + inset, CELLS - inset, from, to);
+    block_table::write_row(
+        blocks,
+        link,
+        place * CELLS + inset,
+        CELLS - inset,
+        from,
+        to,
+        0,
+        0,
+    );
 }
 
 // Writes all blocks; each version lasts for `part` ticks.
@@ -32,7 +41,7 @@ pub fn fill(blocks: &mut [u64], part: u64) {
     let mut from = 0;
     let mut version = 0;
     while version < VERSIONS {
-        let to = plain::plus(from, part);
+        let to = tables::plus(from, part);
         fill_row(blocks, 2 * version + 1, 0, version, from, to);
         fill_row(blocks, 2 * version + 2, 1, version, from, to);
         from = to;
@@ -50,7 +59,7 @@ pub fn spoil(blocks: &mut [u64], link: u64, way: u64) {
     } else if way == 3 {
         block::put(blocks, link, block::FIRST, CELLS - 1);
     } else if way == 4 {
-        block::put(blocks, link, block::DESTROYED, plain::plus(destroyed, 1));
+        block::put(blocks, link, block::DESTROYED, tables::plus(destroyed, 1));
     } else if way == 5 {
         block::put(blocks, link, block::CREATED, 0);
     } else if way == 6 {

@@ -100,6 +100,7 @@ fn main() {
     let mut blocks = [0; board::NUMBERS];
     let mut nodes = [0; 64008];
     let mut entries = [0; 28008];
+    let mut line = [0; tally::LINE];
     try_links(&mut tally, &mut blocks, &mut nodes, &mut entries, SMALL_END);
     try_links(
         &mut tally,
@@ -108,5 +109,5 @@ fn main() {
         &mut entries,
         LARGEST_END,
     );
-    tally::print(&tally, APART, b" boards apart");
+    tally::print(&mut line, &tally, APART, b" boards apart");
 }

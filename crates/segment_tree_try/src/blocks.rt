@@ -32,7 +32,7 @@ fn edge(place: u64, version: u64) -> u64
 
 // The tick of an edge: the parts are alike, up to one tick.
 fn tick_of(edge: u64, end: u64) -> u64 {
-    plain::plus(
+    tables::plus(
         numbers::times(end / PARTS, edge),
         numbers::times(end % PARTS, edge) / PARTS,
     )
@@ -47,13 +47,15 @@ fn fill_row(blocks: &mut [u64], i: u64, end: u64)
     let inset = version % 3;
     let created = tick_of(edge(place, version), end);
     let destroyed = tick_of(edge(place, version + 1), end);
-    plain::put_block(
+    block_table::write_row(
         blocks,
         i + 1,
         place * CELLS + inset,
         CELLS - inset,
         created,
         destroyed,
+        0,
+        0,
     );
 }
 

@@ -19,20 +19,20 @@ fn start_of(window: u64, cell: u64) -> u64 {
         return 0;
     }
     if window == 5 {
-        return plain::plus(cell, SPAN);
+        return tables::plus(cell, SPAN);
     }
     cell
 }
 
 fn stop_of(window: u64, cell: u64) -> u64 {
     if window == 1 {
-        return plain::plus(cell, 1);
+        return tables::plus(cell, 1);
     }
     if window == 2 {
         return cell;
     }
     if window == 4 {
-        return plain::plus(cell, SPAN);
+        return tables::plus(cell, SPAN);
     }
     if window == 5 {
         return cell;

@@ -97,7 +97,7 @@ fn try_few_nodes(tally: &mut [u64], blocks: &[u64], entries: &[u64], index: Inde
         index.kind,
     );
     tally::compare(tally, (told == build::NODES_SPENT) == (2 < used));
-    tally::compare(tally, scan::all_zero(&few) == (2 < used));
+    tally::compare(tally, tables::all_zero(&few) == (2 < used));
 }
 
 // Too few rows for the entries are told, and the nodes are zeros again: eight rows, where every tree needs more.
@@ -116,7 +116,7 @@ fn try_few_entries(tally: &mut [u64], blocks: &[u64], nodes: &mut [u64], index: 
         index.kind,
     );
     tally::compare(tally, told == build::ENTRIES_SPENT);
-    tally::compare(tally, scan::all_zero(nodes));
+    tally::compare(tally, tables::all_zero(nodes));
 }
 
 // ── all of them ──
@@ -173,6 +173,7 @@ fn main() {
     let mut blocks = [0; blocks::NUMBERS];
     let mut nodes = [0; 28008];
     let mut entries = [0; 28408];
+    let mut line = [0; tally::LINE];
     try_kinds(&mut tally, &mut blocks, &mut nodes, &mut entries);
-    tally::print(&tally, tally::REFUSED, b" tables refused");
+    tally::print(&mut line, &tally, tally::REFUSED, b" tables refused");
 }

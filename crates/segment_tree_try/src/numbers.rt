@@ -6,7 +6,7 @@ pub fn times(number: u64, many: u64) -> u64 {
     let mut sum = 0;
     let mut i = 0;
     while i < many {
-        sum = plain::plus(sum, number);
+        sum = tables::plus(sum, number);
         i += 1;
     }
     sum

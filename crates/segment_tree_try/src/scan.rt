@@ -71,14 +71,3 @@ pub fn wanted_once(blocks: &[u64], answer: &[u64], count: usize, query: Query) -
     }
     true
 }
-
-pub fn all_zero(table: &[u64]) -> bool {
-    let mut i = 0;
-    while i < table.len() {
-        if table[i] != 0 {
-            return false;
-        }
-        i += 1;
-    }
-    true
-}

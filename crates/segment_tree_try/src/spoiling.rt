@@ -31,7 +31,7 @@ fn wrong(nodes: &[u64], index: Index, link: u64, col: usize, way: u64) -> u64 {
         return 0;
     }
     if way == 3 {
-        return plain::plus(tables::get(nodes, link, col), 1);
+        return tables::plus(tables::get(nodes, link, col), 1);
     }
     if way == 4 {
         return tables::get(nodes, link, col ^ 1);
@@ -111,7 +111,7 @@ fn try_nodes(tally: &mut [u64], blocks: &[u64], nodes: &mut [u64], entries: &[u6
 fn wrong_number(entries: &[u64], row: u64, way: u64) -> u64 {
     let number = entry::get(entries, row, entry::BLOCK);
     if way == 0 {
-        return plain::plus(number, 1);
+        return tables::plus(number, 1);
     }
     if way == 1 {
         return blocks::BLOCKS;
@@ -129,7 +129,7 @@ fn wrong_key(entries: &[u64], row: u64, way: u64) -> u64 {
         return entry::get(entries, plain::less(row, 1), entry::KEY);
     }
     if way == 3 {
-        return plain::plus(key, 1);
+        return tables::plus(key, 1);
     }
     key
 }
@@ -219,7 +219,7 @@ fn try_heads(
 ) {
     let total = tables::get(entries, 0, entry::COUNT);
     try_row(tally, blocks, nodes, entries, index, 0, node::COUNT);
-    try_total(tally, blocks, nodes, entries, index, plain::plus(total, 1));
+    try_total(tally, blocks, nodes, entries, index, tables::plus(total, 1));
     try_total(tally, blocks, nodes, entries, index, 0);
     try_total(tally, blocks, nodes, entries, index, u64::MAX);
 }
@@ -234,7 +234,7 @@ fn try_life(
     link: u64,
 ) {
     let destroyed = block::get(blocks, link, block::DESTROYED);
-    block::put(blocks, link, block::DESTROYED, plain::plus(destroyed, 1));
+    block::put(blocks, link, block::DESTROYED, tables::plus(destroyed, 1));
     testing::try_test(tally, blocks, nodes, entries, index, false);
     block::put(blocks, link, block::DESTROYED, destroyed);
 }

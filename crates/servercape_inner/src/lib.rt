@@ -80,7 +80,7 @@ pub extern "C" fn servercape_inner_block(
 )
     ensures { λ _. ⌜ PartGiven (now (blocks .entry)) number (now (length .entry)) (now (offset .entry)) (now (length .exit)) (now (offset .exit)) ⌝ }
 {
-    if number < block::get(blocks, 0, block::COUNT) {
+    if number < block_table::count(blocks) {
         *length = block::get(blocks, number + 1, block::LENGTH);
         *offset = block::get(blocks, number + 1, block::OFFSET);
     }
@@ -100,8 +100,8 @@ pub extern "C" fn servercape_inner_find(
     ensures { λ r. ⌜ Numbered (Finds (now (nodes .entry)) (now (entries .entry)) (blockColumn (now (blocks .entry)) 0 headKind) (blockColumn (now (blocks .entry)) 0 headEnd)
         tick start end (now (answer .entry)) (now (answer .exit))) findNumber r ⌝ }
 {
-    let kind = block::get(blocks, 0, block::KIND);
-    let last = block::get(blocks, 0, block::END);
+    let kind = block_table::kind(blocks);
+    let last = block_table::end(blocks);
     let found = segment_find::find(nodes, entries, kind, last, tick, start, end, answer);
     match found {
         Found::Listed { count, visited: _ } => count as u64,

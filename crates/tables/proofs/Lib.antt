@@ -1,1 +1,3 @@
 pub mod Past
+pub mod Parts
+pub mod Zeros

@@ -3,14 +3,17 @@
 //
 //   specs/Columns   where each column stands
 //   specs/Sums      sums of numbers that nobody has tested
+//   specs/Parts     parts of bytes
 //   piece, block, node, entry   its names in code
 ghost use mathlib.Core.Path.{_≡_};
 ghost use Prim.Native.Nat.{ℕ, _+_, _-_, _*_, _/_};
 ghost use lib.ListN.{length, getD, set, replicate};
 ghost use lib.Seq.{sets};
+ghost use Rattle.lists.specs.Tests.{Decides};
 ghost use Rattle.history.specs.Lent.{rowWidth, entryWidth, entryHead};
 ghost use Rattle.tables.specs.Columns.{column, blockColumn, blockBase, entryColumn};
 ghost use Rattle.tables.specs.Sums.{plusUpTo};
+ghost use Rattle.tables.specs.Parts.{partOf};
 
 pub mod block;
 pub mod entry;
@@ -76,6 +79,20 @@ pub fn zero(table: &mut [u64])
     }
 }
 
+// Whether every number of the table is 0.
+pub fn all_zero(table: &[u64]) -> bool
+    ensures { λ r. ⌜ Decides r (now (table .entry) ≡ replicate (length (now (table .entry))) 0) ⌝ }
+{
+    let mut i = 0;
+    while i < table.len() {
+        if table[i] != 0 {
+            return false;
+        }
+        i += 1;
+    }
+    true
+}
+
 // Copies bytes into the store from place `at` on, as far as the store goes.
 pub fn copy_in(store: &mut [u8], at: usize, bytes: &[u8])
     ensures { λ _. ⌜ now (store .exit) ≡ sets (now (store .entry)) at (now (bytes .entry)) ⌝ }
@@ -92,4 +109,19 @@ pub fn copy_in(store: &mut [u8], at: usize, bytes: &[u8])
         store[at + i] = bytes[i];
         i += 1;
     }
+}
+
+// So many bytes from an offset on; none where there are not so many.
+pub fn part<'a>(bytes: &'a [u8], offset: u64, many: u64) -> &'a [u8]
+    ensures { λ r. ⌜ now r ≡ partOf (now (bytes .entry)) offset many ⌝ }
+{
+    let from = offset as usize;
+    if bytes.len() < from {
+        return &bytes[0..0];
+    }
+    if bytes.len() - from < many as usize {
+        return &bytes[0..0];
+    }
+    let to = from + many as usize;
+    &bytes[from..to]
 }

@@ -1,1 +1,2 @@
 mod Counting
+mod Putting

@@ -1,10 +1,13 @@
 // What the programs that try the crates count, in the columns of one slice, and the line that they print.
 //
 //   specs/Counts   what a tally holds after each thing that is counted
+//   specs/Lines    what is printed of it
 ghost use mathlib.Core.Path.{_≡_};
 ghost use mathlib.Core.Bool.{true};
 ghost use lib.ListN.{getD};
+ghost use Rattle.lists.specs.Puts.{Put};
 ghost use Rattle.tally.specs.Counts.{raised, Counted, Compared, Answered};
+ghost use Rattle.tally.specs.Lines.{countText, tallyLine};
 use libc::STDOUT_FILENO;
 
 // Answers compared, those that differ, and calls or tables refused. What else a program counts stands from `OWN` on.
@@ -15,6 +18,9 @@ pub const DIFFER: usize = 1;
 pub const REFUSED: usize = 2;
 
 pub const OWN: usize = 3;
+
+// Bytes lent for a line: none that the programs print is longer.
+pub const LINE: usize = 128;
 
 fn raised(count: u64) -> u64
     ensures { λ r. ⌜ r ≡ raised count ⌝ }
@@ -65,16 +71,38 @@ pub fn compare_answer(tally: &mut [u64], told: u64, number: u64)
     }
 }
 
-// Prints a count, then words.
-pub fn print_count(tally: &[u64], column: usize, words: &[u8]) {
-    io::print_decimal(STDOUT_FILENO, get(tally, column));
-    io::write_all(STDOUT_FILENO, words);
+// Puts a count, then words, into a line from a place on, as far as the line goes, and answers the place behind them.
+fn put_count(line: &mut [u8], at: usize, tally: &[u64], column: usize, words: &[u8]) -> usize
+    ensures { λ r. ⌜ Put (now (line .entry)) at (countText (now (tally .entry)) column (now (words .entry))) (now (line .exit)) r ⌝ }
+{
+    let behind = board_text::decimal(line, at, get(tally, column));
+    board_text::text(line, behind, words)
 }
 
-// Prints how many were compared, how many of them differ, and one count more.
-pub fn print(tally: &[u64], column: usize, words: &[u8]) {
-    print_count(tally, COMPARED, b" compared, ");
-    print_count(tally, DIFFER, b" differ, ");
-    print_count(tally, column, words);
-    io::write_all(STDOUT_FILENO, b"\n");
+// Puts how many were compared, how many of them differ, and one count more.
+fn put_line(line: &mut [u8], tally: &[u64], column: usize, words: &[u8]) -> usize
+    ensures { λ r. ⌜ Put (now (line .entry)) 0 (tallyLine (now (tally .entry)) column (now (words .entry))) (now (line .exit)) r ⌝ }
+{
+    let compared = put_count(line, 0, tally, COMPARED, b" compared, ");
+    let differ = put_count(line, compared, tally, DIFFER, b" differ, ");
+    let counted = put_count(line, differ, tally, column, words);
+    board_text::put(line, counted, b'\n')
+}
+
+// Prints a count, then words. No contract can say what is written, so it says what is put into the lent line, of which the part up to the answer is written.
+pub fn print_count(line: &mut [u8], tally: &[u64], column: usize, words: &[u8]) -> usize
+    ensures { λ r. ⌜ Put (now (line .entry)) 0 (countText (now (tally .entry)) column (now (words .entry))) (now (line .exit)) r ⌝ }
+{
+    let many = put_count(line, 0, tally, column, words);
+    io::write_all(STDOUT_FILENO, &line[..many]);
+    many
+}
+
+// Prints how many were compared, how many of them differ, and one count more, in the same way.
+pub fn print(line: &mut [u8], tally: &[u64], column: usize, words: &[u8]) -> usize
+    ensures { λ r. ⌜ Put (now (line .entry)) 0 (tallyLine (now (tally .entry)) column (now (words .entry))) (now (line .exit)) r ⌝ }
+{
+    let many = put_line(line, tally, column, words);
+    io::write_all(STDOUT_FILENO, &line[..many]);
+    many
 }

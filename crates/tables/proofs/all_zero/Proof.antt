@@ -1,10 +1,10 @@
--- `index_finish::all_zero` meets its contract: each turn and each return is one step of `zeroing`. Assumes nothing.
+-- `tables::all_zero` meets its contract: each turn and each return is one step of `zeroing`. Assumes nothing.
 use Prim.Native.Nat.{_-_}
 use borrow.Author.Needs.{needs}
 use lib.ListN.{length}
-use Rattle.index_finish.proofs.Zeros.{ZerosTo, zeros-not, zeroing}
-use Rattle.index_finish.proofs.all_zero.Statement.{statement}
-use Rattle.index_finish.proofs.all_zero.Tie as tie
+use Rattle.tables.proofs.Zeros.{ZerosTo, zeros-not, zeroing}
+use Rattle.tables.proofs.all_zero.Statement.{statement}
+use Rattle.tables.proofs.all_zero.Tie as tie
 
 abbrev Inv-loop : tie.InvT-loop
 Inv-loop table i₀ i = ZerosTo table i
