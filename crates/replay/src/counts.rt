@@ -56,12 +56,12 @@ fn count_file(counts: &mut [u64; rows::COLUMNS], alike: bool) {
 
 // An answer came, as it must or not.
 pub fn count_answer(counts: &mut [u64; rows::COLUMNS], code: u64, alike: bool) {
-    if code < rows::LOAD {
-        count_call(counts, alike);
-    } else if code == rows::CLOCK {
-        count_call(counts, alike);
-    } else {
+    if code == rows::LOAD {
         count_file(counts, alike);
+    } else if code == rows::DAMAGED {
+        count_file(counts, alike);
+    } else {
+        count_call(counts, alike);
     }
 }
 

@@ -4,7 +4,7 @@
 //   input          the list as it is read
 //   rows           the columns of its rows, and what is told in them
 //   play           row after row
-//   update, read   each call
+//   update, read, near   each call
 //   damage         a file damaged at each place of a run
 //   alike, kept    slices and tables compared
 //   counts         what is counted, and what is lent
@@ -20,6 +20,7 @@ mod counts;
 mod damage;
 mod input;
 mod kept;
+mod near;
 mod play;
 mod read;
 mod rows;

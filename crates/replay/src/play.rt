@@ -3,6 +3,7 @@ use crate::counts;
 use crate::damage;
 use crate::input;
 use crate::kept;
+use crate::near;
 use crate::read;
 use crate::rows;
 use crate::update;
@@ -29,8 +30,10 @@ fn read(
         read::cells(pieces, blocks, store, nodes, entries, row, pool, told);
     } else if code == rows::WRITE {
         read::write(pieces, blocks, store, nodes, entries, row, pool, told);
-    } else {
+    } else if code == rows::CLOCK {
         read::clock(row, told);
+    } else {
+        near::read(pieces, blocks, store, nodes, entries, row, pool, told);
     }
 }
 

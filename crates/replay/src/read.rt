@@ -22,15 +22,15 @@ const BLOCK_DESTROYED: usize = 7;
 
 const BLOCK_START: usize = 8;
 
-const TICK: usize = 2;
+pub const TICK: usize = 2;
 
-const START: usize = 3;
+pub const START: usize = 3;
 
-const END: usize = 4;
+pub const END: usize = 4;
 
-const FIND_ROOM: usize = 5;
+pub const FIND_ROOM: usize = 5;
 
-const FIND_COUNT: usize = 6;
+pub const FIND_COUNT: usize = 6;
 
 const FIND_VISITED: usize = 7;
 
@@ -55,7 +55,7 @@ const CLOCK_CELL: usize = 2;
 const CLOCK_LABEL: usize = 3;
 
 // The most numbers of an answer, and cells of a window.
-const ANSWER: usize = 64;
+pub const ANSWER: usize = 64;
 
 const WINDOW: usize = 64;
 
@@ -109,7 +109,7 @@ fn tell_found(told: &mut [u64; rows::COLUMNS], found: Found) {
     }
 }
 
-fn tell_listed(
+pub fn tell_listed(
     told: &mut [u64; rows::COLUMNS],
     row: &[u64; rows::COLUMNS],
     pool: &[u8],

@@ -52,6 +52,12 @@ pub const LEND: u64 = 12;
 
 pub const DAMAGED: u64 = 13;
 
+pub const TOUCHING: u64 = 14;
+
+pub const NEXT: u64 = 15;
+
+pub const LAST: u64 = 16;
+
 // A column of a row.
 pub fn get(row: &[u64; COLUMNS], col: usize) -> u64 {
     tables::get(row, 0, col)
