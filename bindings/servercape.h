@@ -78,7 +78,7 @@ uint64_t servercape_block(
     uint64_t *kind, uint64_t *first, uint64_t *length, uint64_t *created, uint64_t *destroyed, uint64_t *offset);
 
 /* The blocks that are live at a tick and whose first cell is in [start, end): their numbers go into the answer. `count` says how many, `visited` how
-   many nodes were looked at.
+   many nodes were looked at. A block that starts before the window and reaches into it is not listed: to look for conflicts, call servercape_touching.
    Refusals 2, 4, 14 to 16. */
 uint64_t servercape_find(
     const uint64_t *pieces, size_t pieces_length,
@@ -101,6 +101,42 @@ uint64_t servercape_read_cells(
     uint64_t tick, uint64_t start, uint64_t end,
     uint8_t *bytes, size_t bytes_length,
     uint8_t *held, size_t held_length);
+
+/* The blocks that are live at a tick and hold any cell of [start, end), those that start before the window too: their numbers go into the answer, ascending
+   by first cell, and `count` says how many. An empty window has no cell, so it lists none.
+   Refusals 2, 4, 14 to 16. */
+uint64_t servercape_touching(
+    const uint64_t *pieces, size_t pieces_length,
+    const uint64_t *blocks, size_t blocks_length,
+    const uint8_t *store, size_t store_length,
+    const uint64_t *nodes, size_t nodes_length,
+    const uint64_t *entries, size_t entries_length,
+    uint64_t tick, uint64_t start, uint64_t end,
+    uint64_t *answer, size_t answer_length,
+    uint64_t *count);
+
+/* The first block that is live at a tick and starts at or after a cell: `found` is 1 and `number` its number; both are 0 where there is none.
+   Refusals 2, 4, 14. */
+uint64_t servercape_next(
+    const uint64_t *pieces, size_t pieces_length,
+    const uint64_t *blocks, size_t blocks_length,
+    const uint8_t *store, size_t store_length,
+    const uint64_t *nodes, size_t nodes_length,
+    const uint64_t *entries, size_t entries_length,
+    uint64_t tick, uint64_t cell,
+    uint64_t *found, uint64_t *number);
+
+/* The last block that is live at a tick and whose cells are all below a cell, told in the same way. One that reaches over the cell is passed over; one that
+   ends at it counts.
+   Refusals 2, 4, 14. */
+uint64_t servercape_last(
+    const uint64_t *pieces, size_t pieces_length,
+    const uint64_t *blocks, size_t blocks_length,
+    const uint8_t *store, size_t store_length,
+    const uint64_t *nodes, size_t nodes_length,
+    const uint64_t *entries, size_t entries_length,
+    uint64_t tick, uint64_t cell,
+    uint64_t *found, uint64_t *number);
 
 /* Writes the file of an index from the start of `out` on; `written` says how many bytes.
    Refusals 2, 4, 16. */

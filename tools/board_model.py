@@ -1,9 +1,11 @@
-"""Document 01 as a plain model: an index that answers the calls of the stored list.
+"""Document 01 and request 1 of document 02 as a plain model: an index that answers the calls of the stored list.
 
 Nothing is shared with the crates. Pieces and blocks are lists, the tree is made of Python objects, and the loader reads fields from bytes. A call is a list of
 words and its answer a text, as in the list of the oracle: `open E KIND PIECES SCRATCH BLOCKS STORE NODES ENTRIES`, `record TICK FIRST HEX`, `finish`,
 `load AT BLOCKS STORE NODES ENTRIES HEX`, `block NUMBER`, `find TICK START END ROOM`, `cells TICK START END BYTEROOM HELDROOM`, `write ROOM`, `clock CELL`.
 What is lent is counted in rows; a table of -1 rows cannot hold its head.
+
+Of document 02: `touching TICK START END ROOM`, whose answer is the count and the numbers, and `next TICK CELL` and `last TICK CELL`, with a number or `missing`.
 
 Two more are our own. `scratch ROWS` lends another scratch from there on. `damaged AT BY FROM TO HEX` loads a file into the tables of the load before, once
 for each place from FROM up to TO: cut at that place where BY is 0, else with the byte there raised by BY. Its answer is `NUMBER*MANY` for each run of files
@@ -251,7 +253,7 @@ class Model:
         self.rows = {"pieces": pieces, "scratch": scratch, "blocks": blocks, "store": store, "nodes": nodes, "entries": entries}
         self.end, self.kind, self.state = end, kind, self.headed("open")
         self.pieces, self.blocks, self.root = [], [], None
-        self.last, self.used = 0, 0
+        self.last_tick, self.used = 0, 0
         return ["ok"]
 
     def headed(self, state):
@@ -292,15 +294,15 @@ class Model:
         refuse(5, not data)
         refuse(6, first + len(data) > WORD - 1)
         refuse(7, tick >= self.end)
-        refuse(8, tick < self.last)
+        refuse(8, tick < self.last_tick)
         if self.is_read(first, data):
-            self.last = tick
+            self.last_tick = tick
             return ["read"]
         pieces, blocks = self.updated(tick, first, data)
         refuse(9, len(pieces) > min(self.rows["pieces"], self.rows["scratch"]))
         refuse(10, len(self.blocks) + len(blocks) + len(pieces) > self.rows["blocks"])
         refuse(11, self.used + len(data) > self.rows["store"])
-        self.pieces, self.last, self.used = pieces, tick, self.used + len(data)
+        self.pieces, self.last_tick, self.used = pieces, tick, self.used + len(data)
         self.blocks = self.blocks + blocks
         return ["update"]
 
@@ -363,9 +365,12 @@ class Model:
         b = self.blocks[number]
         return [b.kind, b.first, len(b.data), b.created, b.destroyed, hexed(b.data)]
 
-    def refuse_window(self, tick, start, end):
+    def refuse_tick(self, tick):
         self.refuse_open()
         refuse(14, tick >= self.end)
+
+    def refuse_window(self, tick, start, end):
+        self.refuse_tick(tick)
         refuse(15, start > end)
 
     def find(self, tick, start, end, room):
@@ -384,6 +389,25 @@ class Model:
                 for cell in range(max(start, block.first), min(end, block.end)):
                     data[cell - start], held[cell - start] = block.data[cell - block.first], 1
         return [hexed(data), hexed(held)]
+
+    def in_order(self, tick, asked):
+        """The numbers of the live blocks of which something holds, ascending by first cell. No look at the tree."""
+        numbers = [n for n, block in enumerate(self.blocks) if block.live(tick) and asked(block)]
+        return sorted(numbers, key=lambda n: self.blocks[n].first)
+
+    def touching(self, tick, start, end, room):
+        self.refuse_window(tick, start, end)
+        listed = self.in_order(tick, lambda block: max(start, block.first) < min(end, block.end))
+        refuse(16, len(listed) > room)
+        return [len(listed)] + listed
+
+    def next(self, tick, cell):
+        self.refuse_tick(tick)
+        return (self.in_order(tick, lambda block: cell <= block.first) or ["missing"])[:1]
+
+    def last(self, tick, cell):
+        self.refuse_tick(tick)
+        return (["missing"] + self.in_order(tick, lambda block: block.end <= cell))[-1:]
 
     def write(self, room):
         self.refuse_open()

@@ -1,7 +1,7 @@
 #!/usr/bin/env python3
 """Makes the stored list that the program `replay` plays: calls with their answers, as its standard input.
 
-  stored.py make VECTORS FILE [ORACLE]   from the oracle's list, the boards of marked.txt and the cases of stored_cases.py
+  stored.py make VECTORS FILE [ORACLE]   from the oracle's list, the boards of marked.txt and the cases of stored_cases.py and stored_touching.py
   stored.py show FILE [CASE]             the list, or one case of it, in words; cases count from 1
   stored.py spoil VECTORS FILE           the same cases, each up to a call whose answer is changed: replay must say that one of each differs
   stored.py --test                       tries itself: the model gives every answer of marked.txt, and rows are read as they were written
@@ -17,8 +17,10 @@ from board_model import BYTES_LAST, WORD, Model, hexed, unhexed
 from board_oracle import compare
 from stored_cases import Dice, own_cases
 from stored_rows import (
-    BLOCK, CASE, CELLS, CLOCK, DAMAGED, FIND, FINISH, LOAD, OPEN, OWN, PART, RECORD, SCRATCH, WRITE, Part, line, number, read_number, row, rows_of
+    BLOCK, CASE, CELLS, CLOCK, DAMAGED, FIND, FINISH, LAST, LOAD, NEXT, OPEN, OWN, PART, RECORD, SCRATCH, TOUCHING, WRITE, Part, line, number, read_number, row,
+    rows_of
 )
+from stored_touching import touching_cases
 
 MARKED = os.path.join(os.path.dirname(os.path.abspath(__file__)), "marked.txt")
 
@@ -106,11 +108,28 @@ class Case:
         given = list(map(int, answer[:5])) + self.bytes(answer[5])[:1] if answer else []
         return BLOCK, [int(words[0])] + given
 
+    def listed(self, words, counts, numbers):
+        """A window, the room of the answer, two counts, and where the block numbers stand."""
+        fits(max([0] + numbers), 255)
+        said = counts + [self.part.place(bytes(numbers))] if counts else []
+        return list(map(int, words[:3])) + [fits(int(words[3]), ANSWER)] + said
+
     def find(self, words, answer):
         numbers = list(map(int, answer))
-        fits(max([0] + numbers[2:]), 255)
-        listed = numbers[:2] + [self.part.place(bytes(numbers[2:]))] if answer else []
-        return FIND, list(map(int, words[:3])) + [fits(int(words[3]), ANSWER)] + listed
+        return FIND, self.listed(words, numbers[:2], numbers[2:])
+
+    def touching(self, words, answer):
+        numbers = list(map(int, answer))
+        return TOUCHING, self.listed(words, numbers[:1] + [0] if answer else [], numbers[1:])
+
+    def neighbour(self, words, answer):
+        return list(map(int, words)) + ([] if answer in ([], ["missing"]) else [1, int(answer[0])])
+
+    def next(self, words, answer):
+        return NEXT, self.neighbour(words, answer)
+
+    def last(self, words, answer):
+        return LAST, self.neighbour(words, answer)
 
     def cells(self, words, answer):
         rooms = [fits(int(word), WINDOW) for word in words[3:]]
@@ -217,7 +236,7 @@ def tell(stored, vectors, whole):
 
 
 def own_lists():
-    return [(name, [list(map(str, call)) for call in calls]) for name, calls in own_cases()]
+    return [(name, [list(map(str, call)) for call in calls]) for name, calls in own_cases() + touching_cases()]
 
 
 def put_out(vectors, own, out):
@@ -244,8 +263,9 @@ def make(path, out, oracle=None):
 
 # ── a list that is wrong once in each case ──
 
-# The words of an answer that are bytes.
+# The words of an answer that are bytes; those from which on they are block numbers, which are bytes of the list.
 BYTES = {("block", 5), ("cells", 0), ("cells", 1), ("write", 0)}
+LISTS = {"find": 2, "touching": 1}
 
 
 def broken(dice, runs):
@@ -266,6 +286,8 @@ def changed(dice, call, answer):
     word, words = answer[place], list(answer)
     if answer[0] == "refused" or word in ("ok", "-") or (call != "clock" and dice.below(5) == 0):
         return other
+    if call in ("next", "last") and (word == "missing" or dice.below(2)):
+        return ["0" if word == "missing" else "missing"]
     if (call, place) in BYTES:
         data = bytearray(unhexed(word))
         data[dice.below(len(data))] ^= 1 << dice.below(8)
@@ -273,7 +295,7 @@ def changed(dice, call, answer):
     elif call == "record":
         words[place] = "read" if word == "update" else "update"
     else:
-        words[place] = str((int(word) + 1) % (256 if call == "find" and place > 1 else WORD))
+        words[place] = str((int(word) + 1) % (256 if call in LISTS and place >= LISTS[call] else WORD))
     return words
 
 

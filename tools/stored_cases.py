@@ -230,11 +230,13 @@ def bookings():
 
 
 def all_reads(blocks, end, cells):
-    """Every block, and at every tick what is found and every cell."""
+    """Every block, and at every tick what is found, every cell, what touches the whole and each stretch of eight cells, and the neighbours of that."""
     calls = [["block", n] for n in range(blocks + 1)]
     for tick in range(end):
-        calls.append(["find", tick, 0, cells, 64])
+        calls += [["find", tick, 0, cells, 64], ["touching", tick, 0, cells, 64]]
         calls += [["cells", tick, start, start + 64, 64, 64] for start in range(0, cells, 64)]
+        for start in range(0, 80, 8):
+            calls += [["touching", tick, start, start + 8, 8], ["next", tick, start + 8], ["last", tick, start]]
     return calls
 
 

@@ -5,12 +5,15 @@ below 248 is one byte; else a byte 247 + k stands before its k bytes, the highes
 leaves out are 0. Column 0 says what it is, column 1 is the number of the refusal, 0 where the call is taken. Bytes stand in the pool of the part, and a row
 says where they start. A case stands in one part. A row `damaged` is a load for each place of a run: of the file cut at that place, or, where `by` is not
 0, with the byte there raised by so much.
+
+Block numbers that a call lists are bytes in the pool, `length` of them. `touching` has its columns where `find` has them; in place of the nodes visited it has
+0. `next` and `last` have `found`, 1 or 0, and the number, 0 where it is missing. Of a refused call what must come is 0.
 """
 from board_model import WORD, hexed
 
 PART = 65536
 
-CASE, OWN, OPEN, RECORD, FINISH, BLOCK, FIND, CELLS, WRITE, LOAD, CLOCK, SCRATCH, DAMAGED = range(1, 14)
+CASE, OWN, OPEN, RECORD, FINISH, BLOCK, FIND, CELLS, WRITE, LOAD, CLOCK, SCRATCH, DAMAGED, TOUCHING, NEXT, LAST = range(1, 17)
 
 # The columns from 2 on; crates/replay/src names them too. `@` is where bytes start.
 LENT = ["pieces", "scratch", "blocks", "store", "nodes", "entries"]
@@ -28,6 +31,9 @@ COLUMNS = {
     CLOCK: ["clock", "cell", "label"],
     SCRATCH: ["scratch"] + [""] * 9 + ["scratch"],
     DAMAGED: ["damaged", "at", "@file", "length", "by", "from", "many"],
+    TOUCHING: ["touching", "tick", "start", "end", "room", "length", "", "@numbers"],
+    NEXT: ["next", "tick", "cell", "found", "number"],
+    LAST: ["last", "tick", "cell", "found", "number"],
 }
 
 

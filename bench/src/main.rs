@@ -55,7 +55,11 @@ fn measured(pieces: u64, count: u64) -> Measured {
     let test_closed = clock::each(|_| tables.test());
     let mut reads = Reads::new(&stream, &tables, &blocks, &file);
     times.push(reads.find("find, an hour of a platform", |cell| (cell, cell + reads::HOUR)));
+    times.push(reads.touching("touching, an hour of a platform", |cell| (cell, cell + reads::HOUR)));
     times.push(reads.find("find, the whole board", |_| (0, u64::MAX)));
+    times.push(reads.touching("touching, the whole board", |_| (0, u64::MAX)));
+    times.push(reads.neighbour("next", Tables::next, ported::next));
+    times.push(reads.neighbour("last", Tables::last, ported::last));
     times.push(reads.block_bytes());
     times.push(reads.cells());
     times.push(reads.write());

@@ -43,6 +43,14 @@ extern "C" {
         tick: u64, start: u64, end: u64,
         answer: *mut u64, answer_length: usize,
     ) -> u64;
+
+    fn servercape_inner_touching(
+        blocks: *const u64, blocks_length: usize,
+        nodes: *const u64, nodes_length: usize,
+        entries: *const u64, entries_length: usize,
+        tick: u64, start: u64, end: u64,
+        answer: *mut u64, answer_length: usize,
+    ) -> u64;
 }
 
 /// How many rows each table has; of the store, how many bytes.
@@ -193,6 +201,38 @@ impl Tables {
                 tick, start, end, answer.as_mut_ptr(), answer.len(),
             )
         }
+    }
+
+    pub fn touching(&self, tick: u64, start: u64, end: u64, answer: &mut [u64]) -> u64 {
+        let mut count = 0;
+        let refusal = reads!(raw::servercape_touching, self, tick, start, end, answer.as_mut_ptr(), answer.len(), &mut count);
+        assert_eq!(refusal, 0, "touching");
+        count
+    }
+
+    pub fn touching_inner(&self, tick: u64, start: u64, end: u64, answer: &mut [u64]) -> u64 {
+        unsafe {
+            servercape_inner_touching(
+                self.blocks.as_ptr(), self.blocks.len(),
+                self.nodes.as_ptr(), self.nodes.len(),
+                self.entries.as_ptr(), self.entries.len(),
+                tick, start, end, answer.as_mut_ptr(), answer.len(),
+            )
+        }
+    }
+
+    pub fn next(&self, tick: u64, cell: u64) -> Option<u64> {
+        let (mut found, mut number) = (0, 0);
+        let refusal = reads!(raw::servercape_next, self, tick, cell, &mut found, &mut number);
+        assert_eq!(refusal, 0, "next");
+        (found == 1).then_some(number)
+    }
+
+    pub fn last(&self, tick: u64, cell: u64) -> Option<u64> {
+        let (mut found, mut number) = (0, 0);
+        let refusal = reads!(raw::servercape_last, self, tick, cell, &mut found, &mut number);
+        assert_eq!(refusal, 0, "last");
+        (found == 1).then_some(number)
     }
 
     pub fn cells(&self, tick: u64, start: u64, end: u64, bytes: &mut [u8], held: &mut [u8]) {

@@ -41,12 +41,34 @@ pub fn write(tree: &SpacetimeRTree) -> Vec<u8> {
     out
 }
 
+/// It has no list of the blocks that touch a window: a caller looks from the longest stay before the window on, keeps those that reach in, and sorts them.
+pub fn touching(tree: &mut SpacetimeRTree, tick: u64, start: u64, end: u64) -> Vec<Rc<SpacetimeBlock>> {
+    let mut blocks = tree.find(tick, start.saturating_sub(LONGEST), end);
+    blocks.retain(|block| start < end_of(block));
+    blocks.sort_unstable_by_key(|block| block.address);
+    blocks
+}
+
+fn end_of(block: &SpacetimeBlock) -> u64 {
+    block.address + block.len as u64
+}
+
+/// It has no neighbours either: the first of all that start at or after the cell.
+pub fn next(tree: &mut SpacetimeRTree, tick: u64, cell: u64) -> Option<Rc<SpacetimeBlock>> {
+    tree.find(tick, cell, u64::MAX).into_iter().min_by_key(|block| block.address)
+}
+
+/// The last of all that end at the cell or below.
+pub fn last(tree: &mut SpacetimeRTree, tick: u64, cell: u64) -> Option<Rc<SpacetimeBlock>> {
+    tree.find(tick, 0, cell).into_iter().filter(|block| end_of(block) <= cell).max_by_key(|block| block.address)
+}
+
 /// It has no read of cells: a caller looks for the blocks that may reach into the window, and copies.
 pub fn cells(tree: &mut SpacetimeRTree, tick: u64, start: u64, end: u64, bytes: &mut [u8], held: &mut [u8]) {
     bytes.fill(0);
     held.fill(0);
     for block in tree.find(tick, start.saturating_sub(LONGEST), end) {
-        let (from, to) = (block.address.max(start), (block.address + block.len as u64).min(end));
+        let (from, to) = (block.address.max(start), end_of(&block).min(end));
         for cell in from..to {
             bytes[(cell - start) as usize] = block.data[(cell - block.address) as usize];
             held[(cell - start) as usize] = 1;

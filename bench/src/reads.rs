@@ -6,11 +6,16 @@ use crate::stream::Stream;
 use crate::table::Times;
 use oracle::index::spacetime_index::SpacetimeRTree;
 use oracle::index::SpacetimeBlock;
+use std::rc::Rc;
 
 /// Minutes of a small window.
 pub const HOUR: u64 = 60;
 
 type Query = (u64, u64, u64);
+
+/// A block that stands beside a cell at a tick, of the port and of the Rust.
+type PortNeighbour = fn(&Tables, u64, u64) -> Option<u64>;
+type RustNeighbour = fn(&mut SpacetimeRTree, u64, u64) -> Option<Rc<SpacetimeBlock>>;
 
 pub struct Reads<'a> {
     stream: &'a Stream,
@@ -50,6 +55,33 @@ impl<'a> Reads<'a> {
         let inner = each(|k| tables.find_inner(queries[k].0, queries[k].1, queries[k].2, answer));
         let rust = each(|k| tree.find(queries[k].0, queries[k].1, queries[k].2).len() as u64);
         Times { call, public, inner: Some(inner), rust }
+    }
+
+    /// The blocks that touch a window, in their order.
+    pub fn touching(&mut self, call: &'static str, window: impl Fn(u64) -> (u64, u64)) -> Times {
+        let queries = self.queries(window);
+        let Reads { tables, blocks, tree, answer, .. } = self;
+        for &(t, a, b) in &queries {
+            let count = tables.touching_inner(t, a, b, answer) as usize;
+            let cells: Vec<u64> = answer[..count].iter().map(|&k| blocks[k as usize].address).collect();
+            let of_rust: Vec<u64> = ported::touching(tree, t, a, b).iter().map(|block| block.address).collect();
+            assert_eq!(cells, of_rust, "touching");
+        }
+        let public = each(|k| tables.touching(queries[k].0, queries[k].1, queries[k].2, answer));
+        let inner = each(|k| tables.touching_inner(queries[k].0, queries[k].1, queries[k].2, answer));
+        let rust = each(|k| ported::touching(tree, queries[k].0, queries[k].1, queries[k].2).len() as u64);
+        Times { call, public, inner: Some(inner), rust }
+    }
+
+    /// The next or the last block of a cell in the middle of a stay.
+    pub fn neighbour(&mut self, call: &'static str, of_port: PortNeighbour, of_rust: RustNeighbour) -> Times {
+        let queries = self.queries(|cell| (cell + 2, cell + 2));
+        let Reads { tables, blocks, tree, .. } = self;
+        let port_cell = |k: usize| of_port(tables, queries[k].0, queries[k].1).map_or(0, |number| blocks[number as usize].address);
+        let mut rust_cell = |k: usize| of_rust(tree, queries[k].0, queries[k].1).map_or(0, |block| block.address);
+        assert_eq!(port_cell(0), rust_cell(0), "{call}");
+        let (public, rust) = (each(port_cell), each(rust_cell));
+        Times { call, public, inner: None, rust }
     }
 
     pub fn block_bytes(&self) -> Times {

@@ -133,6 +133,57 @@ static void read_finds(struct lent x)
     same("nothing", count, 0);
 }
 
+/* The listing at tick 6: block 2 holds 100 and 101, blocks 3 to 5 hold 102 to 104. */
+static void read_touching(struct lent x)
+{
+    uint64_t answer[3] = {77, 77, 77}, count = 77;
+    same("touching too small", servercape_touching(TABLES(x), 6, 101, 103, answer, 1, &count), 16);
+    same("touching past the end", servercape_touching(TABLES(x), 8, 104, 100, answer, 0, &count), 14);
+    same("touching turned round", servercape_touching(TABLES(x), 6, 104, 100, answer, 0, &count), 15);
+    same("kept count", count, 77);
+    same("kept answer", answer[0] + answer[1], 2 * 77);
+    same("touching", servercape_touching(TABLES(x), 6, 101, 103, answer, 2, &count), 0);
+    same("two touch", count, 2);
+    same("the one that came in before", answer[0], 2);
+    same("then the next cell's", answer[1], 3);
+    same("touching up to a block", servercape_touching(TABLES(x), 6, 0, 100, answer, 0, &count), 0);
+    same("none before it", count, 0);
+    same("touching nothing", servercape_touching(TABLES(x), 6, 101, 101, answer, 0, &count), 0);
+    same("none in an empty window", count, 0);
+    same("touching at tick 2", servercape_touching(TABLES(x), 2, 0, UINT64_MAX, answer, 3, &count), 0);
+    same("two then", count, 2);
+    same("by cell and not by number", answer[0] == 2 && answer[1] == 0, 1);
+    same("past the count", answer[2], 77);
+}
+
+/* What next and last must give at a tick: found, then the number. */
+static void neighbours(struct lent x, uint64_t tick, uint64_t cell, const uint64_t next[2], const uint64_t last[2])
+{
+    uint64_t found = 77, number = 77;
+    same("next", servercape_next(TABLES(x), tick, cell, &found, &number), 0);
+    same("next found", found, next[0]);
+    same("next number", number, next[1]);
+    found = number = 77;
+    same("last", servercape_last(TABLES(x), tick, cell, &found, &number), 0);
+    same("last found", found, last[0]);
+    same("last number", number, last[1]);
+}
+
+static const uint64_t missing[2] = {0, 0};
+
+static void read_neighbours(struct lent x)
+{
+    uint64_t found = 77, number = 77;
+    same("next past the end", servercape_next(TABLES(x), 8, 0, &found, &number), 14);
+    same("last past the end", servercape_last(TABLES(x), 8, 0, &found, &number), 14);
+    same("kept neighbours", found + number, 2 * 77);
+    neighbours(x, 6, 100, (const uint64_t[]){1, 2}, missing);
+    neighbours(x, 6, 101, (const uint64_t[]){1, 3}, missing);
+    neighbours(x, 6, 102, (const uint64_t[]){1, 3}, (const uint64_t[]){1, 2});
+    neighbours(x, 6, UINT64_MAX, missing, (const uint64_t[]){1, 5});
+    neighbours(x, 0, 102, missing, missing);
+}
+
 static void read_all_cells(struct lent x)
 {
     uint8_t bytes[8], held[8];
@@ -173,6 +224,8 @@ static void write_and_load(struct lent x)
     same("next", next, 3 + written);
     read_blocks(y);
     read_finds(y);
+    read_touching(y);
+    read_neighbours(y);
     read_all_cells(y);
     same("write again", servercape_write(TABLES(y), again, sizeof again, &written), 0);
     same("the same bytes", memcmp(file + 3, again, written) == 0, 1);
@@ -184,6 +237,53 @@ static void write_and_load(struct lent x)
     same("a block that ends as it starts", servercape_load(TABLES(y), file, sizeof file, 3, &next), 22);
     same("zeros", not_zero((uint8_t *)y.blocks, 8 * y.blocks_length) + not_zero(y.store, y.store_length), 0);
     give_back(y);
+}
+
+/* ── boards of their own ── */
+
+/* A train from 23:52 to 00:05: find misses it after midnight. */
+static void midnight(struct lent x)
+{
+    const uint8_t train[14] = {9, 9, 9, 9, 9, 9, 9, 9, 9, 9, 9, 9, 9, 9};
+    uint64_t answer[1] = {77}, count = 77, visited = 77;
+    same("open", servercape_open(TABLES(x), 8, 1), 0);
+    same("a train", record(x, 0, 1432, train, sizeof train), 0);
+    same("finish", servercape_finish(TABLES(x)), 0);
+    same("find after midnight", servercape_find(TABLES(x), 5, 1440, 1450, answer, 1, &count, &visited), 0);
+    same("not found", count, 0);
+    same("touching after midnight", servercape_touching(TABLES(x), 5, 1440, 1450, answer, 1, &count), 0);
+    same("it touches", count, 1);
+    same("its number", answer[0], 0);
+    same("touching after the train", servercape_touching(TABLES(x), 5, 1446, 1450, answer, 0, &count), 0);
+    same("it has left", count, 0);
+    neighbours(x, 5, 1440, missing, missing);
+    neighbours(x, 5, 1446, missing, (const uint64_t[]){1, 0});
+}
+
+/* Two writes of one cell at one tick: the first is live never. */
+static void same_tick(struct lent x)
+{
+    uint64_t answer[2] = {77, 77}, count = 77;
+    same("open", servercape_open(TABLES(x), 8, 1), 0);
+    same("first write", record(x, 3, 50, (const uint8_t[]){1}, 1), 0);
+    same("second write", record(x, 3, 50, (const uint8_t[]){2}, 1), 0);
+    same("finish", servercape_finish(TABLES(x)), 0);
+    same("touching both", servercape_touching(TABLES(x), 3, 0, 100, answer, 2, &count), 0);
+    same("one is live", count, 1);
+    same("the second", answer[0], 1);
+    neighbours(x, 3, 50, (const uint64_t[]){1, 1}, missing);
+    neighbours(x, 3, 51, missing, (const uint64_t[]){1, 1});
+}
+
+static void without_blocks(struct lent x)
+{
+    uint64_t count = 77;
+    same("open", servercape_open(TABLES(x), 8, 1), 0);
+    same("finish", servercape_finish(TABLES(x)), 0);
+    same("touching nothing", servercape_touching(TABLES(x), 7, 0, UINT64_MAX, x.scratch, 0, &count), 0);
+    same("no block", count, 0);
+    neighbours(x, 7, 0, missing, missing);
+    neighbours(x, 7, UINT64_MAX, missing, missing);
 }
 
 /* ── the rest ── */
@@ -208,9 +308,16 @@ static void refused(struct lent x)
     same("kind 5", servercape_open(TABLES(x), 8, 5), 1);
     uint64_t count = 77, visited = 77;
     same("not finished", servercape_find(TABLES(x), 0, 0, 1, x.scratch, x.scratch_length, &count, &visited), 4);
+    same("touching, not finished", servercape_touching(TABLES(x), UINT64_MAX, 1, 0, x.scratch, 0, &count), 4);
+    same("next, not finished", servercape_next(TABLES(x), UINT64_MAX, 0, &count, &visited), 4);
+    same("last, not finished", servercape_last(TABLES(x), UINT64_MAX, 0, &count, &visited), 4);
     /* the state stands in the head's last row */
     x.blocks[servercape_length(SERVERCAPE_BLOCKS, 0) - 8] = 9;
     same("not well formed", servercape_finish(TABLES(x)), 2);
+    same("touching, not well formed", servercape_touching(TABLES(x), UINT64_MAX, 1, 0, x.scratch, 0, &count), 2);
+    same("next, not well formed", servercape_next(TABLES(x), UINT64_MAX, 0, &count, &visited), 2);
+    same("last, not well formed", servercape_last(TABLES(x), UINT64_MAX, 0, &count, &visited), 2);
+    same("kept values", count + visited, 2 * 77);
 }
 
 int main(void)
@@ -223,8 +330,13 @@ int main(void)
     same("finished", servercape_finish(TABLES(x)), 3);
     read_blocks(x);
     read_finds(x);
+    read_touching(x);
+    read_neighbours(x);
     read_all_cells(x);
     write_and_load(x);
+    midnight(x);
+    same_tick(x);
+    without_blocks(x);
     same("clock", servercape_clock((UINT64_C(7) << 32) + 3 * 1440 + 605), 1005);
     give_back(x);
     printf("C: %d checks, %d wrong\n", checks, wrong);

@@ -199,4 +199,27 @@ impl Closed {
         let inside = |b: &Block| b.live(tick) && start <= b.first && b.first < end;
         (0..).zip(&self.blocks).filter(|(_, b)| inside(b)).map(|(number, _)| number).collect()
     }
+
+    /// The live blocks with their numbers, ascending by first cell.
+    fn in_order(&self, tick: u64) -> Vec<(u64, &Block)> {
+        let mut live: Vec<(u64, &Block)> = (0..).zip(&self.blocks).filter(|(_, b)| b.live(tick)).collect();
+        live.sort_by_key(|(_, b)| b.first);
+        live
+    }
+
+    /// Document 02, request 1: the numbers of the live blocks that hold any cell of the window, ascending by cell.
+    pub fn touching(&self, tick: u64, start: u64, end: u64) -> Vec<u64> {
+        let touches = |b: &Block| (b.first..b.end()).any(|cell| start <= cell && cell < end);
+        self.in_order(tick).into_iter().filter(|(_, b)| touches(b)).map(|(number, _)| number).collect()
+    }
+
+    /// The first live block that starts at or after a cell.
+    pub fn next(&self, tick: u64, cell: u64) -> Option<u64> {
+        self.in_order(tick).into_iter().find(|(_, b)| cell <= b.first).map(|(number, _)| number)
+    }
+
+    /// The last live block whose cells are all below a cell.
+    pub fn last(&self, tick: u64, cell: u64) -> Option<u64> {
+        self.in_order(tick).into_iter().rev().find(|(_, b)| (b.first..b.end()).all(|own| own < cell)).map(|(number, _)| number)
+    }
 }

@@ -4,6 +4,7 @@ use crate::file;
 use crate::rust::{Answer, Job, Query, Rust};
 use crate::tally::Tally;
 use servercape::{Index, Kind, Refusal, Room};
+use std::ops::Range;
 
 #[derive(Clone, Debug)]
 pub struct Case {
@@ -92,7 +93,7 @@ fn played(case: &Case, want: &Expected, tally: &mut Tally) -> Option<Index> {
     (got == 0).then_some(index)
 }
 
-/// Reads a closed index and compares with the document: blocks, finds, cells and refused reads.
+/// Reads a closed index and compares with the document: blocks, finds, touching blocks, neighbours, cells and refused reads.
 pub fn read(index: &Index, want: &Closed, queries: &[Query], tally: &mut Tally, of: &dyn Fn() -> String) {
     let blocks: Vec<servercape::Block> = index.blocks().expect("a closed index").collect();
     let kinds = blocks.iter().all(|b| b.kind as u64 == want.kind);
@@ -109,27 +110,78 @@ pub fn read(index: &Index, want: &Closed, queries: &[Query], tally: &mut Tally, 
         tally.same(|| format!("find {tick} {start} {end} of {}", of()), &numbers, &want.starting(tick, start, end));
         tally.same(|| format!("visited by find {tick} of {}", of()), &found.visited, &want.tree.visited(tick));
         tally.count(3, "finds compared with the document", 1);
-        refused_finds(index, want, (tick, start, end), numbers.len(), tally, of);
+        let find = |tick, window, answer: &mut [u64]| number(&index.find_into(tick, window, answer));
+        refused_windows(&find, "find", want, (tick, start, end), numbers.len(), tally, of);
+        touching(index, want, (tick, start, end), tally, of);
+        neighbours(index, want, (tick, start, end), tally, of);
         cells(index, want, tick, start, tally, of);
     }
 }
 
-fn refused_finds(index: &Index, want: &Closed, (tick, start, end): Query, count: usize, tally: &mut Tally, of: &dyn Fn() -> String) {
+/// A call that lists block numbers of a window in a slice: 0, or the number of its refusal.
+type Lists<'a> = &'a dyn Fn(u64, Range<u64>, &mut [u64]) -> u64;
+
+/// Such a call with a slice that is too short by one, at the end tick, and with a window turned round.
+fn refused_windows(ask: Lists, call: &str, want: &Closed, (tick, start, end): Query, count: usize, tally: &mut Tally, of: &dyn Fn() -> String) {
     let mut answer = vec![77; count.saturating_sub(1)];
     if count > 0 {
-        let got = number(&index.find_into(tick, start..end, &mut answer));
-        tally.same(|| format!("find {tick} {start} {end} into too few of {}", of()), &got, &16);
+        let got = ask(tick, start..end, &mut answer);
+        tally.same(|| format!("{call} {tick} {start} {end} into too few of {}", of()), &got, &16);
         tally.refused(got);
     }
-    let late = number(&index.find_into(want.end, start..end, &mut answer));
-    tally.same(|| format!("find at the end of {}", of()), &late, &14);
+    let late = ask(want.end, start..end, &mut answer);
+    tally.same(|| format!("{call} at the end of {}", of()), &late, &14);
     tally.refused(late);
     if start < end {
-        let turned = number(&index.find_into(tick, end..start, &mut answer));
-        tally.same(|| format!("find {end} {start} of {}", of()), &turned, &15);
+        let turned = ask(tick, end..start, &mut answer);
+        tally.same(|| format!("{call} {end} {start} of {}", of()), &turned, &15);
         tally.refused(turned);
     }
-    tally.same(|| format!("answer of refused finds of {}", of()), &answer.iter().all(|&k| k == 77), &true);
+    tally.same(|| format!("answer of refused {call} of {}", of()), &answer.iter().all(|&k| k == 77), &true);
+}
+
+/// Cells at which the answer about a window may change, ascending: its own bounds, and those of the first and the last block that it touches, with the cells
+/// before and after.
+fn edges(want: &Closed, (tick, start, end): Query) -> Vec<u64> {
+    let touching = want.touching(tick, start, end);
+    let mut cells = vec![start, end];
+    for &number in touching.first().into_iter().chain(touching.last()) {
+        let block = &want.blocks[number as usize];
+        cells.extend([block.first.saturating_sub(1), block.first, block.first + 1, block.end() - 1, block.end(), block.end().saturating_add(1)]);
+    }
+    cells.sort();
+    cells.dedup();
+    cells
+}
+
+/// The blocks that touch a window: the window that is asked, those between its edges, and an empty one at an edge inside.
+fn touching(index: &Index, want: &Closed, query: Query, tally: &mut Tally, of: &dyn Fn() -> String) {
+    let (tick, start, end) = query;
+    let edges = edges(want, query);
+    let middle = edges[edges.len() / 2];
+    let between = edges.windows(2).map(|pair| (pair[0], pair[1]));
+    for (start, end) in between.chain([(start, end), (middle, middle)]) {
+        let got = index.touching(tick, start..end).expect("a tick and a window that touching takes");
+        tally.same(|| format!("touching {tick} {start} {end} of {}", of()), &got, &want.touching(tick, start, end));
+        tally.count(6, "lists of touching blocks compared with the document, their order too", 1);
+    }
+    let ask = |tick, window, answer: &mut [u64]| number(&index.touching_into(tick, window, answer));
+    refused_windows(&ask, "touching", want, query, want.touching(tick, start, end).len(), tally, of);
+}
+
+/// Next and last at the same edges, at the first cell and at the last one; and at the end tick.
+fn neighbours(index: &Index, want: &Closed, query: Query, tally: &mut Tally, of: &dyn Fn() -> String) {
+    let tick = query.0;
+    for cell in edges(want, query).into_iter().chain([0, u64::MAX]) {
+        let next = index.next(tick, cell).expect("a tick that next takes");
+        tally.same(|| format!("next block {tick} {cell} of {}", of()), &next, &want.next(tick, cell));
+        let last = index.last(tick, cell).expect("a tick that last takes");
+        tally.same(|| format!("last block {tick} {cell} of {}", of()), &last, &want.last(tick, cell));
+        tally.count(7, "neighbours compared with the document", 2);
+    }
+    let late = [number(&index.next(want.end, query.1)), number(&index.last(want.end, query.1))];
+    tally.same(|| format!("neighbours at the end of {}", of()), &late, &[14, 14]);
+    late.into_iter().for_each(|got| tally.refused(got));
 }
 
 /// Some cells from a place on.

@@ -187,7 +187,8 @@ impl Index {
         }
     }
 
-    /// The blocks live at a tick whose first cell is in the window. Refusals 4, 14, 15.
+    /// The blocks live at a tick whose first cell is in the window. One that starts before it and reaches in is not listed: `touching` has all. Refusals
+    /// 4, 14, 15.
     pub fn find(&self, tick: u64, window: Range<u64>) -> Result<Found, Refusal> {
         // a block is listed once at most
         let mut numbers = vec![0; self.room.blocks as usize];
@@ -203,6 +204,39 @@ impl Index {
             reads!(servercape_find, self, tick, window.start, window.end, answer.as_mut_ptr(), answer.len(), &mut count, &mut visited)
         })?;
         Ok((count as usize, visited))
+    }
+
+    /// The blocks live at a tick that hold any cell of the window, ascending by first cell; those that start before it too. An empty window lists none.
+    /// Refusals 4, 14, 15.
+    pub fn touching(&self, tick: u64, window: Range<u64>) -> Result<Vec<u64>, Refusal> {
+        // a block is listed once at most; the window's length says nothing, since it is not tested yet
+        let mut numbers = vec![0; self.room.blocks as usize];
+        let count = self.touching_into(tick, window, &mut numbers)?;
+        numbers.truncate(count);
+        Ok(numbers)
+    }
+
+    /// The same into a slice: how many it lists there. Refusals 4, 14 to 16.
+    pub fn touching_into(&self, tick: u64, window: Range<u64>, answer: &mut [u64]) -> Result<usize, Refusal> {
+        let mut count = 0;
+        Refusal::unless_zero(unsafe {
+            reads!(servercape_touching, self, tick, window.start, window.end, answer.as_mut_ptr(), answer.len(), &mut count)
+        })?;
+        Ok(count as usize)
+    }
+
+    /// The first block live at a tick that starts at or after the cell. Refusals 4, 14.
+    pub fn next(&self, tick: u64, cell: u64) -> Result<Option<u64>, Refusal> {
+        let (mut found, mut number) = (0, 0);
+        Refusal::unless_zero(unsafe { reads!(servercape_next, self, tick, cell, &mut found, &mut number) })?;
+        Ok((found == 1).then_some(number))
+    }
+
+    /// The last block live at a tick whose cells are all below the cell. Refusals 4, 14.
+    pub fn last(&self, tick: u64, cell: u64) -> Result<Option<u64>, Refusal> {
+        let (mut found, mut number) = (0, 0);
+        Refusal::unless_zero(unsafe { reads!(servercape_last, self, tick, cell, &mut found, &mut number) })?;
+        Ok((found == 1).then_some(number))
     }
 
     /// The file of the index. Refusal 4.

@@ -71,6 +71,37 @@ extern "C" {
         held: *mut u8, held_length: usize,
     ) -> u64;
 
+    pub fn servercape_touching(
+        pieces: *const u64, pieces_length: usize,
+        blocks: *const u64, blocks_length: usize,
+        store: *const u8, store_length: usize,
+        nodes: *const u64, nodes_length: usize,
+        entries: *const u64, entries_length: usize,
+        tick: u64, start: u64, end: u64,
+        answer: *mut u64, answer_length: usize,
+        count: &mut u64,
+    ) -> u64;
+
+    pub fn servercape_next(
+        pieces: *const u64, pieces_length: usize,
+        blocks: *const u64, blocks_length: usize,
+        store: *const u8, store_length: usize,
+        nodes: *const u64, nodes_length: usize,
+        entries: *const u64, entries_length: usize,
+        tick: u64, cell: u64,
+        found: &mut u64, number: &mut u64,
+    ) -> u64;
+
+    pub fn servercape_last(
+        pieces: *const u64, pieces_length: usize,
+        blocks: *const u64, blocks_length: usize,
+        store: *const u8, store_length: usize,
+        nodes: *const u64, nodes_length: usize,
+        entries: *const u64, entries_length: usize,
+        tick: u64, cell: u64,
+        found: &mut u64, number: &mut u64,
+    ) -> u64;
+
     pub fn servercape_write(
         pieces: *const u64, pieces_length: usize,
         blocks: *const u64, blocks_length: usize,

@@ -47,6 +47,8 @@ fn written_and_loaded() {
     assert_eq!(next, file.len());
     assert!(loaded.blocks().unwrap().eq(index.blocks().unwrap()));
     assert_eq!(loaded.find(6, 100..104), index.find(6, 100..104));
+    assert_eq!(loaded.touching(6, 101..103), Ok(vec![2, 3]));
+    assert_eq!((loaded.next(6, 103), loaded.last(6, 103)), (Ok(Some(4)), Ok(Some(3))));
     assert_eq!(loaded.write().unwrap(), file);
     // as one of several in a file
     let twice = [&file[..], &file[..]].concat();
@@ -74,9 +76,75 @@ fn through_midnight() {
     let mut index = opened(1);
     index.record(0, 1432, &[3; 14]).unwrap();
     index.finish().unwrap();
+    // find lists what starts in the window, touching what reaches into it too
     assert_eq!(index.find(0, 1440..1450).unwrap().numbers, []);
+    assert_eq!(index.touching(0, 1440..1450), Ok(vec![0]));
+    assert_eq!(index.touching(0, 1445..1450), Ok(vec![0]));
+    assert_eq!(index.touching(0, 1446..1450), Ok(vec![]));
     assert_eq!(index.cells(0, 1444..1447).unwrap(), [Some(3), Some(3), None]);
     assert_eq!((clock(1432), clock(1445)), (2352, 5));
+}
+
+#[test]
+fn touching_goes_by_cells() {
+    let index = listing();
+    assert_eq!(index.touching(6, 101..103), Ok(vec![2, 3]));
+    assert_eq!(index.touching(6, 102..103), Ok(vec![3]));
+    assert_eq!(index.touching(6, 101..101), Ok(vec![]), "an empty window inside a block");
+    assert_eq!(index.touching(6, 0..100), Ok(vec![]), "the block that starts at the end");
+    assert_eq!(index.touching(6, 0..101), Ok(vec![2]));
+    // ascending by cell, not by number
+    assert_eq!(index.touching(2, 0..u64::MAX), Ok(vec![2, 0]));
+    assert_eq!(index.touching(0, 0..u64::MAX), Ok(vec![]));
+    let mut answer = [77; 3];
+    assert_eq!(index.touching_into(6, 101..103, &mut answer), Ok(2));
+    assert_eq!(answer, [2, 3, 77]);
+}
+
+#[test]
+fn neighbours() {
+    let index = listing();
+    let next = |cell| index.next(6, cell).unwrap();
+    let last = |cell| index.last(6, cell).unwrap();
+    assert_eq!([0, 100, 101, 104, 105, u64::MAX].map(next), [Some(2), Some(2), Some(3), Some(5), None, None]);
+    // the block of 100 and 101 reaches over 101, and ends at 102
+    assert_eq!([0, 100, 101, 102, 105, u64::MAX].map(last), [None, None, None, Some(2), Some(5), Some(5)]);
+    assert_eq!((index.next(0, 0), index.last(0, u64::MAX)), (Ok(None), Ok(None)));
+
+    // where the last block that starts below reaches over the cell, the one before it
+    let mut index = opened(1);
+    index.record(0, 1400, &[2; 5]).unwrap();
+    index.record(0, 1432, &[3; 14]).unwrap();
+    index.finish().unwrap();
+    assert_eq!((index.last(0, 1440), index.last(0, 1446)), (Ok(Some(0)), Ok(Some(1))));
+}
+
+#[test]
+fn the_last_cells() {
+    let mut index = opened(1);
+    index.record(0, u64::MAX - 2, &[8, 9]).unwrap();
+    index.finish().unwrap();
+    assert_eq!(index.touching(0, u64::MAX - 1..u64::MAX), Ok(vec![0]));
+    assert_eq!(index.touching(0, u64::MAX..u64::MAX), Ok(vec![]));
+    assert_eq!((index.next(0, u64::MAX - 2), index.next(0, u64::MAX)), (Ok(Some(0)), Ok(None)));
+    assert_eq!((index.last(0, u64::MAX - 1), index.last(0, u64::MAX)), (Ok(None), Ok(Some(0))));
+}
+
+#[test]
+fn no_life_and_no_block() {
+    let mut index = opened(8);
+    index.record(3, 50, &[1]).unwrap();
+    index.record(3, 50, &[2]).unwrap();
+    index.finish().unwrap();
+    assert_eq!(index.touching(3, 0..100), Ok(vec![1]), "the first of two writes at one tick is live never");
+    assert_eq!((index.next(3, 50), index.last(3, 51)), (Ok(Some(1)), Ok(Some(1))));
+    assert_eq!((index.next(2, 50), index.last(2, 51)), (Ok(None), Ok(None)));
+
+    let mut index = opened(8);
+    index.finish().unwrap();
+    assert_eq!(index.touching(0, 0..u64::MAX), Ok(vec![]));
+    assert_eq!((index.next(7, 0), index.last(7, u64::MAX)), (Ok(None), Ok(None)));
+    assert_eq!((number(index.touching(8, 0..1)), number(index.next(8, 0)), number(index.last(8, 0))), (14, 14, 14));
 }
 
 #[test]
@@ -91,6 +159,7 @@ fn refusals_change_nothing() {
     assert_eq!(number(index.blocks()), 4);
     assert_eq!(number(index.find(0, 0..1)), 4);
     assert_eq!(number(index.cells(0, 0..1)), 4);
+    assert_eq!((number(index.touching(8, 0..1)), number(index.next(8, 0)), number(index.last(8, 0))), (4, 4, 4));
     assert_eq!(number(index.write()), 4);
     index.finish().unwrap();
     assert_eq!(number(index.finish()), 3);
@@ -99,6 +168,10 @@ fn refusals_change_nothing() {
     assert_eq!(number(index.find(8, 0..1)), 14);
     assert_eq!(number(index.cells(0, 1..0)), 15);
     assert_eq!(number(index.find_into(3, 0..9, &mut [])), 16);
+    assert_eq!((number(index.touching_into(8, 1..0, &mut [])), number(index.next(8, 0)), number(index.last(8, 0))), (14, 14, 14));
+    assert_eq!(number(index.touching_into(3, 1..0, &mut [])), 15);
+    assert_eq!(number(index.touching(3, u64::MAX..0)), 15);
+    assert_eq!(number(index.touching_into(3, 0..9, &mut [])), 16);
     assert_eq!(index.blocks().unwrap().map(|b| shown(&b)).collect::<Vec<_>>(), ["5 1 3 8 01"]);
 }
 

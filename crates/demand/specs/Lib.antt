@@ -1,2 +1,3 @@
 pub mod Theorem
 pub mod Cells
+pub mod Touching

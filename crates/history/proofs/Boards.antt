@@ -1,4 +1,4 @@
--- The marked boards, computed. Assumes nothing.
+-- The boards to try, computed. Assumes nothing.
 use mathlib.Core.Path.{_≡_, refl}
 use mathlib.Core.List.{map, filterMap, flatten, flatMap}
 use Rattle.lists.specs.Lists.{has, count, countFrom, sumOf}
@@ -9,10 +9,11 @@ use Rattle.history.specs.Find.{path, visited, window, find}
 use Rattle.history.specs.Rules.{every, halved, filled, lived, numbered, placed, ascends, sorted, summed, rule23, shares, apart}
 use Rattle.history.specs.File.{bytesOf, numberOf, blockBytes, nodeBytes, fileBytes, thoseWith, placeIn, mapTree, nodesOf, contents, fileOf, onward, _>>=_, give, refuse_unless_, field, number, many, readBlock, readNodes, readRoot, readFile, treeFrom, placedIn, rule20, rule21, rule22, load}
 use Rattle.history.specs.Ledger.{opened, firstChange, changed, readBy, updateBy, recordBy, settled, finishBy}
-use Rattle.history.specs.Reads.{findBy, shows, seen, cellsBy, labelOf, clockLabel}
-use Rattle.history.specs.Refusals.{firstOf, openRefusals, recordRefusals, finishRefusals, windowRefusals, blockRefusals}
+use Rattle.history.specs.Reads.{findBy, ascendingFrom, liveBy, lastIn, shows, seen, cellsBy, labelOf, clockLabel}
+use Rattle.history.specs.Refusals.{firstOf, openRefusals, recordRefusals, finishRefusals, windowRefusals, neighbourRefusals, blockRefusals}
 use Rattle.history.specs.Calls.{answerTo, acceptedBy, leaves, after, answers, afterAll}
 use Rattle.history.specs.Boards.{marked, edges, loading, told, played, expected, loadedAs, Load, listingInput, listingOutput, refusedInput, refusedOutput, MarkedBoards}
+use Rattle.history.specs.Requested.{touchingBoards, RequestedBoards}
 use Rattle.history.specs.Printed.{printed, parsed, inputOf, recordsFrom, nextRecord, onto, readRecord, recordLines, openLines, linesFrom, lastLines, opLine, refusedLine, blockLine, digits, fourDigits, hexDigit, hexBytes}
 
 marked-right : map played marked ≡ map expected marked
@@ -48,3 +49,7 @@ boards-right = record {
   short-input = refl;
   refused-opening = refl;
 }
+
+pub requested-right : RequestedBoards
+unfolding touchingBoards played expected told opened answers afterAll after leaves answerTo acceptedBy recordBy finishBy settled readBy updateBy changed firstChange has stretchOf byteAt heldAt clip clipPiece below inside above filterMap firstOf recordRefusals finishRefusals windowRefusals neighbourRefusals tooShort pieceSpace insert addLocation addAll treeOf nodeCount entryCount path visited window find findBy ascendingFrom liveBy lastIn
+requested-right = record { item-1 = refl }

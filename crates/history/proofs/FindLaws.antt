@@ -1,5 +1,5 @@
 -- What find lists, over any sound tree: exactly the live blocks whose first cell is in the window, each once. Assumes nothing.
-use mathlib.Core.Path.{_≡_, refl, ap, sym, _∙_}
+use mathlib.Core.Path.{_≡_, refl, sym, _∙_}
 use mathlib.Core.Logic.{inl, inr}
 use mathlib.Core.Bool.{Bool, true, false, true≢false, cond, _&&_}
 use mathlib.Core.List.{List, [], _∷_, map}
@@ -9,17 +9,16 @@ use native.Mathlib.Omega.{arith}
 use lib.ListN.{length}
 use lib.Dec.{eqb}
 use borrow.Author.Tests.{ne-eqb}
-use Rattle.lists.specs.Lists.{All, Mem, Distinct, has, count, countFrom, sumOf}
-use Rattle.lists.proofs.Numbers.{bool-cases, lt-or-le, eq-or-ne, and-left, cond-same, decides-same}
-use Rattle.lists.proofs.Lists.{all-map, all-any, all-of-mem}
-use Rattle.lists.proofs.Maps.{map-all}
-use Rattle.lists.proofs.Counting.{mem-count, count-mem, has-decides, count-distinct, count-from-count, length-counts, map-from-at}
+use Rattle.lists.specs.Lists.{All, Mem, Distinct, has, count, sumOf}
+use Rattle.lists.proofs.Numbers.{eq-or-ne, cond-same, decides-same}
+use Rattle.lists.proofs.Counting.{has-decides, count-distinct}
 use Rattle.history.specs.Words.{within, Block, firstCell, live}
 use Rattle.history.specs.Tree.{Tree, noBlock, blockAt, keyIn}
 use Rattle.history.specs.Find.{path, window, find}
 use Rattle.history.specs.Rules.{halved, rule23}
-use Rattle.history.proofs.TreePath.{live-none}
+use Rattle.history.proofs.Within.{within-high}
 use Rattle.history.proofs.FindMet.{path-met}
+use Rattle.history.proofs.Counted.{counted-holds, counted-mem, counted-numbers, counted-length}
 
 -- ── the window ──
 
@@ -63,17 +62,15 @@ module _ (e : ℕ) (bs : List Block) (tree : Tree) (halves : halved 0 e tree ≡
       both true v = refl
       both false v = cond-same v 0
 
-  -- what is listed is live and in the window ..
-  pub find-listed : (k : ℕ) → Mem k (find e bs tree t s n) → (live t (blockAt bs k) && within s n (keyIn bs k)) ≡ true
-  find-listed k m =
-      elim (bool-cases (listedNow (blockAt bs k))) [
-        | inl h ↦ h
-        | inr h ↦ absurd (let none : count k (find e bs tree t s n) ≡ 0 = find-count k ∙ rw h in omega (arith, mem-count m))
-      ]
+  no-block : listedNow noBlock ≡ false
+  no-block = rw (within-high 0 0 t (omega arith))
 
-  -- .. and what is so is listed
+  -- what is listed is live and in the window, and what is so is listed
+  pub find-listed : (k : ℕ) → Mem k (find e bs tree t s n) → (live t (blockAt bs k) && within s n (keyIn bs k)) ≡ true
+  find-listed = counted-holds bs listedNow no-block (find e bs tree t s n) find-count
+
   pub find-lists : (k : ℕ) → (live t (blockAt bs k) && within s n (keyIn bs k)) ≡ true → Mem k (find e bs tree t s n)
-  find-lists k h = count-mem k (find e bs tree t s n) (let once : count k (find e bs tree t s n) ≡ 1 = find-count k ∙ rw h in omega arith)
+  find-lists = counted-mem bs listedNow no-block (find e bs tree t s n) find-count
 
   pub find-has : (k : ℕ) → has k (find e bs tree t s n) ≡ (live t (blockAt bs k) && within s n (keyIn bs k))
   find-has k =
@@ -82,14 +79,7 @@ module _ (e : ℕ) (bs : List Block) (tree : Tree) (halves : halved 0 e tree ≡
 
   -- all are numbers of blocks
   pub find-numbers : All (λ k. k < length bs) (find e bs tree t s n)
-  find-numbers = all-of-mem (find e bs tree t s n) number
-    where
-      number : (k : ℕ) → Mem k (find e bs tree t s n) → k < length bs
-      number k m =
-          elim (lt-or-le k (length bs)) [
-            | inl h ↦ h
-            | inr h ↦ absurd (true≢false (sym (and-left (live t (blockAt bs k)) (within s n (keyIn bs k)) (find-listed k m)) ∙ live-none t k bs h))
-          ]
+  find-numbers = counted-numbers bs listedNow no-block (find e bs tree t s n) find-count
 
   -- nothing is listed twice
   pub find-distinct : Distinct (find e bs tree t s n)
@@ -101,7 +91,4 @@ module _ (e : ℕ) (bs : List Block) (tree : Tree) (halves : halved 0 e tree ≡
 
   -- The list is as long as there are such blocks.
   pub find-length : length (find e bs tree t s n) ≡ sumOf (map (λ b. cond (live t b && within s n (firstCell b)) 1 0) bs)
-  find-length =
-      sym (length-counts (countFrom 0 (length bs)) (all-map (λ k h. count-from-count k 0 (length bs) (omega arith) (omega arith)) find-numbers))
-      ∙ ap sumOf (map-all (λ k. count k (find e bs tree t s n)) (λ k. cond (listedNow (blockAt bs k)) 1 0) (all-any (countFrom 0 (length bs)) find-count))
-      ∙ ap sumOf (map-from-at (λ b. cond (listedNow b) 1 0) (blockAt bs) noBlock 0 bs (λ j h. let z : 0 + j ≡ j = omega arith in rw z))
+  find-length = counted-length bs listedNow no-block (find e bs tree t s n) find-count

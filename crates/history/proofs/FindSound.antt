@@ -16,7 +16,7 @@ use Rattle.history.proofs.FindLaws.{find-count, find-numbers, find-leng
 use Rattle.history.proofs.FindOrder.{nodesTo, visited-nodes, foundAt, find-nodes, find-covered, find-not-above, find-ascending}
 
 -- the tree of a finished ledger is sound
-closed-tree : (l : Ledger) (t : Option Tree) → isSome t ≡ true → SoundTree l t → SoundClosed l (treeOrHole t)
+pub closed-tree : (l : Ledger) (t : Option Tree) → isSome t ≡ true → SoundTree l t → SoundClosed l (treeOrHole t)
 closed-tree l none e s = absurd (false≢true e)
 closed-tree l (some tree) e s = s
 

@@ -21,12 +21,15 @@ pub mod TreeWidths
 pub mod TreePlaced
 pub mod TreeSorted
 pub mod FindMet
+pub mod Counted
 pub mod FindLaws
 pub mod FindOrder
 pub mod TreeOrder
 pub mod TreeCounts
 pub mod TreeEntries
 pub mod FindSound
+pub mod Ascending
+pub mod Touching
 pub mod FileLists
 pub mod FileNumbers
 pub mod FileReads

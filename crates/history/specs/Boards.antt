@@ -1,6 +1,7 @@
 -- The boards to try of document 01: all that it marks with *, gathered in one list with their questions, and one more at the edge of each refusal.
 -- `marked_boards` makes it part of the build that every one comes out as it must.
 use mathlib.Core.Path.{_≡_}
+use mathlib.Core.Option.{Option}
 use mathlib.Core.List.{List, [], _∷_, _++_, map, flatten}
 use Prim.Native.Nat.{ℕ, _+_, _-_, _*_, _^_}
 use lib.ListN.{length, take, replicate, set}
@@ -9,7 +10,7 @@ use Rattle.history.specs.Lent.{Lent, rowWidth, entryWidth, pieceHead, bl
 use Rattle.history.specs.Tree.{Tree, hole, node}
 use Rattle.history.specs.Ledger.{Opening, opened, openingFor}
 use Rattle.history.specs.Reads.{Found, Cells, treeIn, clockLabel}
-use Rattle.history.specs.Refusals.{Answer, accepted, refused, openAnswer, findAnswer, cellsAnswer, blockAnswer}
+use Rattle.history.specs.Refusals.{Answer, accepted, refused, openAnswer, findAnswer, touchingAnswer, nextAnswer, lastAnswer, cellsAnswer, blockAnswer}
 use Rattle.history.specs.Calls.{Call, recordCall, finishCall, answers, afterAll}
 use Rattle.history.specs.File.{Read, got, fault, Loaded, bytesOf, fileOf, load}
 use Rattle.history.specs.Printed.{headerText, badRecordText, openText, newline, decimal, refusedLine, printed}
@@ -19,7 +20,8 @@ use Rattle.history.specs.Printed.{headerText, badRecordText, openText, n
 pub data Question : Type 0 where
   whatOpening whatAnswers whatPieces whatBlocks whatTree : Question
   whatBlock : (number : ℕ) → Question
-  whatFind : (t start stop answer : ℕ) → Question
+  whatFind whatTouching : (t start stop answer : ℕ) → Question
+  whatNext whatLast : (t cell : ℕ) → Question
   whatCells : (t start stop bytes held : ℕ) → Question
   whatLabel : (cell : ℕ) → Question
 
@@ -31,6 +33,8 @@ pub data Fact : Type 0 where
   tree : Tree → Fact
   block : Answer Block → Fact
   found : Answer Found → Fact
+  touching : Answer (List ℕ) → Fact
+  neighbour : Answer (Option ℕ) → Fact
   cells : Answer Cells → Fact
   label : ℕ → Fact
 
@@ -57,6 +61,9 @@ told a ks whatBlocks = blocks (afterAll (opened a) ks .now .blocks)
 told a ks whatTree = tree (treeIn (afterAll (opened a) ks))
 told a ks (whatBlock k) = block (blockAnswer (afterAll (opened a) ks) k)
 told a ks (whatFind t s n room) = found (findAnswer (afterAll (opened a) ks) t s n room)
+told a ks (whatTouching t s n room) = touching (touchingAnswer (afterAll (opened a) ks) t s n room)
+told a ks (whatNext t c) = neighbour (nextAnswer (afterAll (opened a) ks) t c)
+told a ks (whatLast t c) = neighbour (lastAnswer (afterAll (opened a) ks) t c)
 told a ks (whatCells t s n bytes held) = cells (cellsAnswer (afterAll (opened a) ks) t s n bytes held)
 told a ks (whatLabel c) = label (clockLabel c)
 
@@ -84,14 +91,14 @@ abbrev pub ample : Lent
 ample = lengths 512 1024 65536 1024 4096
 
 -- end tick and lent lengths; the kind is 1
-abbrev on : ℕ → Lent → Opening
+abbrev pub on : ℕ → Lent → Opening
 on e lent = openingFor e 1 lent
 
 -- tick, first cell, bytes; with a scratch of so many rows
 abbrev opWith : (rows t first : ℕ) → List ℕ → Call
 opWith rows t f bs = recordCall (rowWidth * rows) (record { tick = t; first = f; bytes = bs })
 
-abbrev op : (t first : ℕ) → List ℕ → Call
+abbrev pub op : (t first : ℕ) → List ℕ → Call
 op t f bs = opWith 512 t f bs
 
 -- first cell, bytes, written
@@ -105,14 +112,14 @@ blockOn f bs c d = record { kind = 1; stretch = record { first = f; bytes = bs }
 abbrev yes! : Answer Unit
 yes! = accepted tt
 
-abbrev listed : List ℕ → (visited : ℕ) → Fact
+abbrev pub listed : List ℕ → (visited : ℕ) → Fact
 listed ks n = found (accepted (record { numbers = ks; visited = n }))
 
 abbrev shown : (bytes held : List ℕ) → Fact
 shown bs hs = cells (accepted (record { bytes = bs; held = hs }))
 
 -- the calls of the listing
-abbrev listing : List Call
+abbrev pub listing : List Call
 listing = op 1 100 (7 ∷ 7 ∷ 7 ∷ []) ∷ op 3 102 (9 ∷ 9 ∷ 9 ∷ []) ∷ op 5 100 (7 ∷ 7 ∷ []) ∷ op 6 103 (4 ∷ []) ∷ finishCall ∷ []
 
 -- ── the marked boards ──

@@ -2,16 +2,16 @@
 -- ledger. Statements alone: the proofs stand in proofs/.
 use mathlib.Core.Path.{_≡_}
 use mathlib.Core.Bool.{true, false, cond, _&&_}
-use mathlib.Core.Option.{none, some}
+use mathlib.Core.Option.{Option, none, some}
 use mathlib.Core.List.{List, [], _∷_, _++_, map, flatten, Option·toList}
 use Prim.Native.Nat.{ℕ, suc, _≤_, _<_}
 use lib.ListN.{length, getD}
 use Rattle.lists.specs.Lists.{All, Mem, Ascending, count, sumOf}
-use Rattle.history.specs.Words.{within, Operation, Block, firstCell, live, stretchOf, byteAt, Covers, Holds}
+use Rattle.history.specs.Words.{within, Operation, Block, firstCell, ends, live, stretchOf, byteAt, Covers, Holds}
 use Rattle.history.specs.Tree.{keyIn}
 use Rattle.history.specs.Find.{wayTo, coversAt}
 use Rattle.history.specs.Ledger.{Ledger, Opening, opened, finished, settled}
-use Rattle.history.specs.Reads.{blockBy, findBy, seen}
+use Rattle.history.specs.Reads.{blockBy, findBy, touches, touchingBy, nextBy, lastBy, seen}
 use Rattle.history.specs.Refusals.{accepted, openAnswer}
 use Rattle.history.specs.Calls.{Call, afterAll, history, valueAt}
 use Rattle.history.specs.Rules.{Apart}
@@ -93,3 +93,50 @@ pub record FindLaw (l : Ledger) (t start stop : ℕ) : Type 0 where
 
 abbrev pub LawOfFind : Type 0
 LawOfFind = (l : Ledger) → Sound l → finished l ≡ true → (t start stop : ℕ) → t < l .opening .end → FindLaw l t start stop
+
+-- ── touching and neighbours over any sound closed index, finished or loaded ──
+
+-- block k is live at t and holds a cell of [start, stop)
+pub record Touching (l : Ledger) (t start stop k : ℕ) : Type 0 where
+  pub cell : ℕ
+  pub from : start ≤ cell
+  pub below : cell < stop
+  pub held : Holds t cell (blockBy l k)
+
+pub record TouchingLaw (l : Ledger) (t start stop : ℕ) : Type 0 where
+  -- Each number stands in the list once if its block is live and holds a cell of [start, stop), and never else;
+  pub once : (k : ℕ) → Touching l t start stop k → count k (touchingBy l t start stop) ≡ 1
+  pub never : (k : ℕ) → (Touching l t start stop k → ⊥) → count k (touchingBy l t start stop) ≡ 0
+  pub numbers : All (λ k. k < length (l .now .blocks)) (touchingBy l t start stop)
+  -- they are so many;
+  pub how-many : length (touchingBy l t start stop) ≡ sumOf (map (λ b. cond (live t b && touches start stop b) 1 0) (l .now .blocks))
+  -- their first cells ascend strictly.
+  pub ascending : Ascending (keyIn (l .now .blocks)) (touchingBy l t start stop)
+
+abbrev pub LawOfTouching : Type 0
+LawOfTouching = (l : Ledger) → Sound l → finished l ≡ true → (t start stop : ℕ) → t < l .opening .end → TouchingLaw l t start stop
+
+-- block k is live at t and starts at or after the cell; it is live and all its cells are below it
+pub record LiveFrom (l : Ledger) (t cell k : ℕ) : Type 0 where
+  pub living : live t (blockBy l k) ≡ true
+  pub starts : cell ≤ firstCell (blockBy l k)
+
+pub record LiveBelow (l : Ledger) (t cell k : ℕ) : Type 0 where
+  pub living : live t (blockBy l k) ≡ true
+  pub ended : ends (blockBy l k .stretch) ≤ cell
+
+-- the answer is number k exactly when P holds of it and it is as near as every other of which P holds; it is missing exactly when P holds of none
+pub record NeighbourLaw (P : ℕ → Type 0) (AsNear : (k j : ℕ) → Type 0) (answer : Option ℕ) : Type 0 where
+  pub given : (k : ℕ) → answer ≡ some k → P k × ((j : ℕ) → P j → AsNear k j)
+  pub nearest : (k : ℕ) → P k → ((j : ℕ) → P j → AsNear k j) → answer ≡ some k
+  pub missing : answer ≡ none → (j : ℕ) → P j → ⊥
+  pub nothing : ((j : ℕ) → P j → ⊥) → answer ≡ none
+
+pub record NeighboursLaw (l : Ledger) (t cell : ℕ) : Type 0 where
+  -- next: no live block starts between the cell and it
+  pub next : NeighbourLaw (LiveFrom l t cell) (λ k j. firstCell (blockBy l k) ≤ firstCell (blockBy l j)) (nextBy l t cell)
+  -- last: no live block lies between it and the cell
+  pub last : NeighbourLaw (LiveBelow l t cell) (λ k j. firstCell (blockBy l j) ≤ firstCell (blockBy l k)) (lastBy l t cell)
+
+abbrev pub LawOfNeighbours : Type 0
+LawOfNeighbours = (l : Ledger) → Sound l → finished l ≡ true → (t cell : ℕ) → t < l .opening .end → NeighboursLaw l t cell

@@ -12,3 +12,4 @@ pub mod Sound
 pub mod Law
 pub mod Printed
 pub mod Boards
+pub mod Requested

@@ -1,12 +1,14 @@
--- What the reads of a closed index give: block by number, find, read cells (01, "segment_tree.rs" and "Added: cells and clock").
-use mathlib.Core.Bool.{cond}
+-- What the reads of a closed index give: block by number, find, read cells (01, "segment_tree.rs" and "Added: cells and clock"); touching, next and
+-- last (02, Item 1).
+use mathlib.Core.Bool.{Bool, cond, _&&_}
 use mathlib.Core.Option.{Option, none, some}
-use mathlib.Core.List.{List, map, filterMap}
-use Prim.Native.Nat.{ℕ, _-_, _+_, _*_, _/_, _%_, _^_, min}
+use mathlib.Core.List.{List, [], _∷_, map, filterMap, head?}
+use Prim.Native.Nat.{ℕ, suc, _-_, _+_, _*_, _/_, _%_, _^_, min, max}
+use lib.Dec.{leb, ltb}
 use lib.ListN.{length, getD}
 use Rattle.lists.specs.Lists.{countFrom}
-use Rattle.history.specs.Words.{Block, live, byteAt}
-use Rattle.history.specs.Tree.{Tree, hole, blockAt}
+use Rattle.history.specs.Words.{Block, firstCell, ends, live, byteAt}
+use Rattle.history.specs.Tree.{Tree, hole, insert, blockAt, keyIn}
 use Rattle.history.specs.Find.{find, visited}
 use Rattle.history.specs.Ledger.{Ledger}
 
@@ -36,6 +38,46 @@ findBy l t s n =
       numbers = find (l .opening .end) (l .now .blocks) (treeIn l) t s n;
       visited = visited t 0 (l .opening .end) (treeIn l);
     }
+
+-- ── touching, next, last ──
+
+-- the numbers of the blocks of which the test holds, the first block being number n, ascending by key: each goes to its place among the later ones
+unfoldable pub ascendingFrom : (key : ℕ → ℕ) (test : Block → Bool) (n : ℕ) → List Block → List ℕ
+ascendingFrom key test n [] = []
+ascendingFrom key test n (b ∷ bs) =
+    let later = ascendingFrom key test (suc n) bs in
+    cond (test b) (insert key n later) later
+
+-- the numbers of the blocks that are live at t and of which the test holds, ascending by first cell
+unfoldable pub liveBy : Ledger → (t : ℕ) → (test : Block → Bool) → List ℕ
+liveBy l t test = ascendingFrom (keyIn (l .now .blocks)) (λ b. live t b && test b) 0 (l .now .blocks)
+
+-- the block holds a cell of [start, stop)
+abbrev pub touches : (start stop : ℕ) → Block → Bool
+touches s n b = ltb (max s (firstCell b)) (min n (ends (b .stretch)))
+
+-- it starts at the cell or after it; all its cells are below the cell
+abbrev pub startsFrom : (cell : ℕ) → Block → Bool
+startsFrom c b = leb c (firstCell b)
+
+abbrev pub endsBy : (cell : ℕ) → Block → Bool
+endsBy c b = leb (ends (b .stretch)) c
+
+-- the last of a list
+unfoldable pub lastIn : List ℕ → Option ℕ
+lastIn [] = none
+lastIn (k ∷ []) = some k
+lastIn (k ∷ j ∷ ks) = lastIn (j ∷ ks)
+
+-- all live blocks that hold any cell of [start, stop); the first that starts at or after a cell; the last whose cells are all below it
+abbrev pub touchingBy : Ledger → (t start stop : ℕ) → List ℕ
+touchingBy l t s n = liveBy l t (touches s n)
+
+abbrev pub nextBy : Ledger → (t cell : ℕ) → Option ℕ
+nextBy l t c = head? (liveBy l t (startsFrom c))
+
+abbrev pub lastBy : Ledger → (t cell : ℕ) → Option ℕ
+lastBy l t c = lastIn (liveBy l t (endsBy c))
 
 -- ── cells ──
 

@@ -1,6 +1,7 @@
 -- The refusals of document 01 in their checking order: for each call a list of numbers with their conditions, of which the first that holds is given.
 -- 17 to 24, the loader's, stand with the file format in File.
 use mathlib.Core.Bool.{Bool, cond, _&&_, _||_, not}
+use mathlib.Core.Option.{Option}
 use mathlib.Core.List.{List, [], _∷_}
 use Prim.Native.Nat.{ℕ, _+_, _-_, _^_}
 use lib.Dec.{leb, ltb, eqb}
@@ -9,7 +10,7 @@ use Rattle.history.specs.Words.{Operation, Block}
 use Rattle.history.specs.Lent.{blockRows, nodeRows, entryRows, tooShort, pieceSpace}
 use Rattle.history.specs.Tree.{treeOf, nodeCount, entryCount}
 use Rattle.history.specs.Ledger.{Opening, Ledger, finished, isRead, updateBy, settled}
-use Rattle.history.specs.Reads.{Found, Cells, findBy, cellsBy, blockBy}
+use Rattle.history.specs.Reads.{Found, Cells, findBy, touchingBy, nextBy, lastBy, cellsBy, blockBy}
 
 -- ── answers ──
 
@@ -110,7 +111,7 @@ tickRefusals l t own =
     (14 if leb (l .opening .end) t
     ∷ own)
 
--- of find and read cells alike; `exceeds` says whether the result exceeds a lent slice
+-- of every read of a window alike; `exceeds` says whether the result exceeds a lent slice
 unfoldable pub windowRefusals : Ledger → (t start stop : ℕ) → (exceeds : Bool) → List Refusal
 windowRefusals l t s n exceeds =
     tickRefusals l t
@@ -122,6 +123,19 @@ windowRefusals l t s n exceeds =
 
 abbrev pub findAnswer : Ledger → (t start stop answer : ℕ) → Answer Found
 findAnswer l t s n answer = firstOf (windowRefusals l t s n (ltb answer (length (findBy l t s n .numbers)))) (findBy l t s n)
+
+abbrev pub touchingAnswer : Ledger → (t start stop answer : ℕ) → Answer (List ℕ)
+touchingAnswer l t s n answer = firstOf (windowRefusals l t s n (ltb answer (length (touchingBy l t s n)))) (touchingBy l t s n)
+
+-- of a neighbour of a cell at a tick: without window or slice there is nothing more to refuse
+unfoldable pub neighbourRefusals : Ledger → (t : ℕ) → List Refusal
+neighbourRefusals l t = tickRefusals l t []
+
+abbrev pub nextAnswer : Ledger → (t cell : ℕ) → Answer (Option ℕ)
+nextAnswer l t c = firstOf (neighbourRefusals l t) (nextBy l t c)
+
+abbrev pub lastAnswer : Ledger → (t cell : ℕ) → Answer (Option ℕ)
+lastAnswer l t c = firstOf (neighbourRefusals l t) (lastBy l t c)
 
 abbrev pub cellsAnswer : Ledger → (t start stop bytes held : ℕ) → Answer Cells
 cellsAnswer l t s n bytes held = firstOf (windowRefusals l t s n (ltb bytes (n - s) || ltb held (n - s))) (cellsBy l t s n)

@@ -10,15 +10,17 @@
 //   specs/Sound      what makes a set of tables well formed
 //   specs/Printed    the input and the output of the program `board`
 //   specs/Law        what is proved of all this
-//   specs/Boards     the boards to try, with what must come of them
+//   specs/Boards     the boards to try, with what must come of them; Requested: those of document 02
 //
 //   proofs/Clip, Parts, Split, Seen, Cells, Storing, Apart, Reading, Value   pieces and cells
 //   proofs/ByKind                      the blocks as one kind sees them
 //   proofs/Passing, Steps, EveryList   the law, from call to call
 //   proofs/Tree*, Find*, RulesLaws     the segment tree and find
+//   proofs/Touching                    touching, next and last
 //   proofs/File*                       the file, there and back
-ghost use Rattle.history.specs.Law.{ValueAt, LawOfCalls, LawOfFind};
+ghost use Rattle.history.specs.Law.{ValueAt, LawOfCalls, LawOfFind, LawOfTouching, LawOfNeighbours};
 ghost use Rattle.history.specs.Boards.{MarkedBoards};
+ghost use Rattle.history.specs.Requested.{RequestedBoards};
 
 // The value of a cell, in the mission's words.
 pub fn value_at()
@@ -35,7 +37,22 @@ pub fn law_of_find()
     ensures { λ _. ⌜ LawOfFind ⌝ }
 {}
 
+// Touching over any sound closed index lists exactly the live blocks that hold a cell of the window, ascending.
+pub fn law_of_touching()
+    ensures { λ _. ⌜ LawOfTouching ⌝ }
+{}
+
+// Next and last over any sound closed index are the nearest live blocks, and missing exactly when there is none.
+pub fn law_of_neighbours()
+    ensures { λ _. ⌜ LawOfNeighbours ⌝ }
+{}
+
 // The boards to try come out as they must.
 pub fn marked_boards()
     ensures { λ _. ⌜ MarkedBoards ⌝ }
+{}
+
+// And so do those of document 02.
+pub fn requested_boards()
+    ensures { λ _. ⌜ RequestedBoards ⌝ }
 {}

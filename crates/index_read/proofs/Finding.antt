@@ -1,59 +1,30 @@
 -- The returns of `find_closed`: over a closed index they are the ledger's answers. Assumes nothing.
 use mathlib.Core.Path.{_≡_, refl, subst}
 use mathlib.Core.Logic.{_⊎_, inl, inr}
-use mathlib.Core.Bool.{true, cond, false≢true}
-use mathlib.Core.Option.{Option, none, some}
+use mathlib.Core.Bool.{true, cond}
 use mathlib.Core.List.{List}
 use Prim.Native.Nat.{ℕ, _≤_, _<_}
 use native.Mathlib.Omega.{arith}
 use lib.Dec.{ltb}
 use lib.ListN.{length}
 use borrow.Author.Tests.{le-leb, lt-leb, lt-ltb, le-ltb}
-use Rattle.lists.specs.Lists.{All}
-use Rattle.lists.proofs.Lists.{all-map}
 use Rattle.lists.proofs.Numbers.{le-or-lt}
-use Rattle.history.specs.Tree.{Tree, keyIn, entriesIn}
-use Rattle.history.specs.Ledger.{Ledger, finished, isSome}
+use Rattle.history.specs.Ledger.{Ledger, finished}
 use Rattle.history.specs.Reads.{Found, findBy}
 use Rattle.history.specs.Refusals.{Answer, accepted, refused}
-use Rattle.history.specs.Sound.{Sound, SoundTree, SoundClosed}
-use Rattle.history.proofs.RulesLaws.{rule23-decides, numbered-decides}
-use Rattle.history.proofs.ByKind.{closed-rule-23}
-use Rattle.tables.specs.Columns.{blockColumn, headEnd, headKind, headCount}
-use Rattle.block_table.proofs.Blocks.{blocks-key}
-use Rattle.segment_table.specs.Closed.{Closed, firstCellIn}
+use Rattle.history.specs.Sound.{Sound}
+use Rattle.tables.specs.Columns.{blockColumn, headEnd, headKind}
 use Rattle.segment_find.specs.Listing.{Fills, Finds}
 use Rattle.segment_find.proofs.Agreeing.{find-model}
 use Rattle.segment_find.specs.declared.Found as listing
 use Rattle.segment_find.specs.declared.Found.the-variants.{Listed, TooSmall}
 use Rattle.layout.specs.Tables.{Tables, tables, headAt, treeTables}
-use Rattle.layout.specs.Encodes.{Encodes, TreeIn}
+use Rattle.layout.specs.Encodes.{Encodes}
 use Rattle.layout.specs.Reads.{HandedInto}
 use Rattle.layout.specs.Relations.{Counts, countsOf}
+use Rattle.layout.proofs.Trees.{tree-known}
 use Rattle.layout.proofs.ReadLaws.{window-14, window-15, window-rest, into-refused, closed-refuses}
 use Rattle.index_read.specs.Reads.{FindClosed}
-
--- ── what a closed ledger says of its tables ──
-
--- its tree, with what is known of it
-record TreeKnown (t : Tables) (l : Ledger) : Type 0 where
-  tree : Tree
-  is : l .tree ≡ some tree
-  closed : Closed (treeTables t) (l .opening .kind) (l .opening .end) tree
-  sound : SoundClosed l tree
-
-tree-known : (t : Tables) (l : Ledger) → Encodes t l → Sound l → finished l ≡ true → TreeKnown t l
-tree-known t l e s done = go (l .tree) refl done (e .tree) (s .closed)
-  where
-    go : (x : Option Tree) → l .tree ≡ x → isSome x ≡ true → TreeIn t l x → SoundTree l x → TreeKnown t l
-    go none p q a b = absurd (false≢true q)
-    go (some tree) p q a b = record { tree = tree; is = p; closed = a .1; sound = b }
-
--- first cells of the blocks that a tree lists stand in the block table
-keys-known : (t : Tables) (l : Ledger) → Encodes t l → Sound l → (k : TreeKnown t l) → All (λ j. keyIn (l .now .blocks) j ≡ firstCellIn (t .blocks) j) (entriesIn (k .tree))
-keys-known t l e s k =
-    all-map (λ j h. rw (e .blocks) (blocks-key (t .store) (t .blocks) (headAt t headCount) j (omega (arith, e .count))))
-    (numbered-decides (length (l .now .blocks)) (k .tree) .yes (rule23-decides (l .opening .end) (l .now .blocks) (k .tree) .yes (closed-rule-23 l (k .tree) (s .board) (k .sound)) .numbers))
 
 -- what the search gives is what the ledger lists
 fills-found : (t : Tables) (l : Ledger) → Encodes t l → Sound l → finished l ≡ true → (tick start stop : ℕ) {out out′ : List ℕ} {r : listing.Found}
@@ -62,10 +33,9 @@ fills-found : (t : Tables) (l : Ledger) → Encodes t l → Sound l → finished
 unfolding findBy
 fills-found t l e s done tick start stop f =
     let k = tree-known t l e s done in
-    let sorted-keys = rule23-decides (l .opening .end) (l .now .blocks) (k .tree) .yes (closed-rule-23 l (k .tree) (s .board) (k .sound)) .order in
     rw (k .is)
-    (find-model (treeTables t) (l .opening .kind) (l .opening .end) (l .now .blocks) (k .tree) (k .closed) (omega (arith, s .board .some-tick)) sorted-keys (keys-known t l e s k)
-    tick start stop (rw (e .kind, e .end) at f))
+    (find-model (treeTables t) (l .opening .kind) (l .opening .end) (l .now .blocks) (k .tree) (k .closed) (k .some-tick) (k .order) (k .keys) tick start stop
+    (rw (e .kind, e .end) at f))
 
 -- ── the answers ──
 

@@ -3,6 +3,7 @@ pub mod Opening
 pub mod Pieces
 pub mod Unique
 pub mod ReadLaws
+pub mod Trees
 pub mod ExistsTable
 pub mod ExistsPieces
 pub mod ExistsBlocks

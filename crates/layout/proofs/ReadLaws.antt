@@ -15,12 +15,12 @@ use Rattle.history.specs.Lent.{tooShort}
 use Rattle.history.specs.Tree.{Tree}
 use Rattle.history.specs.Ledger.{Ledger, finished, isSome}
 use Rattle.history.specs.Reads.{blockBy}
-use Rattle.history.specs.Refusals.{Answer, accepted, refused, firstOf, windowRefusals, blockRefusals, blockAnswer, writeRefusals}
+use Rattle.history.specs.Refusals.{Answer, accepted, refused, firstOf, windowRefusals, neighbourRefusals, blockRefusals, blockAnswer, writeRefusals}
 use Rattle.history.specs.File.{fileBy, writeAnswer}
 use Rattle.tables.specs.Columns.{headState, headEnd}
 use Rattle.layout.specs.Tables.{Tables, headAt}
 use Rattle.layout.specs.Encodes.{Encodes, stateOf, openState, closedState}
-use Rattle.layout.specs.Reads.{valuesOf, filledBy, HandedInto, ClosedBy}
+use Rattle.layout.specs.Reads.{valuesOf, filledBy, HandedOut, HandedInto, ClosedBy}
 use Rattle.layout.specs.Relations.{Fields, BlockHanded, BlockGivenBy}
 
 -- ── a ledger in the tables ──
@@ -61,6 +61,16 @@ module _ {t : Tables} {l : Ledger} (e : Encodes t l) (done : finished l ≡ true
   unfolding windowRefusals firstOf
   window-rest h b = rw (heads-held e, done, lt-leb (l .opening .end) tick (omega (arith, e .end)), le-ltb stop start b)
 
+-- of next and last, whatever they give
+module _ {t : Tables} {l : Ledger} (e : Encodes t l) (done : finished l ≡ true) {A : Type 0} (given : A) (tick : ℕ) where
+  pub neighbour-14 : headAt t headEnd ≤ tick → firstOf (neighbourRefusals l tick) given ≡ refused 14
+  unfolding neighbourRefusals firstOf
+  neighbour-14 h = rw (heads-held e, done, le-leb (l .opening .end) tick (omega (arith, e .end)))
+
+  pub neighbour-rest : tick < headAt t headEnd → firstOf (neighbourRefusals l tick) given ≡ accepted given
+  unfolding neighbourRefusals firstOf
+  neighbour-rest h = rw (heads-held e, done, lt-leb (l .opening .end) tick (omega (arith, e .end)))
+
 -- ── what it answers to a number, and to write ──
 
 module _ {t : Tables} {l : Ledger} (e : Encodes t l) (done : finished l ≡ true) where
@@ -81,6 +91,10 @@ module _ {t : Tables} {l : Ledger} (e : Encodes t l) (done : finished l ≡ true
   write-16 out h = rw (heads-held e, done, lt-ltb out (length (fileBy l)) h)
 
 -- ── what is handed out ──
+
+-- a refusal: its number
+pub out-refused : {A B : Type 0} {values : A → B} {n : ℕ} → HandedOut values (refused n) (refused n)
+out-refused = record { answered = refl }
 
 module _ {A B : Type 0} {values : A → B} {part : A → List ℕ} where
   -- a refusal: its number, and the slice as it was

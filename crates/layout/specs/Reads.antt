@@ -24,6 +24,10 @@ abbrev pub filledBy : {A : Type 0} → (A → List ℕ) → Answer A → List �
 filledBy part (accepted a) out = sets out 0 (part a)
 filledBy part (refused n) out = out
 
+-- the answer alone, of a read that is lent no slice
+pub record HandedOut {A B : Type 0} (values : A → B) (answer : Answer B) (x : Answer A) : Type 0 where
+  pub answered : answer ≡ valuesOf values x
+
 -- the answer, and a part of what the ledger gives in a lent slice
 pub record HandedInto {A B : Type 0} (values : A → B) (part : A → List ℕ) (out out′ : List ℕ) (answer : Answer B) (x : Answer A) : Type 0 where
   pub answered : answer ≡ valuesOf values x

@@ -2,6 +2,7 @@
 -- links calls by them. Definitions alone.
 use mathlib.Core.Path.{_≡_}
 use mathlib.Core.Bool.{Bool, true, false}
+use mathlib.Core.Option.{Option, none, some}
 use mathlib.Core.List.{List, [], _∷_}
 use Prim.Native.Nat.{ℕ, suc, _+_, _*_, _≤_, _<_}
 use lib.ListN.{length, getD, set, take, drop, replicate}
@@ -11,7 +12,7 @@ use Rattle.history.specs.Lent.{rowWidth}
 use Rattle.history.specs.Tree.{treeOf}
 use Rattle.history.specs.Ledger.{Opening, Ledger, isRead, recordBy, finishBy, openingFor}
 use Rattle.history.specs.Reads.{Found}
-use Rattle.history.specs.Refusals.{Answer, accepted, refused, openAnswer, recordAnswer, finishAnswer, findAnswer, blockAnswer}
+use Rattle.history.specs.Refusals.{Answer, accepted, refused, openAnswer, recordAnswer, finishAnswer, findAnswer, touchingAnswer, nextAnswer, lastAnswer, blockAnswer}
 use Rattle.history.specs.Sound.{Sound}
 use Rattle.tables.specs.Columns.{column, blockBase, blockColumn, blockOffset, blockNext, blockSpare, headState, headCount, headLast, pieceOffset}
 use Rattle.block_table.specs.Blocks.{headPlace}
@@ -21,7 +22,7 @@ use Rattle.segment_table.specs.Alone.{TreeAlone}
 use Rattle.layout.specs.Tables.{Tables, tables, lengthsOf}
 use Rattle.layout.specs.Encodes.{Encodes, openState}
 use Rattle.layout.specs.Formed.{WellFormed, WellFormedForFinish}
-use Rattle.layout.specs.Reads.{valuesOf, HandedInto, ReadBy}
+use Rattle.layout.specs.Reads.{valuesOf, HandedOut, HandedInto, ReadBy}
 
 -- ── open ──
 
@@ -119,6 +120,27 @@ countsOf f = record { count = length (f .numbers); visited = f .visited }
 -- the counts, and the numbers in the lent answer
 pub record FoundBy (t : Tables) (tick start stop : ℕ) (out out′ : List ℕ) (answer : Answer Counts) : Type 0 where
   pub read : ReadBy t (λ l. findAnswer l tick start stop (length out)) (HandedInto countsOf (λ f. f .numbers) out out′ answer)
+
+-- ── touching, next, last ──
+
+-- how many blocks touching lists, and their numbers in the lent answer
+pub record TouchedBy (t : Tables) (tick start stop : ℕ) (out out′ : List ℕ) (answer : Answer ℕ) : Type 0 where
+  pub read : ReadBy t (λ l. touchingAnswer l tick start stop (length out)) (HandedInto length (λ ks. ks) out out′ answer)
+
+-- what next and last answer: 1 and the block's number, or 0 and 0 where it is missing
+pub record Near : Type 0 where
+  pub found : ℕ
+  pub number : ℕ
+
+abbrev pub nearOf : Option ℕ → Near
+nearOf none = record { found = 0; number = 0 }
+nearOf (some k) = record { found = 1; number = k }
+
+pub record NextGivenBy (t : Tables) (tick cell : ℕ) (answer : Answer Near) : Type 0 where
+  pub read : ReadBy t (λ l. nextAnswer l tick cell) (HandedOut nearOf answer)
+
+pub record LastGivenBy (t : Tables) (tick cell : ℕ) (answer : Answer Near) : Type 0 where
+  pub read : ReadBy t (λ l. lastAnswer l tick cell) (HandedOut nearOf answer)
 
 -- ── block by number ──
 

@@ -1,5 +1,5 @@
 -- Laws of All, Pairs, Mem and Distinct. Assumes nothing.
-use mathlib.Core.Path.{_≡_, refl, ap, _∙_}
+use mathlib.Core.Path.{_≡_, refl, sym, ap, _∙_}
 use mathlib.Core.Logic.{_⊎_, inl, inr, ⊎-elim}
 use mathlib.Core.List.{List, [], _∷_, _++_, map}
 use Prim.Native.Nat.{ℕ, zero, suc, _+_, _<_}
@@ -125,6 +125,11 @@ module _ {A : Type 0} where
   mem-at d [] i h = absurd (omega arith)
   mem-at d (x ∷ xs) zero h = here refl
   mem-at d (x ∷ xs) (suc i) h = there (mem-at d xs i (omega arith))
+
+  -- where a member stands
+  pub mem-place : (d : A) {x : A} {xs : List A} → Mem x xs → (i : ℕ) × (i < length xs) × (getD xs i d ≡ x)
+  mem-place d (here e) = (0, omega arith, sym e)
+  mem-place d (there m) = let p = mem-place d m in (suc (p .0), omega (arith, p .1), p .2)
 
 module _ {A B : Type 0} where
   pub mem-map : (f : A → B) {k : A} {xs : List A} → Mem k xs → Mem (f k) (map f xs)

@@ -1,8 +1,10 @@
 -- Each answer can be told from its meaning: a meaning that can be undone is injective. Assumes nothing.
 use mathlib.Core.Path.{_≡_, refl, ap, sym, _∙_}
+use mathlib.Core.Bool.{cond}
 use Prim.Native.Nat.{ℕ}
+use lib.Dec.{eqb}
 use Rattle.history.specs.Refusals.{Answer, accepted, refused}
-use Rattle.layout.specs.Relations.{Counts, Fields}
+use Rattle.layout.specs.Relations.{Counts, Near, Fields}
 use Rattle.index_record.specs.Calls.{recordedOf}
 use Rattle.index_record.specs.declared.Recorded.{Recorded}
 use Rattle.index_record.specs.declared.Recorded.the-variants.{Accepted, Refused as RecordRefused}
@@ -17,6 +19,11 @@ use Rattle.index_read.specs.declared.Found.{Found}
 use Rattle.index_read.specs.declared.Found.the-variants.{Listed, Refused as FindRefused}
 use Rattle.index_read.specs.declared.Given.{Given}
 use Rattle.index_read.specs.declared.Given.the-variants.{Block, Refused as BlockRefused}
+use Rattle.touching_read.specs.Answers.{touchingOf, neighbourOf}
+use Rattle.touching_read.specs.declared.Touching.{Touching}
+use Rattle.touching_read.specs.declared.Touching.the-variants.{Listed as Touched, Refused as TouchingRefused}
+use Rattle.touching_read.specs.declared.Nearest.{Nearest}
+use Rattle.touching_read.specs.declared.Nearest.the-variants.{Block as NearBlock, Missing, Refused as NearestRefused}
 use Rattle.cells_read.specs.Answers.{readOf}
 use Rattle.cells_read.specs.declared.Read.{Read}
 use Rattle.cells_read.specs.declared.Read.the-variants.{Filled, Refused as ReadRefused}
@@ -73,6 +80,23 @@ given-same : (x : Given) → givenBack (givenOf x) ≡ x
 given-same (Block kind first length created destroyed offset) = refl
 given-same (BlockRefused n) = refl
 
+abbrev touchingBack : Answer ℕ → Touching
+touchingBack (accepted n) = Touched n
+touchingBack (refused n) = TouchingRefused n
+
+touching-same : (x : Touching) → touchingBack (touchingOf x) ≡ x
+touching-same (Touched n) = refl
+touching-same (TouchingRefused n) = refl
+
+abbrev nearestBack : Answer Near → Nearest
+nearestBack (accepted n) = cond (eqb (n .found) 0) Missing (NearBlock (n .number))
+nearestBack (refused n) = NearestRefused n
+
+nearest-same : (x : Nearest) → nearestBack (neighbourOf x) ≡ x
+nearest-same (NearBlock k) = refl
+nearest-same Missing = refl
+nearest-same (NearestRefused n) = refl
+
 abbrev readBack : Answer Unit → Read
 readBack (accepted u) = Filled
 readBack (refused n) = ReadRefused n
@@ -106,6 +130,8 @@ meanings = record {
   finalize = undone finishedOf finishedBack finished-same;
   block = undone givenOf givenBack given-same;
   find = undone foundOf foundBack found-same;
+  touching = undone touchingOf touchingBack touching-same;
+  neighbours = undone neighbourOf nearestBack nearest-same;
   read-cells = undone readOf readBack read-same;
   serialize-to = undone writtenOf writtenBack written-same;
   deserialize = undone loadedOf loadedBack loaded-same;

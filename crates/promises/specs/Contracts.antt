@@ -9,12 +9,13 @@ use denote.Triple.Clauses.{AtExit}
 use denote.Ref.{RefT, now}
 use Rattle.history.specs.Reads.{clockLabel}
 use Rattle.layout.specs.Tables.{Tables, tables}
-use Rattle.layout.specs.Relations.{OpenedBy, RecordedBy, FinishedBy, FoundBy, BlockGivenBy}
+use Rattle.layout.specs.Relations.{OpenedBy, RecordedBy, FinishedBy, FoundBy, TouchedBy, NextGivenBy, LastGivenBy, BlockGivenBy}
 use Rattle.layout.specs.Files.{WrittenBy, LoadedBy}
 use Rattle.index_record.specs.Calls.{operation, recordedOf}
 use Rattle.index_finish.specs.Answers.{finishedOf}
 use Rattle.index_read.specs.Answers.{foundOf, givenOf}
 use Rattle.index.specs.Answers.{openedOf, BytesGivenBy}
+use Rattle.touching_read.specs.Answers.{touchingOf, neighbourOf}
 use Rattle.cells_read.specs.Answers.{readOf}
 use Rattle.cells.specs.Answers.{CellsReadBy}
 use Rattle.file_write.specs.Answers.{writtenOf}
@@ -32,6 +33,12 @@ use Rattle.index.proofs.block_bytes.Kinds as bytes-kinds
 use Rattle.index.proofs.block_bytes.Reads as bytes-reads
 use Rattle.index.proofs.find.Kinds as find-kinds
 use Rattle.index.proofs.find.Reads as find-reads
+use Rattle.touching.proofs.touching.Kinds as touching-kinds
+use Rattle.touching.proofs.touching.Reads as touching-reads
+use Rattle.touching.proofs.next.Kinds as next-kinds
+use Rattle.touching.proofs.next.Reads as next-reads
+use Rattle.touching.proofs.last.Kinds as last-kinds
+use Rattle.touching.proofs.last.Reads as last-reads
 use Rattle.cells.proofs.read_cells.Kinds as cells-kinds
 use Rattle.cells.proofs.read_cells.Reads as cells-reads
 use Rattle.clock.proofs.clock_label.Kinds as clock-kinds
@@ -77,6 +84,12 @@ pub record Contracts : Type 0 where
       (λ κs a x e. BytesGivenBy (held a) (behind a .0) (now x))
   pub find : Says 6 find-kinds.ps find-kinds.r find-reads.Asked find-reads.Learnt
       (λ κs a x e. FoundBy (held a) (behind a .0) (behind a .1 .0) (behind a .1 .1 .0) (now (behind a .1 .1 .1 .0)) (now (behind e .1 .1 .1 .0)) (foundOf x))
+  pub touching : Says 6 touching-kinds.ps touching-kinds.r touching-reads.Asked touching-reads.Learnt
+      (λ κs a x e. TouchedBy (held a) (behind a .0) (behind a .1 .0) (behind a .1 .1 .0) (now (behind a .1 .1 .1 .0)) (now (behind e .1 .1 .1 .0)) (touchingOf x))
+  pub next : Says 5 next-kinds.ps next-kinds.r next-reads.Asked next-reads.Learnt
+      (λ κs a x e. NextGivenBy (held a) (behind a .0) (behind a .1 .0) (neighbourOf x))
+  pub last : Says 5 last-kinds.ps last-kinds.r last-reads.Asked last-reads.Learnt
+      (λ κs a x e. LastGivenBy (held a) (behind a .0) (behind a .1 .0) (neighbourOf x))
   pub read-cells : Says 7 cells-kinds.ps cells-kinds.r cells-reads.Asked cells-reads.Learnt
       (λ κs a x e. CellsReadBy (held a) (behind a .0) (behind a .1 .0) (behind a .1 .1 .0) (now (behind a .1 .1 .1 .0)) (now (behind e .1 .1 .1 .0))
       (now (behind a .1 .1 .1 .1 .0)) (now (behind e .1 .1 .1 .1 .0)) (readOf x))

@@ -6,12 +6,12 @@ use lib.ListN.{length}
 use denote.Ref.{RefT, now}
 use Rattle.history.specs.Reads.{clockLabel}
 use Rattle.layout.specs.Tables.{tables}
-use Rattle.layout.specs.Relations.{OpenedBy, RecordedBy, FinishedBy, FoundBy, Fields, BlockGivenBy}
+use Rattle.layout.specs.Relations.{OpenedBy, RecordedBy, FinishedBy, FoundBy, TouchedBy, NextGivenBy, LastGivenBy, Fields, BlockGivenBy}
 use Rattle.layout.specs.Files.{WrittenBy, LoadedBy}
 use Rattle.lengths.specs.Lengths.{lengthFor}
 use Rattle.index_record.specs.Calls.{operation}
 use Rattle.cells.specs.Answers.{CellsReadBy}
-use Rattle.servercape.specs.Numbers.{ByNumber, counts, fields}
+use Rattle.servercape.specs.Numbers.{ByNumber, counts, near, fields}
 use Rattle.servercape.proofs.servercape_length.Kinds as length-kinds
 use Rattle.servercape.proofs.servercape_length.Reads as length-reads
 use Rattle.servercape.proofs.servercape_open.Kinds as open-kinds
@@ -24,6 +24,12 @@ use Rattle.servercape.proofs.servercape_block.Kinds as block-kinds
 use Rattle.servercape.proofs.servercape_block.Reads as block-reads
 use Rattle.servercape.proofs.servercape_find.Kinds as find-kinds
 use Rattle.servercape.proofs.servercape_find.Reads as find-reads
+use Rattle.servercape.proofs.servercape_touching.Kinds as touching-kinds
+use Rattle.servercape.proofs.servercape_touching.Reads as touching-reads
+use Rattle.servercape.proofs.servercape_next.Kinds as next-kinds
+use Rattle.servercape.proofs.servercape_next.Reads as next-reads
+use Rattle.servercape.proofs.servercape_last.Kinds as last-kinds
+use Rattle.servercape.proofs.servercape_last.Reads as last-reads
 use Rattle.servercape.proofs.servercape_read_cells.Kinds as cells-kinds
 use Rattle.servercape.proofs.servercape_read_cells.Reads as cells-reads
 use Rattle.servercape.proofs.servercape_write.Kinds as write-kinds
@@ -54,6 +60,15 @@ pub record Exported : Type 0 where
   pub find : Says 8 find-kinds.ps find-kinds.r find-reads.Asked find-reads.Learnt
       (λ κs a x e. ByNumber (FoundBy (held a) (behind a .0) (behind a .1 .0) (behind a .1 .1 .0) (now (behind a .1 .1 .1 .0)) (now (behind e .1 .1 .1 .0))) x
       (counts (now (behind a .1 .1 .1 .1 .0)) (now (behind a .1 .1 .1 .1 .1 .0))) (counts (now (behind e .1 .1 .1 .1 .0)) (now (behind e .1 .1 .1 .1 .1 .0))))
+  pub touching : Says 7 touching-kinds.ps touching-kinds.r touching-reads.Asked touching-reads.Learnt
+      (λ κs a x e. ByNumber (TouchedBy (held a) (behind a .0) (behind a .1 .0) (behind a .1 .1 .0) (now (behind a .1 .1 .1 .0)) (now (behind e .1 .1 .1 .0))) x
+      (now (behind a .1 .1 .1 .1 .0)) (now (behind e .1 .1 .1 .1 .0)))
+  pub next : Says 7 next-kinds.ps next-kinds.r next-reads.Asked next-reads.Learnt
+      (λ κs a x e. ByNumber (NextGivenBy (held a) (behind a .0) (behind a .1 .0)) x
+      (near (now (behind a .1 .1 .0)) (now (behind a .1 .1 .1 .0))) (near (now (behind e .1 .1 .0)) (now (behind e .1 .1 .1 .0))))
+  pub last : Says 7 last-kinds.ps last-kinds.r last-reads.Asked last-reads.Learnt
+      (λ κs a x e. ByNumber (LastGivenBy (held a) (behind a .0) (behind a .1 .0)) x
+      (near (now (behind a .1 .1 .0)) (now (behind a .1 .1 .1 .0))) (near (now (behind e .1 .1 .0)) (now (behind e .1 .1 .1 .0))))
   pub read-cells : Says 7 cells-kinds.ps cells-kinds.r cells-reads.Asked cells-reads.Learnt
       (λ κs a x e. ByNumber (CellsReadBy (held a) (behind a .0) (behind a .1 .0) (behind a .1 .1 .0) (now (behind a .1 .1 .1 .0)) (now (behind e .1 .1 .1 .0))
       (now (behind a .1 .1 .1 .1 .0)) (now (behind e .1 .1 .1 .1 .0))) x tt tt)

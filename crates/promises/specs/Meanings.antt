@@ -4,6 +4,7 @@ use Rattle.index_record.specs.Calls.{recordedOf}
 use Rattle.index_finish.specs.Answers.{finishedOf}
 use Rattle.index_read.specs.Answers.{foundOf, givenOf}
 use Rattle.index.specs.Answers.{openedOf}
+use Rattle.touching_read.specs.Answers.{touchingOf, neighbourOf}
 use Rattle.cells_read.specs.Answers.{readOf}
 use Rattle.file_write.specs.Answers.{writtenOf}
 use Rattle.file_load.specs.Load.{loadedOf}
@@ -19,6 +20,9 @@ pub record Meanings : Type 0 where
   pub finalize : Injective finishedOf
   pub block : Injective givenOf
   pub find : Injective foundOf
+  pub touching : Injective touchingOf
+  -- next and last
+  pub neighbours : Injective neighbourOf
   pub read-cells : Injective readOf
   pub serialize-to : Injective writtenOf
   pub deserialize : Injective loadedOf

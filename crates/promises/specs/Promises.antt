@@ -1,10 +1,12 @@
 -- What is proved, in the order in which README tells it. Each statement stands, in words and clause by clause, in the file that it is taken from.
-use Rattle.history.specs.Law.{ValueAt, LawOfCalls, LawOfFind}
+use Rattle.history.specs.Law.{ValueAt, LawOfCalls, LawOfFind, LawOfTouching, LawOfNeighbours}
 use Rattle.history.specs.Boards.{MarkedBoards}
+use Rattle.history.specs.Requested.{RequestedBoards}
 use Rattle.layout.specs.Law.{OneLedger, TablesExist, ShallowTrees}
 use Rattle.index_test.specs.Law.{TestDecides}
 use Rattle.demand.specs.Theorem.{Demand3}
 use Rattle.demand.specs.Cells.{CellsShown}
+use Rattle.demand.specs.Touching.{TouchingShown}
 use Rattle.spacetime_file.specs.Law.{SavedAndLoaded, LoadedAndWritten, TakenAndNotRefused, EmptyFiles}
 use Rattle.board_input.specs.Walk.{LawOfInput}
 use Rattle.board_text.specs.Line.{LawOfLines}
@@ -17,6 +19,7 @@ use Rattle.promises.specs.Meanings.{Meanings}
 pub record OfCalls : Type 0 where
   pub demand-3 : Demand3
   pub shows-history : CellsShown
+  pub touching-shows-history : TouchingShown
   pub contracts-are-relations : Contracts
   pub answers-told : Meanings
 
@@ -32,7 +35,10 @@ pub record OfHistory : Type 0 where
   pub value-at : ValueAt
   pub law-of-calls : LawOfCalls
   pub law-of-find : LawOfFind
+  pub law-of-touching : LawOfTouching
+  pub law-of-neighbours : LawOfNeighbours
   pub marked-boards : MarkedBoards
+  pub requested-boards : RequestedBoards
 
 -- of write and load together
 pub record OfFiles : Type 0 where

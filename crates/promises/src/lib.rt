@@ -31,6 +31,7 @@ pub fn of_calls()
 {
     demand::demand_3();
     demand::shows_history();
+    demand::touching_shows_history();
     contracts_are_relations();
     answers_told();
 }
@@ -52,7 +53,10 @@ pub fn of_history()
     history::value_at();
     history::law_of_calls();
     history::law_of_find();
+    history::law_of_touching();
+    history::law_of_neighbours();
     history::marked_boards();
+    history::requested_boards();
 }
 
 // Files, there and back.

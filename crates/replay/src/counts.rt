@@ -24,14 +24,14 @@ const LENT: usize = rows::PIECES;
 const SHOWN: u64 = 8;
 
 // A case starts.
-pub fn count_case(counts: &mut [u64], code: u64) {
+pub fn count_case(counts: &mut [u64; rows::COLUMNS], code: u64) {
     tally::count(counts, CASES);
     tally::count_if(counts, ORACLE, code == rows::CASE);
     tally::count_if(counts, OWN, code == rows::OWN);
     tables::put(counts, 0, CALL, 0);
 }
 
-fn say(counts: &[u64]) {
+fn say(counts: &[u64; rows::COLUMNS]) {
     if SHOWN < tally::get(counts, tally::DIFFER) {
         return;
     }
@@ -41,36 +41,31 @@ fn say(counts: &[u64]) {
     tally::print_count(&mut line, counts, CALL, b" differs\n");
 }
 
-fn count_call(counts: &mut [u64], alike: bool) {
+fn count_call(counts: &mut [u64; rows::COLUMNS], alike: bool) {
     tally::compare(counts, alike);
     if !alike {
         say(counts);
     }
 }
 
-fn count_file(counts: &mut [u64], alike: bool) {
+fn count_file(counts: &mut [u64; rows::COLUMNS], alike: bool) {
     count_call(counts, alike);
     tally::count(counts, FILES);
     tally::count_if(counts, FILES_DIFFER, !alike);
 }
 
-// A call is made, of which one answer or more are counted.
-pub fn count_row(counts: &mut [u64]) {
-    tally::count(counts, CALL);
-}
-
 // An answer came, as it must or not.
-pub fn count_answer(counts: &mut [u64], code: u64, alike: bool) {
-    if code < rows::LOAD {
-        count_call(counts, alike);
-    } else if code == rows::CLOCK {
-        count_call(counts, alike);
-    } else {
+pub fn count_answer(counts: &mut [u64; rows::COLUMNS], code: u64, alike: bool) {
+    if code == rows::LOAD {
         count_file(counts, alike);
+    } else if code == rows::DAMAGED {
+        count_file(counts, alike);
+    } else {
+        count_call(counts, alike);
     }
 }
 
-fn copy_lent(counts: &mut [u64], row: &[u64]) {
+fn copy_lent(counts: &mut [u64; rows::COLUMNS], row: &[u64; rows::COLUMNS]) {
     let mut col = LENT;
     while col < rows::COLUMNS {
         tables::put(counts, 0, col, rows::get(row, col));
@@ -78,18 +73,21 @@ fn copy_lent(counts: &mut [u64], row: &[u64]) {
     }
 }
 
-// What is lent from an open or load on, until the next one.
-pub fn lend(counts: &mut [u64], row: &[u64], code: u64) {
+// A row that is no case: what is lent from an open or load on, until the next one; or a call, of which one answer or more are counted.
+pub fn count_row(counts: &mut [u64; rows::COLUMNS], row: &[u64; rows::COLUMNS], code: u64) {
+    if code == rows::LEND {
+        tables::put(counts, 0, rows::SCRATCH, rows::get(row, rows::SCRATCH));
+        return;
+    }
+    tally::count(counts, CALL);
     if code == rows::OPEN {
         copy_lent(counts, row);
     } else if code == rows::LOAD {
         copy_lent(counts, row);
-    } else if code == rows::LEND {
-        tables::put(counts, 0, rows::SCRATCH, rows::get(row, rows::SCRATCH));
     }
 }
 
-pub fn print(counts: &[u64]) {
+pub fn print(counts: &[u64; rows::COLUMNS]) {
     let mut line = [0; tally::LINE];
     tally::print_count(&mut line, counts, ORACLE, b" cases of the oracle's list, ");
     tally::print_count(&mut line, counts, OWN, b" more: ");

@@ -50,18 +50,18 @@ fn is_written(
     }
 }
 
-// What comes of a file: 0 where it is taken, or the number of the refusal.
-fn load(
-    pieces: &mut [u64],
-    blocks: &mut [u64],
-    store: &mut [u8],
-    nodes: &mut [u64],
-    entries: &mut [u64],
+// What came of a file: 0 where it is taken, or the number of the refusal.
+fn judged(
+    pieces: &[u64],
+    blocks: &[u64],
+    store: &[u8],
+    nodes: &[u64],
+    entries: &[u64],
     file: &[u8],
     at: usize,
+    before: u64,
+    answer: Loaded,
 ) -> u64 {
-    let before = kept::sum(pieces, blocks, store, nodes, entries);
-    let answer = spacetime_file::deserialize(pieces, blocks, store, nodes, entries, file, at);
     match answer {
         Loaded::Next(next) => {
             if is_written(pieces, blocks, store, nodes, entries, file, at, next) {
@@ -78,6 +78,30 @@ fn load(
     }
 }
 
+fn load(
+    pieces: &mut [u64],
+    blocks: &mut [u64],
+    store: &mut [u8],
+    nodes: &mut [u64],
+    entries: &mut [u64],
+    file: &[u8],
+    at: usize,
+) -> u64 {
+    let before = kept::sum(pieces, blocks, store, nodes, entries);
+    let answer = spacetime_file::deserialize(pieces, blocks, store, nodes, entries, file, at);
+    judged(
+        pieces,
+        blocks,
+        store,
+        nodes,
+        entries,
+        file,
+        at,
+        before,
+        answer,
+    )
+}
+
 fn raised(byte: u8, by: u64) -> u8 {
     ((input::wide(byte) + by % 256) % 256) as u8
 }
@@ -88,6 +112,15 @@ fn raise(file: &mut [u8], place: usize, by: u64) {
     }
 }
 
+// How much of a file is loaded that is damaged at a place: up to there where it is cut, else all.
+fn loaded(length: u64, place: usize, by: u64) -> u64 {
+    if by == 0 {
+        return place as u64;
+    }
+    length
+}
+
+// Damages the file at a place, loads it, and makes it whole again.
 fn load_damaged(
     pieces: &mut [u64],
     blocks: &mut [u64],
@@ -95,35 +128,36 @@ fn load_damaged(
     nodes: &mut [u64],
     entries: &mut [u64],
     file: &mut [u8],
-    row: &[u64],
+    row: &[u64; rows::COLUMNS],
     place: usize,
 ) -> u64 {
     let at = rows::get(row, AT) as usize;
     let by = rows::get(row, BY) % 256;
-    if by == 0 {
-        let cut = tables::part(file, 0, place as u64);
-        return load(pieces, blocks, store, nodes, entries, cut, at);
-    }
     raise(file, place, by);
-    let number = load(pieces, blocks, store, nodes, entries, file, at);
+    let damaged = tables::part(file, 0, loaded(rows::get(row, LENGTH), place, by));
+    let number = load(pieces, blocks, store, nodes, entries, damaged, at);
     raise(file, place, 256 - by);
     number
 }
 
-fn play_places(
-    counts: &mut [u64],
+// Loads the file damaged at each place of the run.
+pub fn play(
+    counts: &mut [u64; rows::COLUMNS],
     pieces: &mut [u64],
     blocks: &mut [u64],
     store: &mut [u8],
     nodes: &mut [u64],
     entries: &mut [u64],
-    file: &mut [u8],
-    row: &[u64],
+    row: &[u64; rows::COLUMNS],
+    pool: &[u8],
 ) {
+    let mut file = [0; FILE];
+    let whole = tables::part(pool, rows::get(row, START), rows::get(row, LENGTH));
+    tables::copy_in(&mut file, 0, whole);
     let mut place = rows::get(row, FROM) as usize;
-    let end = plain::skip(file, place, rows::get(row, MANY));
+    let end = plain::skip(whole, place, rows::get(row, MANY));
     while place < end {
-        let number = load_damaged(pieces, blocks, store, nodes, entries, file, row, place);
+        let number = load_damaged(pieces, blocks, store, nodes, entries, &mut file, row, place);
         counts::count_answer(
             counts,
             rows::DAMAGED,
@@ -131,36 +165,4 @@ fn play_places(
         );
         place += 1;
     }
-}
-
-pub fn play(
-    counts: &mut [u64],
-    pieces: &mut [u64],
-    blocks: &mut [u64],
-    store: &mut [u8],
-    nodes: &mut [u64],
-    entries: &mut [u64],
-    row: &[u64],
-    pool: &[u8],
-) {
-    let mut file = [0; FILE];
-    let length = rows::get(row, LENGTH);
-    if FILE < length as usize {
-        return;
-    }
-    tables::copy_in(
-        &mut file,
-        0,
-        tables::part(pool, rows::get(row, START), length),
-    );
-    play_places(
-        counts,
-        pieces,
-        blocks,
-        store,
-        nodes,
-        entries,
-        &mut file[0..length as usize],
-        row,
-    );
 }

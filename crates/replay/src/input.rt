@@ -63,7 +63,7 @@ fn column_at(data: &[u8], at: usize, is_there: bool) -> Number {
 }
 
 // Reads a row, and answers where the next one starts.
-pub fn read_row(data: &[u8], at: usize, row: &mut [u64]) -> usize {
+pub fn read_row(data: &[u8], at: usize, row: &mut [u64; rows::COLUMNS]) -> usize {
     let count = number_at(data, at);
     let many = count.value;
     let mut next = count.next;

@@ -23,11 +23,11 @@ fn spoil_store(store: &mut [u8]) {
 }
 
 pub fn spoil_all(
-    pieces: &mut [u64],
-    blocks: &mut [u64],
-    store: &mut [u8],
-    nodes: &mut [u64],
-    entries: &mut [u64],
+    pieces: &mut [u64; crate::PIECES],
+    blocks: &mut [u64; crate::BLOCKS],
+    store: &mut [u8; crate::STORE],
+    nodes: &mut [u64; crate::NODES],
+    entries: &mut [u64; crate::ENTRIES],
 ) {
     spoil(pieces);
     spoil(blocks);

@@ -4,7 +4,7 @@
 //   input          the list as it is read
 //   rows           the columns of its rows, and what is told in them
 //   play           row after row
-//   update, read   each call
+//   update, read, near   each call
 //   damage         a file damaged at each place of a run
 //   alike, kept    slices and tables compared
 //   counts         what is counted, and what is lent
@@ -20,6 +20,7 @@ mod counts;
 mod damage;
 mod input;
 mod kept;
+mod near;
 mod play;
 mod read;
 mod rows;
@@ -31,57 +32,45 @@ const PARTS: u64 = 1000;
 const PART: usize = 65536;
 
 // Numbers in each table: the rows that tools/stored.py may lend, and part of one more.
-const PIECES: usize = piece::HEAD + update::PIECES * ROW + 7;
+pub const PIECES: usize = piece::HEAD + update::PIECES * ROW + 7;
 
-const BLOCKS: usize = block::HEAD + 256 * ROW + 7;
+pub const BLOCKS: usize = block::HEAD + 256 * ROW + 7;
 
-const STORE: usize = 4103;
+pub const STORE: usize = 4103;
 
-const NODES: usize = node::HEAD + 4096 * ROW + 7;
+pub const NODES: usize = node::HEAD + 4096 * ROW + 7;
 
-const ENTRIES: usize = entry::HEAD + 8195 * entry::WIDTH + 1;
+pub const ENTRIES: usize = entry::HEAD + 8195 * entry::WIDTH + 1;
 
 // Reads part after part, and plays it.
-fn replay(
-    counts: &mut [u64],
-    pieces: &mut [u64],
-    blocks: &mut [u64],
-    store: &mut [u8],
-    nodes: &mut [u64],
-    entries: &mut [u64],
-    part: &mut [u8],
-) {
-    let mut left = PARTS;
-    while 0 < left {
-        let got = io::read_full(STDIN_FILENO, part);
-        if got == 0 {
-            return;
-        }
-        play::play(counts, pieces, blocks, store, nodes, entries, part);
-        left -= 1;
-    }
-}
-
-fn run(counts: &mut [u64]) {
+fn replay(counts: &mut [u64; rows::COLUMNS]) {
     let mut pieces = [0; PIECES];
     let mut blocks = [0; BLOCKS];
     let mut store = [0; STORE];
     let mut nodes = [0; NODES];
     let mut entries = [0; ENTRIES];
     let mut part = [0; PART];
-    replay(
-        counts,
-        &mut pieces,
-        &mut blocks,
-        &mut store,
-        &mut nodes,
-        &mut entries,
-        &mut part,
-    );
-    counts::print(counts);
+    let mut left = PARTS;
+    while 0 < left {
+        let got = io::read_full(STDIN_FILENO, &mut part);
+        if got == 0 {
+            return;
+        }
+        play::play(
+            counts,
+            &mut pieces,
+            &mut blocks,
+            &mut store,
+            &mut nodes,
+            &mut entries,
+            &part,
+        );
+        left -= 1;
+    }
 }
 
 fn main() {
     let mut counts = [0; rows::COLUMNS];
-    run(&mut counts);
+    replay(&mut counts);
+    counts::print(&counts);
 }

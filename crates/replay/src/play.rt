@@ -1,9 +1,9 @@
 // Plays a part of the stored list, row after row, in lent tables.
-ghost use Prim.Native.Nat.{_≤_};
 use crate::counts;
 use crate::damage;
 use crate::input;
 use crate::kept;
+use crate::near;
 use crate::read;
 use crate::rows;
 use crate::update;
@@ -17,9 +17,9 @@ fn read(
     store: &[u8],
     nodes: &[u64],
     entries: &[u64],
-    row: &[u64],
+    row: &[u64; rows::COLUMNS],
     pool: &[u8],
-    told: &mut [u64],
+    told: &mut [u64; rows::COLUMNS],
 ) {
     let code = rows::get(row, rows::CODE);
     if code == rows::BLOCK {
@@ -30,9 +30,32 @@ fn read(
         read::cells(pieces, blocks, store, nodes, entries, row, pool, told);
     } else if code == rows::WRITE {
         read::write(pieces, blocks, store, nodes, entries, row, pool, told);
-    } else {
+    } else if code == rows::CLOCK {
         read::clock(row, told);
+    } else {
+        near::read(pieces, blocks, store, nodes, entries, row, pool, told);
     }
+}
+
+// Reads, and counts what came. A row that only lends is no call.
+fn play_read(
+    counts: &mut [u64; rows::COLUMNS],
+    pieces: &[u64],
+    blocks: &[u64],
+    store: &[u8],
+    nodes: &[u64],
+    entries: &[u64],
+    row: &[u64; rows::COLUMNS],
+    pool: &[u8],
+) {
+    let code = rows::get(row, rows::CODE);
+    if code == rows::LEND {
+        return;
+    }
+    let mut told = [0; rows::COLUMNS];
+    rows::start(&mut told, row);
+    read(pieces, blocks, store, nodes, entries, row, pool, &mut told);
+    counts::count_answer(counts, code, rows::is_same(&told, row));
 }
 
 fn update(
@@ -41,10 +64,10 @@ fn update(
     store: &mut [u8],
     nodes: &mut [u64],
     entries: &mut [u64],
-    scratch: usize,
-    row: &[u64],
+    scratch: u64,
+    row: &[u64; rows::COLUMNS],
     pool: &[u8],
-    told: &mut [u64],
+    told: &mut [u64; rows::COLUMNS],
 ) {
     let code = rows::get(row, rows::CODE);
     if code == rows::OPEN {
@@ -68,18 +91,20 @@ fn update(
     }
 }
 
-// After a refused call the tables must be left as they were, or as zeros.
-fn update_kept(
+// Updates, and counts what came. After a refused call the tables must be left as they were, or as zeros.
+fn play_update(
+    counts: &mut [u64; rows::COLUMNS],
     pieces: &mut [u64],
     blocks: &mut [u64],
     store: &mut [u8],
     nodes: &mut [u64],
     entries: &mut [u64],
-    scratch: usize,
-    row: &[u64],
+    row: &[u64; rows::COLUMNS],
     pool: &[u8],
-    told: &mut [u64],
 ) {
+    let scratch = tally::get(counts, rows::SCRATCH);
+    let mut told = [0; rows::COLUMNS];
+    rows::start(&mut told, row);
     let before = kept::sum(pieces, blocks, store, nodes, entries);
     update(
         pieces,
@@ -90,11 +115,16 @@ fn update_kept(
         scratch,
         row,
         pool,
-        told,
+        &mut told,
     );
-    let refusal = rows::get(told, rows::REFUSAL);
+    let refusal = rows::get(&told, rows::REFUSAL);
     let left = kept::is_left(pieces, blocks, store, nodes, entries, before, refusal);
-    rows::must(told, left);
+    rows::must(&mut told, left);
+    counts::count_answer(
+        counts,
+        rows::get(row, rows::CODE),
+        rows::is_same(&told, row),
+    );
 }
 
 // Whether a call is one that may change an index.
@@ -105,114 +135,43 @@ fn changes(code: u64) -> bool {
     code < rows::BLOCK
 }
 
-// Makes the call of a row.
-fn make(
-    pieces: &mut [u64],
-    blocks: &mut [u64],
-    store: &mut [u8],
-    nodes: &mut [u64],
-    entries: &mut [u64],
-    scratch: usize,
-    row: &[u64],
-    pool: &[u8],
-    told: &mut [u64],
-) {
-    if changes(rows::get(row, rows::CODE)) {
-        update_kept(
-            pieces,
-            blocks,
-            store,
-            nodes,
-            entries,
-            scratch,
-            row,
-            pool,
-            told,
-        );
-    } else {
-        read(pieces, blocks, store, nodes, entries, row, pool, told);
-    }
-}
-
-// Makes the call of a row, and counts what came.
-fn call(
-    counts: &mut [u64],
-    pieces: &mut [u64],
-    blocks: &mut [u64],
-    store: &mut [u8],
-    nodes: &mut [u64],
-    entries: &mut [u64],
-    row: &[u64],
-    pool: &[u8],
-) {
-    let scratch = tally::get(counts, rows::SCRATCH) as usize;
-    let mut told = [0; rows::COLUMNS];
-    rows::start(&mut told, row);
-    make(
-        pieces,
-        blocks,
-        store,
-        nodes,
-        entries,
-        scratch,
-        row,
-        pool,
-        &mut told,
-    );
-    let code = rows::get(row, rows::CODE);
-    counts::count_answer(counts, code, rows::is_same(&told, row));
-}
-
 // A row that is no case: a call, a damaged file, or another scratch.
 fn play_lent(
-    counts: &mut [u64],
+    counts: &mut [u64; rows::COLUMNS],
     pieces: &mut [u64],
     blocks: &mut [u64],
     store: &mut [u8],
     nodes: &mut [u64],
     entries: &mut [u64],
-    row: &[u64],
+    row: &[u64; rows::COLUMNS],
     pool: &[u8],
 ) {
     let code = rows::get(row, rows::CODE);
-    if code == rows::LEND {
-        return;
-    }
-    counts::count_row(counts);
     if code == rows::DAMAGED {
         damage::play(counts, pieces, blocks, store, nodes, entries, row, pool);
+    } else if changes(code) {
+        play_update(counts, pieces, blocks, store, nodes, entries, row, pool);
     } else {
-        call(counts, pieces, blocks, store, nodes, entries, row, pool);
+        play_read(counts, pieces, blocks, store, nodes, entries, row, pool);
     }
-}
-
-// A length that is lent of a table, at most its own.
-fn length(counts: &[u64], col: usize, most: usize) -> usize
-    ensures { λ r. ⌜ r ≤ most ⌝ }
-{
-    let wanted = tally::get(counts, col);
-    if wanted < most as u64 {
-        return wanted as usize;
-    }
-    most
 }
 
 // The row with the parts of the tables that are lent.
 fn lend(
-    counts: &mut [u64],
+    counts: &mut [u64; rows::COLUMNS],
     pieces: &mut [u64],
     blocks: &mut [u64],
     store: &mut [u8],
     nodes: &mut [u64],
     entries: &mut [u64],
-    row: &[u64],
+    row: &[u64; rows::COLUMNS],
     pool: &[u8],
 ) {
-    let of_pieces = length(counts, rows::PIECES, pieces.len());
-    let of_blocks = length(counts, rows::BLOCKS, blocks.len());
-    let of_store = length(counts, rows::STORE, store.len());
-    let of_nodes = length(counts, rows::NODES, nodes.len());
-    let of_entries = length(counts, rows::ENTRIES, entries.len());
+    let of_pieces = rows::at_most(tally::get(counts, rows::PIECES), pieces.len());
+    let of_blocks = rows::at_most(tally::get(counts, rows::BLOCKS), blocks.len());
+    let of_store = rows::at_most(tally::get(counts, rows::STORE), store.len());
+    let of_nodes = rows::at_most(tally::get(counts, rows::NODES), nodes.len());
+    let of_entries = rows::at_most(tally::get(counts, rows::ENTRIES), entries.len());
     play_lent(
         counts,
         &mut pieces[0..of_pieces],
@@ -225,42 +184,35 @@ fn lend(
     );
 }
 
-// Plays the row at a place, and answers where the next one is, 0 behind the last.
+// Plays a row: the start of a case, with garbage in the tables, or a call.
 fn play_row(
-    counts: &mut [u64],
-    pieces: &mut [u64],
-    blocks: &mut [u64],
-    store: &mut [u8],
-    nodes: &mut [u64],
-    entries: &mut [u64],
+    counts: &mut [u64; rows::COLUMNS],
+    pieces: &mut [u64; crate::PIECES],
+    blocks: &mut [u64; crate::BLOCKS],
+    store: &mut [u8; crate::STORE],
+    nodes: &mut [u64; crate::NODES],
+    entries: &mut [u64; crate::ENTRIES],
+    row: &[u64; rows::COLUMNS],
     pool: &[u8],
-    data: &[u8],
-    at: usize,
-) -> usize {
-    let mut row = [0; rows::COLUMNS];
-    let next = input::read_row(data, at, &mut row);
-    let code = rows::get(&row, rows::CODE);
-    if code == rows::END {
-        return 0;
-    }
+) {
+    let code = rows::get(row, rows::CODE);
     if code <= rows::OWN {
         kept::spoil_all(pieces, blocks, store, nodes, entries);
         counts::count_case(counts, code);
-        return next;
+    } else {
+        counts::count_row(counts, row, code);
+        lend(counts, pieces, blocks, store, nodes, entries, row, pool);
     }
-    counts::lend(counts, &row, code);
-    lend(counts, pieces, blocks, store, nodes, entries, &row, pool);
-    next
 }
 
 // Plays a part: how many bytes its pool has, the pool, the rows.
 pub fn play(
-    counts: &mut [u64],
-    pieces: &mut [u64],
-    blocks: &mut [u64],
-    store: &mut [u8],
-    nodes: &mut [u64],
-    entries: &mut [u64],
+    counts: &mut [u64; rows::COLUMNS],
+    pieces: &mut [u64; crate::PIECES],
+    blocks: &mut [u64; crate::BLOCKS],
+    store: &mut [u8; crate::STORE],
+    nodes: &mut [u64; crate::NODES],
+    entries: &mut [u64; crate::ENTRIES],
     data: &[u8],
 ) {
     let head = input::number_at(data, 0);
@@ -268,22 +220,14 @@ pub fn play(
     let start = head.next;
     let pool = tables::part(data, start as u64, many);
     let mut at = plain::skip(data, start, many);
+    let mut row = [0; rows::COLUMNS];
     let mut left = ROWS;
     while 0 < left {
-        at = play_row(
-            counts,
-            pieces,
-            blocks,
-            store,
-            nodes,
-            entries,
-            pool,
-            data,
-            at,
-        );
-        if at == 0 {
+        at = input::read_row(data, at, &mut row);
+        if rows::get(&row, rows::CODE) == rows::END {
             return;
         }
+        play_row(counts, pieces, blocks, store, nodes, entries, &row, pool);
         left -= 1;
     }
 }

@@ -22,15 +22,15 @@ const BLOCK_DESTROYED: usize = 7;
 
 const BLOCK_START: usize = 8;
 
-const TICK: usize = 2;
+pub const TICK: usize = 2;
 
-const START: usize = 3;
+pub const START: usize = 3;
 
-const END: usize = 4;
+pub const END: usize = 4;
 
-const FIND_ROOM: usize = 5;
+pub const FIND_ROOM: usize = 5;
 
-const FIND_COUNT: usize = 6;
+pub const FIND_COUNT: usize = 6;
 
 const FIND_VISITED: usize = 7;
 
@@ -55,11 +55,11 @@ const CLOCK_CELL: usize = 2;
 const CLOCK_LABEL: usize = 3;
 
 // The most numbers of an answer, and cells of a window.
-const ANSWER: usize = 64;
+pub const ANSWER: usize = 64;
 
 const WINDOW: usize = 64;
 
-fn tell_given(told: &mut [u64], given: Given) {
+fn tell_given(told: &mut [u64; rows::COLUMNS], given: Given) {
     match given {
         Given::Block {
             kind,
@@ -86,9 +86,9 @@ pub fn block(
     store: &[u8],
     nodes: &[u64],
     entries: &[u64],
-    row: &[u64],
+    row: &[u64; rows::COLUMNS],
     pool: &[u8],
-    told: &mut [u64],
+    told: &mut [u64; rows::COLUMNS],
 ) {
     let number = rows::get(row, BLOCK_NUMBER);
     let given = index::block(pieces, blocks, store, nodes, entries, number);
@@ -99,7 +99,7 @@ pub fn block(
     rows::must(told, check::same(bytes, right));
 }
 
-fn tell_found(told: &mut [u64], found: Found) {
+fn tell_found(told: &mut [u64; rows::COLUMNS], found: Found) {
     match found {
         Found::Listed { count, visited } => {
             rows::tell(told, FIND_COUNT, count);
@@ -109,7 +109,12 @@ fn tell_found(told: &mut [u64], found: Found) {
     }
 }
 
-fn tell_listed(told: &mut [u64], row: &[u64], pool: &[u8], answer: &[u64; ANSWER]) {
+pub fn tell_listed(
+    told: &mut [u64; rows::COLUMNS],
+    row: &[u64; rows::COLUMNS],
+    pool: &[u8],
+    answer: &[u64; ANSWER],
+) {
     let start = rows::get(row, FIND_LISTED);
     let right = tables::part(pool, start, rows::get(row, FIND_COUNT));
     rows::must(told, alike::is_listed(answer, right));
@@ -121,9 +126,9 @@ pub fn find(
     store: &[u8],
     nodes: &[u64],
     entries: &[u64],
-    row: &[u64],
+    row: &[u64; rows::COLUMNS],
     pool: &[u8],
-    told: &mut [u64],
+    told: &mut [u64; rows::COLUMNS],
 ) {
     let mut answer = [alike::UNTOUCHED as u64; ANSWER];
     let room = rows::get(row, FIND_ROOM) as usize;
@@ -151,7 +156,7 @@ pub fn find(
 }
 
 // How many cells must be shown.
-fn shown(row: &[u64]) -> u64 {
+fn shown(row: &[u64; rows::COLUMNS]) -> u64 {
     let start = rows::get(row, START);
     let end = rows::get(row, END);
     if rows::get(row, rows::REFUSAL) != 0 {
@@ -163,7 +168,7 @@ fn shown(row: &[u64]) -> u64 {
     end - start
 }
 
-fn tell_read(told: &mut [u64], read: Read) {
+fn tell_read(told: &mut [u64; rows::COLUMNS], read: Read) {
     match read {
         Read::Filled => {}
         Read::Refused(n) => rows::tell(told, rows::REFUSAL, n),
@@ -171,8 +176,8 @@ fn tell_read(told: &mut [u64], read: Read) {
 }
 
 fn tell_cells(
-    told: &mut [u64],
-    row: &[u64],
+    told: &mut [u64; rows::COLUMNS],
+    row: &[u64; rows::COLUMNS],
     pool: &[u8],
     bytes: &[u8; WINDOW],
     held: &[u8; WINDOW],
@@ -190,9 +195,9 @@ pub fn cells(
     store: &[u8],
     nodes: &[u64],
     entries: &[u64],
-    row: &[u64],
+    row: &[u64; rows::COLUMNS],
     pool: &[u8],
-    told: &mut [u64],
+    told: &mut [u64; rows::COLUMNS],
 ) {
     let mut bytes = [alike::UNTOUCHED; WINDOW];
     let mut held = [alike::UNTOUCHED; WINDOW];
@@ -222,14 +227,19 @@ pub fn cells(
     tell_cells(told, row, pool, &bytes, &held);
 }
 
-fn tell_written(told: &mut [u64], written: Written) {
+fn tell_written(told: &mut [u64; rows::COLUMNS], written: Written) {
     match written {
         Written::Bytes(many) => rows::tell(told, WRITE_LENGTH, many),
         Written::Refused(n) => rows::tell(told, rows::REFUSAL, n),
     }
 }
 
-fn tell_file(told: &mut [u64], row: &[u64], pool: &[u8], out: &[u8; damage::FILE]) {
+fn tell_file(
+    told: &mut [u64; rows::COLUMNS],
+    row: &[u64; rows::COLUMNS],
+    pool: &[u8],
+    out: &[u8; damage::FILE],
+) {
     let start = rows::get(row, WRITE_START);
     let right = tables::part(pool, start, rows::get(row, WRITE_LENGTH));
     rows::must(told, alike::is_filled(out, right));
@@ -241,9 +251,9 @@ pub fn write(
     store: &[u8],
     nodes: &[u64],
     entries: &[u64],
-    row: &[u64],
+    row: &[u64; rows::COLUMNS],
     pool: &[u8],
-    told: &mut [u64],
+    told: &mut [u64; rows::COLUMNS],
 ) {
     let mut out = [alike::UNTOUCHED; damage::FILE];
     let room = rows::get(row, WRITE_ROOM) as usize;
@@ -257,7 +267,7 @@ pub fn write(
     tell_file(told, row, pool, &out);
 }
 
-pub fn clock(row: &[u64], told: &mut [u64]) {
+pub fn clock(row: &[u64; rows::COLUMNS], told: &mut [u64; rows::COLUMNS]) {
     rows::tell(
         told,
         CLOCK_LABEL,

@@ -1,5 +1,7 @@
 // A row of the stored list (tools/stored.py): sixteen numbers, of which the first two are the same for all. Each call names its others beside it:
 // arguments, then what must come. What came is told in a copy of the row, which is then the same.
+ghost use Prim.Native.Nat.{_≤_};
+
 pub const COLUMNS: usize = 16;
 
 // What the row is.
@@ -50,25 +52,31 @@ pub const LEND: u64 = 12;
 
 pub const DAMAGED: u64 = 13;
 
+pub const TOUCHING: u64 = 14;
+
+pub const NEXT: u64 = 15;
+
+pub const LAST: u64 = 16;
+
 // A column of a row.
-pub fn get(row: &[u64], col: usize) -> u64 {
+pub fn get(row: &[u64; COLUMNS], col: usize) -> u64 {
     tables::get(row, 0, col)
 }
 
 // Tells what came in a column.
-pub fn tell(told: &mut [u64], col: usize, value: u64) {
+pub fn tell(told: &mut [u64; COLUMNS], col: usize, value: u64) {
     tables::put(told, 0, col, value);
 }
 
 // Tells what no column can say: where it is not so, the row is another.
-pub fn must(told: &mut [u64], so: bool) {
+pub fn must(told: &mut [u64; COLUMNS], so: bool) {
     if !so {
         tell(told, CODE, END);
     }
 }
 
 // What is told before a call: the row as if the call were taken.
-pub fn start(told: &mut [u64], row: &[u64]) {
+pub fn start(told: &mut [u64; COLUMNS], row: &[u64; COLUMNS]) {
     let mut col = 0;
     while col < COLUMNS {
         tell(told, col, get(row, col));
@@ -77,7 +85,7 @@ pub fn start(told: &mut [u64], row: &[u64]) {
     tell(told, REFUSAL, 0);
 }
 
-pub fn is_same(told: &[u64], row: &[u64]) -> bool {
+pub fn is_same(told: &[u64; COLUMNS], row: &[u64; COLUMNS]) -> bool {
     let mut col = 0;
     while col < COLUMNS {
         if get(told, col) != get(row, col) {
@@ -86,4 +94,14 @@ pub fn is_same(told: &[u64], row: &[u64]) -> bool {
         col += 1;
     }
     true
+}
+
+// A length that is lent, at most that of what there is.
+pub fn at_most(wanted: u64, most: usize) -> usize
+    ensures { λ r. ⌜ r ≤ most ⌝ }
+{
+    if wanted < most as u64 {
+        return wanted as usize;
+    }
+    most
 }

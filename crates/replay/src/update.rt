@@ -48,22 +48,27 @@ pub const PIECES: usize = 64;
 
 const SCRATCH: usize = PIECES * tables::ROW + 7;
 
+// The number of a refused opening, 0 of one that is taken.
+fn opened(answer: Opened) -> u64 {
+    match answer {
+        Opened::Opened => 0,
+        Opened::Refused(n) => n,
+    }
+}
+
 pub fn open(
     pieces: &mut [u64],
     blocks: &mut [u64],
     store: &[u8],
     nodes: &mut [u64],
     entries: &mut [u64],
-    row: &[u64],
-    told: &mut [u64],
+    row: &[u64; rows::COLUMNS],
+    told: &mut [u64; rows::COLUMNS],
 ) {
     let kind = rows::get(row, OPEN_KIND) % 256;
     let end_tick = rows::get(row, OPEN_END);
     let answer = Index::open(pieces, blocks, store, nodes, entries, end_tick, kind as u8);
-    match answer {
-        Opened::Opened => {}
-        Opened::Refused(n) => rows::tell(told, rows::REFUSAL, n),
-    }
+    rows::tell(told, rows::REFUSAL, opened(answer));
 }
 
 // By how much a number has grown.
@@ -74,6 +79,14 @@ fn growth(before: u64, after: u64) -> u64 {
     after - before
 }
 
+// The number of a refused operation, 0 of one that is taken.
+fn recorded(answer: Recorded) -> u64 {
+    match answer {
+        Recorded::Accepted => 0,
+        Recorded::Refused(n) => n,
+    }
+}
+
 // The store use shows whether an operation was taken as a read, or as an update whose bytes entered the store.
 pub fn record(
     pieces: &mut [u64],
@@ -81,17 +94,15 @@ pub fn record(
     store: &mut [u8],
     nodes: &[u64],
     entries: &[u64],
-    lent: usize,
-    row: &[u64],
+    lent: u64,
+    row: &[u64; rows::COLUMNS],
     pool: &[u8],
-    told: &mut [u64],
+    told: &mut [u64; rows::COLUMNS],
 ) {
     let start = rows::get(row, RECORD_START);
     let bytes = tables::part(pool, start, rows::get(row, RECORD_LENGTH));
     let scratch = [0; SCRATCH];
-    if SCRATCH < lent {
-        return;
-    }
+    let room = rows::at_most(lent, SCRATCH);
     let before = block_table::used(blocks);
     let answer = index::record_op(
         pieces,
@@ -99,24 +110,32 @@ pub fn record(
         store,
         nodes,
         entries,
-        &scratch[0..lent],
+        &scratch[0..room],
         rows::get(row, RECORD_TICK),
         rows::get(row, RECORD_FIRST),
         bytes,
     );
     let used = block_table::used(blocks);
     rows::tell(told, RECORD_GROWTH, growth(before, used));
-    match answer {
-        Recorded::Accepted => {}
-        Recorded::Refused(n) => rows::tell(told, rows::REFUSAL, n),
-    }
+    rows::tell(told, rows::REFUSAL, recorded(answer));
 }
 
 // How many blocks, nodes and entries a closed index has.
-fn tell_counts(told: &mut [u64], blocks: &[u64], nodes: &[u64], entries: &[u64]) {
-    rows::tell(told, FINISH_BLOCKS, block_table::count(blocks));
-    rows::tell(told, FINISH_NODES, tables::get(nodes, 0, node::COUNT));
-    rows::tell(told, FINISH_ENTRIES, tables::get(entries, 0, entry::COUNT));
+fn tell_finished(
+    told: &mut [u64; rows::COLUMNS],
+    blocks: &[u64],
+    nodes: &[u64],
+    entries: &[u64],
+    answer: Finished,
+) {
+    match answer {
+        Finished::Finished => {
+            rows::tell(told, FINISH_BLOCKS, block_table::count(blocks));
+            rows::tell(told, FINISH_NODES, tables::get(nodes, 0, node::COUNT));
+            rows::tell(told, FINISH_ENTRIES, tables::get(entries, 0, entry::COUNT));
+        }
+        Finished::Refused(n) => rows::tell(told, rows::REFUSAL, n),
+    }
 }
 
 pub fn finish(
@@ -125,21 +144,23 @@ pub fn finish(
     store: &[u8],
     nodes: &mut [u64],
     entries: &mut [u64],
-    told: &mut [u64],
+    told: &mut [u64; rows::COLUMNS],
 ) {
     let answer = index::finalize(pieces, blocks, store, nodes, entries);
-    match answer {
-        Finished::Finished => tell_counts(told, blocks, nodes, entries),
-        Finished::Refused(n) => rows::tell(told, rows::REFUSAL, n),
-    }
+    tell_finished(told, blocks, nodes, entries, answer);
 }
 
 // Where a load ended, and what the index has.
-fn tell_loaded(told: &mut [u64], blocks: &[u64], next: u64) {
-    rows::tell(told, LOAD_NEXT, next);
-    rows::tell(told, LOAD_END, block_table::end(blocks));
-    rows::tell(told, LOAD_KIND, block_table::kind(blocks));
-    rows::tell(told, LOAD_BLOCKS, block_table::count(blocks));
+fn tell_loaded(told: &mut [u64; rows::COLUMNS], blocks: &[u64], answer: Loaded) {
+    match answer {
+        Loaded::Next(next) => {
+            rows::tell(told, LOAD_NEXT, next as u64);
+            rows::tell(told, LOAD_END, block_table::end(blocks));
+            rows::tell(told, LOAD_KIND, block_table::kind(blocks));
+            rows::tell(told, LOAD_BLOCKS, block_table::count(blocks));
+        }
+        Loaded::Refused(n) => rows::tell(told, rows::REFUSAL, n),
+    }
 }
 
 pub fn load(
@@ -148,16 +169,13 @@ pub fn load(
     store: &mut [u8],
     nodes: &mut [u64],
     entries: &mut [u64],
-    row: &[u64],
+    row: &[u64; rows::COLUMNS],
     pool: &[u8],
-    told: &mut [u64],
+    told: &mut [u64; rows::COLUMNS],
 ) {
     let start = rows::get(row, LOAD_START);
     let file = tables::part(pool, start, rows::get(row, LOAD_LENGTH));
     let at = rows::get(row, LOAD_AT) as usize;
     let answer = spacetime_file::deserialize(pieces, blocks, store, nodes, entries, file, at);
-    match answer {
-        Loaded::Next(next) => tell_loaded(told, blocks, next as u64),
-        Loaded::Refused(n) => rows::tell(told, rows::REFUSAL, n),
-    }
+    tell_loaded(told, blocks, answer);
 }

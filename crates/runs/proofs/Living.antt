@@ -1,7 +1,6 @@
 -- The blocks that are live at a tick of a closed index, from its tables. Assumes nothing.
 use mathlib.Core.Path.{_≡_, refl, ap, sym, _∙_}
-use mathlib.Core.Bool.{Bool, true, false, cond, false≢true}
-use mathlib.Core.Option.{Option, none, some}
+use mathlib.Core.Bool.{Bool, true, false, cond}
 use mathlib.Core.List.{List}
 use Prim.Native.Nat.{ℕ, suc, _+_, _≤_, _<_}
 use native.Mathlib.Omega.{arith}
@@ -11,25 +10,22 @@ use Rattle.lists.specs.Lists.{All, Mem, count}
 use Rattle.lists.proofs.Lists.{all-map}
 use Rattle.lists.proofs.Counting.{mem-count, count-mem}
 use Rattle.history.specs.Words.{Block, ends, live, size, firstCell}
-use Rattle.history.specs.Tree.{Tree, noBlock, blockAt, keyIn, entriesIn}
+use Rattle.history.specs.Tree.{noBlock, blockAt, keyIn}
 use Rattle.history.specs.Find.{path}
 use Rattle.history.specs.Rules.{Apart}
-use Rattle.history.specs.Ledger.{Ledger, finished, isSome}
-use Rattle.history.specs.Sound.{Sound, SoundTree, SoundClosed}
-use Rattle.history.proofs.RulesLaws.{rule23-decides, numbered-decides}
-use Rattle.history.proofs.FindMet.{path-met}
-use Rattle.history.proofs.ByKind.{closed-rule-23}
+use Rattle.history.specs.Ledger.{Ledger, finished}
+use Rattle.history.specs.Sound.{Sound}
 use Rattle.tables.specs.Columns.{blockColumn, headEnd, headCount}
 use Rattle.block_table.specs.Blocks.{firstCellAt, blockOfRow, lengthAt, offsetAt}
-use Rattle.block_table.proofs.Blocks.{blocks-at, blocks-key, bytes-length}
-use Rattle.segment_table.specs.Closed.{Closed, firstCellIn}
+use Rattle.block_table.proofs.Blocks.{blocks-at, bytes-length}
 use Rattle.segment_near.specs.declared.Side.{Side}
 use Rattle.segment_near.specs.declared.Neighbour.{Neighbour}
 use Rattle.segment_near.specs.Neighbours.{Neighbours, NearestLive}
 use Rattle.segment_near.proofs.Agreeing.{nearest-model}
 use Rattle.layout.specs.Tables.{Tables, tables, headAt, treeTables}
-use Rattle.layout.specs.Encodes.{Encodes, TreeIn}
+use Rattle.layout.specs.Encodes.{Encodes}
 use Rattle.layout.proofs.Pieces.{used-fits}
+use Rattle.layout.proofs.Trees.{tree-known}
 use Rattle.runs.specs.Runs.{ClosedAt}
 
 -- ── what the tables say of a block ──
@@ -82,35 +78,22 @@ unlisted : (list : List ℕ) (k : ℕ) (b : Bool) → count k list ≡ cond b 1 
 unlisted list k true e m = refl
 unlisted list k false e m = absurd (omega (arith, mem-count m))
 
-module _ (t : Tables) (l : Ledger) (e : Encodes t l) (s : Sound l) (tick : ℕ) (before : tick < l .opening .end) where
-  tree-living : (tree : Tree) → Closed (treeTables t) (l .opening .kind) (l .opening .end) tree → SoundClosed l tree
-      → Living (t .blocks) (t .store) (t .nodes) (t .entries) (l .opening .kind) tick (l .now .blocks)
-  tree-living tree closed sound =
-      let bs = l .now .blocks in
-      let rule-23 = closed-rule-23 l tree (s .board) sound in
-      let rule = rule23-decides (l .opening .end) bs tree .yes rule-23 in
-      let meets : (k : ℕ) → count k (path tick 0 (l .opening .end) tree) ≡ cond (live tick (blockAt (l .now .blocks) k)) 1 0 =
-      λ k. path-met (l .opening .end) bs tree (sound .rule-21) rule-23 (all-map (λ b x. x .by-end) (s .board .blocks)) tick k before in
-      let keys : All (λ j. keyIn (l .now .blocks) j ≡ firstCellIn (t .blocks) j) (entriesIn tree) =
-      all-map (λ j h. rw (e .blocks) (blocks-key (t .store) (t .blocks) (headAt t headCount) j (omega (arith, e .count)))) (numbered-decides (length bs) tree .yes (rule .numbers)) in
-      record {
-        list = path tick 0 (l .opening .end) tree;
-        met = λ k h. listed (path tick 0 (l .opening .end) tree) k (live tick (blockAt bs k)) (meets k) h;
-        lives = λ k m. unlisted (path tick 0 (l .opening .end) tree) k (live tick (blockAt bs k)) (meets k) m;
-        apart = sound .rule-24;
-        filled = all-map (λ b x. x .stretch .some-cell) (s .board .blocks);
-        near = λ side place n.
-            nearest-model (treeTables t) (l .opening .kind) (l .opening .end) bs tree closed (omega (arith, s .board .some-tick)) (rule .order) keys tick side place
-            (rw (e .end) at n);
-        row = λ k h. row-known t l e k h;
-      }
-
-  pub living-in : finished l ≡ true → Living (t .blocks) (t .store) (t .nodes) (t .entries) (l .opening .kind) tick (l .now .blocks)
-  living-in done = go (l .tree) done (e .tree) (s .closed)
-    where
-      go : (x : Option Tree) → isSome x ≡ true → TreeIn t l x → SoundTree l x → Living (t .blocks) (t .store) (t .nodes) (t .entries) (l .opening .kind) tick (l .now .blocks)
-      go none q a b = absurd (false≢true q)
-      go (some tree) q a b = tree-living tree (a .1) b
+living-in : (t : Tables) (l : Ledger) → Encodes t l → Sound l → (tick : ℕ) → tick < l .opening .end → finished l ≡ true
+    → Living (t .blocks) (t .store) (t .nodes) (t .entries) (l .opening .kind) tick (l .now .blocks)
+living-in t l e s tick before done =
+    let bs = l .now .blocks in
+    let k = tree-known t l e s done in
+    let way = path tick 0 (l .opening .end) (k .tree) in
+    record {
+      list = way;
+      met = λ j h. listed way j (live tick (blockAt bs j)) (k .met tick j before) h;
+      lives = λ j m. unlisted way j (live tick (blockAt bs j)) (k .met tick j before) m;
+      apart = k .apart;
+      filled = all-map (λ b x. x .stretch .some-cell) (s .board .blocks);
+      near = λ side place n.
+          nearest-model (treeTables t) (l .opening .kind) (l .opening .end) bs (k .tree) (k .closed) (k .some-tick) (k .order) (k .keys) tick side place (rw (e .end) at n);
+      row = λ j h. row-known t l e j h;
+    }
 
 pub living : {blocks store nodes entries : List ℕ} {kind tick : ℕ} {l : Ledger} → ClosedAt blocks store nodes entries kind tick l
     → Living blocks store nodes entries kind tick (l .now .blocks)

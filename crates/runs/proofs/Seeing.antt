@@ -66,7 +66,7 @@ module _ (bs : List Block) (t : ℕ) (apart : Apart bs) (filled : All (λ (b : B
       record { born = w .0; alive = w .1; has = record { from = h; below = below } }
 
   -- two that hold one cell are one
-  one-holds : (j k c : ℕ) → j < length bs → k < length bs → Holds t c (blockAt bs j) → Holds t c (blockAt bs k) → j ≡ k
+  pub one-holds : (j k c : ℕ) → j < length bs → k < length bs → Holds t c (blockAt bs j) → Holds t c (blockAt bs k) → j ≡ k
   one-holds j k c hj hk a b =
       elim (lt-or-le j k) [
         | inl h ↦ absurd (pairs-at noBlock apart j k h hk t c a b)
@@ -74,9 +74,9 @@ module _ (bs : List Block) (t : ℕ) (apart : Apart bs) (filled : All (λ (b : B
       ]
 
   -- of two that both have a cell of the larger first cell, neither is another
-  same : (j k : ℕ) → live t (blockAt bs j) ≡ true → live t (blockAt bs k) ≡ true → keyIn bs j < ends (blockAt bs k .stretch)
+  pub meet-same : (j k : ℕ) → live t (blockAt bs j) ≡ true → live t (blockAt bs k) ≡ true → keyIn bs j < ends (blockAt bs k .stretch)
       → keyIn bs k < ends (blockAt bs j .stretch) → j ≡ k
-  same j k a b p q =
+  meet-same j k a b p q =
       elim (le-or-lt (keyIn bs j) (keyIn bs k)) [
         | inl h ↦ one-holds j k (keyIn bs k) (live-number j a) (live-number k b) (holds j (keyIn bs k) a h q) (holds k (keyIn bs k) b (omega arith) (some-cell k b))
         | inr h ↦ one-holds j k (keyIn bs j) (live-number j a) (live-number k b) (holds j (keyIn bs j) a (omega arith) (some-cell j a)) (holds k (keyIn bs j) b (omega arith) p)
@@ -88,7 +88,7 @@ module _ (bs : List Block) (t : ℕ) (apart : Apart bs) (filled : All (λ (b : B
     passed = λ j a h.
         elim (le-or-lt (ends (blockAt bs j .stretch)) (ends (blockAt bs k .stretch))) [
           | inl g ↦ g
-          | inr g ↦ rw (same j k a b h (omega (arith, some-cell k b))) (omega arith)
+          | inr g ↦ rw (meet-same j k a b h (omega (arith, some-cell k b))) (omega arith)
         ];
   }
 
@@ -99,7 +99,7 @@ module _ (bs : List Block) (t : ℕ) (apart : Apart bs) (filled : All (λ (b : B
     passed = λ j a h.
         elim (le-or-lt (ends (blockAt bs j .stretch)) place) [
           | inl g ↦ g
-          | inr g ↦ rw (same j k a b (omega (arith, last j a h, some-cell k b)) (omega (arith, some-cell k b))) ended
+          | inr g ↦ rw (meet-same j k a b (omega (arith, last j a h, some-cell k b)) (omega (arith, some-cell k b))) ended
         ];
   }
 

@@ -1,25 +1,18 @@
 -- For callers: what find's contract says of a closed index whose blocks are known, by the keys of the model. Assumes nothing.
-use mathlib.Core.Path.{_≡_, refl}
+use mathlib.Core.Path.{_≡_}
 use mathlib.Core.Bool.{true}
 use mathlib.Core.List.{List}
 use Prim.Native.Nat.{ℕ, _<_}
-use Rattle.lists.specs.Lists.{All, all-nil, all-cons}
+use Rattle.lists.specs.Lists.{All}
 use Rattle.history.specs.Words as words
 use Rattle.history.specs.Tree.{Tree, keyIn, entriesIn}
-use Rattle.history.specs.Find.{visited, window, find}
+use Rattle.history.specs.Find.{visited, find}
 use Rattle.history.specs.Rules.{sorted}
 use Rattle.history.proofs.FileAlike.{path-all}
 use Rattle.segment_table.specs.Closed.{Tables, Closed, firstCellIn}
-use Rattle.segment_walk.proofs.Agreeing.{closed-rooted}
+use Rattle.segment_walk.proofs.Agreeing.{closed-rooted, window-agree}
 use Rattle.segment_find.specs.declared.Found.{Found}
 use Rattle.segment_find.specs.Listing.{Fills, Finds}
-
--- two keys that agree on the entries
-module _ (key key′ : ℕ → ℕ) where
-  pub window-agree : (s e : ℕ) {xs : List ℕ} → All (λ k. key k ≡ key′ k) xs → window key s e xs ≡ window key′ s e xs
-  unfolding window
-  window-agree s e all-nil = refl
-  window-agree s e (all-cons p ps) = rw (p, window-agree s e ps)
 
 -- ── a closed index whose blocks are known ──
 

@@ -1,4 +1,3 @@
-pub mod Windows
 pub mod Extending
 pub mod Searching
 pub mod Agreeing

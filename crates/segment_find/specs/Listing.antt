@@ -12,20 +12,13 @@ use Rattle.history.specs.Find.{path, visited, window}
 use Rattle.segment_table.specs.Closed.{firstCellIn}
 use Rattle.segment_walk.specs.declared.walk.Node.{Node}
 use Rattle.segment_walk.specs.declared.rows.Rows.{Rows}
-use Rattle.segment_find.specs.declared.Query.{Query}
+use Rattle.segment_walk.specs.declared.walk.Query.{Query}
 use Rattle.segment_find.specs.declared.Found.{Found}
 use Rattle.segment_find.specs.declared.Found.the-variants.{Listed, TooSmall}
 use Rattle.segment_walk.specs.Walking.{Stands, Rooted}
-use Rattle.segment_walk.specs.Rowing.{RunOf, tableRows, rowsAt, blocksIn}
+use Rattle.segment_walk.specs.Rowing.{tableRows, blocksIn}
 
--- ── rows in the window ──
-
--- r is the part of a node's rows whose keys are in [start, stop)
-pub record InWindow (nodes entries : List ℕ) (link start stop : ℕ) (r : Rows) : Type 0 where
-  pub order : r .from ≤ r .to
-  pub room : r .to ≤ tableRows entries
-  pub lists : (blocks xs : List ℕ) → RunOf blocks entries (rowsAt nodes entries link) xs
-      → blocksIn entries r ≡ window (firstCellIn blocks) start stop xs
+-- ── rows written ──
 
 -- the block numbers of rows go into the answer from place `at` on
 pub record Extends (entries : List ℕ) (rows : Rows) (answer : List ℕ) (at : ℕ) (answer′ : List ℕ) : Type 0 where

@@ -3,36 +3,19 @@
 // history does.
 //
 //   specs/Listing      what find answers, and what it leaves in the answer
-//   proofs/Windows     the rows of a node in the window; Extending, Searching: the returns and loops
+//   proofs/Extending   the returns and the loop of the writing; Searching: the returns of the way down and back
 //   proofs/Agreeing    for callers: by the blocks of the model
-ghost use Rattle.segment_find.specs.Listing.{InWindow, Extends, Searched, Finds};
+ghost use Rattle.segment_find.specs.Listing.{Extends, Searched, Finds};
 use segment_walk::rows;
 use segment_walk::rows::Rows;
 use segment_walk::walk;
 use segment_walk::walk::Node;
-
-// What find is asked: the blocks live at a tick whose first cell is in [start, stop).
-pub struct Query {
-    pub tick: u64,
-    pub start: u64,
-    pub stop: u64,
-}
+use segment_walk::walk::Query;
 
 // How many blocks are listed, and how many nodes were visited; or that the lent answer does not hold them.
 pub enum Found {
     Listed { count: usize, visited: usize },
     TooSmall,
-}
-
-// The rows of a node whose key is in [start, stop). The second search begins where the first one ended.
-fn in_window(nodes: &[u64], entries: &[u64], link: u64, start: u64, stop: u64) -> Rows
-    ensures { λ r. ⌜ InWindow (now (nodes .entry)) (now (entries .entry)) link start stop r ⌝ }
-{
-    let rows = rows::rows_of(nodes, entries, link);
-    let to = rows.to;
-    let from = rows::lower(entries, rows, start);
-    let past = rows::lower(entries, Rows { from, to }, stop);
-    Rows { from, to: past }
 }
 
 // Writes the block numbers of the rows to the answer, from place `at` on, if there is room for them.
@@ -80,7 +63,7 @@ fn search(
             visited: 0,
         };
     }
-    let rows = in_window(nodes, entries, node.link, query.start, query.stop);
+    let rows = rows::in_window(nodes, entries, node.link, query.start, query.stop);
     let many = rows.to - rows.from;
     if answer.len() < many {
         return Found::TooSmall;

@@ -3,7 +3,7 @@ use crate::Index;
 use crate::blocks;
 use crate::scan;
 use segment_find::Found;
-use segment_find::Query;
+use segment_walk::walk::Query;
 use tables::block;
 
 const WINDOWS: u64 = 6;

@@ -1,7 +1,7 @@
 // Plain scans of all rows: what the answers are compared with.
 use crate::blocks;
 use crate::numbers;
-use segment_find::Query;
+use segment_walk::walk::Query;
 use tables::block;
 use tables::node;
 

@@ -4,11 +4,12 @@ use mathlib.Core.Bool.{true}
 use mathlib.Core.List.{List, _++_}
 use Prim.Native.Nat.{ℕ, _<_}
 use native.Mathlib.Omega.{arith}
-use Rattle.lists.specs.Lists.{All}
+use Rattle.lists.specs.Lists.{All, all-nil, all-cons}
 use Rattle.lists.proofs.Lists.{all-left, all-right, all-at, pairs-at, pairs-of-at}
 use Rattle.lists.proofs.Numbers.{decided}
 use Rattle.history.specs.Words as words
 use Rattle.history.specs.Tree.{Tree, hole, node, keyIn, entriesIn}
+use Rattle.history.specs.Find.{window}
 use Rattle.history.specs.Rules.{ascends, sorted}
 use Rattle.history.proofs.RulesLaws.{ascends-decides, sorted-node, sorted-here, sorted-left, sorted-right}
 use Rattle.segment_table.specs.Closed.{Tables, Closed, firstCellIn}
@@ -30,6 +31,11 @@ module _ (key key′ : ℕ → ℕ) where
       sorted-node key′ es l r (ascends-agree es (all-left es (entriesIn l ++ entriesIn r) same) (sorted-here key es l r up))
       (sorted-agree l (all-left (entriesIn l) (entriesIn r) below) (sorted-left key es l r up))
       (sorted-agree r (all-right (entriesIn l) (entriesIn r) below) (sorted-right key es l r up))
+
+  pub window-agree : (s e : ℕ) {xs : List ℕ} → All (λ k. key k ≡ key′ k) xs → window key s e xs ≡ window key′ s e xs
+  unfolding window
+  window-agree s e all-nil = refl
+  window-agree s e (all-cons p ps) = rw (p, window-agree s e ps)
 
 -- ── a closed index whose blocks are known ──
 

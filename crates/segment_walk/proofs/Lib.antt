@@ -1,4 +1,5 @@
 pub mod Halving
 pub mod Parting
 pub mod Rowing
+pub mod Windows
 pub mod Agreeing

@@ -1,4 +1,4 @@
--- The rows of a node's entries in the tables, and the first of them from a key on. Definitions alone.
+-- The rows of a node's entries in the tables, the first of them from a key on, and those in a window. Definitions alone.
 use mathlib.Core.Path.{_≡_}
 use mathlib.Core.Bool.{cond}
 use mathlib.Core.List.{List}
@@ -6,6 +6,7 @@ use Prim.Native.Nat.{ℕ, _+_, _-_, _/_, _≤_, _<_}
 use lib.ListN.{length}
 use lib.Dec.{leb}
 use Rattle.history.specs.Lent.{entryWidth, entryHead}
+use Rattle.history.specs.Find.{window}
 use Rattle.tables.specs.Columns.{entryColumn, entryKey}
 use Rattle.segment_table.specs.Closed.{firstAt, countAt, blockIn, firstCellIn, run}
 use Rattle.segment_walk.specs.declared.rows.Rows.{Rows}
@@ -52,3 +53,14 @@ pub record Parts (entries : List ℕ) (rows : Rows) (x r : ℕ) : Type 0 where
 pub record Lower (entries : List ℕ) (rows : Rows) (x r : ℕ) : Type 0 where
   pub inside : rows .from ≤ rows .to → (rows .from ≤ r) × (r ≤ rows .to)
   pub parts : rows .to ≤ tableRows entries → Ordered entries rows → Parts entries rows x r
+
+-- ── rows in a window ──
+
+-- r is the part of a node's rows whose keys are in [start, stop)
+pub record InWindow (nodes entries : List ℕ) (link start stop : ℕ) (r : Rows) : Type 0 where
+  pub order : r .from ≤ r .to
+  pub room : r .to ≤ tableRows entries
+  pub low : rowsAt nodes entries link .from ≤ r .from
+  pub high : r .to ≤ rowsAt nodes entries link .to
+  pub lists : (blocks xs : List ℕ) → RunOf blocks entries (rowsAt nodes entries link) xs
+      → blocksIn entries r ≡ window (firstCellIn blocks) start stop xs

@@ -3,6 +3,7 @@
 //
 //   walk   specs/Walking   proofs/Halving           the way down by halves
 //   rows   specs/Rowing    proofs/Parting, Rowing   a node's rows, and binary search in them
+//                          proofs/Windows           its rows in a window
 //          proofs/Agreeing                          for callers: by the blocks of the model
 
 pub mod rows;

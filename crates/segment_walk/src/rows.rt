@@ -1,6 +1,6 @@
-// The rows of a node's entries, which ascend by key, and the first of them from a key on.
+// The rows of a node's entries, which ascend by key, the first of them from a key on, and those in a window.
 ghost use mathlib.Core.Path.{_≡_};
-ghost use Rattle.segment_walk.specs.Rowing.{rowsAt, Lower};
+ghost use Rattle.segment_walk.specs.Rowing.{rowsAt, Lower, InWindow};
 
 // Rows of the entry table, [from, to).
 pub struct Rows {
@@ -45,4 +45,15 @@ pub fn lower(entries: &[u64], rows: Rows, key: u64) -> usize
         }
     }
     lo
+}
+
+// The rows of a node whose key is in [start, stop). The second search begins where the first one ended.
+pub fn in_window(nodes: &[u64], entries: &[u64], link: u64, start: u64, stop: u64) -> Rows
+    ensures { λ r. ⌜ InWindow (now (nodes .entry)) (now (entries .entry)) link start stop r ⌝ }
+{
+    let rows = rows_of(nodes, entries, link);
+    let to = rows.to;
+    let from = lower(entries, rows, start);
+    let past = lower(entries, Rows { from, to }, stop);
+    Rows { from, to: past }
 }

@@ -10,6 +10,13 @@ pub struct Node {
     pub max: u64,
 }
 
+// What is asked on the way: the blocks live at a tick whose first cell is in [start, stop).
+pub struct Query {
+    pub tick: u64,
+    pub start: u64,
+    pub stop: u64,
+}
+
 // The root of a kind.
 pub fn root(nodes: &[u64], kind: u64, end: u64) -> Node
     ensures { λ r. ⌜ r ≡ rootAt (now (nodes .entry)) kind end ⌝ }

@@ -4,7 +4,7 @@ use Prim.Native.Nat.{ℕ}
 use borrow.Author.Tests.{ne-eqb}
 use Rattle.history.specs.Refusals.{Answer, accepted, refused}
 use Rattle.servercape.specs.Numbers.{answerOf, ByNumber}
-use Rattle.servercape.proofs.Positive.{open-positive, record-positive, finish-positive, block-positive, find-positive, cells-positive, write-positive}
+use Rattle.servercape.proofs.Positive.{open-positive, record-positive, finish-positive, block-positive, find-positive, touching-positive, next-positive, last-positive, cells-positive, write-positive}
 use Rattle.servercape.proofs.PositiveLoad.{load-positive}
 
 -- An answer x of the call behind, of which `of` says what it means, was found to be y.
@@ -23,5 +23,17 @@ module _ {A E : Type 0} (of : E → Answer A) {R : Answer A → Type 0} {before 
       record { answered = rw (ne-eqb n 0 some) here; kept = λ _. refl }
 
 -- what is left to find: what y means, and that no refusal of the call is 0
-pub ruleset numbers =
-    (refl, open-positive, record-positive, finish-positive, block-positive, find-positive, cells-positive, write-positive, load-positive)
+pub ruleset numbers = (
+  refl,
+  open-positive,
+  record-positive,
+  finish-positive,
+  block-positive,
+  find-positive,
+  touching-positive,
+  next-positive,
+  last-positive,
+  cells-positive,
+  write-positive,
+  load-positive,
+)

@@ -10,13 +10,13 @@ use borrow.Author.Tests.{ltb-true}
 use Rattle.lists.proofs.Numbers.{and-left, and-right}
 use Rattle.history.specs.Words.{Operation}
 use Rattle.history.specs.Ledger.{Ledger}
-use Rattle.history.specs.Reads.{findBy, cellsBy}
-use Rattle.history.specs.Refusals.{Answer, accepted, refused, Refusal, firstOf, openRefusals, recordRefusals, finishRefusals, windowRefusals, blockRefusals, writeRefusals}
+use Rattle.history.specs.Reads.{findBy, touchingBy, nextBy, lastBy, cellsBy}
+use Rattle.history.specs.Refusals.{Answer, accepted, refused, Refusal, firstOf, openRefusals, recordRefusals, finishRefusals, windowRefusals, neighbourRefusals, blockRefusals, writeRefusals}
 use Rattle.history.specs.File.{fileBy}
 use Rattle.layout.specs.Tables.{Tables}
 use Rattle.layout.specs.Formed.{WellFormed, WellFormedForFinish}
 use Rattle.layout.specs.Reads.{valuesOf, ReadBy}
-use Rattle.layout.specs.Relations.{openingOf, OpenedBy, RecordedBy, FinishedBy, FoundBy, BlockGivenBy}
+use Rattle.layout.specs.Relations.{openingOf, OpenedBy, RecordedBy, FinishedBy, FoundBy, TouchedBy, NextGivenBy, LastGivenBy, BlockGivenBy}
 use Rattle.layout.specs.Files.{WrittenBy}
 use Rattle.cells.specs.Answers.{CellsReadBy}
 
@@ -80,6 +80,21 @@ pub find-positive : {t : Tables} {tick start stop : ℕ} {out out′ : List ℕ}
 unfolding windowRefusals positive
 find-positive {tick = tick} {start} {stop} told =
     read-positive _ (λ x h. h .answered) (λ l. first-positive (windowRefusals l tick start stop _) (findBy l tick start stop) refl) (told .read)
+
+pub touching-positive : {t : Tables} {tick start stop : ℕ} {out out′ : List ℕ} → TouchedBy t tick start stop out out′ (refused 0) → ⊥
+unfolding windowRefusals positive
+touching-positive {tick = tick} {start} {stop} told =
+    read-positive _ (λ x h. h .answered) (λ l. first-positive (windowRefusals l tick start stop _) (touchingBy l tick start stop) refl) (told .read)
+
+pub next-positive : {t : Tables} {tick cell : ℕ} → NextGivenBy t tick cell (refused 0) → ⊥
+unfolding neighbourRefusals positive
+next-positive {tick = tick} {cell} told =
+    read-positive _ (λ x h. h .answered) (λ l. first-positive (neighbourRefusals l tick) (nextBy l tick cell) refl) (told .read)
+
+pub last-positive : {t : Tables} {tick cell : ℕ} → LastGivenBy t tick cell (refused 0) → ⊥
+unfolding neighbourRefusals positive
+last-positive {tick = tick} {cell} told =
+    read-positive _ (λ x h. h .answered) (λ l. first-positive (neighbourRefusals l tick) (lastBy l tick cell) refl) (told .read)
 
 pub cells-positive : {t : Tables} {tick start stop : ℕ} {bytes bytes′ held held′ : List ℕ} → CellsReadBy t tick start stop bytes bytes′ held held′ (refused 0) → ⊥
 unfolding windowRefusals positive

@@ -4,7 +4,7 @@ use mathlib.Core.Bool.{cond}
 use Prim.Native.Nat.{ℕ}
 use lib.Dec.{eqb}
 use Rattle.history.specs.Refusals.{Answer, accepted, refused}
-use Rattle.layout.specs.Relations.{Counts, Fields}
+use Rattle.layout.specs.Relations.{Counts, Near, Fields}
 
 -- 0 is accepted, and gives the values handed out; any other number is that refusal
 unfoldable pub answerOf : {A : Type 0} → (number : ℕ) → A → Answer A
@@ -19,6 +19,9 @@ pub record ByNumber {A : Type 0} (relation : Answer A → Type 0) (number : ℕ)
 
 abbrev pub counts : (count visited : ℕ) → Counts
 counts count visited = record { count = count; visited = visited }
+
+abbrev pub near : (found number : ℕ) → Near
+near found number = record { found = found; number = number }
 
 abbrev pub fields : (kind first length created destroyed offset : ℕ) → Fields
 fields kind first length created destroyed offset =

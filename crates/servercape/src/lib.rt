@@ -8,12 +8,12 @@ ghost use mathlib.Core.Path.{_≡_};
 ghost use lib.ListN.{length};
 ghost use Rattle.history.specs.Reads.{clockLabel};
 ghost use Rattle.layout.specs.Tables.{tables};
-ghost use Rattle.layout.specs.Relations.{OpenedBy, RecordedBy, FinishedBy, BlockGivenBy, FoundBy};
+ghost use Rattle.layout.specs.Relations.{OpenedBy, RecordedBy, FinishedBy, BlockGivenBy, FoundBy, TouchedBy, NextGivenBy, LastGivenBy};
 ghost use Rattle.layout.specs.Files.{WrittenBy, LoadedBy};
 ghost use Rattle.index_record.specs.Calls.{operation};
 ghost use Rattle.cells.specs.Answers.{CellsReadBy};
 ghost use Rattle.lengths.specs.Lengths.{lengthFor};
-ghost use Rattle.servercape.specs.Numbers.{ByNumber, counts, fields};
+ghost use Rattle.servercape.specs.Numbers.{ByNumber, counts, near, fields};
 use cells::Read;
 use file_load::Loaded;
 use file_write::Written;
@@ -23,6 +23,8 @@ use index::Given;
 use index::Index;
 use index::Opened;
 use index_record::Recorded;
+use touching::Nearest;
+use touching::Touching;
 
 // How many numbers (of the store: bytes) to lend for so many rows: table 0 pieces, 1 blocks, 2 store, 3 nodes, 4 entries, 5 scratch. 0 where that is no
 // 64-bit number, and for any other table.
@@ -193,6 +195,110 @@ pub extern "C" fn servercape_find(
             0
         }
         Found::Refused(number) => number,
+    }
+}
+
+// The live blocks that hold a cell of [start, end) at a tick, ascending by first cell: their numbers go into the lent answer.
+#[no_mangle]
+pub extern "C" fn servercape_touching(
+    pieces: &[u64],
+    blocks: &[u64],
+    store: &[u8],
+    nodes: &[u64],
+    entries: &[u64],
+    tick: u64,
+    start: u64,
+    end: u64,
+    answer: &mut [u64],
+    count: &mut u64,
+) -> u64
+    ensures { λ r. ⌜ ByNumber (TouchedBy
+        (tables (now (pieces .entry)) (now (blocks .entry)) (now (store .entry)) (now (nodes .entry)) (now (entries .entry))) tick start end
+        (now (answer .entry)) (now (answer .exit))) r (now (count .entry)) (now (count .exit)) ⌝ }
+{
+    let touched = touching::touching(
+        pieces,
+        blocks,
+        store,
+        nodes,
+        entries,
+        tick,
+        start,
+        end,
+        answer,
+    );
+    match touched {
+        Touching::Listed(listed) => {
+            *count = listed;
+            0
+        }
+        Touching::Refused(number) => number,
+    }
+}
+
+// The first live block that starts at the cell or after it: 1 and its number, or 0 and 0 where there is none.
+#[no_mangle]
+pub extern "C" fn servercape_next(
+    pieces: &[u64],
+    blocks: &[u64],
+    store: &[u8],
+    nodes: &[u64],
+    entries: &[u64],
+    tick: u64,
+    cell: u64,
+    found: &mut u64,
+    number: &mut u64,
+) -> u64
+    ensures { λ r. ⌜ ByNumber (NextGivenBy
+        (tables (now (pieces .entry)) (now (blocks .entry)) (now (store .entry)) (now (nodes .entry)) (now (entries .entry))) tick cell) r
+        (near (now (found .entry)) (now (number .entry))) (near (now (found .exit)) (now (number .exit))) ⌝ }
+{
+    let nearest = touching::next(pieces, blocks, store, nodes, entries, tick, cell);
+    match nearest {
+        Nearest::Block(block) => {
+            *found = 1;
+            *number = block;
+            0
+        }
+        Nearest::Missing => {
+            *found = 0;
+            *number = 0;
+            0
+        }
+        Nearest::Refused(refusal) => refusal,
+    }
+}
+
+// The last live block whose cells are all below the cell: 1 and its number, or 0 and 0 where there is none.
+#[no_mangle]
+pub extern "C" fn servercape_last(
+    pieces: &[u64],
+    blocks: &[u64],
+    store: &[u8],
+    nodes: &[u64],
+    entries: &[u64],
+    tick: u64,
+    cell: u64,
+    found: &mut u64,
+    number: &mut u64,
+) -> u64
+    ensures { λ r. ⌜ ByNumber (LastGivenBy
+        (tables (now (pieces .entry)) (now (blocks .entry)) (now (store .entry)) (now (nodes .entry)) (now (entries .entry))) tick cell) r
+        (near (now (found .entry)) (now (number .entry))) (near (now (found .exit)) (now (number .exit))) ⌝ }
+{
+    let nearest = touching::last(pieces, blocks, store, nodes, entries, tick, cell);
+    match nearest {
+        Nearest::Block(block) => {
+            *found = 1;
+            *number = block;
+            0
+        }
+        Nearest::Missing => {
+            *found = 0;
+            *number = 0;
+            0
+        }
+        Nearest::Refused(refusal) => refusal,
     }
 }
 

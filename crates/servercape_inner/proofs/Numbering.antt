@@ -19,10 +19,14 @@ use Rattle.index_finish.specs.declared.Finished.the-variants.{Finished as IsFin
 use Rattle.segment_find.specs.Listing.{Finds}
 use Rattle.segment_find.specs.declared.Found.{Found}
 use Rattle.segment_find.specs.declared.Found.the-variants.{Listed, TooSmall}
+use Rattle.touching_read.specs.Answers.{touchingOf}
+use Rattle.touching_read.specs.Reads.{TouchingClosed}
+use Rattle.touching_read.specs.declared.Touching.{Touching}
+use Rattle.touching_read.specs.declared.Touching.the-variants.{Listed as Touched, Refused as TouchingRefused}
 use Rattle.file_write.specs.Answers.{writtenOf, WrittenClosed}
 use Rattle.file_write.specs.declared.Written.{Written}
 use Rattle.file_write.specs.declared.Written.the-variants.{Bytes, Refused as WriteRefused}
-use Rattle.servercape_inner.specs.Inner.{Told, Numbered, FinishedAs, WrittenAs, PartGiven, columnOr, recordNumber, finishNumber, findNumber, writeNumber}
+use Rattle.servercape_inner.specs.Inner.{Told, Numbered, FinishedAs, TouchedAs, WrittenAs, PartGiven, columnOr, recordNumber, finishNumber, findNumber, touchingNumber, writeNumber}
 
 -- ── the test ──
 
@@ -85,6 +89,15 @@ module _ {n e : List ℕ} {kind end kind′ end′ tick start stop : ℕ} {a a�
   find-small z = record { answer = x; holds = rw (k, l) at told; is = sym (ap findNumber z) }
 
 pub ruleset finding = (find-listed, find-small)
+
+module _ {b n e : List ℕ} {tick start stop : ℕ} {a a′ : List ℕ} {x : Touching} (told : TouchingClosed b n e tick start stop a a′ (touchingOf x)) where
+  pub touching-listed : {m : ℕ} → x ≡ Touched m → TouchedAs b n e tick start stop a a′ m
+  touching-listed z = record { answer = x; holds = told; is = sym (ap touchingNumber z) }
+
+  pub touching-refused : {m : ℕ} → x ≡ TouchingRefused m → TouchedAs b n e tick start stop a a′ 18446744073709551615
+  touching-refused z = record { answer = x; holds = told; is = sym (ap touchingNumber z) }
+
+pub ruleset touching = (touching-listed, touching-refused)
 
 module _ {b s n e o o′ : List ℕ} {x : Written} (told : WrittenClosed b s n e o o′ (writtenOf x)) where
   pub write-bytes : {m : ℕ} → x ≡ Bytes m → WrittenAs b s n e o o′ m

@@ -16,6 +16,10 @@ use Rattle.index_finish.specs.declared.Finished.{Finished}
 use Rattle.index_finish.specs.declared.Finished.the-variants.{Finished as IsFinished, Refused as FinishRefused}
 use Rattle.segment_find.specs.declared.Found.{Found}
 use Rattle.segment_find.specs.declared.Found.the-variants.{Listed, TooSmall}
+use Rattle.touching_read.specs.Answers.{touchingOf}
+use Rattle.touching_read.specs.Reads.{TouchingClosed}
+use Rattle.touching_read.specs.declared.Touching.{Touching}
+use Rattle.touching_read.specs.declared.Touching.the-variants.{Listed as Touched, Refused as TouchingRefused}
 use Rattle.file_write.specs.Answers.{writtenOf, WrittenClosed}
 use Rattle.file_write.specs.declared.Written.{Written}
 use Rattle.file_write.specs.declared.Written.the-variants.{Bytes, Refused as WriteRefused}
@@ -54,6 +58,15 @@ pub record FinishedAs (pieces blocks nodes entries pieces′ blocks′ nodes′ 
 abbrev pub findNumber : Found → ℕ
 findNumber (Listed count visited) = count
 findNumber TooSmall = 2 ^ 64 - 1
+
+abbrev pub touchingNumber : Touching → ℕ
+touchingNumber (Touched count) = count
+touchingNumber (TouchingRefused n) = 2 ^ 64 - 1
+
+pub record TouchedAs (blocks nodes entries : List ℕ) (tick start stop : ℕ) (out out′ : List ℕ) (r : ℕ) : Type 0 where
+  pub answer : Touching
+  pub holds : TouchingClosed blocks nodes entries tick start stop out out′ (touchingOf answer)
+  pub is : r ≡ touchingNumber answer
 
 abbrev pub writeNumber : Written → ℕ
 writeNumber (Bytes n) = n

@@ -1,16 +1,17 @@
-// For the benchmark: the test behind refusal 2, and record, finish, block by number, find and write without it. Beside the calls of `servercape` they show
+// For the benchmark: the test behind refusal 2, and record, finish, block by number, find, touching and write without it. Beside the calls of `servercape` they show
 // what the test takes. Each is the inner call behind a public one, at a number that stands for its answer (specs/Inner).
 ghost use Rattle.tables.specs.Columns.{blockColumn, headEnd, headKind};
 ghost use Rattle.layout.specs.Tables.{tables};
 ghost use Rattle.index_record.specs.Calls.{operation, RecordedOpen};
 ghost use Rattle.segment_find.specs.Listing.{Finds};
-ghost use Rattle.servercape_inner.specs.Inner.{Told, Numbered, FinishedAs, WrittenAs, PartGiven, recordNumber, findNumber};
+ghost use Rattle.servercape_inner.specs.Inner.{Told, Numbered, FinishedAs, TouchedAs, WrittenAs, PartGiven, recordNumber, findNumber};
 use file_write::Written;
 use index_finish::Finished;
 use index_record::Recorded;
 use index_test::State;
 use segment_find::Found;
 use tables::block;
+use touching_read::Touching;
 
 // 0 not well formed, 1 open, 2 closed.
 #[no_mangle]
@@ -106,6 +107,26 @@ pub extern "C" fn servercape_inner_find(
     match found {
         Found::Listed { count, visited: _ } => count as u64,
         Found::TooSmall => u64::MAX,
+    }
+}
+
+// Touching on a closed index: how many it lists, 2^64 - 1 where it refuses.
+#[no_mangle]
+pub extern "C" fn servercape_inner_touching(
+    blocks: &[u64],
+    nodes: &[u64],
+    entries: &[u64],
+    tick: u64,
+    start: u64,
+    end: u64,
+    answer: &mut [u64],
+) -> u64
+    ensures { λ r. ⌜ TouchedAs (now (blocks .entry)) (now (nodes .entry)) (now (entries .entry)) tick start end (now (answer .entry)) (now (answer .exit)) r ⌝ }
+{
+    let touched = touching_read::touching_closed(blocks, nodes, entries, tick, start, end, answer);
+    match touched {
+        Touching::Listed(count) => count,
+        Touching::Refused(_) => u64::MAX,
     }
 }
 

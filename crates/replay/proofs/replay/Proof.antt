@@ -1,4 +1,4 @@
--- `replay::replay` ends: the parts still to be read fall, and the tables keep their lengths. Assumes nothing.
+-- `replay::replay` ends: the parts still to be read fall. Assumes nothing.
 use mathlib.Core.Path.{_≡_}
 use lib.ListN.{length}
 use borrow.Author.Needs.{needs}
@@ -6,11 +6,13 @@ use Rattle.replay.proofs.replay.Statement.{statement}
 use Rattle.replay.proofs.replay.Tie as tie
 
 abbrev Inv-loop : tie.InvT-loop
-Inv-loop counts₀ pieces₀ blocks₀ store₀ nodes₀ entries₀ part₀ left₀ counts pieces blocks store nodes entries part left = (length counts ≡ length counts₀) × (length pieces ≡ length pieces₀) × (length blocks ≡ length blocks₀) × (length store ≡ length store₀) × (length nodes ≡ length nodes₀) × (length entries ≡ length entries₀) × (length part ≡ length part₀)
+Inv-loop counts₀ pieces₀ blocks₀ store₀ nodes₀ entries₀ part₀ left₀ counts pieces blocks store nodes entries part left =
+    length part ≡ 65536
 
 abbrev μ-loop : tie.MeasureT-loop
-μ-loop counts₀ pieces₀ blocks₀ store₀ nodes₀ entries₀ part₀ left₀ counts pieces blocks store nodes entries part left = left
+μ-loop counts₀ pieces₀ blocks₀ store₀ nodes₀ entries₀ part₀ left₀ counts pieces blocks store nodes entries part left =
+    left
 
 pub replay-spec : {M : Type 1} → statement M
 replay-spec =
-    tie.close (tie.spec Inv-loop μ-loop (λ c. search needs) (λ c κs. search needs) (λ c. search needs) (λ c. search needs) (λ c. search needs) (λ c. search needs) (λ c. search needs) (λ c. search needs) (λ c. search needs) (λ c. search needs) (λ c κs. search needs) (λ c. search needs) (λ c. search needs) (λ c. search needs) (λ c. search needs) (λ c. search needs) (λ c. search needs) (λ c. search needs) (λ c. search needs) (λ c. search needs) (λ c. search needs) (λ c. search needs))
+    tie.close (tie.spec Inv-loop μ-loop (λ c. search needs) (λ c. search needs) (λ c κs. search needs) (λ c. search needs) (λ c. search needs) (λ c κs. search needs) (λ c. search needs) (λ c. search needs) (λ c. search needs) (λ c. search needs))

@@ -12,7 +12,7 @@ use Rattle.segment_find.proofs.+search.Lts-search as search-lts
 use Rattle.segment_find.proofs.extend_from_self.Reads as extend-from-self-reads
 use Rattle.segment_walk.proofs.walk.absent.Reads as absent-reads
 use Rattle.segment_walk.proofs.walk.half.Reads as half-reads
-use Rattle.segment_find.proofs.in_window.Reads as in-window-reads
+use Rattle.segment_walk.proofs.rows.in_window.Reads as in-window-reads
 use Rattle.segment_find.proofs.+search.{statement}
 use Rattle.segment_find.proofs.+search.Tie.{close}
 

@@ -1,18 +1,16 @@
--- `replay::play::play` ends: the rows still to be played fall, and the tables keep their lengths. Assumes nothing.
-use mathlib.Core.Path.{_≡_}
-use lib.ListN.{length}
+-- `replay::play::play` ends: the rows still to be played fall. Assumes nothing.
 use borrow.Author.Needs.{needs}
 use Rattle.replay.proofs.play.play.Statement.{statement}
 use Rattle.replay.proofs.play.play.Tie as tie
 
 abbrev Inv-loop : tie.InvT-loop
-Inv-loop counts₀ pieces₀ blocks₀ store₀ nodes₀ entries₀ «data» many start pool at₀ left₀ counts pieces blocks store nodes entries at left =
-    (length counts ≡ length counts₀) × (length pieces ≡ length pieces₀) × (length blocks ≡ length blocks₀) × (length store ≡ length store₀) × (length nodes ≡ length nodes₀) × (length entries ≡ length entries₀)
+Inv-loop counts₀ pieces₀ blocks₀ store₀ nodes₀ entries₀ «data» many start pool at₀ row₀ left₀ counts pieces blocks store nodes entries at row left =
+    Unit {0}
 
 abbrev μ-loop : tie.MeasureT-loop
-μ-loop counts₀ pieces₀ blocks₀ store₀ nodes₀ entries₀ «data» many start pool at₀ left₀ counts pieces blocks store nodes entries at left =
+μ-loop counts₀ pieces₀ blocks₀ store₀ nodes₀ entries₀ «data» many start pool at₀ row₀ left₀ counts pieces blocks store nodes entries at row left =
     left
 
 pub play-spec : {M : Type 1} → statement M
 play-spec =
-    tie.close (tie.spec Inv-loop μ-loop (λ c κs. search needs) (λ c κs. search needs) (λ c κs. search needs) (λ c. search needs) (λ c κs. search needs) (λ c. search needs) (λ c. search needs) (λ c. search needs) (λ c. search needs) (λ c. search needs) (λ c. search needs) (λ c. search needs) (λ c. search needs) (λ c. search needs) (λ c. search needs) (λ c. search needs) (λ c. search needs) (λ c. search needs) (λ c. search needs) (λ c. search needs) (λ c. search needs) (λ c. search needs))
+    tie.close (tie.spec Inv-loop μ-loop (λ c κs. search needs) (λ c κs. search needs) (λ c κs. search needs) (λ c. search needs) (λ c κs. search needs) (λ c κs. search needs) (λ c. search needs) (λ c κs. search needs) (λ c. search needs) (λ c. search needs) (λ c. search needs) (λ c. search needs))

@@ -10,10 +10,9 @@ use Rattle.history.proofs.Within.{within-low, within-in, within-high}
 use Rattle.history.proofs.FindOrder.{window-append}
 use Rattle.segment_table.specs.Closed.{run, blockIn, firstCellIn}
 use Rattle.segment_table.proofs.Closed.{run-split}
-use Rattle.segment_walk.proofs.Rowing.{rows-inside}
 use Rattle.segment_walk.specs.declared.rows.Rows.{Rows}
-use Rattle.segment_walk.specs.Rowing.{tableRows, rowsAt, blocksIn, keyAt, RunOf, Parts, Lower}
-use Rattle.segment_find.specs.Listing.{InWindow}
+use Rattle.segment_walk.specs.Rowing.{tableRows, rowsAt, blocksIn, keyAt, RunOf, Parts, Lower, InWindow}
+use Rattle.segment_walk.proofs.Rowing.{rows-inside}
 
 -- ── windows ──
 
@@ -37,7 +36,13 @@ in-window nodes entries link start stop a b rows e p q =
     let in-table : (rows .from ≤ rows .to) × (rows .to ≤ tableRows entries) = rw e (rows-inside nodes entries link) in
     let ia = p .inside (in-table .0) in
     let ib = q .inside (ia .1) in
-    record { order = ib .0; room = omega arith; lists = λ blocks xs own. part blocks xs (rw (← e) at own) ia ib }
+    record {
+      order = ib .0;
+      room = omega arith;
+      low = rw (← e) (ia .0);
+      high = rw (← e) (ib .1);
+      lists = λ blocks xs own. part blocks xs (rw (← e) at own) ia ib;
+    }
   where
     part : (blocks xs : List ℕ) → RunOf blocks entries rows xs → (rows .from ≤ a) × (a ≤ rows .to) → (a ≤ b) × (b ≤ rows .to)
         → run entries a (b - a) ≡ window (firstCellIn blocks) start stop xs

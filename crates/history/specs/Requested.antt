@@ -1,0 +1,97 @@
+-- The boards to try of document 02, request by request. `requested_boards` makes it part of the build that every one comes out as it must.
+use mathlib.Core.Path.{_≡_}
+use mathlib.Core.Option.{none, some}
+use mathlib.Core.List.{List, [], _∷_, map}
+use Prim.Native.Nat.{ℕ, _-_, _^_}
+use lib.ListN.{replicate}
+use Rattle.history.specs.Refusals.{accepted, refused}
+use Rattle.history.specs.Calls.{finishCall}
+use Rattle.history.specs.Boards.{Fact, touching, neighbour, _is_, Board, whatFind, whatTouching, whatNext, whatLast, played, expected, ample, on, op, listed, listing}
+
+-- ── Item 1 ──
+
+abbrev touched : List ℕ → Fact
+touched ks = touching (accepted ks)
+
+abbrev number : ℕ → Fact
+number k = neighbour (accepted (some k))
+
+abbrev missing : Fact
+missing = neighbour (accepted none)
+
+unfoldable pub touchingBoards : List Board
+touchingBoards =
+    -- the listing: what ends at the start does not touch, an empty window touches nothing, even inside a block, and the list goes by cell, not by number;
+    -- 14, 15 and 16 in their order, and 14 alone of a neighbour
+    record {
+      opening = on 8 ample;
+      calls = listing;
+      cases = whatTouching 6 101 103 2 is touched (2 ∷ 3 ∷ [])
+          ∷ whatTouching 6 102 105 3 is touched (3 ∷ 4 ∷ 5 ∷ [])
+          ∷ whatTouching 6 101 101 0 is touched []
+          ∷ whatTouching 2 0 200 2 is touched (2 ∷ 0 ∷ [])
+          ∷ whatTouching 8 1 0 0 is touching (refused 14)
+          ∷ whatTouching 7 1 0 0 is touching (refused 15)
+          ∷ whatTouching 7 1 1 0 is touched []
+          ∷ whatTouching 6 101 103 1 is touching (refused 16)
+          ∷ whatNext 6 101 is number 3
+          ∷ whatNext 6 102 is number 3
+          ∷ whatNext 6 105 is missing
+          ∷ whatNext 8 1 is neighbour (refused 14)
+          ∷ whatLast 6 101 is missing
+          ∷ whatLast 6 102 is number 2
+          ∷ whatLast 6 103 is number 3
+          ∷ whatLast 8 1 is neighbour (refused 14)
+          ∷ [];
+    }
+    -- 1432 to 1445, through midnight: who asks from 1440 on is told of the train that came before
+    ∷ record {
+      opening = on 8 ample;
+      calls = op 0 1432 (replicate 14 9) ∷ finishCall ∷ [];
+      cases = whatFind 5 1440 1450 9 is listed [] 1
+          ∷ whatTouching 5 1440 1450 9 is touched (0 ∷ [])
+          ∷ whatTouching 5 1446 1450 9 is touched []
+          ∷ whatLast 5 1445 is missing
+          ∷ whatLast 5 1446 is number 0
+          ∷ [];
+    }
+    -- two writes at one tick: the block of no life, number 0, never shows
+    ∷ record {
+      opening = on 8 ample;
+      calls = op 3 50 (1 ∷ []) ∷ op 3 50 (2 ∷ []) ∷ finishCall ∷ [];
+      cases = whatTouching 3 0 100 2 is touched (1 ∷ []) ∷ whatNext 3 50 is number 1 ∷ whatLast 3 51 is number 1 ∷ whatNext 2 50 is missing ∷ [];
+    }
+    -- the last cell that can be booked; a cell of 2^64 - 1 has no next
+    ∷ record {
+      opening = on 8 ample;
+      calls = op 0 (2 ^ 64 - 2) (1 ∷ []) ∷ finishCall ∷ [];
+      cases = whatTouching 0 (2 ^ 64 - 2) (2 ^ 64 - 1) 1 is touched (0 ∷ [])
+          ∷ whatNext 0 (2 ^ 64 - 2) is number 0
+          ∷ whatNext 0 (2 ^ 64 - 1) is missing
+          ∷ whatLast 0 (2 ^ 64 - 2) is missing
+          ∷ whatLast 0 (2 ^ 64 - 1) is number 0
+          ∷ [];
+    }
+    -- an index without blocks
+    ∷ record {
+      opening = on 8 ample;
+      calls = finishCall ∷ [];
+      cases = whatTouching 0 0 (2 ^ 64 - 1) 0 is touched [] ∷ whatNext 0 0 is missing ∷ whatLast 0 (2 ^ 64 - 1) is missing ∷ [];
+    }
+    -- 4: an open index; 2: tables that cannot hold their heads
+    ∷ record {
+      opening = on 8 ample;
+      calls = op 1 5 (1 ∷ []) ∷ [];
+      cases = whatTouching 9 1 0 0 is touching (refused 4) ∷ whatNext 9 0 is neighbour (refused 4) ∷ whatLast 9 0 is neighbour (refused 4) ∷ [];
+    }
+    ∷ record {
+      opening = on 8 (record { pieces = 7; blocks = 8200; store = 65536; nodes = 8200; entries = 8200 });
+      calls = finishCall ∷ [];
+      cases = whatTouching 9 1 0 0 is touching (refused 2) ∷ whatNext 9 0 is neighbour (refused 2) ∷ whatLast 9 0 is neighbour (refused 2) ∷ [];
+    }
+    ∷ []
+
+-- ── the result ──
+
+pub record RequestedBoards : Type 0 where
+  pub item-1 : map played touchingBoards ≡ map expected touchingBoards

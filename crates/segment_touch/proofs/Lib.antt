@@ -1,0 +1,5 @@
+pub mod Sorting
+pub mod Merging
+pub mod Numbering
+pub mod Searching
+pub mod Agreeing
