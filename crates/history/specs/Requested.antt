@@ -6,7 +6,7 @@ use Prim.Native.Nat.{ℕ, _-_, _^_}
 use lib.ListN.{replicate}
 use Rattle.history.specs.Refusals.{accepted, refused}
 use Rattle.history.specs.Calls.{finishCall}
-use Rattle.history.specs.Boards.{Fact, touching, neighbour, _is_, Board, whatFind, whatTouching, whatNext, whatLast, played, expected, ample, on, op, listed, listing}
+use Rattle.history.specs.Boards.{Fact, touching, neighbour, label, _is_, Board, whatFind, whatTouching, whatNext, whatLast, whatLabel, played, expected, ample, on, op, listed, listing}
 
 -- ── Item 1 ──
 
@@ -91,7 +91,28 @@ touchingBoards =
     }
     ∷ []
 
+-- ── Item 4 ──
+
+unfoldable pub labelBoards : List Board
+labelBoards =
+    -- both ends of an hour, of a day and of a platform: 2^32 is no multiple of 1,440, so a platform's last minute is 04:15 and the next one starts at 00:00
+    record {
+      opening = on 8 ample;
+      calls = [];
+      cases = whatLabel 0 is label 0
+          ∷ whatLabel 59 is label 59
+          ∷ whatLabel 60 is label 100
+          ∷ whatLabel 1439 is label 2359
+          ∷ whatLabel 1440 is label 0
+          ∷ whatLabel (2 ^ 32 - 1) is label 415
+          ∷ whatLabel (2 ^ 32) is label 0
+          ∷ whatLabel (2 ^ 64 - 1) is label 415
+          ∷ [];
+    }
+    ∷ []
+
 -- ── the result ──
 
 pub record RequestedBoards : Type 0 where
   pub item-1 : map played touchingBoards ≡ map expected touchingBoards
+  pub item-4 : map played labelBoards ≡ map expected labelBoards
