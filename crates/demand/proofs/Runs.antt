@@ -4,16 +4,20 @@ use mathlib.Core.Path.{_≡_, refl, ap, ap₂, sym, _∙_, subst}
 use mathlib.Core.Logic.{inl, inr}
 use mathlib.Core.Bool.{true, false, true≢false, false≢true}
 use mathlib.Core.List.{List, [], _∷_}
-use Prim.Native.Nat.{ℕ, suc, _≤_, _<_}
+use Prim.Native.Nat.{ℕ, suc, _+_, _*_, _≤_, _<_}
 use native.Mathlib.Omega.{arith}
-use lib.ListN.{length}
+use lib.ListN.{length, getD, length-map}
 use borrow.Author.Tests.{le-ltb, lt-ltb}
 use Rattle.lists.proofs.Numbers.{bool-cases}
 use Rattle.history.specs.Words.{Operation, Block}
-use Rattle.history.specs.Lent.{tooShort}
+use Rattle.history.specs.Lent.{rowWidth, tooShort}
 use Rattle.history.specs.Ledger.{Opening, Ledger, opened, finished, isRead, recordBy, finishBy}
 use Rattle.history.specs.Reads.{blockBy, findBy}
-use Rattle.tables.specs.Columns.{blockColumn, blockOffset}
+use Rattle.tables.specs.Columns.{blockColumn, blockOffset, piecesRoot}
+use Rattle.merge_set.specs.Tree.{leaf, rows, height, Balanced}
+use Rattle.merge_set.specs.Table.{Shape}
+use Rattle.piece_table.specs.Piece.{pieceAt}
+use Rattle.piece_table.specs.Shown.{shown}
 use Rattle.history.specs.Refusals.{Answer, accepted, refused, firstOf, maxEndTick, openAnswer, recordRefusals, recordAnswer, finishRefusals, finishAnswer, findAnswer}
 use Rattle.history.specs.Calls.{Call, recordCall, finishCall, answerTo, acceptedBy, leaves, after, answers, afterAll, noted, history}
 use Rattle.history.specs.Sound.{Sound}
@@ -27,8 +31,9 @@ use Rattle.layout.specs.Relations.{openingOf, openedTables, leftBy, OpenedBy, R
 use Rattle.layout.proofs.Recording.{record-blank, record-open}
 use Rattle.layout.specs.Reads.{valuesOf}
 use Rattle.layout.proofs.ReadLaws.{block-there, block-15, window-rest, into-gives, into-refuses}
-use Rattle.layout.proofs.Opening.{open-accepted, opened-encodes, opened-lengths, opened-blank}
-use Rattle.demand.specs.Theorem.{CallDone, Run, run-nil, run-cons, Finished, Demand3}
+use Rattle.layout.proofs.Opening.{open-accepted, getD-zeros, opened-encodes, opened-lengths, opened-blank}
+use Rattle.layout.proofs.Depths.{shallow-trees}
+use Rattle.demand.specs.Theorem.{CallDone, Run, run-nil, run-cons, Finished, Balance, Demand3}
 
 -- ── tables too short ──
 
@@ -61,6 +66,13 @@ short-run {t} l e x (run-cons {t₁} {k = k} {ks} {a} {given} d r) =
       ap₂ (λ (b : Answer Unit) (bs : List (Answer Unit)). b ∷ bs) (one .0 ∙ sym (short-answer l k e)) (rest .0 ∙ ap (λ (m : Ledger). answers m ks) (sym same)),
       ap (λ (m : Ledger). afterAll m ks) same ∙ rest .1,
     )
+
+-- and nothing changes
+short-same : {t t′ : Tables} {ks : List Call} {given : List (Answer Unit)} → tooShort (lengthsOf t) ≡ true → Run t ks given t′ → t′ ≡ t
+short-same e run-nil = refl
+short-same {t} e (run-cons {t₁} {k = k} {a = a} d r) =
+    let one = short-call k t t₁ a e d .1 in
+    short-same (rw one e) r ∙ one
 
 -- ── tables that stand for the ledger ──
 
@@ -158,11 +170,37 @@ finished-reads l h t s done cells = record {
       into-refuses (d .read .formed l (s .encodes) (sound l h t s done)) (find-full l h t s done tick start stop (length out) below ordered room);
 }
 
+-- ── the tree of pieces ──
+
+stands-balanced : (t : Tables) (l : Ledger) → Encodes t l → Balance l t
+stands-balanced t l e = record {
+  tree = e .linked .tree;
+  stands = e .linked .shape;
+  of-pieces = ap length (e .linked .is) ∙ sym (ap length (e .pieces) ∙ length-map (e .links) (λ link. shown (t .store) (pieceAt (t .pieces) link)));
+  balanced = e .linked .balanced;
+  short-ways = shallow-trees t l e (e .linked .tree) (e .linked .shape) .pieces-4096;
+}
+
+-- a table of zeros has no pieces, even where it cannot hold its head
+zeros-balanced : (l : Ledger) (t : Tables) → l .now .pieces ≡ [] → ((i : ℕ) → getD (t .pieces) i 0 ≡ 0) → Balance l t
+unfolding Shape rows height Balanced
+zeros-balanced l t none-left zeros = record {
+  tree = leaf;
+  stands = zeros (rowWidth * 0 + piecesRoot);
+  of-pieces = sym (ap length none-left);
+  balanced = tt;
+  short-ways = λ _. omega arith;
+}
+
 -- ── the demand ──
 
 opened-opening : (a : Opening) → opened a .opening ≡ a
 unfolding opened
 opened-opening a = refl
+
+opened-pieces : (a : Opening) → opened a .now .pieces ≡ []
+unfolding opened
+opened-pieces a = refl
 
 opened-open : (a : Opening) → finished (opened a) ≡ false
 unfolding opened
@@ -203,6 +241,13 @@ module _ (end kind : ℕ) (some-tick : 1 ≤ end) (end-most : end ≤ maxEndTick
         let table : tooShort (lengthsOf t₀) ≡ true = ap tooShort (ap lengthsOf left ∙ sym (opened-lengths end kind t)) ∙ e in
         short-run (opened fed) lent table r
 
+    short-balanced : tooShort (lengthsOf t) ≡ true → Balance (afterAll (opened fed) ks) t′
+    unfolding openedTables
+    short-balanced e =
+        let table : tooShort (lengthsOf t₀) ≡ true = ap tooShort (ap lengthsOf left ∙ sym (opened-lengths end kind t)) ∙ e in
+        let same : t′ ≡ openedTables end kind t = short-same table r ∙ left in
+        zeros-balanced (afterAll (opened fed) ks) t′ (ap (λ (l : Ledger). l .now .pieces) (short e .1) ∙ opened-pieces fed) (λ i. rw same (getD-zeros (length (t .pieces)) i))
+
     short-open : tooShort (lengthsOf t) ≡ true → finished (afterAll (opened fed) ks) ≡ true → ⊥
     short-open e done = false≢true (sym (opened-open fed) ∙ ap finished (sym (short e .1)) ∙ done)
 
@@ -217,6 +262,7 @@ demand end kind a b c t t₀ opening d =
       | inl e ↦ record {
         opens = opens end kind a b c t t₀ opening d;
         answered = λ ks given t′ r. short end kind a b c t t₀ opening d r e .0;
+        balance = λ ks given t′ r. short-balanced end kind a b c t t₀ opening d r e;
         done = λ ks given t′ r done. absurd (short-open end kind a b c t t₀ opening d r e done);
       }
       | inr fits ↦ (
@@ -225,6 +271,7 @@ demand end kind a b c t t₀ opening d =
           record {
             opens = opens end kind a b c t t₀ opening d;
             answered = λ ks given t′ r. runs (opened begun) [] s r .0;
+            balance = λ ks given t′ r. stands-balanced t′ (afterAll (opened begun) ks) (runs (opened begun) [] s r .1 .encodes);
             done = λ ks given t′ r e.
                 finished-reads (afterAll (opened begun) ks) (history [] (opened begun) ks) t′ (runs (opened begun) [] s r .1) e
                 (subst (λ (n : ℕ). Faithful n (afterAll (opened begun) ks .now .blocks) (history [] (opened begun) ks)) (sym (same-end end kind a b c t t₀ opening d ks)) (every-list begun (taken end kind a b c t t₀ opening d) ks .faithful e));

@@ -11,6 +11,9 @@ use Rattle.history.specs.Reads.{blockBy, findBy}
 use Rattle.history.specs.Refusals.{Answer, accepted, refused, maxEndTick}
 use Rattle.history.specs.Calls.{Call, recordCall, finishCall, answers, afterAll, history}
 use Rattle.history.specs.Law.{Faithful, FindLaw}
+use Rattle.tables.specs.Columns.{column, piecesRoot}
+use Rattle.merge_set.specs.Tree.{Tree, rows, height, Balanced}
+use Rattle.merge_set.specs.Table.{Shape}
 use Rattle.layout.specs.Tables.{Tables}
 use Rattle.layout.specs.Relations.{openingOf, OpenedBy, RecordedBy, FinishedBy, Counts, FoundBy, Fields, blockIn, BlockGivenBy}
 
@@ -48,6 +51,17 @@ module _ (l : Ledger) (h : List Operation) (t : Tables) where
     pub no-room : (tick start stop : ℕ) (out out′ : List ℕ) (answer : Answer Counts) → tick < l .opening .end → start ≤ stop
         → FoundBy t tick start stop out out′ answer → length out < length (findBy l tick start stop .numbers) → (answer ≡ refused 16) × (out′ ≡ out)
 
+-- ── the tree of pieces ──
+
+-- The tree of pieces that stands in the tables has the balance of Adelson-Velsky and Landis: at each node the depths of the two sides differ by at most
+-- one. With at most 4,096 pieces no path has more than 16 nodes.
+pub record Balance (l : Ledger) (t : Tables) : Type 0 where
+  pub tree : Tree
+  pub stands : Shape (t .pieces) (column (t .pieces) 0 piecesRoot) tree
+  pub of-pieces : length (rows tree) ≡ length (l .now .pieces)
+  pub balanced : Balanced tree
+  pub short-ways : length (l .now .pieces) ≤ 4096 → height tree ≤ 16
+
 -- ── the demand ──
 
 -- For one opening: the end tick, the kind, and tables of any lengths and contents.
@@ -56,6 +70,8 @@ pub record Demand (end kind : ℕ) (t t₀ : Tables) (opening : Answer Unit) : T
   pub opens : opening ≡ accepted tt
   -- each call gets the answer of the ledger (of tables too short, 2 every time);
   pub answered : (ks : List Call) (given : List (Answer Unit)) (t′ : Tables) → Run t₀ ks given t′ → given ≡ answers (opened (openingOf end kind t)) ks
+  -- after every list of calls the tree of pieces is balanced;
+  pub balance : (ks : List Call) (given : List (Answer Unit)) (t′ : Tables) → Run t₀ ks given t′ → Balance (afterAll (opened (openingOf end kind t)) ks) t′
   -- after an accepted finish all the above.
   pub done : (ks : List Call) (given : List (Answer Unit)) (t′ : Tables) → Run t₀ ks given t′ → finished (afterAll (opened (openingOf end kind t)) ks) ≡ true
       → Finished (afterAll (opened (openingOf end kind t)) ks) (history [] (opened (openingOf end kind t)) ks) t′

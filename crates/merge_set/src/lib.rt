@@ -20,7 +20,8 @@ use tables::piece::RIGHT;
 // No depth reaches this: a sum with one is safe.
 const DEEP: u64 = 1 << 63;
 
-// The rotations that an update may make after an insertion or a removal: one level suffices for the balance.
+// The rotations that an update may make after an insertion or a removal: one level suffices, so that the tree is balanced after every call. It is no leave to
+// stop early: with fewer the balance is lost.
 const TURNS: u64 = 1;
 
 // The depth of the tree at `link`.
