@@ -44,7 +44,8 @@ uint64_t servercape_open(
     uint64_t *entries, size_t entries_length,
     uint64_t end_tick, uint8_t kind);
 
-/* Records an operation: the bytes of the cells from `first` on, at a tick. Of the scratch only the length counts.
+/* Records an operation: the bytes of the cells from `first` on, at a tick. Of the scratch only the length counts. Of an update `updated` is 1 and `cell` the
+   lowest cell that was unknown or had another byte; of a read, which changes no cell, both are 0.
    Refusals 2, 3, 5 to 11. */
 uint64_t servercape_record(
     uint64_t *pieces, size_t pieces_length,
@@ -54,7 +55,8 @@ uint64_t servercape_record(
     const uint64_t *entries, size_t entries_length,
     const uint64_t *scratch, size_t scratch_length,
     uint64_t tick, uint64_t first,
-    const uint8_t *bytes, size_t bytes_length);
+    const uint8_t *bytes, size_t bytes_length,
+    uint64_t *updated, uint64_t *cell);
 
 /* Finishes an index: its blocks can be read, and it takes no more operations.
    Refusals 2, 3, 12, 13. */

@@ -1,11 +1,12 @@
-"""Document 01 and request 1 of document 02 as a plain model: an index that answers the calls of the stored list.
+"""Document 01 and requests 1 and 2 of document 02 as a plain model: an index that answers the calls of the stored list.
 
 Nothing is shared with the crates. Pieces and blocks are lists, the tree is made of Python objects, and the loader reads fields from bytes. A call is a list of
 words and its answer a text, as in the list of the oracle: `open E KIND PIECES SCRATCH BLOCKS STORE NODES ENTRIES`, `record TICK FIRST HEX`, `finish`,
 `load AT BLOCKS STORE NODES ENTRIES HEX`, `block NUMBER`, `find TICK START END ROOM`, `cells TICK START END BYTEROOM HELDROOM`, `write ROOM`, `clock CELL`.
 What is lent is counted in rows; a table of -1 rows cannot hold its head.
 
-Of document 02: `touching TICK START END ROOM`, whose answer is the count and the numbers, and `next TICK CELL` and `last TICK CELL`, with a number or `missing`.
+Of document 02: `touching TICK START END ROOM`, whose answer is the count and the numbers, and `next TICK CELL` and `last TICK CELL`, with a number or `missing`;
+record answers `read`, or `update` with the lowest cell that was unknown or had another byte.
 
 Two more are our own. `scratch ROWS` lends another scratch from there on. `damaged AT BY FROM TO HEX` loads a file into the tables of the load before, once
 for each place from FROM up to TO: cut at that place where BY is 0, else with the byte there raised by BY. Its answer is `NUMBER*MANY` for each run of files
@@ -263,13 +264,17 @@ class Model:
         self.rows["scratch"] = rows
         return ["lent"]
 
-    def is_read(self, first, data):
+    def first_change(self, first, data):
+        """The lowest cell of an operation that is unknown or has another byte; none of a read."""
         known = {}
         for piece in self.pieces:
             if piece.first < first + len(data) and first < piece.end:
                 for cell in range(max(piece.first, first), min(piece.end, first + len(data))):
                     known[cell] = piece.data[cell - piece.first]
-        return all(known.get(first + i) == byte for i, byte in enumerate(data))
+        return next((first + i for i, byte in enumerate(data) if known.get(first + i) != byte), None)
+
+    def is_read(self, first, data):
+        return self.first_change(first, data) is None
 
     def updated(self, tick, first, data):
         """The pieces and the new blocks of an update."""
@@ -295,7 +300,8 @@ class Model:
         refuse(6, first + len(data) > WORD - 1)
         refuse(7, tick >= self.end)
         refuse(8, tick < self.last_tick)
-        if self.is_read(first, data):
+        cell = self.first_change(first, data)
+        if cell is None:
             self.last_tick = tick
             return ["read"]
         pieces, blocks = self.updated(tick, first, data)
@@ -304,7 +310,7 @@ class Model:
         refuse(11, self.used + len(data) > self.rows["store"])
         self.pieces, self.last_tick, self.used = pieces, tick, self.used + len(data)
         self.blocks = self.blocks + blocks
-        return ["update"]
+        return ["update", cell]
 
     def finish(self):
         refuse(2, self.state is None)

@@ -1,7 +1,7 @@
 #!/usr/bin/env python3
 """Makes the stored list that the program `replay` plays: calls with their answers, as its standard input.
 
-  stored.py make VECTORS FILE [ORACLE]   from the oracle's list, the boards of marked.txt and the cases of stored_cases.py and stored_touching.py
+  stored.py make VECTORS FILE [ORACLE]   from the oracle's list, the boards of marked.txt and the own cases (stored_cases.py, _touching.py, _changes.py)
   stored.py show FILE [CASE]             the list, or one case of it, in words; cases count from 1
   stored.py spoil VECTORS FILE           the same cases, each up to a call whose answer is changed: replay must say that one of each differs
   stored.py --test                       tries itself: the model gives every answer of marked.txt, and rows are read as they were written
@@ -16,6 +16,7 @@ import sys
 from board_model import BYTES_LAST, WORD, Model, hexed, unhexed
 from board_oracle import compare
 from stored_cases import Dice, own_cases
+from stored_changes import change_cases
 from stored_rows import (
     BLOCK, CASE, CELLS, CLOCK, DAMAGED, FIND, FINISH, LAST, LOAD, NEXT, OPEN, OWN, PART, RECORD, SCRATCH, TOUCHING, WRITE, Part, line, number, read_number, row,
     rows_of
@@ -99,7 +100,7 @@ class Case:
 
     def record(self, words, answer):
         start, length = self.bytes(words[2])
-        return RECORD, [int(words[0]), int(words[1]), start, length, length if answer == ["update"] else 0]
+        return RECORD, [int(words[0]), int(words[1]), start, length] + ([1, int(answer[1])] if answer[:1] == ["update"] else [])
 
     def finish(self, words, answer):
         return FINISH, list(map(int, answer))
@@ -216,8 +217,17 @@ def modelled(calls):
     return [(call, model.answer(call).split()) for call in calls]
 
 
+def oracle_cases(path):
+    """The cases of the oracle's list with the model's cells: the list says of an update only that it is one."""
+    cases = []
+    for case in vector_cases(path):
+        own = modelled([call for call, _ in case])
+        cases.append([(call, said if answer == ["update"] == said[:1] else answer) for (call, answer), (_, said) in zip(case, own)])
+    return cases
+
+
 def check(cases):
-    """The model gives every answer of the oracle's list."""
+    """The model gives every answer of these cases."""
     for place, case in enumerate(cases):
         for (call, answer), (_, own) in zip(case, modelled([call for call, _ in case])):
             if answer != own:
@@ -236,7 +246,7 @@ def tell(stored, vectors, whole):
 
 
 def own_lists():
-    return [(name, [list(map(str, call)) for call in calls]) for name, calls in own_cases() + touching_cases()]
+    return [(name, [list(map(str, call)) for call in calls]) for name, calls in own_cases() + touching_cases() + change_cases()]
 
 
 def put_out(vectors, own, out):
@@ -252,7 +262,7 @@ def put_out(vectors, own, out):
 
 
 def make(path, out, oracle=None):
-    vectors, marked, own = vector_cases(path), vector_cases(MARKED), own_lists()
+    vectors, marked, own = oracle_cases(path), vector_cases(MARKED), own_lists()
     check(vectors)
     check(marked)
     if oracle:
@@ -292,8 +302,9 @@ def changed(dice, call, answer):
         data = bytearray(unhexed(word))
         data[dice.below(len(data))] ^= 1 << dice.below(8)
         words[place] = hexed(data)
-    elif call == "record":
-        words[place] = "read" if word == "update" else "update"
+    elif word in ("read", "update"):
+        # cell 0 is one that an update may have
+        words = ["read"] if word == "update" else ["update", "0"]
     else:
         words[place] = str((int(word) + 1) % (256 if call in LISTS and place >= LISTS[call] else WORD))
     return words
@@ -309,7 +320,7 @@ def spoiled(dice, case):
 
 def spoil(path, out):
     dice = Dice(1)
-    vectors = [spoiled(dice, case) for case in vector_cases(path)]
+    vectors = [spoiled(dice, case) for case in oracle_cases(path)]
     own = [spoiled(dice, modelled(calls)) for _, calls in own_lists()] + [spoiled(dice, case) for case in vector_cases(MARKED)]
     put_out(vectors, own, out)
 

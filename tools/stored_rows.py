@@ -7,7 +7,8 @@ says where they start. A case stands in one part. A row `damaged` is a load for 
 0, with the byte there raised by so much.
 
 Block numbers that a call lists are bytes in the pool, `length` of them. `touching` has its columns where `find` has them; in place of the nodes visited it has
-0. `next` and `last` have `found`, 1 or 0, and the number, 0 where it is missing. Of a refused call what must come is 0.
+0. `next` and `last` have `found`, 1 or 0, and the number, 0 where it is missing. `record` has `updated`, 1 and the cell of an update, 0 and 0 of a read. Of a
+refused call what must come is 0.
 """
 from board_model import WORD, hexed
 
@@ -21,7 +22,7 @@ COLUMNS = {
     CASE: ["case"],
     OWN: ["own case"],
     OPEN: ["open", "end", "kind"] + [""] * 6 + LENT,
-    RECORD: ["record", "tick", "first", "@bytes", "length", "growth"],
+    RECORD: ["record", "tick", "first", "@bytes", "length", "updated", "cell"],
     FINISH: ["finish", "blocks", "nodes", "entries"],
     BLOCK: ["block", "number", "kind", "first", "length", "created", "destroyed", "@bytes"],
     FIND: ["find", "tick", "start", "end", "room", "length", "visited", "@numbers"],

@@ -116,6 +116,7 @@ impl Tables {
     }
 
     pub fn record(&mut self, tick: u64, first: u64, bytes: &[u8]) -> u64 {
+        let (mut updated, mut cell) = (0, 0);
         unsafe {
             raw::servercape_record(
                 self.pieces.as_mut_ptr(), self.pieces.len(),
@@ -125,6 +126,7 @@ impl Tables {
                 self.entries.as_ptr(), self.entries.len(),
                 self.scratch.as_ptr(), self.scratch.len(),
                 tick, first, bytes.as_ptr(), bytes.len(),
+                &mut updated, &mut cell,
             )
         }
     }

@@ -68,9 +68,29 @@ static void give_back(struct lent x)
     (x).pieces, (x).pieces_length, (x).blocks, (x).blocks_length, (x).store, (x).store_length, (x).nodes, (x).nodes_length, (x).entries,             \
         (x).entries_length
 
-static uint64_t record(struct lent x, uint64_t tick, uint64_t first, const uint8_t *bytes, size_t length)
+/* What record must give: its number and the two values, which stand at 77 before the call. */
+struct told {
+    uint64_t number, updated, cell;
+};
+
+static const struct told a_read = {0, 0, 0};
+
+static struct told update(uint64_t cell)
 {
-    return servercape_record(TABLES(x), x.scratch, x.scratch_length, tick, first, bytes, length);
+    return (struct told){0, 1, cell};
+}
+
+static struct told refusal(uint64_t number)
+{
+    return (struct told){number, 77, 77};
+}
+
+static void record(const char *what, struct lent x, uint64_t tick, uint64_t first, const uint8_t *bytes, size_t length, struct told want)
+{
+    uint64_t updated = 77, cell = 77;
+    same(what, servercape_record(TABLES(x), x.scratch, x.scratch_length, tick, first, bytes, length, &updated, &cell), want.number);
+    same("updated", updated, want.updated);
+    same("its cell", cell, want.cell);
 }
 
 /* ── the listing ── */
@@ -87,14 +107,14 @@ static const struct block listing[] = {
 static void play(struct lent x)
 {
     same("open", servercape_open(TABLES(x), 8, 1), 0);
-    same("op 1", record(x, 1, 100, (const uint8_t[]){7, 7, 7}, 3), 0);
-    same("op 2", record(x, 3, 102, (const uint8_t[]){9, 9, 9}, 3), 0);
-    same("op 3", record(x, 5, 100, (const uint8_t[]){7, 7}, 2), 0);
-    same("op 4", record(x, 6, 103, (const uint8_t[]){4}, 1), 0);
-    same("no cells", record(x, 6, 103, (const uint8_t[]){4}, 0), 5);
-    same("tick at the end", record(x, 8, 103, (const uint8_t[]){4}, 1), 7);
-    same("tick goes back", record(x, 5, 103, (const uint8_t[]){4}, 1), 8);
-    same("last cell", record(x, 6, UINT64_MAX, (const uint8_t[]){4}, 1), 6);
+    record("op 1", x, 1, 100, (const uint8_t[]){7, 7, 7}, 3, update(100));
+    record("op 2", x, 3, 102, (const uint8_t[]){9, 9, 9}, 3, update(102));
+    record("op 3", x, 5, 100, (const uint8_t[]){7, 7}, 2, a_read);
+    record("op 4", x, 6, 103, (const uint8_t[]){4}, 1, update(103));
+    record("no cells", x, 6, 103, (const uint8_t[]){4}, 0, refusal(5));
+    record("tick at the end", x, 8, 103, (const uint8_t[]){4}, 1, refusal(7));
+    record("tick goes back", x, 5, 103, (const uint8_t[]){4}, 1, refusal(8));
+    record("last cell", x, 6, UINT64_MAX, (const uint8_t[]){4}, 1, refusal(6));
 }
 
 static void read_blocks(struct lent x)
@@ -247,7 +267,7 @@ static void midnight(struct lent x)
     const uint8_t train[14] = {9, 9, 9, 9, 9, 9, 9, 9, 9, 9, 9, 9, 9, 9};
     uint64_t answer[1] = {77}, count = 77, visited = 77;
     same("open", servercape_open(TABLES(x), 8, 1), 0);
-    same("a train", record(x, 0, 1432, train, sizeof train), 0);
+    record("a train", x, 0, 1432, train, sizeof train, update(1432));
     same("finish", servercape_finish(TABLES(x)), 0);
     same("find after midnight", servercape_find(TABLES(x), 5, 1440, 1450, answer, 1, &count, &visited), 0);
     same("not found", count, 0);
@@ -265,14 +285,34 @@ static void same_tick(struct lent x)
 {
     uint64_t answer[2] = {77, 77}, count = 77;
     same("open", servercape_open(TABLES(x), 8, 1), 0);
-    same("first write", record(x, 3, 50, (const uint8_t[]){1}, 1), 0);
-    same("second write", record(x, 3, 50, (const uint8_t[]){2}, 1), 0);
+    record("first write", x, 3, 50, (const uint8_t[]){1}, 1, update(50));
+    record("second write", x, 3, 50, (const uint8_t[]){2}, 1, update(50));
     same("finish", servercape_finish(TABLES(x)), 0);
     same("touching both", servercape_touching(TABLES(x), 3, 0, 100, answer, 2, &count), 0);
     same("one is live", count, 1);
     same("the second", answer[0], 1);
     neighbours(x, 3, 50, (const uint64_t[]){1, 1}, missing);
     neighbours(x, 3, 51, missing, (const uint64_t[]){1, 1});
+}
+
+/* The first cell that an operation changes: unknown, or with another byte. */
+static void changes(struct lent x)
+{
+    same("open", servercape_open(TABLES(x), 8, 1), 0);
+    record("two cells", x, 0, 10, (const uint8_t[]){5, 5}, 2, update(10));
+    record("a third", x, 1, 10, (const uint8_t[]){5, 5, 5}, 3, update(12));
+    record("two again", x, 2, 10, (const uint8_t[]){5, 5}, 2, a_read);
+    record("behind a gap", x, 2, 14, (const uint8_t[]){5}, 1, update(14));
+    record("a gap before a difference", x, 3, 10, (const uint8_t[]){5, 5, 5, 5, 6}, 5, update(13));
+    record("the last cell alone", x, 3, 10, (const uint8_t[]){5, 5, 5, 5, 7}, 5, update(14));
+    record("beside it", x, 4, 15, (const uint8_t[]){8, 8}, 2, update(15));
+    record("in the second piece", x, 4, 13, (const uint8_t[]){5, 7, 8, 9}, 4, update(16));
+    record("a zero", x, 5, 20, (const uint8_t[]){0}, 1, update(20));
+    record("a held zero", x, 5, 20, (const uint8_t[]){0}, 1, a_read);
+    record("an unknown cell", x, 5, 20, (const uint8_t[]){0, 0}, 2, update(21));
+    record("cell 0", x, 6, 0, (const uint8_t[]){0}, 1, update(0));
+    record("the last cell", x, 6, UINT64_MAX - 1, (const uint8_t[]){0}, 1, update(UINT64_MAX - 1));
+    record("no room for the bytes", x, 6, 30, x.store, 64, refusal(11));
 }
 
 static void without_blocks(struct lent x)
@@ -314,6 +354,7 @@ static void refused(struct lent x)
     /* the state stands in the head's last row */
     x.blocks[servercape_length(SERVERCAPE_BLOCKS, 0) - 8] = 9;
     same("not well formed", servercape_finish(TABLES(x)), 2);
+    record("record, not well formed", x, 0, 0, (const uint8_t[]){1}, 1, refusal(2));
     same("touching, not well formed", servercape_touching(TABLES(x), UINT64_MAX, 1, 0, x.scratch, 0, &count), 2);
     same("next, not well formed", servercape_next(TABLES(x), UINT64_MAX, 0, &count, &visited), 2);
     same("last, not well formed", servercape_last(TABLES(x), UINT64_MAX, 0, &count, &visited), 2);
@@ -328,6 +369,7 @@ int main(void)
     play(x);
     same("finish", servercape_finish(TABLES(x)), 0);
     same("finished", servercape_finish(TABLES(x)), 3);
+    record("record, finished", x, 7, 0, (const uint8_t[]){1}, 1, refusal(3));
     read_blocks(x);
     read_finds(x);
     read_touching(x);
@@ -336,6 +378,7 @@ int main(void)
     write_and_load(x);
     midnight(x);
     same_tick(x);
+    changes(x);
     without_blocks(x);
     same("clock", servercape_clock((UINT64_C(7) << 32) + 3 * 1440 + 605), 1005);
     give_back(x);

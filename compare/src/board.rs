@@ -1,7 +1,8 @@
 //! A plain reading of document 01: pieces in a list, every cell looked at by itself. It says what the calls must answer, and which operations meet
 //! D1 or D2, where the Rust does something else.
 use crate::tree::Tree;
-use servercape::Room;
+use servercape::{Recorded, Room};
+use std::collections::BTreeMap;
 
 #[derive(Clone, PartialEq, Eq, Debug)]
 pub struct Op {
@@ -175,6 +176,20 @@ impl Board {
     /// How much of each table is in use: pieces, blocks with pieces, bytes.
     pub fn use_now(&self) -> (u64, u64, u64) {
         (self.pieces.len() as u64, (self.blocks.len() + self.pieces.len()) as u64, self.used)
+    }
+}
+
+/// The byte of each known cell, by the operations alone: no pieces.
+#[derive(Default)]
+pub struct Known(BTreeMap<u64, u8>);
+
+impl Known {
+    /// Takes an accepted operation. Document 02, request 2: it is an update from the lowest cell on that was unknown or had another byte, or a read.
+    pub fn record(&mut self, op: &Op) -> Recorded {
+        let cells = || op.bytes.iter().copied().zip(op.first..);
+        let changed = cells().find(|(byte, cell)| self.0.get(cell) != Some(byte));
+        self.0.extend(cells().map(|(byte, cell)| (cell, byte)));
+        changed.map_or(Recorded::Read, |(_, cell)| Recorded::Update { cell })
     }
 }
 

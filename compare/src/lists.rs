@@ -1,9 +1,9 @@
 //! Lists of operations, played by the proved calls, by the plain reading of the document and by the Rust.
-use crate::board::{Block, Board, Closed, Difference, Op};
+use crate::board::{Block, Board, Closed, Difference, Known, Op};
 use crate::file;
 use crate::rust::{Answer, Job, Query, Rust};
 use crate::tally::Tally;
-use servercape::{Index, Kind, Refusal, Room};
+use servercape::{Index, Kind, Recorded, Refusal, Room};
 use std::ops::Range;
 
 #[derive(Clone, Debug)]
@@ -22,7 +22,8 @@ pub const UNBOUNDED: Room = Room { pieces: u64::MAX, blocks: u64::MAX, bytes: u6
 
 /// What must come of a list.
 struct Expected {
-    numbers: Vec<u64>,
+    /// What record says of each operation, or the number of its refusal.
+    recorded: Vec<Result<Recorded, u64>>,
     closed: Result<Closed, u64>,
     /// The accepted operations, and the first of them that meets a difference.
     accepted: Vec<Op>,
@@ -31,20 +32,22 @@ struct Expected {
 
 fn expected(case: &Case) -> Expected {
     let mut board = Board::open(case.end, case.kind, case.room);
-    let (mut numbers, mut accepted, mut meets) = (vec![], vec![], None);
+    let mut known = Known::default();
+    let (mut recorded, mut accepted, mut meets) = (vec![], vec![], None);
     for op in &case.ops {
         let before = board.clone();
         let number = board.record(op);
-        numbers.push(number);
         if number != 0 {
+            recorded.push(Err(number));
             continue;
         }
+        recorded.push(Ok(known.record(op)));
         if meets.is_none() {
             meets = before.meets(op).map(|d| (accepted.len(), d));
         }
         accepted.push(op.clone());
     }
-    Expected { numbers, closed: board.finish(), accepted, meets }
+    Expected { recorded, closed: board.finish(), accepted, meets }
 }
 
 /// How much room a list needs, at its fullest.
@@ -74,16 +77,28 @@ pub fn owned(block: servercape::Block) -> Block {
     Block { first: block.first, created: block.created, destroyed: block.destroyed, bytes: block.bytes.to_vec() }
 }
 
+/// Records an operation and compares with the document: the number of the refusal; else what changed.
+fn recorded(index: &mut Index, op: &Op, want: &Result<Recorded, u64>, tally: &mut Tally, of: &dyn Fn() -> String) {
+    let got = index.record(op.tick, op.first, &op.bytes);
+    tally.same(|| format!("record {op:?} of {}", of()), &number(&got), &want.err().unwrap_or(0));
+    tally.count(1, "operations recorded, the answer compared with the document", 1);
+    match got {
+        Err(refusal) => tally.refused(refusal.number()),
+        Ok(recorded) => {
+            tally.same(|| format!("change by {op:?} of {}", of()), &Some(recorded), &want.ok());
+            match recorded {
+                Recorded::Read => tally.count(8, "reads compared with the document", 1),
+                Recorded::Update { .. } => tally.count(9, "updates compared with the document, by their first changed cell", 1),
+            }
+        }
+    }
+}
+
 /// Plays a list, compares every answer with the document's, and gives the finished index.
 fn played(case: &Case, want: &Expected, tally: &mut Tally) -> Option<Index> {
     let mut index = opened(case);
-    for (op, want) in case.ops.iter().zip(&want.numbers) {
-        let got = number(&index.record(op.tick, op.first, &op.bytes));
-        tally.same(|| format!("record {op:?} of {case:?}"), &got, want);
-        tally.count(1, "operations recorded, the answer compared with the document", 1);
-        if got != 0 {
-            tally.refused(got);
-        }
+    for (op, want) in case.ops.iter().zip(&want.recorded) {
+        recorded(&mut index, op, want, tally, &|| format!("{case:?}"));
     }
     let got = number(&index.finish());
     tally.same(|| format!("finish of {case:?}"), &got, &want.closed.as_ref().err().copied().unwrap_or(0));

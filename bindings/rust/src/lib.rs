@@ -3,7 +3,7 @@
 //!
 //! ```text
 //! let mut index = Index::open(Room::even(1024), 8, Kind::Memory)?;
-//! index.record(1, 100, &[7, 7, 7])?;
+//! if let Recorded::Update { cell } = index.record(1, 100, &[7, 7, 7])? { .. }
 //! index.finish()?;
 //! for block in index.blocks()? { .. }
 //! ```
@@ -50,6 +50,15 @@ impl Room {
     pub fn even(rows: u64) -> Room {
         Room { pieces: rows, blocks: rows, bytes: rows, nodes: rows, entries: rows }
     }
+}
+
+/// What an accepted operation did.
+#[derive(Clone, Copy, PartialEq, Eq, Debug)]
+pub enum Recorded {
+    /// Every cell was known with its byte: nothing changed but the last tick.
+    Read,
+    /// `cell` is the lowest one that was unknown or had another byte.
+    Update { cell: u64 },
 }
 
 /// A block: bytes that some cells held from one tick up to another.
@@ -152,12 +161,14 @@ impl Index {
         Ok(next as usize)
     }
 
-    /// Records the bytes of the cells from `first` on, at a tick. Refusals 3, 5 to 11.
-    pub fn record(&mut self, tick: u64, first: u64, bytes: &[u8]) -> Result<(), Refusal> {
+    /// Records the bytes of the cells from `first` on, at a tick, and says what that changed. Refusals 3, 5 to 11.
+    pub fn record(&mut self, tick: u64, first: u64, bytes: &[u8]) -> Result<Recorded, Refusal> {
+        let (mut updated, mut cell) = (0, 0);
         Refusal::unless_zero(unsafe {
             call!(servercape_record, self, as_mut_ptr as_mut_ptr as_mut_ptr as_ptr as_ptr,
-                self.scratch.as_ptr(), self.scratch.len(), tick, first, bytes.as_ptr(), bytes.len())
-        })
+                self.scratch.as_ptr(), self.scratch.len(), tick, first, bytes.as_ptr(), bytes.len(), &mut updated, &mut cell)
+        })?;
+        Ok(if updated == 1 { Recorded::Update { cell } } else { Recorded::Read })
     }
 
     /// Finishes the index: it can be read from now on, and takes no more operations. Refusals 3, 12, 13.

@@ -29,6 +29,7 @@ extern "C" {
         scratch: *const u64, scratch_length: usize,
         tick: u64, first: u64,
         bytes: *const u8, bytes_length: usize,
+        updated: &mut u64, cell: &mut u64,
     ) -> u64;
 
     pub fn servercape_finish(

@@ -1,5 +1,5 @@
 //! The boards of document 01 and the edges of its refusals, through the Rust types.
-use servercape::{clock, Block, Index, Kind, Room};
+use servercape::{clock, Block, Index, Kind, Recorded, Room};
 
 fn opened(end_tick: u64) -> Index {
     Index::open(Room::even(64), end_tick, Kind::Memory).unwrap()
@@ -11,16 +11,23 @@ fn shown(block: &Block) -> String {
     format!("{} {} {} {} {hex}", block.first, block.bytes.len(), block.created, block.destroyed)
 }
 
+/// What record answers: an update from a cell on, or a read.
+fn update(cell: u64) -> Result<Recorded, servercape::Refusal> {
+    Ok(Recorded::Update { cell })
+}
+
+const READ: Result<Recorded, servercape::Refusal> = Ok(Recorded::Read);
+
 fn number<T>(answer: Result<T, servercape::Refusal>) -> u64 {
     answer.err().map_or(0, |refusal| refusal.number())
 }
 
 fn listing() -> Index {
     let mut index = opened(8);
-    index.record(1, 100, &[7, 7, 7]).unwrap();
-    index.record(3, 102, &[9, 9, 9]).unwrap();
-    index.record(5, 100, &[7, 7]).unwrap();
-    index.record(6, 103, &[4]).unwrap();
+    assert_eq!(index.record(1, 100, &[7, 7, 7]), update(100));
+    assert_eq!(index.record(3, 102, &[9, 9, 9]), update(102));
+    assert_eq!(index.record(5, 100, &[7, 7]), READ);
+    assert_eq!(index.record(6, 103, &[4]), update(103));
     index.finish().unwrap();
     index
 }
@@ -64,11 +71,49 @@ fn written_and_loaded() {
 #[test]
 fn a_matching_operation_that_runs_on() {
     let mut index = opened(2);
-    index.record(0, 10, &[5, 5]).unwrap();
-    index.record(1, 10, &[5, 5, 5, 5]).unwrap();
+    assert_eq!(index.record(0, 10, &[5, 5]), update(10));
+    assert_eq!(index.record(1, 10, &[5, 5, 5, 5]), update(12));
     index.finish().unwrap();
     let blocks: Vec<String> = index.blocks().unwrap().map(|b| shown(&b)).collect();
     assert_eq!(blocks, ["10 2 0 1 0505", "10 4 1 2 05050505"]);
+}
+
+#[test]
+fn what_changed() {
+    let mut index = opened(8);
+    assert_eq!(index.record(0, 10, &[5, 5]), update(10));
+    assert_eq!(index.record(1, 10, &[5, 5, 5]), update(12));
+    assert_eq!(index.record(2, 10, &[5, 5]), READ);
+    assert_eq!(index.record(3, 9, &[5, 5]), update(9));
+    assert_eq!(index.record(4, 10, &[5, 6, 5]), update(11), "the first of the cells that differ");
+    assert_eq!(index.record(5, 10, &[5, 6, 6]), update(12), "the last cell alone");
+}
+
+#[test]
+fn what_changed_over_several_pieces() {
+    let mut index = opened(8);
+    index.record(0, 10, &[5]).unwrap();
+    index.record(0, 12, &[5]).unwrap();
+    assert_eq!(index.record(1, 10, &[5, 5, 6]), update(11), "the gap, though a difference stands behind it");
+
+    let mut index = opened(8);
+    index.record(0, 10, &[1, 1]).unwrap();
+    index.record(0, 12, &[2, 2]).unwrap();
+    index.record(0, 14, &[3, 3]).unwrap();
+    assert_eq!(index.clone().record(1, 10, &[1, 1, 2, 4, 4, 4]), update(13), "in the second piece");
+    assert_eq!(index.clone().record(1, 11, &[1, 2, 2, 3, 4]), update(15), "in the third piece");
+    assert_eq!(index.clone().record(1, 10, &[1, 1, 2, 2, 3, 3, 3]), update(16), "past the last piece");
+    assert_eq!(index.record(1, 11, &[1, 2, 2, 3]), READ);
+}
+
+#[test]
+fn a_held_zero_is_known() {
+    let mut index = opened(8);
+    assert_eq!(index.record(0, 0, &[0]), update(0));
+    assert_eq!(index.record(1, 0, &[0]), READ);
+    assert_eq!(index.record(2, 0, &[0, 0]), update(1), "an unknown cell is not held");
+    assert_eq!(index.record(3, 0, &[0, 0]), READ);
+    assert_eq!(index.record(4, 0, &[1, 0]), update(0));
 }
 
 #[test]
@@ -122,7 +167,9 @@ fn neighbours() {
 #[test]
 fn the_last_cells() {
     let mut index = opened(1);
-    index.record(0, u64::MAX - 2, &[8, 9]).unwrap();
+    assert_eq!(index.record(0, u64::MAX - 2, &[8, 9]), update(u64::MAX - 2));
+    assert_eq!(index.record(0, u64::MAX - 2, &[8, 9]), READ);
+    assert_eq!(index.clone().record(0, u64::MAX - 2, &[8, 8]), update(u64::MAX - 1));
     index.finish().unwrap();
     assert_eq!(index.touching(0, u64::MAX - 1..u64::MAX), Ok(vec![0]));
     assert_eq!(index.touching(0, u64::MAX..u64::MAX), Ok(vec![]));

@@ -12,6 +12,7 @@ use Rattle.history.specs.Words.{Block}
 use Rattle.history.specs.Tree.{Tree, noBlock}
 use Rattle.history.specs.Ledger.{Ledger, finished, isSome, finishBy}
 use Rattle.history.specs.Reads.{blockBy}
+use Rattle.history.specs.Results.{Result, done}
 use Rattle.history.specs.Refusals.{Answer, accepted, refused, finishAnswer, blockAnswer}
 use Rattle.history.specs.Calls.{finishCall, answerTo, acceptedBy, leaves, after}
 use Rattle.history.specs.Sound.{Sound}
@@ -128,7 +129,7 @@ unfolding finishBy
 finish-done l = refl
 
 -- what finish answers and leaves
-given : {pieces blocks store nodes entries pieces′ blocks′ nodes′ entries′ : List ℕ} {a : Answer Unit} → length store < 2 ^ 64
+given : {pieces blocks store nodes entries pieces′ blocks′ nodes′ entries′ : List ℕ} {a : Answer Result} → length store < 2 ^ 64
     → FinishesOpen pieces blocks nodes entries pieces′ blocks′ nodes′ entries′ a → (l : Ledger) → Standing (tables pieces blocks store nodes entries) l
     → (a ≡ finishAnswer l) × FinishLeaves (finishAnswer l) l (tables pieces blocks store nodes entries) (tables pieces′ blocks′ store nodes′ entries′)
 given {pieces} {blocks} {store} {nodes} {entries} fits d l s =
@@ -155,7 +156,7 @@ module _ {pieces blocks store nodes entries pieces′ blocks′ nodes′ entries
             (given fits d l s .1);
       }
     where
-      go : (l : Ledger) (a : Answer Unit) → a ≡ accepted tt → Sound (leaves a l (finishBy l))
+      go : (l : Ledger) (a : Answer Result) → a ≡ accepted done → Sound (leaves a l (finishBy l))
           → FinishLeaves a l (tables pieces blocks store nodes entries) (tables pieces′ blocks′ store nodes′ entries′)
           → Put out at (lastLines (leaves a l (finishBy l)) a) out′ next
       go l (accepted u) h sound x = listed .lines pieces′ nodes′ entries′ (finishBy l) (x .0) sound (finish-done l)

@@ -14,7 +14,7 @@ use Rattle.layout.specs.Tables.{tables}
 use Rattle.layout.specs.Relations.{RecordLeaves}
 use Rattle.index_record.specs.Calls.{recordedOf, RecordedOpen}
 use Rattle.index_record.specs.declared.Recorded.{Recorded}
-use Rattle.index_record.specs.declared.Recorded.the-variants.{Accepted, Refused}
+use Rattle.index_record.specs.declared.Recorded.the-variants.{Read, Update, Refused}
 use Rattle.board_input.specs.Input.{itemAt, firstRecord}
 use Rattle.board_input.specs.Walk.{Walk, walk-end, walk-on}
 use Rattle.lists.specs.Puts.{Put}
@@ -41,17 +41,20 @@ module _ {pieces blocks store pieces′ blocks′ store′ : List ℕ} {o : Oper
   unfolding answerTo
   answer nodes entries l s = given nodes entries l s .0
 
-  pub one-accepted : {k at : ℕ} {out : List ℕ} → r ≡ Accepted → RecordedOne pieces blocks store pieces′ blocks′ store′ o k out at out at
+  pub one-read : {k at : ℕ} {out : List ℕ} → r ≡ Read → RecordedOne pieces blocks store pieces′ blocks′ store′ o k out at out at
   unfolding opLine
-  one-accepted {k} {at} {out} e =
-      record { line = λ nodes entries l s. rw (← (answer nodes entries l s), e) (put-none out at); left = left }
+  one-read {k} {at} {out} e = record { line = λ nodes entries l s. rw (← (answer nodes entries l s), e) (put-none out at); left = left }
+
+  pub one-update : {k at cell : ℕ} {out : List ℕ} → r ≡ Update cell → RecordedOne pieces blocks store pieces′ blocks′ store′ o k out at out at
+  unfolding opLine
+  one-update {k} {at} {cell} {out} e = record { line = λ nodes entries l s. rw (← (answer nodes entries l s), e) (put-none out at); left = left }
 
   pub one-refused : {n k at next : ℕ} {out out′ : List ℕ} → r ≡ Refused n → Put out at (refusedLine (opText ++ decimal k []) n) out′ next
       → RecordedOne pieces blocks store pieces′ blocks′ store′ o k out at out′ next
   unfolding opLine
   one-refused e p = record { line = λ nodes entries l s. rw (← (answer nodes entries l s), e) p; left = left }
 
-pub ruleset recordingOne = (one-accepted, one-refused)
+pub ruleset recordingOne = (one-read, one-update, one-refused)
 
 -- ── the loop of `record_all` ──
 

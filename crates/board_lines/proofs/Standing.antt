@@ -6,6 +6,7 @@ use Prim.Native.Nat.{ℕ}
 use Rattle.history.specs.Words.{Operation}
 use Rattle.history.specs.Lent.{tooShort}
 use Rattle.history.specs.Ledger.{Opening, Ledger, opened, finished, isRead, recordBy}
+use Rattle.history.specs.Results.{Result, done}
 use Rattle.history.specs.Refusals.{Answer, accepted, refused, openAnswer, recordAnswer}
 use Rattle.history.specs.Calls.{recordCall, answerTo, acceptedBy, leaves, after, afterAll, noted, history}
 use Rattle.history.specs.Law.{LedgerLaw}
@@ -25,7 +26,7 @@ pub record-stands : (o : Operation) (t t′ : Tables) (l : Ledger) → Standing 
 unfolding after leaves answerTo acceptedBy noted
 record-stands o t t′ l s x = go (recordAnswer l boardScratch o) (law-after l (s .calls) (recordCall boardScratch o) (s .law)) x
   where
-    go : (a : Answer Unit) → LedgerLaw (leaves a l (recordBy l o)) (noted (s .calls) (recordCall boardScratch o) a) → RecordLeaves a l o t t′
+    go : (a : Answer Result) → LedgerLaw (leaves a l (recordBy l o)) (noted (s .calls) (recordCall boardScratch o) a) → RecordLeaves a l o t t′
         → Standing t′ (leaves a l (recordBy l o))
     go (accepted b) law x = record {
       encodes = x .0;

@@ -23,7 +23,8 @@ fn record_one(
         (operation tick first (now (bytes .entry))) k (now (out .entry)) at (now (out .exit)) r ⌝ }
 {
     match index_record::record_open(pieces, blocks, store, SCRATCH, tick, first, bytes) {
-        Recorded::Accepted => at,
+        Recorded::Read => at,
+        Recorded::Update(_) => at,
         Recorded::Refused(number) => board_text::op_refused(out, at, k, number),
     }
 }

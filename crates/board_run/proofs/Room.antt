@@ -11,6 +11,7 @@ use Rattle.lists.proofs.Numbers.{le-or-lt}
 use Rattle.lists.proofs.Maps.{length-of-map}
 use Rattle.history.specs.Words.{Operation, Block, size, blockOf, firstCell}
 use Rattle.history.specs.Ledger.{Opening, Ledger, opened, settled, finishBy}
+use Rattle.history.specs.Results.{Result, done}
 use Rattle.history.specs.Refusals.{Answer, accepted, refused, openAnswer}
 use Rattle.history.specs.Calls.{Call, recordCall, finishCall, answerTo, acceptedBy, leaves, after, afterAll, history, noted}
 use Rattle.history.specs.Law.{LedgerLaw}
@@ -35,7 +36,7 @@ unfolding refusedLine
 refused-length what n =
     omega (arith, length-append what (refusedText ++ decimal n (newline ∷ [])), law-of-lines .number-length n (newline ∷ []))
 
-op-length : (k : ℕ) (a : Answer Unit) → length (opLine k a) ≤ 53
+op-length : (k : ℕ) (a : Answer Result) → length (opLine k a) ≤ 53
 unfolding opLine
 op-length k (accepted u) = omega arith
 op-length k (refused n) = omega (arith, refused-length (opText ++ decimal k []) n, law-of-lines .number-length k [])
@@ -120,7 +121,7 @@ last-length l r = go (answerTo l finishCall)
     small : blockSizes bs ≤ 65536
     small = settled-small l r
 
-    go : (a : Answer Unit) → length (lastLines (leaves a l (finishBy l)) a) ≤ lastMost
+    go : (a : Answer Result) → length (lastLines (leaves a l (finishBy l)) a) ≤ lastMost
     go (accepted u) = omega (arith, blocks-length bs, few, small)
     go (refused n) = omega (arith, refused-length finishText n)
 

@@ -12,6 +12,7 @@ use borrow.Author.Tests.{ltb-true, ltb-false}
 use Rattle.lists.proofs.Numbers.{le-or-lt}
 use Rattle.history.specs.Words.{Stretch, Operation, Piece, Block, size, ends, stretchOf, pieceOf, blockOf, clip, clipPiece, below, inside, above}
 use Rattle.history.specs.Ledger.{Moment, Ledger, opened, Opening, isRead, readBy, updateBy, recordBy, settled}
+use Rattle.history.specs.Results.{Result, done}
 use Rattle.history.specs.Refusals.{Answer, accepted, refused}
 use Rattle.history.specs.Calls.{recordCall, answerTo, acceptedBy, leaves, after}
 use Rattle.history.proofs.Clip.{part, part-ends}
@@ -182,7 +183,7 @@ held-record l scratch o h = go (answerTo l (recordCall scratch o))
     either true = held-read (l .now) o h
     either false = held-update (l .opening .kind) (l .now) o h
 
-    go : (a : Answer Unit) → Held (leaves a l (recordBy l o) .now)
+    go : (a : Answer Result) → Held (leaves a l (recordBy l o) .now)
     go (accepted u) = either (isRead (l .now) o)
     go (refused n) = h
 

@@ -18,6 +18,7 @@ use Rattle.merge_set.specs.Tree.{leaf, rows, height, Balanced}
 use Rattle.merge_set.specs.Table.{Shape}
 use Rattle.piece_table.specs.Piece.{pieceAt}
 use Rattle.piece_table.specs.Shown.{shown}
+use Rattle.history.specs.Results.{Result}
 use Rattle.history.specs.Refusals.{Answer, accepted, refused, firstOf, maxEndTick, openAnswer, recordRefusals, recordAnswer, finishRefusals, finishAnswer, findAnswer}
 use Rattle.history.specs.Calls.{Call, recordCall, finishCall, answerTo, acceptedBy, leaves, after, answers, afterAll, noted, history}
 use Rattle.history.specs.Sound.{Sound}
@@ -51,11 +52,11 @@ short-after : (l : Ledger) (k : Call) → tooShort (l .opening .lent) ≡ true �
 unfolding after leaves
 short-after l k e = rw (short-answer l k e)
 
-short-call : (k : Call) (t t′ : Tables) (a : Answer Unit) → tooShort (lengthsOf t) ≡ true → CallDone k t t′ a → (a ≡ refused 2) × (t′ ≡ t)
+short-call : (k : Call) (t t′ : Tables) (a : Answer Result) → tooShort (lengthsOf t) ≡ true → CallDone k t t′ a → (a ≡ refused 2) × (t′ ≡ t)
 short-call (recordCall scratch o) t t′ a e d = d .unformed (λ w. true≢false (sym e ∙ w .encodes .heads))
 short-call finishCall t t′ a e d = d .unformed (λ w. true≢false (sym e ∙ w .encodes .heads))
 
-short-run : {t t′ : Tables} {ks : List Call} {given : List (Answer Unit)} (l : Ledger) → tooShort (l .opening .lent) ≡ true → tooShort (lengthsOf t) ≡ true
+short-run : {t t′ : Tables} {ks : List Call} {given : List (Answer Result)} (l : Ledger) → tooShort (l .opening .lent) ≡ true → tooShort (lengthsOf t) ≡ true
     → Run t ks given t′ → (given ≡ answers l ks) × (afterAll l ks ≡ l)
 unfolding answers afterAll
 short-run l e x run-nil = (refl, refl)
@@ -63,12 +64,12 @@ short-run {t} l e x (run-cons {t₁} {k = k} {ks} {a} {given} d r) =
     let one = short-call k t t₁ a x d in
     let rest = short-run l e (rw (one .1) x) r in
     let same : after l k ≡ l = short-after l k e in (
-      ap₂ (λ (b : Answer Unit) (bs : List (Answer Unit)). b ∷ bs) (one .0 ∙ sym (short-answer l k e)) (rest .0 ∙ ap (λ (m : Ledger). answers m ks) (sym same)),
+      ap₂ (λ (b : Answer Result) (bs : List (Answer Result)). b ∷ bs) (one .0 ∙ sym (short-answer l k e)) (rest .0 ∙ ap (λ (m : Ledger). answers m ks) (sym same)),
       ap (λ (m : Ledger). afterAll m ks) same ∙ rest .1,
     )
 
 -- and nothing changes
-short-same : {t t′ : Tables} {ks : List Call} {given : List (Answer Unit)} → tooShort (lengthsOf t) ≡ true → Run t ks given t′ → t′ ≡ t
+short-same : {t t′ : Tables} {ks : List Call} {given : List (Answer Result)} → tooShort (lengthsOf t) ≡ true → Run t ks given t′ → t′ ≡ t
 short-same e run-nil = refl
 short-same {t} e (run-cons {t₁} {k = k} {a = a} d r) =
     let one = short-call k t t₁ a e d .1 in
@@ -86,14 +87,14 @@ finish-done : (l : Ledger) → finished (finishBy l) ≡ true
 unfolding finishBy
 finish-done l = refl
 
-step-record : (scratch : ℕ) (o : Operation) (t t′ : Tables) (l : Ledger) (h : List Operation) (a : Answer Unit) → Standing t l h → RecordedBy scratch o t t′ a
+step-record : (scratch : ℕ) (o : Operation) (t t′ : Tables) (l : Ledger) (h : List Operation) (a : Answer Result) → Standing t l h → RecordedBy scratch o t t′ a
     → (a ≡ recordAnswer l scratch o) × Standing t′ (after l (recordCall scratch o)) (noted h (recordCall scratch o) (recordAnswer l scratch o))
 unfolding after leaves answerTo acceptedBy noted
 step-record scratch o t t′ l h a s d =
     let f = d .formed l (s .encodes) (s .law .sound .sound) in
     (f .0, go (recordAnswer l scratch o) (law-after l h (recordCall scratch o) (s .law)) (f .1))
   where
-    go : (x : Answer Unit) → LedgerLaw (leaves x l (recordBy l o)) (noted h (recordCall scratch o) x) → RecordLeaves x l o t t′
+    go : (x : Answer Result) → LedgerLaw (leaves x l (recordBy l o)) (noted h (recordCall scratch o) x) → RecordLeaves x l o t t′
         → Standing t′ (leaves x l (recordBy l o)) (noted h (recordCall scratch o) x)
     go (accepted b) law x = record {
       encodes = x .0;
@@ -102,7 +103,7 @@ step-record scratch o t t′ l h a s d =
     }
     go (refused n) law x = rw x (record { encodes = s .encodes; law = law; blank = s .blank })
 
-step-finish : (t t′ : Tables) (l : Ledger) (h : List Operation) (a : Answer Unit) → Standing t l h → FinishedBy t t′ a
+step-finish : (t t′ : Tables) (l : Ledger) (h : List Operation) (a : Answer Result) → Standing t l h → FinishedBy t t′ a
     → (a ≡ finishAnswer l) × Standing t′ (after l finishCall) (noted h finishCall (finishAnswer l))
 unfolding after leaves answerTo acceptedBy noted
 step-finish t t′ l h a s d =
@@ -110,24 +111,24 @@ step-finish t t′ l h a s d =
     let f = d .formed w in
     (f .0, go (finishAnswer l) (law-after l h finishCall (s .law)) (f .1))
   where
-    go : (x : Answer Unit) → LedgerLaw (leaves x l (finishBy l)) (noted h finishCall x) → FinishLeaves x l t t′ → Standing t′ (leaves x l (finishBy l)) (noted h finishCall x)
+    go : (x : Answer Result) → LedgerLaw (leaves x l (finishBy l)) (noted h finishCall x) → FinishLeaves x l t t′ → Standing t′ (leaves x l (finishBy l)) (noted h finishCall x)
     go (accepted b) law x = record { encodes = x .0; law = law; blank = λ still. absurd (true≢false (sym (finish-done l) ∙ still)) }
     go (refused n) law x = rw x (record { encodes = s .encodes; law = law; blank = s .blank })
 
-step : (k : Call) (t t′ : Tables) (l : Ledger) (h : List Operation) (a : Answer Unit) → Standing t l h → CallDone k t t′ a
+step : (k : Call) (t t′ : Tables) (l : Ledger) (h : List Operation) (a : Answer Result) → Standing t l h → CallDone k t t′ a
     → (a ≡ answerTo l k) × Standing t′ (after l k) (noted h k (answerTo l k))
 unfolding answerTo
 step (recordCall scratch o) t t′ l h a s d = step-record scratch o t t′ l h a s d
 step finishCall t t′ l h a s d = step-finish t t′ l h a s d
 
-runs : {t t′ : Tables} {ks : List Call} {given : List (Answer Unit)} (l : Ledger) (h : List Operation) → Standing t l h → Run t ks given t′
+runs : {t t′ : Tables} {ks : List Call} {given : List (Answer Result)} (l : Ledger) (h : List Operation) → Standing t l h → Run t ks given t′
     → (given ≡ answers l ks) × Standing t′ (afterAll l ks) (history h l ks)
 unfolding answers afterAll history
 runs l h s run-nil = (refl, s)
 runs {t} l h s (run-cons {t₁} {k = k} {ks} {a} d r) =
     let one = step k t t₁ l h a s d in
     let rest = runs (after l k) (noted h k (answerTo l k)) (one .1) r in
-    (ap₂ (λ (b : Answer Unit) (bs : List (Answer Unit)). b ∷ bs) (one .0) (rest .0), rest .1)
+    (ap₂ (λ (b : Answer Result) (bs : List (Answer Result)). b ∷ bs) (one .0) (rest .0), rest .1)
 
 -- ── reads of a finished index ──
 
@@ -233,7 +234,7 @@ module _ (end kind : ℕ) (some-tick : 1 ≤ end) (end-most : end ≤ maxEndTick
     blank = λ _. subst Blank (sym left) (opened-blank end kind t);
   }
 
-  module _ {ks : List Call} {given : List (Answer Unit)} {t′ : Tables} (r : Run t₀ ks given t′) where
+  module _ {ks : List Call} {given : List (Answer Result)} {t′ : Tables} (r : Run t₀ ks given t′) where
     -- tables too short are never finished
     short : tooShort (lengthsOf t) ≡ true → (given ≡ answers (opened fed) ks) × (afterAll (opened fed) ks ≡ opened fed)
     short e =

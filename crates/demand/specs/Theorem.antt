@@ -8,6 +8,7 @@ use lib.Seq.{sets}
 use Rattle.history.specs.Words.{Operation}
 use Rattle.history.specs.Ledger.{Ledger, opened, finished}
 use Rattle.history.specs.Reads.{blockBy, findBy}
+use Rattle.history.specs.Results.{Result}
 use Rattle.history.specs.Refusals.{Answer, accepted, refused, maxEndTick}
 use Rattle.history.specs.Calls.{Call, recordCall, finishCall, answers, afterAll, history}
 use Rattle.history.specs.Law.{Faithful, FindLaw}
@@ -20,14 +21,14 @@ use Rattle.layout.specs.Relations.{openingOf, OpenedBy, RecordedBy, FinishedBy,
 -- ── lists of calls ──
 
 -- what a call does: the relation that is its contract
-abbrev pub CallDone : Call → (t t′ : Tables) → Answer Unit → Type 0
+abbrev pub CallDone : Call → (t t′ : Tables) → Answer Result → Type 0
 CallDone (recordCall scratch o) t t′ answer = RecordedBy scratch o t t′ answer
 CallDone finishCall t t′ answer = FinishedBy t t′ answer
 
 -- a list of calls, each with the scratch it is lent, and their answers, refused ones included: every call finds the tables as the one before left them
-pub data Run : Tables → List Call → List (Answer Unit) → Tables → Type 0 where
+pub data Run : Tables → List Call → List (Answer Result) → Tables → Type 0 where
   run-nil : {t : Tables} → Run t [] [] t
-  run-cons : {t t₁ t′ : Tables} {k : Call} {ks : List Call} {a : Answer Unit} {given : List (Answer Unit)} → CallDone k t t₁ a → Run t₁ ks given t′ → Run t (k ∷ ks) (a ∷ given) t′
+  run-cons : {t t₁ t′ : Tables} {k : Call} {ks : List Call} {a : Answer Result} {given : List (Answer Result)} → CallDone k t t₁ a → Run t₁ ks given t′ → Run t (k ∷ ks) (a ∷ given) t′
 
 -- ── after an accepted finish ──
 
@@ -69,11 +70,11 @@ pub record Demand (end kind : ℕ) (t t₀ : Tables) (opening : Answer Unit) : T
   -- opening is accepted;
   pub opens : opening ≡ accepted tt
   -- each call gets the answer of the ledger (of tables too short, 2 every time);
-  pub answered : (ks : List Call) (given : List (Answer Unit)) (t′ : Tables) → Run t₀ ks given t′ → given ≡ answers (opened (openingOf end kind t)) ks
+  pub answered : (ks : List Call) (given : List (Answer Result)) (t′ : Tables) → Run t₀ ks given t′ → given ≡ answers (opened (openingOf end kind t)) ks
   -- after every list of calls the tree of pieces is balanced;
-  pub balance : (ks : List Call) (given : List (Answer Unit)) (t′ : Tables) → Run t₀ ks given t′ → Balance (afterAll (opened (openingOf end kind t)) ks) t′
+  pub balance : (ks : List Call) (given : List (Answer Result)) (t′ : Tables) → Run t₀ ks given t′ → Balance (afterAll (opened (openingOf end kind t)) ks) t′
   -- after an accepted finish all the above.
-  pub done : (ks : List Call) (given : List (Answer Unit)) (t′ : Tables) → Run t₀ ks given t′ → finished (afterAll (opened (openingOf end kind t)) ks) ≡ true
+  pub done : (ks : List Call) (given : List (Answer Result)) (t′ : Tables) → Run t₀ ks given t′ → finished (afterAll (opened (openingOf end kind t)) ks) ≡ true
       → Finished (afterAll (opened (openingOf end kind t)) ks) (history [] (opened (openingOf end kind t)) ks) t′
 
 -- For every end tick from 1 to 2^63, every kind, every length of all that is lent.

@@ -10,6 +10,7 @@ use Rattle.lists.specs.Lists.{Mem}
 use Rattle.history.specs.Words.{Operation, HasCell, byteAt}
 use Rattle.history.specs.Ledger.{Ledger, opened, finished}
 use Rattle.history.specs.Reads.{blockBy, touchingBy, nextBy, lastBy}
+use Rattle.history.specs.Results.{Result}
 use Rattle.history.specs.Refusals.{Answer, accepted, refused, maxEndTick}
 use Rattle.history.specs.Calls.{Call, afterAll, history, valueAt}
 use Rattle.history.specs.Law.{TouchingLaw, NeighboursLaw}
@@ -45,5 +46,5 @@ pub record TouchingShows (l : Ledger) (h : List Operation) (t : Tables) : Type 0
 abbrev pub TouchingShown : Type 0
 TouchingShown =
     (end kind : ℕ) → 1 ≤ end → end ≤ maxEndTick → kind ≤ 4 → (t t₀ t′ : Tables) (opening : Answer Unit) → OpenedBy end kind t t₀ opening
-    → (ks : List Call) (given : List (Answer Unit)) → Run t₀ ks given t′ → finished (afterAll (opened (openingOf end kind t)) ks) ≡ true
+    → (ks : List Call) (given : List (Answer Result)) → Run t₀ ks given t′ → finished (afterAll (opened (openingOf end kind t)) ks) ≡ true
     → TouchingShows (afterAll (opened (openingOf end kind t)) ks) (history [] (opened (openingOf end kind t)) ks) t′

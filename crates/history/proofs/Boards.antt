@@ -13,7 +13,7 @@ use Rattle.history.specs.Reads.{findBy, ascendingFrom, liveBy, lastIn, s
 use Rattle.history.specs.Refusals.{firstOf, openRefusals, recordRefusals, finishRefusals, windowRefusals, neighbourRefusals, blockRefusals}
 use Rattle.history.specs.Calls.{answerTo, acceptedBy, leaves, after, answers, afterAll}
 use Rattle.history.specs.Boards.{marked, edges, loading, told, played, expected, loadedAs, Load, listingInput, listingOutput, refusedInput, refusedOutput, MarkedBoards}
-use Rattle.history.specs.Requested.{touchingBoards, labelBoards, RequestedBoards}
+use Rattle.history.specs.Requested.{touchingBoards, changeBoards, labelBoards, RequestedBoards}
 use Rattle.history.specs.Printed.{printed, parsed, inputOf, recordsFrom, nextRecord, onto, readRecord, recordLines, openLines, linesFrom, lastLines, opLine, refusedLine, blockLine, digits, fourDigits, hexDigit, hexBytes}
 
 marked-right : map played marked ≡ map expected marked
@@ -51,5 +51,5 @@ boards-right = record {
 }
 
 pub requested-right : RequestedBoards
-unfolding touchingBoards labelBoards played expected told opened answers afterAll after leaves answerTo acceptedBy recordBy finishBy settled readBy updateBy changed firstChange has stretchOf byteAt heldAt clip clipPiece below inside above filterMap firstOf recordRefusals finishRefusals windowRefusals neighbourRefusals tooShort pieceSpace insert addLocation addAll treeOf nodeCount entryCount path visited window find findBy ascendingFrom liveBy lastIn labelOf clockLabel
-requested-right = record { item-1 = refl; item-4 = refl }
+unfolding touchingBoards changeBoards labelBoards played expected told opened answers afterAll after leaves answerTo acceptedBy recordBy finishBy settled readBy updateBy changed firstChange has stretchOf byteAt heldAt clip clipPiece below inside above filterMap firstOf recordRefusals finishRefusals windowRefusals neighbourRefusals tooShort pieceSpace insert addLocation addAll treeOf nodeCount entryCount path visited window find findBy ascendingFrom liveBy lastIn labelOf clockLabel
+requested-right = record { item-1 = refl; item-2 = refl; item-4 = refl }

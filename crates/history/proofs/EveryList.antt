@@ -14,6 +14,7 @@ use Rattle.history.specs.Tree.{Tree, treeOf}
 use Rattle.history.specs.Rules.{Apart, isHole}
 use Rattle.history.specs.Ledger.{Opening, Moment, Ledger, withNow, opened, finished, isSome, isRead, readBy, updateBy, recordBy, settled, finishBy}
 use Rattle.history.specs.Reads.{seen}
+use Rattle.history.specs.Results.{Result}
 use Rattle.history.specs.Refusals.{Answer, accepted, refused, openAnswer, recordAnswer, finishAnswer}
 use Rattle.history.specs.Calls.{Call, recordCall, finishCall, answerTo, acceptedBy, leaves, after, afterAll, noted, history, valueAt}
 use Rattle.history.specs.Sound.{SoundBoard, SoundTree, Sound, SoundForFinish, isEmpty}
@@ -38,7 +39,7 @@ open-sound : (l : Ledger) → finished l ≡ false → SoundBoard l → Sound l
 open-sound l still b = record { board = b; closed = subst (λ (t : Option Tree). SoundTree l t) (sym (still-none (l .tree) still)) tt }
 
 -- an accepted record leaves a sound ledger
-pub record-sound : (l : Ledger) (scratch : ℕ) (o : Operation) → recordAnswer l scratch o ≡ accepted tt → Sound l → Sound (recordBy l o)
+pub record-sound : (l : Ledger) (scratch : ℕ) (o : Operation) {r : Result} → recordAnswer l scratch o ≡ accepted r → Sound l → Sound (recordBy l o)
 unfolding recordBy
 record-sound l scratch o e s = go (isRead (l .now) o) refl
   where
@@ -68,7 +69,7 @@ unfolding finishBy
 finish-settled l = nothing-more (l .opening .end) ((finishBy l) .now) refl
 
 -- an accepted finish leaves a sound closed ledger
-pub finish-sound : (l : Ledger) → finishAnswer l ≡ accepted tt → SoundForFinish l → SoundForFinish (finishBy l)
+pub finish-sound : (l : Ledger) {r : Result} → finishAnswer l ≡ accepted r → SoundForFinish l → SoundForFinish (finishBy l)
 unfolding finishBy
 finish-sound l e s =
     let k = finishes l e in
@@ -138,7 +139,7 @@ finish-closed : (l : Ledger) → finished (finishBy l) ≡ false → true ≡ fa
 unfolding finishBy
 finish-closed l e = e
 
-law-record : (l : Ledger) (h : List Operation) (scratch : ℕ) (o : Operation) → recordAnswer l scratch o ≡ accepted tt → LedgerLaw l h → LedgerLaw (recordBy l o) (o ∷ h)
+law-record : (l : Ledger) (h : List Operation) (scratch : ℕ) (o : Operation) {r : Result} → recordAnswer l scratch o ≡ accepted r → LedgerLaw l h → LedgerLaw (recordBy l o) (o ∷ h)
 unfolding recordBy
 law-record l h scratch o e law = go (isRead (l .now) o) refl
   where
@@ -162,7 +163,7 @@ law-record l h scratch o e law = go (isRead (l .now) o) refl
         (shown-updated (l .opening) (l .now) h o old (k .not-back) (law .cells))
         (update-last l o b old (k .before-end) (k .not-back))
 
-law-finish : (l : Ledger) (h : List Operation) → finishAnswer l ≡ accepted tt → LedgerLaw l h → LedgerLaw (finishBy l) h
+law-finish : (l : Ledger) (h : List Operation) {r : Result} → finishAnswer l ≡ accepted r → LedgerLaw l h → LedgerLaw (finishBy l) h
 law-finish l h e law = record {
   sound = finish-sound l e (law .sound);
   cells = finish-cells l h (law .cells);
@@ -175,12 +176,12 @@ pub law-after : (l : Ledger) (h : List Operation) (k : Call) → LedgerLaw l h �
 unfolding after leaves noted answerTo acceptedBy
 law-after l h (recordCall scratch o) law = go (recordAnswer l scratch o) refl
   where
-    go : (x : Answer Unit) → recordAnswer l scratch o ≡ x → LedgerLaw (leaves x l (recordBy l o)) (noted h (recordCall scratch o) x)
+    go : (x : Answer Result) → recordAnswer l scratch o ≡ x → LedgerLaw (leaves x l (recordBy l o)) (noted h (recordCall scratch o) x)
     go (accepted a) e = law-record l h scratch o e law
     go (refused n) e = law
 law-after l h finishCall law = go (finishAnswer l) refl
   where
-    go : (x : Answer Unit) → finishAnswer l ≡ x → LedgerLaw (leaves x l (finishBy l)) h
+    go : (x : Answer Result) → finishAnswer l ≡ x → LedgerLaw (leaves x l (finishBy l)) h
     go (accepted a) e = law-finish l h e law
     go (refused n) e = law
 
@@ -195,7 +196,7 @@ unfolding afterAll after leaves acceptedBy recordBy finishBy
 opening-kept [] l = refl
 opening-kept (k ∷ ks) l = opening-kept ks (after l k) ∙ one k (answerTo l k)
   where
-    one : (k : Call) (x : Answer Unit) → (leaves x l (acceptedBy l k)) .opening ≡ l .opening
+    one : (k : Call) (x : Answer Result) → (leaves x l (acceptedBy l k)) .opening ≡ l .opening
     one (recordCall scratch o) (accepted a) = refl
     one (recordCall scratch o) (refused n) = refl
     one finishCall (accepted a) = refl

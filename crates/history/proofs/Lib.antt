@@ -8,6 +8,8 @@ pub mod Split
 pub mod Reading
 pub mod Cells
 pub mod Value
+pub mod Comparing
+pub mod Changing
 pub mod Storing
 pub mod Passing
 pub mod Steps

@@ -12,6 +12,7 @@ use Rattle.history.specs.Words.{Operation, size, ends, stretchOf}
 use Rattle.history.specs.Lent.{Lent, rowWidth, pieceRows, blockRows, nodeRows, entryRows, pieceSpace}
 use Rattle.history.specs.Tree.{treeOf, nodeCount, entryCount}
 use Rattle.history.specs.Ledger.{Opening, Moment, Ledger, finished, isRead, updateBy, settled}
+use Rattle.history.specs.Results.{Result}
 use Rattle.history.specs.Refusals.{accepted, refused, Refusal, firstOf, maxEndTick, openRefusals, openAnswer, recordRefusals, recordAnswer, finishRefusals, finishAnswer}
 
 -- no condition of the list holds
@@ -19,12 +20,12 @@ abbrev pub Passed : List Refusal → Type 0
 Passed [] = Unit {0}
 Passed (r ∷ rs) = (r .holds ≡ false) × Passed rs
 
-pub passed : {A : Type 0} (rs : List Refusal) (a : A) → firstOf rs a ≡ accepted a → Passed rs
+pub passed : {A : Type 0} (rs : List Refusal) (a : A) {x : A} → firstOf rs a ≡ accepted x → Passed rs
 unfolding firstOf
 passed [] a e = tt
-passed {A} (r ∷ rs) a e = go (r .holds) refl e (passed rs a)
+passed {A} (r ∷ rs) a {x} e = go (r .holds) refl e (λ f. passed rs a f)
   where
-    go : (b : Bool) → r .holds ≡ b → cond b (refused (r .number)) (firstOf rs a) ≡ accepted a → (firstOf rs a ≡ accepted a → Passed rs) → Passed (r ∷ rs)
+    go : (b : Bool) → r .holds ≡ b → cond b (refused (r .number)) (firstOf rs a) ≡ accepted x → (firstOf rs a ≡ accepted x → Passed rs) → Passed (r ∷ rs)
     go true q e k = let z : _≡_ {A = ℕ} 0 1 = cc in absurd (omega arith)
     go false q e k = (q, k e)
 
@@ -65,10 +66,10 @@ pub record Room (lent : Lent) (m : Moment) : Type 0 where
   pub blocks : length (m .blocks) + length (m .pieces) ≤ blockRows lent
   pub store : length (m .store) ≤ lent .store
 
-pub taken : (l : Ledger) (scratch : ℕ) (o : Operation) → recordAnswer l scratch o ≡ accepted tt → Taken l o
+pub taken : (l : Ledger) (scratch : ℕ) (o : Operation) {r : Result} → recordAnswer l scratch o ≡ accepted r → Taken l o
 unfolding recordRefusals stretchOf
 taken l scratch o e =
-    let p = passed _ tt e in
+    let p = passed _ _ e in
     record {
       still-open = p .1 .0;
       some-cell = nonzero (eqb-false _ _ (p .1 .1 .0));
@@ -77,11 +78,11 @@ taken l scratch o e =
       not-back = ltb-false _ _ (p .1 .1 .1 .1 .1 .0);
     }
 
-pub room : (l : Ledger) (scratch : ℕ) (o : Operation) → recordAnswer l scratch o ≡ accepted tt → isRead (l .now) o ≡ false
+pub room : (l : Ledger) (scratch : ℕ) (o : Operation) {r : Result} → recordAnswer l scratch o ≡ accepted r → isRead (l .now) o ≡ false
     → Room (l .opening .lent) (updateBy (l .opening .kind) (l .now) o)
 unfolding recordRefusals pieceSpace
 room l scratch o e u =
-    let p = passed _ tt e in
+    let p = passed _ _ e in
     let next = updateBy (l .opening .kind) (l .now) o in
     let fits : length (next .pieces) ≤ min (pieceRows (l .opening .lent)) (scratch / rowWidth) = ltb-false _ _ (really (p .1 .1 .1 .1 .1 .1 .0)) in
     record {
@@ -100,8 +101,8 @@ pub record Finishes (l : Ledger) : Type 0 where
   pub nodes : nodeCount (treeOf (l .opening .end) (settled (l .opening .end) (l .now))) ≤ nodeRows (l .opening .lent)
   pub entries : entryCount (treeOf (l .opening .end) (settled (l .opening .end) (l .now))) ≤ entryRows (l .opening .lent)
 
-pub finishes : (l : Ledger) → finishAnswer l ≡ accepted tt → Finishes l
+pub finishes : (l : Ledger) {r : Result} → finishAnswer l ≡ accepted r → Finishes l
 unfolding finishRefusals
 finishes l e =
-    let p = passed _ tt e in
+    let p = passed _ _ e in
     record { still-open = p .1 .0; nodes = ltb-false _ _ (p .1 .1 .0); entries = ltb-false _ _ (p .1 .1 .1 .0) }

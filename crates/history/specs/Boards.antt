@@ -9,6 +9,7 @@ use Rattle.history.specs.Words.{Piece, Block}
 use Rattle.history.specs.Lent.{Lent, rowWidth, entryWidth, pieceHead, blockHead, nodeHead, entryHead}
 use Rattle.history.specs.Tree.{Tree, hole, node}
 use Rattle.history.specs.Ledger.{Opening, opened, openingFor}
+use Rattle.history.specs.Results.{Result, done, read, update}
 use Rattle.history.specs.Reads.{Found, Cells, treeIn, clockLabel}
 use Rattle.history.specs.Refusals.{Answer, accepted, refused, openAnswer, findAnswer, touchingAnswer, nextAnswer, lastAnswer, cellsAnswer, blockAnswer}
 use Rattle.history.specs.Calls.{Call, recordCall, finishCall, answers, afterAll}
@@ -27,7 +28,7 @@ pub data Question : Type 0 where
 
 pub data Fact : Type 0 where
   opening : Answer Unit → Fact
-  answered : List (Answer Unit) → Fact
+  answered : List (Answer Result) → Fact
   pieces : List Piece → Fact
   blocks : List Block → Fact
   tree : Tree → Fact
@@ -112,6 +113,16 @@ blockOn f bs c d = record { kind = 1; stretch = record { first = f; bytes = bs }
 abbrev yes! : Answer Unit
 yes! = accepted tt
 
+-- what record and finish answer: an update from a cell on, a read, that it is done
+abbrev pub from! : (cell : ℕ) → Answer Result
+from! c = accepted (update c)
+
+abbrev pub known! : Answer Result
+known! = accepted read
+
+abbrev pub done! : Answer Result
+done! = accepted done
+
 abbrev pub listed : List ℕ → (visited : ℕ) → Fact
 listed ks n = found (accepted (record { numbers = ks; visited = n }))
 
@@ -130,7 +141,7 @@ marked =
     record {
       opening = on 8 ample;
       calls = listing;
-      cases = whatAnswers is answered (yes! ∷ yes! ∷ yes! ∷ yes! ∷ yes! ∷ [])
+      cases = whatAnswers is answered (from! 100 ∷ from! 102 ∷ known! ∷ from! 103 ∷ done! ∷ [])
           ∷ whatPieces is pieces []
           ∷ whatBlocks is blocks (blockOn 102 (7 ∷ []) 1 3
           ∷ blockOn 103 (9 ∷ []) 3 6
@@ -197,7 +208,7 @@ marked =
     ∷ record {
       opening = on (2 ^ 63) ample;
       calls = op 0 (2 ^ 64 - 2) (1 ∷ 1 ∷ []) ∷ op 0 (2 ^ 64 - 2) (1 ∷ []) ∷ op (2 ^ 63) 0 (1 ∷ []) ∷ op (2 ^ 63 - 1) 0 (1 ∷ []) ∷ [];
-      cases = whatAnswers is answered (refused 6 ∷ yes! ∷ refused 7 ∷ yes! ∷ [])
+      cases = whatAnswers is answered (refused 6 ∷ from! (2 ^ 64 - 2) ∷ refused 7 ∷ from! 0 ∷ [])
           ∷ whatPieces is pieces (pieceOn 0 (1 ∷ []) (2 ^ 63 - 1) ∷ pieceOn (2 ^ 64 - 2) (1 ∷ []) 0 ∷ [])
           ∷ [];
     }
@@ -227,7 +238,7 @@ edges =
     ∷ record {
       opening = on 8 ample;
       calls = op 1 5 [] ∷ op 4 5 (1 ∷ []) ∷ op 3 5 (1 ∷ []) ∷ finishCall ∷ finishCall ∷ op 5 5 [] ∷ [];
-      cases = whatAnswers is answered (refused 5 ∷ yes! ∷ refused 8 ∷ yes! ∷ refused 3 ∷ refused 3 ∷ [])
+      cases = whatAnswers is answered (refused 5 ∷ from! 5 ∷ refused 8 ∷ done! ∷ refused 3 ∷ refused 3 ∷ [])
           ∷ whatBlocks is blocks (blockOn 5 (1 ∷ []) 4 8 ∷ [])
           ∷ [];
     }
@@ -235,12 +246,12 @@ edges =
     ∷ record {
       opening = on 8 (lengths 1 1 1 1024 4096);
       calls = op 8 5 [] ∷ op 8 (2 ^ 64 - 1) (1 ∷ []) ∷ op 4 5 (1 ∷ []) ∷ op 3 9 (1 ∷ 1 ∷ []) ∷ op 4 9 (1 ∷ 1 ∷ []) ∷ [];
-      cases = whatAnswers is answered (refused 5 ∷ refused 6 ∷ yes! ∷ refused 8 ∷ refused 9 ∷ []) ∷ [];
+      cases = whatAnswers is answered (refused 5 ∷ refused 6 ∷ from! 5 ∷ refused 8 ∷ refused 9 ∷ []) ∷ [];
     }
     ∷ record {
       opening = on 8 (lengths 2 1 1 1024 4096);
       calls = op 4 5 (1 ∷ []) ∷ op 4 9 (1 ∷ 1 ∷ []) ∷ [];
-      cases = whatAnswers is answered (yes! ∷ refused 10 ∷ []) ∷ [];
+      cases = whatAnswers is answered (from! 5 ∷ refused 10 ∷ []) ∷ [];
     }
     -- 4: no read of an open index
     ∷ record {
@@ -252,7 +263,7 @@ edges =
     ∷ record {
       opening = on 8 scant;
       calls = op 0 5 (1 ∷ []) ∷ opWith 1 0 7 (2 ∷ []) ∷ op 0 7 (2 ∷ []) ∷ op 1 9 (3 ∷ []) ∷ opWith 0 2 7 (2 ∷ []) ∷ [];
-      cases = whatAnswers is answered (yes! ∷ refused 9 ∷ yes! ∷ refused 9 ∷ yes! ∷ [])
+      cases = whatAnswers is answered (from! 5 ∷ refused 9 ∷ from! 7 ∷ refused 9 ∷ known! ∷ [])
           ∷ whatPieces is pieces (pieceOn 5 (1 ∷ []) 0 ∷ pieceOn 7 (2 ∷ []) 0 ∷ [])
           ∷ [];
     }
@@ -260,19 +271,19 @@ edges =
     ∷ record {
       opening = on 8 scant;
       calls = op 0 5 (1 ∷ []) ∷ op 1 5 (2 ∷ []) ∷ op 2 5 (3 ∷ []) ∷ op 3 5 (4 ∷ []) ∷ [];
-      cases = whatAnswers is answered (yes! ∷ yes! ∷ yes! ∷ refused 10 ∷ []) ∷ [];
+      cases = whatAnswers is answered (from! 5 ∷ from! 5 ∷ from! 5 ∷ refused 10 ∷ []) ∷ [];
     }
     -- 11: six bytes; an update that would bring a seventh is refused, a read is not
     ∷ record {
       opening = on 8 scant;
       calls = op 0 5 (replicate 6 1) ∷ op 1 11 (2 ∷ []) ∷ op 2 5 (1 ∷ []) ∷ [];
-      cases = whatAnswers is answered (yes! ∷ refused 11 ∷ yes! ∷ []) ∷ [];
+      cases = whatAnswers is answered (from! 5 ∷ refused 11 ∷ known! ∷ []) ∷ [];
     }
     -- 12 and 13: the listing needs 10 nodes and 12 entries; 12 comes before 13
-    ∷ record { opening = on 8 (lengths 9 9 9 9 11); calls = listing; cases = whatAnswers is answered (yes! ∷ yes! ∷ yes! ∷ yes! ∷ refused 12 ∷ []) ∷ [] }
-    ∷ record { opening = on 8 (lengths 9 9 9 9 12); calls = listing; cases = whatAnswers is answered (yes! ∷ yes! ∷ yes! ∷ yes! ∷ refused 12 ∷ []) ∷ [] }
-    ∷ record { opening = on 8 (lengths 9 9 9 10 11); calls = listing; cases = whatAnswers is answered (yes! ∷ yes! ∷ yes! ∷ yes! ∷ refused 13 ∷ []) ∷ [] }
-    ∷ record { opening = on 8 (lengths 9 9 9 10 12); calls = listing; cases = whatAnswers is answered (yes! ∷ yes! ∷ yes! ∷ yes! ∷ yes! ∷ []) ∷ [] }
+    ∷ record { opening = on 8 (lengths 9 9 9 9 11); calls = listing; cases = whatAnswers is answered (from! 100 ∷ from! 102 ∷ known! ∷ from! 103 ∷ refused 12 ∷ []) ∷ [] }
+    ∷ record { opening = on 8 (lengths 9 9 9 9 12); calls = listing; cases = whatAnswers is answered (from! 100 ∷ from! 102 ∷ known! ∷ from! 103 ∷ refused 12 ∷ []) ∷ [] }
+    ∷ record { opening = on 8 (lengths 9 9 9 10 11); calls = listing; cases = whatAnswers is answered (from! 100 ∷ from! 102 ∷ known! ∷ from! 103 ∷ refused 13 ∷ []) ∷ [] }
+    ∷ record { opening = on 8 (lengths 9 9 9 10 12); calls = listing; cases = whatAnswers is answered (from! 100 ∷ from! 102 ∷ known! ∷ from! 103 ∷ done! ∷ []) ∷ [] }
     -- 14, 15 and 16; an empty window is no fault
     ∷ record {
       opening = on 8 ample;

@@ -6,6 +6,7 @@ use Prim.Native.Nat.{ℕ}
 use lib.Dec.{leb}
 use Rattle.history.specs.Words.{Operation, stretchOf, byteAt}
 use Rattle.history.specs.Ledger.{Ledger, recordBy, finishBy}
+use Rattle.history.specs.Results.{Result}
 use Rattle.history.specs.Refusals.{Answer, accepted, refused, recordAnswer, finishAnswer}
 
 -- Record is lent a scratch, of which the length is fed.
@@ -16,7 +17,7 @@ pub data Call : Type 0 where
 -- ── answers, and what is left ──
 
 -- A call gets the first refusal whose condition holds of what is fed and kept; else it is accepted.
-unfoldable pub answerTo : Ledger → Call → Answer Unit
+unfoldable pub answerTo : Ledger → Call → Answer Result
 answerTo l (recordCall scratch o) = recordAnswer l scratch o
 answerTo l finishCall = finishAnswer l
 
@@ -33,7 +34,7 @@ unfoldable pub after : Ledger → Call → Ledger
 after l k = leaves (answerTo l k) l (acceptedBy l k)
 
 -- the answers to a list of calls, and the ledger that it leaves
-unfoldable pub answers : Ledger → List Call → List (Answer Unit)
+unfoldable pub answers : Ledger → List Call → List (Answer Result)
 answers l [] = []
 answers l (k ∷ ks) = answerTo l k ∷ answers (after l k) ks
 
@@ -44,7 +45,7 @@ afterAll l (k ∷ ks) = afterAll (after l k) ks
 -- ── the history ──
 
 -- the history after a call: an accepted record stands in front
-unfoldable pub noted : List Operation → Call → Answer Unit → List Operation
+unfoldable pub noted : List Operation → Call → Answer Result → List Operation
 noted h (recordCall scratch o) (accepted a) = o ∷ h
 noted h (recordCall scratch o) (refused n) = h
 noted h finishCall a = h

@@ -4,18 +4,18 @@ use mathlib.Core.Path.{_≡_}
 use mathlib.Core.Bool.{true, false, cond, _&&_}
 use mathlib.Core.Option.{Option, none, some}
 use mathlib.Core.List.{List, [], _∷_, _++_, map, flatten, Option·toList}
-use Prim.Native.Nat.{ℕ, suc, _≤_, _<_}
+use Prim.Native.Nat.{ℕ, zero, suc, _≤_, _<_, min}
 use lib.ListN.{length, getD}
 use Rattle.lists.specs.Lists.{All, Mem, Ascending, count, sumOf}
-use Rattle.history.specs.Words.{within, Operation, Block, firstCell, ends, live, stretchOf, byteAt, Covers, Holds}
+use Rattle.history.specs.Words.{within, Operation, Piece, Block, size, firstCell, ends, live, stretchOf, byteAt, firstDifference, heldAt, Covers, Holds}
 use Rattle.history.specs.Tree.{keyIn}
 use Rattle.history.specs.Find.{wayTo, coversAt}
-use Rattle.history.specs.Ledger.{Ledger, Opening, opened, finished, settled}
+use Rattle.history.specs.Ledger.{Moment, Ledger, Opening, opened, finished, changed, settled}
 use Rattle.history.specs.Reads.{blockBy, findBy, touches, touchingBy, nextBy, lastBy, seen}
 use Rattle.history.specs.Refusals.{accepted, openAnswer}
 use Rattle.history.specs.Calls.{Call, afterAll, history, valueAt}
 use Rattle.history.specs.Rules.{Apart}
-use Rattle.history.specs.Sound.{Sound, SoundForFinish}
+use Rattle.history.specs.Sound.{InOrder, isEmpty, Sound, SoundForFinish}
 
 -- ── the value of a cell ──
 
@@ -52,6 +52,30 @@ pub record LedgerLaw (l : Ledger) (h : List Operation) : Type 0 where
   pub cells : (t cell : ℕ) → t < l .opening .end → seen t cell (settled (l .opening .end) (l .now)) ≡ Option·toList (valueAt h t cell)
   -- while it is open no block is destroyed after the last accepted tick
   pub open-blocks : finished l ≡ false → All (λ (b : Block). b .destroyed ≤ l .now .last) (l .now .blocks)
+
+-- ── what an operation changes ──
+
+-- of two cells the lower, if there is one
+abbrev pub lower : Option ℕ → Option ℕ → Option ℕ
+lower none y = y
+lower (some a) none = some a
+lower (some a) (some b) = some (min a b)
+
+unfoldable pub lowest : Option ℕ → List (Option ℕ) → Option ℕ
+lowest x [] = x
+lowest x (y ∷ ys) = lower y (lowest x ys)
+
+-- the first of so many cells from c on that no piece holds
+unfoldable pub firstUnknown : List Piece → (cell many : ℕ) → Option ℕ
+firstUnknown ps c zero = none
+firstUnknown ps c (suc n) =
+    let later = firstUnknown ps (suc c) n in
+    cond (isEmpty (heldAt c ps)) (some c) later
+
+-- Where pieces share no cell, what an operation changes first is the lowest of the first cell that no piece holds and of the first differences from each.
+abbrev pub LawOfChange : Type 0
+LawOfChange = (m : Moment) → InOrder (m .pieces) → (o : Operation)
+    → changed m o ≡ lowest (firstUnknown (m .pieces) (stretchOf o .first) (size (stretchOf o))) (map (λ p. firstDifference (stretchOf o) (p .stretch)) (m .pieces))
 
 -- ── demand 3's clauses, of the blocks of a finished index ──
 

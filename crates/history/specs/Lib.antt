@@ -6,6 +6,7 @@ pub mod Rules
 pub mod File
 pub mod Ledger
 pub mod Reads
+pub mod Results
 pub mod Refusals
 pub mod Calls
 pub mod Sound

@@ -8,6 +8,7 @@ use Rattle.history.specs.Words.{Operation, Block, firstCell, size}
 use Rattle.history.specs.Lent.{Lent, rowWidth, entryWidth, pieceHead, blockHead, nodeHead, entryHead}
 use Rattle.history.specs.Ledger.{Opening, Ledger, opened, openingFor}
 use Rattle.history.specs.Reads.{clockLabel}
+use Rattle.history.specs.Results.{Result}
 use Rattle.history.specs.Refusals.{Answer, accepted, refused, openAnswer}
 use Rattle.history.specs.Calls.{recordCall, finishCall, answerTo, after}
 use Rattle.history.specs.File.{Read, got, fault, Reader, _>>=_, _>>_, give, refuse_unless_, field, number}
@@ -164,12 +165,12 @@ unfoldable pub refusedLine : (what : List ℕ) (number : ℕ) → List ℕ
 refusedLine what n = what ++ (refusedText ++ decimal n (newline ∷ []))
 
 -- a refused record prints `op K refused N`; an accepted one nothing
-unfoldable pub opLine : (k : ℕ) → Answer Unit → List ℕ
+unfoldable pub opLine : (k : ℕ) → Answer Result → List ℕ
 opLine k (accepted a) = []
 opLine k (refused n) = refusedLine (opText ++ decimal k []) n
 
 -- the blocks follow in recorded order, those of no life too; a refused finish prints `finish refused N` in place of them
-unfoldable pub lastLines : Ledger → Answer Unit → List ℕ
+unfoldable pub lastLines : Ledger → Answer Result → List ℕ
 lastLines l (accepted a) = flatMap blockLine (l .now .blocks)
 lastLines l (refused n) = refusedLine finishText n
 

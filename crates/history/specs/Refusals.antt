@@ -9,7 +9,8 @@ use lib.ListN.{length}
 use Rattle.history.specs.Words.{Operation, Block}
 use Rattle.history.specs.Lent.{blockRows, nodeRows, entryRows, tooShort, pieceSpace}
 use Rattle.history.specs.Tree.{treeOf, nodeCount, entryCount}
-use Rattle.history.specs.Ledger.{Opening, Ledger, finished, isRead, updateBy, settled}
+use Rattle.history.specs.Ledger.{Opening, Ledger, finished, changed, isRead, updateBy, settled}
+use Rattle.history.specs.Results.{Result, done, resultOf}
 use Rattle.history.specs.Reads.{Found, Cells, findBy, touchingBy, nextBy, lastBy, cellsBy, blockBy}
 
 -- ── answers ──
@@ -87,11 +88,11 @@ finishRefusals l =
 abbrev pub openAnswer : Opening → Answer Unit
 openAnswer a = firstOf (openRefusals a) tt
 
-abbrev pub recordAnswer : Ledger → (scratch : ℕ) → Operation → Answer Unit
-recordAnswer l scratch o = firstOf (recordRefusals l scratch o) tt
+abbrev pub recordAnswer : Ledger → (scratch : ℕ) → Operation → Answer Result
+recordAnswer l scratch o = firstOf (recordRefusals l scratch o) (resultOf (changed (l .now) o))
 
-abbrev pub finishAnswer : Ledger → Answer Unit
-finishAnswer l = firstOf (finishRefusals l) tt
+abbrev pub finishAnswer : Ledger → Answer Result
+finishAnswer l = firstOf (finishRefusals l) done
 
 -- ── the reads ──
 

@@ -6,7 +6,7 @@ use Prim.Native.Nat.{ℕ, _-_, _^_}
 use lib.ListN.{replicate}
 use Rattle.history.specs.Refusals.{accepted, refused}
 use Rattle.history.specs.Calls.{finishCall}
-use Rattle.history.specs.Boards.{Fact, touching, neighbour, label, _is_, Board, whatFind, whatTouching, whatNext, whatLast, whatLabel, played, expected, ample, on, op, listed, listing}
+use Rattle.history.specs.Boards.{Fact, answered, touching, neighbour, label, _is_, Board, whatAnswers, whatFind, whatTouching, whatNext, whatLast, whatLabel, played, expected, ample, on, op, from!, known!, done!, listed, listing}
 
 -- ── Item 1 ──
 
@@ -91,6 +91,36 @@ touchingBoards =
     }
     ∷ []
 
+-- ── Item 2 ──
+
+unfoldable pub changeBoards : List Board
+changeBoards =
+    -- two cells, then three with the same byte: the third was unknown; two again are a read
+    record {
+      opening = on 8 ample;
+      calls = op 0 10 (5 ∷ 5 ∷ []) ∷ op 1 10 (5 ∷ 5 ∷ 5 ∷ []) ∷ op 2 10 (5 ∷ 5 ∷ []) ∷ finishCall ∷ [];
+      cases = whatAnswers is answered (from! 10 ∷ from! 12 ∷ known! ∷ done! ∷ []) ∷ [];
+    }
+    -- a gap between two pieces that are alike; a difference inside a piece; a held 0 is known, and an unknown cell differs from it
+    ∷ record {
+      opening = on 8 ample;
+      calls = op 0 10 (5 ∷ []) ∷ op 0 12 (5 ∷ []) ∷ op 1 10 (5 ∷ 5 ∷ 5 ∷ []) ∷ op 2 10 (5 ∷ 5 ∷ 6 ∷ []) ∷ op 3 20 (0 ∷ []) ∷ op 4 20 (0 ∷ []) ∷ op 5 9 (0 ∷ 5 ∷ []) ∷ [];
+      cases = whatAnswers is answered (from! 10 ∷ from! 12 ∷ from! 11 ∷ from! 12 ∷ from! 20 ∷ known! ∷ from! 9 ∷ []) ∷ [];
+    }
+    -- a difference in the second piece; one behind a gap, which is lower
+    ∷ record {
+      opening = on 8 ample;
+      calls = op 0 10 (1 ∷ 1 ∷ []) ∷ op 0 12 (2 ∷ 2 ∷ []) ∷ op 1 10 (1 ∷ 1 ∷ 2 ∷ 3 ∷ []) ∷ op 2 20 (5 ∷ []) ∷ op 2 22 (5 ∷ []) ∷ op 3 20 (5 ∷ 5 ∷ 6 ∷ []) ∷ [];
+      cases = whatAnswers is answered (from! 10 ∷ from! 12 ∷ from! 13 ∷ from! 20 ∷ from! 22 ∷ from! 21 ∷ []) ∷ [];
+    }
+    -- the last cell that can be booked
+    ∷ record {
+      opening = on 8 ample;
+      calls = op 0 (2 ^ 64 - 3) (1 ∷ []) ∷ op 1 (2 ^ 64 - 3) (1 ∷ 1 ∷ []) ∷ [];
+      cases = whatAnswers is answered (from! (2 ^ 64 - 3) ∷ from! (2 ^ 64 - 2) ∷ []) ∷ [];
+    }
+    ∷ []
+
 -- ── Item 4 ──
 
 unfoldable pub labelBoards : List Board
@@ -115,4 +145,5 @@ labelBoards =
 
 pub record RequestedBoards : Type 0 where
   pub item-1 : map played touchingBoards ≡ map expected touchingBoards
+  pub item-2 : map played changeBoards ≡ map expected changeBoards
   pub item-4 : map played labelBoards ≡ map expected labelBoards

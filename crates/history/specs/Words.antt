@@ -1,9 +1,9 @@
 -- The words of document 01: stretches of cells, operations, pieces and blocks, and the part of one that lies in a range.
 -- All ranges are half-open: [from, to) has `from` and not `to`. Definitions alone: their laws stand in proofs/.
-use mathlib.Core.Bool.{Bool, cond, _&&_}
+use mathlib.Core.Bool.{Bool, false, cond, _&&_, not}
 use mathlib.Core.Option.{Option, none, some, Option·map}
-use mathlib.Core.List.{List, map, filterMap}
-use Prim.Native.Nat.{ℕ, _+_, _-_, _≤_, _<_, min, max}
+use mathlib.Core.List.{List, [], _∷_, map, filterMap}
+use Prim.Native.Nat.{ℕ, suc, _+_, _-_, _≤_, _<_, min, max}
 use lib.Dec.{leb, ltb, eqb}
 use lib.ListN.{length, getD, take, drop}
 
@@ -104,6 +104,22 @@ pub record Holds (t cell : ℕ) (b : Block) : Type 0 where
 -- the byte that a stretch has for a cell, if it has the cell
 unfoldable pub byteAt : (cell : ℕ) → Stretch → Option ℕ
 byteAt c s = cond (within (s .first) (ends s) c) (some (getD (s .bytes) (c - s .first) 0)) none
+
+-- the byte is another than the one that a stretch has there
+abbrev pub isOther : (byte : ℕ) → Option ℕ → Bool
+isOther b none = false
+isOther b (some x) = not (eqb b x)
+
+-- the first of the cells from c on, with these bytes, that a stretch has with another byte, if there is one
+unfoldable pub differsFrom : Stretch → (cell : ℕ) (bytes : List ℕ) → Option ℕ
+differsFrom s c [] = none
+differsFrom s c (b ∷ bs) =
+    let later = differsFrom s (suc c) bs in
+    cond (isOther b (byteAt c s)) (some c) later
+
+-- The comparison of an operation with one piece: the first cell in common that differs, or that none does (02, Item 2).
+abbrev pub firstDifference : (operation piece : Stretch) → Option ℕ
+firstDifference o p = differsFrom p (o .first) (o .bytes)
 
 -- the bytes that the pieces have for a cell: at most one, as pieces share no cell
 unfoldable pub heldAt : (cell : ℕ) → List Piece → List ℕ

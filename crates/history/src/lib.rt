@@ -18,13 +18,18 @@
 //   proofs/Tree*, Find*, RulesLaws     the segment tree and find
 //   proofs/Touching                    touching, next and last
 //   proofs/File*                       the file, there and back
-ghost use Rattle.history.specs.Law.{ValueAt, LawOfCalls, LawOfFind, LawOfTouching, LawOfNeighbours};
+ghost use Rattle.history.specs.Law.{ValueAt, LawOfChange, LawOfCalls, LawOfFind, LawOfTouching, LawOfNeighbours};
 ghost use Rattle.history.specs.Boards.{MarkedBoards};
 ghost use Rattle.history.specs.Requested.{RequestedBoards};
 
 // The value of a cell, in the mission's words.
 pub fn value_at()
     ensures { λ _. ⌜ ValueAt ⌝ }
+{}
+
+// What an operation changes first is the lowest of the first unknown cell and of its first differences from each piece.
+pub fn law_of_change()
+    ensures { λ _. ⌜ LawOfChange ⌝ }
 {}
 
 // The ledger after every list of calls: sound, showing what the history has, and faithful to it once finished.

@@ -9,6 +9,7 @@ use lib.ListN.{length}
 use Rattle.history.specs.Rules.{Apart}
 use Rattle.history.specs.Tree.{Tree}
 use Rattle.history.specs.Ledger.{Ledger, isSome, settled}
+use Rattle.history.specs.Results.{Result}
 use Rattle.history.specs.Refusals.{Answer, refused, firstOf, finishRefusals, finishAnswer}
 use Rattle.history.specs.Sound.{SoundTree}
 use Rattle.layout.specs.Tables.{tables}
@@ -56,7 +57,7 @@ module _ {pieces blocks store nodes entries : List ℕ} {r : State} (told : Outc
         }));
       }
 
-  pub finalize-open : {pieces′ blocks′ nodes′ entries′ : List ℕ} {a : Answer Unit} → length store < 2 ^ 64 → r ≡ Open
+  pub finalize-open : {pieces′ blocks′ nodes′ entries′ : List ℕ} {a : Answer Result} → length store < 2 ^ 64 → r ≡ Open
       → FinishesOpen pieces blocks nodes entries pieces′ blocks′ nodes′ entries′ a
       → FinishedBy (tables pieces blocks store nodes entries) (tables pieces′ blocks′ store nodes′ entries′) a
   finalize-open few e f =

@@ -11,6 +11,7 @@ use Rattle.lists.specs.Lists.{count, countFrom}
 use Rattle.history.specs.Words.{blockOf}
 use Rattle.history.specs.Tree.{nodeCount, entryCount}
 use Rattle.history.specs.Ledger.{Ledger, settled}
+use Rattle.history.specs.Results.{Result, done}
 use Rattle.history.specs.Refusals.{Answer, accepted, refused, firstOf, finishRefusals, finishAnswer}
 use Rattle.block_table.specs.Blocks.{blockOfRow, blocksOf}
 use Rattle.ordering.specs.Order.{OnlyOrder}
@@ -64,8 +65,8 @@ counted-all l = refl
 
 -- ── the answer ──
 
-abbrev answerIf : (nodes entries : Bool) → Answer Unit
-answerIf nodes entries = cond nodes (refused 12) (cond entries (refused 13) (accepted tt))
+abbrev answerIf : (nodes entries : Bool) → Answer Result
+answerIf nodes entries = cond nodes (refused 12) (cond entries (refused 13) (accepted done))
 
 -- whether nodes are spent, and entries
 abbrev nodesSpent : Ledger → Tables → Bool
@@ -97,10 +98,10 @@ module _ {t : Tables} {l : Ledger} (s : StandsOpen t l) where
       go false true e = e
       go false false e = e
 
-  pub counted-accepted : {r : ℕ} → r ≡ roomFor (rowsIn (t .nodes)) (entryRowsIn (t .entries)) (wholeTree l) → r ≡ 0 → finishAnswer l ≡ accepted tt
+  pub counted-accepted : {r : ℕ} → r ≡ roomFor (rowsIn (t .nodes)) (entryRowsIn (t .entries)) (wholeTree l) → r ≡ 0 → finishAnswer l ≡ accepted done
   counted-accepted {r} told z = rw finish-answer (go (nodesSpent l t) (entriesSpent l t) told)
     where
-      go : (n m : Bool) → r ≡ cond n 12 (cond m 13 0) → answerIf n m ≡ accepted tt
+      go : (n m : Bool) → r ≡ cond n 12 (cond m 13 0) → answerIf n m ≡ accepted done
       go true m e = absurd (omega arith)
       go false true e = absurd (omega arith)
       go false false e = refl

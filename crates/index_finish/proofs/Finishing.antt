@@ -11,6 +11,7 @@ use Rattle.lists.proofs.Numbers.{refute, decides-iff}
 use Rattle.history.specs.Words.{blockOf}
 use Rattle.history.specs.Rules.{Apart}
 use Rattle.history.specs.Ledger.{Ledger}
+use Rattle.history.specs.Results.{Result, done}
 use Rattle.history.specs.Refusals.{Answer, accepted, refused, finishAnswer}
 use Rattle.tables.specs.Columns.{column, blockColumn, piecesCount, headCount, headEnd, headKind}
 use Rattle.ordering.specs.Order.{Ordered, Sorted, cleared}
@@ -169,7 +170,7 @@ pub ruleset preparing = (prepare-unformed, prepare-refused)
 -- ── a refusal, and an accepted finish ──
 
 -- a refusal leaves everything as it was
-refused-leaves : (a : Answer Unit) (l : Ledger) {t t′ : Tables} → (numberOf a ≡ 0 → ⊥) → t′ ≡ t → FinishLeaves a l t t′
+refused-leaves : (a : Answer Result) (l : Ledger) {t t′ : Tables} → (numberOf a ≡ 0 → ⊥) → t′ ≡ t → FinishLeaves a l t t′
 refused-leaves (accepted x) l nz same = absurd (nz refl)
 refused-leaves (refused n) l nz same = same
 

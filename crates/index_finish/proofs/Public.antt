@@ -4,6 +4,7 @@ use mathlib.Core.List.{List}
 use Prim.Native.Nat.{ℕ, zero, suc, _<_, _^_}
 use lib.ListN.{length}
 use Rattle.history.specs.Ledger.{Ledger}
+use Rattle.history.specs.Results.{Result, done}
 use Rattle.history.specs.Refusals.{accepted, refused, finishAnswer}
 use Rattle.history.specs.Sound.{Sound}
 use Rattle.tables.specs.Columns.{headState}
@@ -65,7 +66,7 @@ module _ {pieces blocks nodes entries blocks₁ nodes₁ entries₁ : List ℕ} 
   open-refused ne = finishes-refused (finish-refused p ne) ne
 
   pub open-done : {pieces′ blocks′ nodes′ entries′ : List ℕ} → r ≡ 0 → SettledTables pieces blocks₁ nodes₁ entries₁ pieces′ blocks′ nodes′ entries′
-      → FinishesOpen pieces blocks nodes entries pieces′ blocks′ nodes′ entries′ (accepted tt)
+      → FinishesOpen pieces blocks nodes entries pieces′ blocks′ nodes′ entries′ (accepted done)
   open-done z settled = finishes (finish-done p z settled)
 
 pub ruleset opening = (open-refused, open-done)

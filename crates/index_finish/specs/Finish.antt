@@ -10,6 +10,7 @@ use Rattle.history.specs.Words.{Block}
 use Rattle.history.specs.Tree.{Tree, entryCount, treeOf}
 use Rattle.history.specs.Rules.{Apart}
 use Rattle.history.specs.Ledger.{Ledger, finished, settled, finishBy}
+use Rattle.history.specs.Results.{Result, done}
 use Rattle.history.specs.Refusals.{Answer, accepted, refused, finishAnswer}
 use Rattle.history.specs.Sound.{Sound}
 use Rattle.ordering.specs.Order.{Ordered}
@@ -38,13 +39,13 @@ abbrev pub wholeTree : Ledger → Tree
 wholeTree l = treeOf (l .opening .end) (allBlocks l)
 
 -- an answer as a number: document 01's, or 0 where it is accepted
-abbrev pub numberOf : Answer Unit → ℕ
+abbrev pub numberOf : Answer Result → ℕ
 numberOf (accepted a) = 0
 numberOf (refused n) = n
 
 -- and the answer of a number
-abbrev pub answerOf : (number : ℕ) → Answer Unit
-answerOf zero = accepted tt
+abbrev pub answerOf : (number : ℕ) → Answer Result
+answerOf zero = accepted done
 answerOf (suc n) = refused (suc n)
 
 -- ── finish ──
@@ -72,7 +73,7 @@ pub record TestedBlank (nodes entries : List ℕ) (r : Bool) : Type 0 where
 
 -- Finish is accepted: the tree of all blocks is counted, and the entry table has room for it.
 pub record Tallied (t : Tables) (nodes : List ℕ) (l : Ledger) : Type 0 where
-  pub answer : finishAnswer l ≡ accepted tt
+  pub answer : finishAnswer l ≡ accepted done
   pub apart : Apart (allBlocks l)
   pub counted : Counted nodes (l .opening .kind) (l .opening .end) (wholeTree l)
   pub space : entryCount (wholeTree l) ≤ entryRowsIn (t .entries)

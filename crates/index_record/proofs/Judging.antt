@@ -13,22 +13,23 @@ use Rattle.lists.proofs.Lists.{all-map, all-of-map}
 use Rattle.lists.proofs.Numbers.{lt-or-le}
 use Rattle.history.specs.Words.{Operation, stretchOf}
 use Rattle.history.specs.Lent.{rowWidth, pieceHead, blockHead, tooShort, pieceSpace, blockRows}
-use Rattle.history.specs.Ledger.{Ledger, isRead, updateBy}
-use Rattle.history.specs.Refusals.{accepted, firstOf}
+use Rattle.history.specs.Ledger.{Ledger, changed, isRead, updateBy}
+use Rattle.history.specs.Results.{Result, read, resultOf}
+use Rattle.history.specs.Refusals.{Answer, accepted, firstOf}
 use Rattle.history.specs.Sound.{Sound}
 use Rattle.tables.specs.Columns.{blockColumn, headEnd, headLast, headCount, headUsed}
 use Rattle.piece_table.specs.Piece.{PieceRow, pieceAt}
 use Rattle.piece_table.specs.Shown.{shown, Stored}
-use Rattle.survey.specs.Survey.{Counts, Surveyed}
+use Rattle.survey.specs.Survey.{changeAt, Counts, Surveyed}
 use Rattle.survey.specs.declared.Report.{Report}
-use Rattle.survey.proofs.Telling.{survey-read, survey-pieces, survey-blocks}
+use Rattle.survey.proofs.Telling.{survey-read, survey-changed, survey-pieces, survey-blocks}
 use Rattle.layout.specs.Tables.{Tables, tables}
 use Rattle.layout.specs.Encodes.{Encodes}
 use Rattle.layout.proofs.Pieces.{pieces-inside, pieces-rep, pieces-shown}
 use Rattle.index_record.specs.Refusing.{callRefusals, spaceRefusals, lentRefusals, answerBy, First, CallTested, SpaceTested}
 use Rattle.index_record.specs.Calls.{operation, Judged}
 use Rattle.index_record.specs.declared.Verdict.the-variants.{Refused, Read, Update}
-use Rattle.index_record.proofs.Refusing.{Sized, call-sized, answer-call, answer-read, answer-update}
+use Rattle.index_record.proofs.Refusing.{Sized, call-sized, answer-call, answer-read, answer-space, answer-update}
 
 -- ── `exceeds` ──
 
@@ -148,6 +149,7 @@ pub record Told (l : Ledger) (o : Operation) (r : Report) : Type 0 where
   pub read : isRead (l .now) o ≡ not (ltb (r .same) (length (o .bytes)))
   pub pieces : length (updateBy (l .opening .kind) (l .now) o .pieces) ≡ r .pieces
   pub blocks : length (updateBy (l .opening .kind) (l .now) o .blocks) ≡ length (l .now .blocks) + r .blocks
+  pub change : changed (l .now) o ≡ changeAt (o .first) (length (o .bytes)) (r .same)
   pub store : length (updateBy (l .opening .kind) (l .now) o .store) ≡ length (l .now .store) + length (o .bytes)
 
 told : (t : Tables) (l : Ledger) (o : Operation) (r : Report) → Encodes t l → Sound l → length (t .pieces) < 2 ^ 64 → length (t .store) < 2 ^ 64
@@ -162,8 +164,13 @@ told t l o r e s few fits sized v =
       read = survey-read (t .store) ps stored (l .now) o now r counts;
       pieces = survey-pieces (t .store) ps stored (l .now) o now r counts (l .opening .kind);
       blocks = survey-blocks (t .store) ps stored (l .now) o now r counts (l .opening .kind);
+      change = survey-changed (t .store) ps stored (l .now) o now r counts;
       store = length-append (l .now .store) (o .bytes);
     }
+
+-- where every cell is held with its byte nothing changes
+known : (first size same : ℕ) → ltb same size ≡ false → resultOf (changeAt first size same) ≡ read
+known first size same e = rw e
 
 -- the refusals of the numbers in the tables are those of the ledger's numbers
 module _ (t : Tables) (l : Ledger) (o : Operation) (e : Encodes t l) where
@@ -200,8 +207,11 @@ module _ {pieces blocks store bytes : List ℕ} {tick first n : ℕ}
     pub judge-read : {scratch : ℕ} → length bytes ≤ r .same → Judged pieces blocks store scratch (operation tick first bytes) Read
     judge-read {scratch} h = record {
       says = λ nodes entries l e s still.
-          let read : isRead (l .now) (operation tick first bytes) ≡ true = tells nodes entries l e s .read ∙ ap not (le-ltb (r .same) (length bytes) h) in
-          (answer-read l scratch (operation tick first bytes) (ap tooShort (e .lengths) ∙ e .heads) still (passes nodes entries l e) read, read);
+          let read : isRead (l .now) (operation tick first bytes) ≡ true = tells nodes entries l e s .read ∙ ap not (le-ltb (r .same) (length bytes) h) in (
+            answer-read l scratch (operation tick first bytes) (ap tooShort (e .lengths) ∙ e .heads) still (passes nodes entries l e) read
+                ∙ ap {B = Answer Result} accepted (ap resultOf (tells nodes entries l e s .change) ∙ known first (length bytes) (r .same) (le-ltb (r .same) (length bytes) h)),
+            read,
+          );
     }
 
     module _ {scratch m : ℕ} (h : r .same < length bytes) (space : SpaceTested pieces blocks store scratch (r .pieces) (r .blocks) (length bytes) m) where
@@ -211,17 +221,24 @@ module _ {pieces blocks store bytes : List ℕ} {tick first n : ℕ}
       pub judge-space : (m ≡ 0 → ⊥) → Judged pieces blocks store scratch (operation tick first bytes) (Refused m)
       judge-space full = record {
         says = λ nodes entries l e s still.
-            answer-update l scratch (operation tick first bytes) (ap tooShort (e .lengths) ∙ e .heads) still (passes nodes entries l e) (update nodes entries l e s)
-            ∙ space-same (tables pieces blocks store nodes entries) l (operation tick first bytes) e scratch m r (tells nodes entries l e s) (space .finds) .number full;
+            answer-space l scratch (operation tick first bytes) (ap tooShort (e .lengths) ∙ e .heads) still (passes nodes entries l e) (update nodes entries l e s) m
+            (space-same (tables pieces blocks store nodes entries) l (operation tick first bytes) e scratch m r (tells nodes entries l e s) (space .finds) .number full);
       }
 
-      pub judge-update : m ≡ 0 → Judged pieces blocks store scratch (operation tick first bytes) Update
-      judge-update free = record {
+      pub judge-update : {cell : ℕ} → m ≡ 0 → cell ≡ first + r .same → Judged pieces blocks store scratch (operation tick first bytes) (Update cell)
+      judge-update {cell} free is = record {
         says = λ nodes entries l e s still. (
           answer-update l scratch (operation tick first bytes) (ap tooShort (e .lengths) ∙ e .heads) still (passes nodes entries l e) (update nodes entries l e s)
-              ∙ space-same (tables pieces blocks store nodes entries) l (operation tick first bytes) e scratch m r (tells nodes entries l e s) (space .finds) .nothing free,
+              (space-same (tables pieces blocks store nodes entries) l (operation tick first bytes) e scratch m r (tells nodes entries l e s) (space .finds) .nothing free)
+              ∙ ap {B = Answer Result} accepted (ap resultOf (tells nodes entries l e s .change) ∙ rw (lt-ltb (r .same) (length bytes) h, is)),
           update nodes entries l e s,
         );
       }
+
+-- the cell that an update changes first is one of its own, so that its number is one of 64 bits
+pub cell-fits : {blocks : List ℕ} {tick first size n same : ℕ} → CallTested blocks tick first size n → n ≡ 0 → same < size → first + same < 2 ^ 64
+cell-fits {blocks} {tick} {first} {size} call z h =
+    let sized = call-sized (blockColumn blocks 0 headEnd) (blockColumn blocks 0 headLast) tick first size (call .finds .nothing z) in
+    omega (arith, sized .near)
 
 pub ruleset judging = (judge-call, judge-read, judge-space, judge-update)

@@ -9,8 +9,9 @@ use lib.ListN.{length}
 use borrow.Author.Tests.{ltb-false, eqb-false}
 use Rattle.history.specs.Words.{Operation}
 use Rattle.history.specs.Lent.{tooShort, pieceSpace, blockRows}
-use Rattle.history.specs.Ledger.{Ledger, finished, isRead, updateBy}
-use Rattle.history.specs.Refusals.{accepted, refused, Refusal, _if_, firstOf, recordRefusals, recordAnswer}
+use Rattle.history.specs.Ledger.{changed, Ledger, finished, isRead, updateBy}
+use Rattle.history.specs.Results.{Result, resultOf}
+use Rattle.history.specs.Refusals.{Answer, accepted, refused, Refusal, _if_, firstOf, recordRefusals, recordAnswer}
 use Rattle.history.proofs.Passing.{passed}
 use Rattle.index_record.specs.Refusing.{callRefusals, spaceRefusals, answerBy}
 
@@ -33,6 +34,27 @@ first-back (r ∷ rs) ss e = go (r .holds) e (first-back rs ss)
   where
     go : (b : Bool) → cond b (refused (r .number)) (answerBy rs) ≡ accepted tt → (answerBy rs ≡ accepted tt → answerBy (rs ++ ss) ≡ answerBy ss)
         → cond b (refused (r .number)) (answerBy (rs ++ ss)) ≡ answerBy ss
+    go true e k = let z : _≡_ {A = ℕ} 0 1 = cc in absurd (omega arith)
+    go false e k = k e
+
+-- whatever is given where none holds
+value-refused : {A : Type 0} (rs : List Refusal) (a : A) (n : ℕ) → answerBy rs ≡ refused n → firstOf rs a ≡ refused n
+unfolding firstOf
+value-refused [] a n e = let z : _≡_ {A = ℕ} 0 1 = cc in absurd (omega arith)
+value-refused {A} (r ∷ rs) a n e = go (r .holds) e (value-refused rs a n)
+  where
+    go : (b : Bool) → cond b (refused (r .number)) (answerBy rs) ≡ refused n → (answerBy rs ≡ refused n → firstOf rs a ≡ refused n)
+        → cond {A = Answer A} b (refused (r .number)) (firstOf rs a) ≡ refused n
+    go true e k = let z : r .number ≡ n = cc in rw z
+    go false e k = k e
+
+value-accepted : {A : Type 0} (rs : List Refusal) (a : A) → answerBy rs ≡ accepted tt → firstOf rs a ≡ accepted a
+unfolding firstOf
+value-accepted [] a e = refl
+value-accepted {A} (r ∷ rs) a e = go (r .holds) e (value-accepted rs a)
+  where
+    go : (b : Bool) → cond b (refused (r .number)) (answerBy rs) ≡ accepted tt → (answerBy rs ≡ accepted tt → firstOf rs a ≡ accepted a)
+        → cond {A = Answer A} b (refused (r .number)) (firstOf rs a) ≡ accepted a
     go true e k = let z : _≡_ {A = ℕ} 0 1 = cc in absurd (omega arith)
     go false e k = k e
 
@@ -78,17 +100,29 @@ module _ (l : Ledger) (scratch : ℕ) (o : Operation) (fits : tooShort (l .openi
       let next = updateBy (l .opening .kind) (l .now) o in
       spaceRefusals (pieceSpace (l .opening .lent) scratch) (blockRows (l .opening .lent)) (l .opening .lent .store) (length (next .pieces)) (length (next .blocks)) (length (next .store))
 
-  split : recordAnswer l scratch o ≡ answerBy (ofCall ++ ofUpdate (not (isRead (l .now) o)))
+  -- what an accepted call gives
+  abbrev given : Result
+  given = resultOf (changed (l .now) o)
+
+  split : recordAnswer l scratch o ≡ firstOf (ofCall ++ ofUpdate (not (isRead (l .now) o))) given
   unfolding recordRefusals callRefusals firstOf
   split = rw (fits, still)
 
   pub answer-call : (n : ℕ) → answerBy ofCall ≡ refused n → recordAnswer l scratch o ≡ refused n
-  answer-call n e = split ∙ first-front ofCall (ofUpdate (not (isRead (l .now) o))) n e
+  answer-call n e =
+      split ∙ value-refused (ofCall ++ ofUpdate (not (isRead (l .now) o))) given n (first-front ofCall (ofUpdate (not (isRead (l .now) o))) n e)
 
-  pub answer-read : answerBy ofCall ≡ accepted tt → isRead (l .now) o ≡ true → recordAnswer l scratch o ≡ accepted tt
+  pub answer-read : answerBy ofCall ≡ accepted tt → isRead (l .now) o ≡ true → recordAnswer l scratch o ≡ accepted (resultOf (changed (l .now) o))
   unfolding firstOf
-  answer-read e read = split ∙ first-back ofCall (ofUpdate (not (isRead (l .now) o))) e ∙ rw read
+  answer-read e read =
+      split ∙ value-accepted (ofCall ++ ofUpdate (not (isRead (l .now) o))) given (first-back ofCall (ofUpdate (not (isRead (l .now) o))) e ∙ rw read)
 
-  pub answer-update : answerBy ofCall ≡ accepted tt → isRead (l .now) o ≡ false → recordAnswer l scratch o ≡ answerBy ofSpace
+  of-space : answerBy ofCall ≡ accepted tt → isRead (l .now) o ≡ false → answerBy (ofCall ++ ofUpdate (not (isRead (l .now) o))) ≡ answerBy ofSpace
   unfolding spaceRefusals
-  answer-update e read = split ∙ first-back ofCall (ofUpdate (not (isRead (l .now) o))) e ∙ rw read
+  of-space e read = first-back ofCall (ofUpdate (not (isRead (l .now) o))) e ∙ rw read
+
+  pub answer-space : answerBy ofCall ≡ accepted tt → isRead (l .now) o ≡ false → (n : ℕ) → answerBy ofSpace ≡ refused n → recordAnswer l scratch o ≡ refused n
+  answer-space e read n full = split ∙ value-refused (ofCall ++ ofUpdate (not (isRead (l .now) o))) given n (of-space e read ∙ full)
+
+  pub answer-update : answerBy ofCall ≡ accepted tt → isRead (l .now) o ≡ false → answerBy ofSpace ≡ accepted tt → recordAnswer l scratch o ≡ accepted (resultOf (changed (l .now) o))
+  answer-update e read free = split ∙ value-accepted (ofCall ++ ofUpdate (not (isRead (l .now) o))) given (of-space e read ∙ free)

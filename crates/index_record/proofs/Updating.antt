@@ -16,6 +16,7 @@ use Rattle.history.specs.Lent.{rowWidth, blockHead}
 use Rattle.history.specs.Words.{Operation, Piece, Block, stretchOf, pieceOf, blockOf}
 use Rattle.history.specs.Tree as segment
 use Rattle.history.specs.Ledger.{Ledger, withNow, Moment, finished, isRead, updateBy, recordBy}
+use Rattle.history.specs.Results.{Result}
 use Rattle.history.specs.Refusals.{accepted, recordAnswer}
 use Rattle.history.specs.Sound.{Sound}
 use Rattle.history.proofs.Passing.{Taken, taken, Room, room}
@@ -136,7 +137,7 @@ module _ (tick used : ℕ) (ps : List PieceRow) (b : List ℕ) (there : blockHea
 abbrev pub newRow : Operation → (used kind : ℕ) → PieceRow
 newRow o used kind = record { first = o .first; size = length (o .bytes); written = o .tick; offset = used; owner = kind }
 
-module _ (t : Tables) (l : Ledger) (o : Operation) (scratch : ℕ) (e : Encodes t l) (s : Sound l) (took : recordAnswer l scratch o ≡ accepted tt) (update : isRead (l .now) o ≡ false)
+module _ (t : Tables) (l : Ledger) (o : Operation) (scratch : ℕ) (e : Encodes t l) (s : Sound l) {r : Result} (took : recordAnswer l scratch o ≡ accepted r) (update : isRead (l .now) o ≡ false)
     (few : length (t .pieces) < 2 ^ 64) (fewer : length (t .blocks) < 2 ^ 64) (fits : length (t .store) < 2 ^ 64) where
   abbrev used : ℕ
   used = headAt t headUsed
@@ -329,7 +330,7 @@ module _ {p b s bytes : List ℕ} {tick first used : ℕ} (eu : used ≡ blockCo
   -- an accepted update has room in the store
   pub update-far : 18446744073709551615 - used < length bytes → UpdateApplied p b s p b s (operation tick first bytes)
   update-far h = record {
-    done = λ nodes entries l scratch e sound took update.
+    done = λ nodes entries l scratch r e sound took update.
         absurd (omega (arith, bytes-fit (tables p b s nodes entries) l (operation tick first bytes) scratch e sound took update few fewer fits));
   }
 
@@ -337,7 +338,7 @@ module _ {p b s bytes : List ℕ} {tick first used : ℕ} (eu : used ≡ blockCo
       → b₂ ≡ set b₁ (headPlace headUsed) (used + length bytes) → b₃ ≡ set b₂ (headPlace headLast) tick → UpdateApplied p b s p₁ b₃ s₁ (operation tick first bytes)
   unfolding leftBlocks
   update-done {kind} {p₁} {b₁} {b₂} {b₃} {s₁} ek es rec e₂ e₃ = record {
-    done = λ nodes entries l scratch e sound took update.
+    done = λ nodes entries l scratch r e sound took update.
         let o : Operation = operation tick first bytes in
         let t : Tables = tables p b s nodes entries in
         let rec′ : AppliedUpdate p p₁ b b₁ (newRow (operation tick first bytes) (blockColumn b 0 headUsed) (blockColumn b 0 headKind)) = rw (eu, ek) at rec in

@@ -7,6 +7,7 @@ use Prim.Native.Nat.{ℕ}
 use lib.ListN.{set}
 use Rattle.history.specs.Words.{Operation}
 use Rattle.history.specs.Ledger.{Ledger, finished, isRead, recordBy}
+use Rattle.history.specs.Results.{Result, read, update}
 use Rattle.history.specs.Refusals.{Answer, accepted, refused, recordAnswer}
 use Rattle.history.specs.Sound.{Sound}
 use Rattle.tables.specs.Columns.{headLast}
@@ -17,7 +18,7 @@ use Rattle.layout.specs.Relations.{UpdatedTables, RecordLeaves}
 use Rattle.index_record.specs.declared.Verdict.{Verdict}
 use Rattle.index_record.specs.declared.Verdict.the-variants.{Refused, Read, Update}
 use Rattle.index_record.specs.declared.Recorded.{Recorded}
-use Rattle.index_record.specs.declared.Recorded.the-variants.{Accepted, Refused as RecordRefused}
+use Rattle.index_record.specs.declared.Recorded.the-variants.{Read as IsRead, Update as IsUpdate, Refused as RecordRefused}
 
 abbrev pub operation : (tick first : ℕ) (bytes : List ℕ) → Operation
 operation tick first bytes = record { tick = tick; first = first; bytes = bytes }
@@ -27,8 +28,8 @@ operation tick first bytes = record { tick = tick; first = first; bytes = bytes 
 -- what a verdict says of the ledger's answer
 abbrev pub Verdicts : Verdict → Ledger → (scratch : ℕ) → Operation → Type 0
 Verdicts (Refused n) l scratch o = recordAnswer l scratch o ≡ refused n
-Verdicts Read l scratch o = (recordAnswer l scratch o ≡ accepted tt) × (isRead (l .now) o ≡ true)
-Verdicts Update l scratch o = (recordAnswer l scratch o ≡ accepted tt) × (isRead (l .now) o ≡ false)
+Verdicts Read l scratch o = (recordAnswer l scratch o ≡ accepted read) × (isRead (l .now) o ≡ true)
+Verdicts (Update c) l scratch o = (recordAnswer l scratch o ≡ accepted (update c)) × (isRead (l .now) o ≡ false)
 
 -- `refusal`
 pub record Judged (pieces blocks store : List ℕ) (scratch : ℕ) (o : Operation) (v : Verdict) : Type 0 where
@@ -42,14 +43,15 @@ pub record ReadApplied (blocks blocks′ : List ℕ) (tick : ℕ) : Type 0 where
 
 -- `enter_update`
 pub record UpdateApplied (pieces blocks store pieces′ blocks′ store′ : List ℕ) (o : Operation) : Type 0 where
-  pub done : (nodes entries : List ℕ) (l : Ledger) (scratch : ℕ) → Encodes (tables pieces blocks store nodes entries) l → Sound l
-      → recordAnswer l scratch o ≡ accepted tt → isRead (l .now) o ≡ false
+  pub done : (nodes entries : List ℕ) (l : Ledger) (scratch : ℕ) (r : Result) → Encodes (tables pieces blocks store nodes entries) l → Sound l
+      → recordAnswer l scratch o ≡ accepted r → isRead (l .now) o ≡ false
       → Encodes (tables pieces′ blocks′ store′ nodes entries) (recordBy l o)
       × UpdatedTables l o (tables pieces blocks store nodes entries) (tables pieces′ blocks′ store′ nodes entries)
 
--- document 01's number for every case of the answer
-abbrev pub recordedOf : Recorded → Answer Unit
-recordedOf Accepted = accepted tt
+-- the document's number and values for every case of the answer
+abbrev pub recordedOf : Recorded → Answer Result
+recordedOf IsRead = accepted read
+recordedOf (IsUpdate c) = accepted (update c)
 recordedOf (RecordRefused n) = refused n
 
 -- `record_open`: of an open index, what layout's `RecordedBy` says of well-formed tables

@@ -17,16 +17,17 @@ ghost use Rattle.index_record.specs.Calls.{operation, Judged, ReadApplie
 use tables::block;
 use tables::piece;
 
-// What becomes of an operation: the number of its refusal, or what it is.
+// What becomes of an operation: the number of its refusal, or what it is; of an update the lowest cell that it changes.
 pub enum Verdict {
     Refused(u64),
     Read,
-    Update,
+    Update(u64),
 }
 
-// The answer of record.
+// The answer of record: a read, or an update with the lowest cell that was unknown or had another byte.
 pub enum Recorded {
-    Accepted,
+    Read,
+    Update(u64),
     Refused(u64),
 }
 
@@ -122,7 +123,7 @@ pub fn refusal(
     if full != 0 {
         return Verdict::Refused(full);
     }
-    Verdict::Update
+    Verdict::Update(first + same)
 }
 
 // ── what an accepted operation does ──
@@ -176,11 +177,11 @@ pub fn record_open(
         Verdict::Refused(number) => Recorded::Refused(number),
         Verdict::Read => {
             enter_read(blocks, tick);
-            Recorded::Accepted
+            Recorded::Read
         }
-        Verdict::Update => {
+        Verdict::Update(cell) => {
             enter_update(pieces, blocks, store, tick, first, bytes);
-            Recorded::Accepted
+            Recorded::Update(cell)
         }
     }
 }

@@ -12,6 +12,7 @@ use Rattle.history.specs.Lent.{rowWidth}
 use Rattle.history.specs.Tree.{treeOf}
 use Rattle.history.specs.Ledger.{Opening, Ledger, isRead, recordBy, finishBy, openingFor}
 use Rattle.history.specs.Reads.{Found}
+use Rattle.history.specs.Results.{Result}
 use Rattle.history.specs.Refusals.{Answer, accepted, refused, openAnswer, recordAnswer, finishAnswer, findAnswer, touchingAnswer, nextAnswer, lastAnswer, blockAnswer}
 use Rattle.history.specs.Sound.{Sound}
 use Rattle.tables.specs.Columns.{column, blockBase, blockColumn, blockOffset, blockNext, blockSpare, headState, headCount, headLast, pieceOffset}
@@ -66,11 +67,11 @@ RecordedTables true l o t t′ = t′ ≡ readTables (o .tick) t
 RecordedTables false l o t t′ = UpdatedTables l o t t′
 
 -- what an answer of record leaves: the tables stand for the ledger's next state, or nothing has changed
-abbrev pub RecordLeaves : Answer Unit → Ledger → Operation → (t t′ : Tables) → Type 0
+abbrev pub RecordLeaves : Answer Result → Ledger → Operation → (t t′ : Tables) → Type 0
 RecordLeaves (accepted a) l o t t′ = Encodes t′ (recordBy l o) × RecordedTables (isRead (l .now) o) l o t t′
 RecordLeaves (refused n) l o t t′ = t′ ≡ t
 
-pub record RecordedBy (scratch : ℕ) (o : Operation) (t t′ : Tables) (answer : Answer Unit) : Type 0 where
+pub record RecordedBy (scratch : ℕ) (o : Operation) (t t′ : Tables) (answer : Answer Result) : Type 0 where
   pub formed : (l : Ledger) → Encodes t l → Sound l → (answer ≡ recordAnswer l scratch o) × RecordLeaves (recordAnswer l scratch o) l o t t′
   pub unformed : (WellFormed t → ⊥) → (answer ≡ refused 2) × (t′ ≡ t)
 
@@ -99,11 +100,11 @@ pub record FinishedTables (l : Ledger) (t t′ : Tables) : Type 0 where
   pub bytes : (links : List ℕ) → Links (t .pieces) links → SameBytes (t .pieces) links (t′ .blocks) (length (l .now .blocks))
   pub tree : TreeAlone (t′ .nodes) (t′ .entries) (treeOf (l .opening .end) (finishBy l .now .blocks))
 
-abbrev pub FinishLeaves : Answer Unit → Ledger → (t t′ : Tables) → Type 0
+abbrev pub FinishLeaves : Answer Result → Ledger → (t t′ : Tables) → Type 0
 FinishLeaves (accepted a) l t t′ = Encodes t′ (finishBy l) × FinishedTables l t t′
 FinishLeaves (refused n) l t t′ = t′ ≡ t
 
-pub record FinishedBy (t t′ : Tables) (answer : Answer Unit) : Type 0 where
+pub record FinishedBy (t t′ : Tables) (answer : Answer Result) : Type 0 where
   pub formed : (w : WellFormedForFinish t) → (answer ≡ finishAnswer (w .ledger)) × FinishLeaves (finishAnswer (w .ledger)) (w .ledger) t t′
   pub unformed : (WellFormedForFinish t → ⊥) → (answer ≡ refused 2) × (t′ ≡ t)
 

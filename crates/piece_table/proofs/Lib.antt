@@ -6,4 +6,5 @@ pub mod Writing
 pub mod Seeing
 pub mod Held
 pub mod Showing
+pub mod Cells
 pub mod Testing

@@ -3,11 +3,12 @@ use mathlib.Core.Path.{_≡_, refl, ap, sym, _∙_}
 use mathlib.Core.Bool.{cond}
 use Prim.Native.Nat.{ℕ}
 use lib.Dec.{eqb}
+use Rattle.history.specs.Results.{Result, done, read, update, number}
 use Rattle.history.specs.Refusals.{Answer, accepted, refused}
 use Rattle.layout.specs.Relations.{Counts, Near, Fields}
 use Rattle.index_record.specs.Calls.{recordedOf}
 use Rattle.index_record.specs.declared.Recorded.{Recorded}
-use Rattle.index_record.specs.declared.Recorded.the-variants.{Accepted, Refused as RecordRefused}
+use Rattle.index_record.specs.declared.Recorded.the-variants.{Read as RecordRead, Update as RecordUpdate, Refused as RecordRefused}
 use Rattle.index_finish.specs.Answers.{finishedOf}
 use Rattle.index_read.specs.Answers.{foundOf, givenOf}
 use Rattle.index.specs.Answers.{openedOf}
@@ -48,15 +49,19 @@ opened-same : (x : Opened) → openedBack (openedOf x) ≡ x
 opened-same IsOpened = refl
 opened-same (OpenRefused n) = refl
 
-abbrev recordedBack : Answer Unit → Recorded
-recordedBack (accepted u) = Accepted
+abbrev recordedBack : Answer Result → Recorded
+recordedBack (accepted (update c)) = RecordUpdate c
+recordedBack (accepted read) = RecordRead
+recordedBack (accepted done) = RecordRead
+recordedBack (accepted (number n)) = RecordRead
 recordedBack (refused n) = RecordRefused n
 
 recorded-same : (x : Recorded) → recordedBack (recordedOf x) ≡ x
-recorded-same Accepted = refl
+recorded-same RecordRead = refl
+recorded-same (RecordUpdate c) = refl
 recorded-same (RecordRefused n) = refl
 
-abbrev finishedBack : Answer Unit → Finished
+abbrev finishedBack : Answer Result → Finished
 finishedBack (accepted u) = IsFinished
 finishedBack (refused n) = FinishRefused n
 

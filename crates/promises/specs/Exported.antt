@@ -7,11 +7,12 @@ use denote.Ref.{RefT, now}
 use Rattle.history.specs.Reads.{clockLabel}
 use Rattle.layout.specs.Tables.{tables}
 use Rattle.layout.specs.Relations.{OpenedBy, RecordedBy, FinishedBy, FoundBy, TouchedBy, NextGivenBy, LastGivenBy, Fields, BlockGivenBy}
+use Rattle.history.specs.Results.{done}
 use Rattle.layout.specs.Files.{WrittenBy, LoadedBy}
 use Rattle.lengths.specs.Lengths.{lengthFor}
 use Rattle.index_record.specs.Calls.{operation}
 use Rattle.cells.specs.Answers.{CellsReadBy}
-use Rattle.servercape.specs.Numbers.{ByNumber, counts, near, fields}
+use Rattle.servercape.specs.Numbers.{ByNumber, ToldAs, changes, changesOf, counts, near, fields}
 use Rattle.servercape.proofs.servercape_length.Kinds as length-kinds
 use Rattle.servercape.proofs.servercape_length.Reads as length-reads
 use Rattle.servercape.proofs.servercape_open.Kinds as open-kinds
@@ -50,11 +51,12 @@ pub record Exported : Type 0 where
   pub opening : Says 5 open-kinds.ps open-kinds.r open-reads.Asked open-reads.Learnt
       (λ κs a x e. ByNumber (OpenedBy (behind a .0) (behind a .1 .0) (held a)
       (tables (held e .pieces) (held e .blocks) (held a .store) (held e .nodes) (held e .entries))) x tt tt)
-  pub record-op : Says 7 record-kinds.ps record-kinds.r record-reads.Asked record-reads.Learnt
-      (λ κs a x e. ByNumber (RecordedBy (length (now (behind a .0))) (operation (behind a .1 .0) (behind a .1 .1 .0) (now (behind a .1 .1 .1 .0))) (held a)
-      (tables (held e .pieces) (held e .blocks) (held e .store) (held a .nodes) (held a .entries))) x tt tt)
+  pub record-op : Says 9 record-kinds.ps record-kinds.r record-reads.Asked record-reads.Learnt
+      (λ κs a x e. ByNumber (ToldAs changesOf (RecordedBy (length (now (behind a .0))) (operation (behind a .1 .0) (behind a .1 .1 .0) (now (behind a .1 .1 .1 .0))) (held a)
+      (tables (held e .pieces) (held e .blocks) (held e .store) (held a .nodes) (held a .entries)))) x
+      (changes (now (behind a .1 .1 .1 .1 .0)) (now (behind a .1 .1 .1 .1 .1 .0))) (changes (now (behind e .1 .1 .1 .1 .0)) (now (behind e .1 .1 .1 .1 .1 .0))))
   pub finish : Says 5 finish-kinds.ps finish-kinds.r finish-reads.Asked finish-reads.Learnt
-      (λ κs a x e. ByNumber (FinishedBy (held a) (tables (held e .pieces) (held e .blocks) (held a .store) (held e .nodes) (held e .entries))) x tt tt)
+      (λ κs a x e. ByNumber (FinishedBy (held a) (tables (held e .pieces) (held e .blocks) (held a .store) (held e .nodes) (held e .entries))) x done done)
   pub block : Says 11 block-kinds.ps block-kinds.r block-reads.Asked block-reads.Learnt
       (λ κs a x e. ByNumber (BlockGivenBy (held a) (behind a .0)) x (handedOut (behind a .1)) (handedOut (behind e .1)))
   pub find : Says 8 find-kinds.ps find-kinds.r find-reads.Asked find-reads.Learnt

@@ -1,5 +1,5 @@
 -- What is proved, in the order in which README tells it. Each statement stands, in words and clause by clause, in the file that it is taken from.
-use Rattle.history.specs.Law.{ValueAt, LawOfCalls, LawOfFind, LawOfTouching, LawOfNeighbours}
+use Rattle.history.specs.Law.{ValueAt, LawOfChange, LawOfCalls, LawOfFind, LawOfTouching, LawOfNeighbours}
 use Rattle.history.specs.Boards.{MarkedBoards}
 use Rattle.history.specs.Requested.{RequestedBoards}
 use Rattle.layout.specs.Law.{OneLedger, TablesExist, ShallowTrees}
@@ -33,6 +33,7 @@ pub record OfTables : Type 0 where
 -- of the definitions, over plain lists
 pub record OfHistory : Type 0 where
   pub value-at : ValueAt
+  pub law-of-change : LawOfChange
   pub law-of-calls : LawOfCalls
   pub law-of-find : LawOfFind
   pub law-of-touching : LawOfTouching

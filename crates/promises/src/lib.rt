@@ -51,6 +51,7 @@ pub fn of_history()
     ensures { λ _. ⌜ OfHistory ⌝ }
 {
     history::value_at();
+    history::law_of_change();
     history::law_of_calls();
     history::law_of_find();
     history::law_of_touching();

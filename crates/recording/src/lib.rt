@@ -7,28 +7,8 @@
 //   proofs/Updating    of `split`, `remove_overlapping`, `apply_update`
 //   proofs/Extracting  of `extract_members`
 //   proofs/Telling     what the tables then stand for is the ledger's update
-ghost use mathlib.Core.Path.{_≡_};
-ghost use Prim.Native.Nat.{_+_, min, max};
 ghost use Rattle.recording.specs.Calls.{RecordedPart, Extracted, ExtractedMembers, ClearedOne, Cleared, SplitPiece, RemovedOverlapping, AppliedUpdate};
 use tables::piece;
-
-fn larger(a: u64, b: u64) -> u64
-    ensures { λ r. ⌜ r ≡ max a b ⌝ }
-{
-    if a < b {
-        return b;
-    }
-    a
-}
-
-fn smaller(a: u64, b: u64) -> u64
-    ensures { λ r. ⌜ r ≡ min a b ⌝ }
-{
-    if a < b {
-        return a;
-    }
-    b
-}
 
 // Records the part of a link's piece in [first, end), which it meets, as a block destroyed at `tick`.
 fn record_part(pieces: &[u64], blocks: &mut [u64], link: u64, tick: u64, first: u64, end: u64)
@@ -39,11 +19,11 @@ fn record_part(pieces: &[u64], blocks: &mut [u64], link: u64, tick: u64, first: 
     let written = tables::get(pieces, link, piece::WRITTEN);
     let offset = tables::get(pieces, link, piece::OFFSET);
     let owner = tables::get(pieces, link, piece::OWNER);
-    let from = larger(first, was);
+    let from = tables::larger(first, was);
     if u64::MAX - was < length {
         return;
     }
-    let to = smaller(end, was + length);
+    let to = tables::smaller(end, was + length);
     if to < from {
         return;
     }

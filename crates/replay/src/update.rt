@@ -20,8 +20,10 @@ const RECORD_START: usize = 4;
 
 const RECORD_LENGTH: usize = 5;
 
-// By how much the store use grows: not at all for a read.
-const RECORD_GROWTH: usize = 6;
+// 1 and the first cell that changes, of an update; 0 and 0 of a read.
+const RECORD_UPDATED: usize = 6;
+
+const RECORD_CELL: usize = 7;
 
 const FINISH_BLOCKS: usize = 2;
 
@@ -71,23 +73,20 @@ pub fn open(
     rows::tell(told, rows::REFUSAL, opened(answer));
 }
 
-// By how much a number has grown.
-fn growth(before: u64, after: u64) -> u64 {
-    if after < before {
-        return u64::MAX;
-    }
-    after - before
-}
-
-// The number of a refused operation, 0 of one that is taken.
-fn recorded(answer: Recorded) -> u64 {
+fn tell_recorded(told: &mut [u64; rows::COLUMNS], answer: Recorded) {
     match answer {
-        Recorded::Accepted => 0,
-        Recorded::Refused(n) => n,
+        Recorded::Read => {
+            rows::tell(told, RECORD_UPDATED, 0);
+            rows::tell(told, RECORD_CELL, 0);
+        }
+        Recorded::Update(cell) => {
+            rows::tell(told, RECORD_UPDATED, 1);
+            rows::tell(told, RECORD_CELL, cell);
+        }
+        Recorded::Refused(n) => rows::tell(told, rows::REFUSAL, n),
     }
 }
 
-// The store use shows whether an operation was taken as a read, or as an update whose bytes entered the store.
 pub fn record(
     pieces: &mut [u64],
     blocks: &mut [u64],
@@ -103,7 +102,6 @@ pub fn record(
     let bytes = tables::part(pool, start, rows::get(row, RECORD_LENGTH));
     let scratch = [0; SCRATCH];
     let room = rows::at_most(lent, SCRATCH);
-    let before = block_table::used(blocks);
     let answer = index::record_op(
         pieces,
         blocks,
@@ -115,9 +113,7 @@ pub fn record(
         rows::get(row, RECORD_FIRST),
         bytes,
     );
-    let used = block_table::used(blocks);
-    rows::tell(told, RECORD_GROWTH, growth(before, used));
-    rows::tell(told, rows::REFUSAL, recorded(answer));
+    tell_recorded(told, answer);
 }
 
 // How many blocks, nodes and entries a closed index has.

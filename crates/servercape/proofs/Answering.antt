@@ -2,9 +2,14 @@
 use mathlib.Core.Path.{_≡_, refl, subst}
 use Prim.Native.Nat.{ℕ}
 use borrow.Author.Tests.{ne-eqb}
+use Rattle.history.specs.Words.{Operation}
+use Rattle.history.specs.Results.{Result}
 use Rattle.history.specs.Refusals.{Answer, accepted, refused}
-use Rattle.servercape.specs.Numbers.{answerOf, ByNumber}
-use Rattle.servercape.proofs.Positive.{open-positive, record-positive, finish-positive, block-positive, find-positive, touching-positive, next-positive, last-positive, cells-positive, write-positive}
+use Rattle.layout.specs.Tables.{Tables}
+use Rattle.layout.specs.Relations.{RecordedBy}
+use Rattle.layout.specs.Reads.{valuesOf}
+use Rattle.servercape.specs.Numbers.{answerOf, ByNumber, ToldAs, changesOf}
+use Rattle.servercape.proofs.Positive.{open-positive, changes-positive, finish-positive, block-positive, find-positive, touching-positive, next-positive, last-positive, cells-positive, write-positive}
 use Rattle.servercape.proofs.PositiveLoad.{load-positive}
 
 -- An answer x of the call behind, of which `of` says what it means, was found to be y.
@@ -22,11 +27,15 @@ module _ {A E : Type 0} (of : E → Answer A) {R : Answer A → Type 0} {before 
       let some : n ≡ 0 → ⊥ = λ z. never (subst (λ (k : ℕ). R (refused k)) z here) in
       record { answered = rw (ne-eqb n 0 some) here; kept = λ _. refl }
 
+-- record's answer, of which two values are handed out
+pub told-as : {scratch : ℕ} {o : Operation} {t t′ : Tables} {x : Answer Result} → RecordedBy scratch o t t′ x → ToldAs changesOf (RecordedBy scratch o t t′) (valuesOf changesOf x)
+told-as {x = x} told = record { behind = x; holds = told; is = refl }
+
 -- what is left to find: what y means, and that no refusal of the call is 0
 pub ruleset numbers = (
   refl,
   open-positive,
-  record-positive,
+  changes-positive,
   finish-positive,
   block-positive,
   find-positive,

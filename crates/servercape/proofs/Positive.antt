@@ -1,5 +1,5 @@
 -- No refusal has the number 0, which stands for accepted. Assumes nothing.
-use mathlib.Core.Path.{_≡_, refl, sym}
+use mathlib.Core.Path.{_≡_, refl, sym, subst}
 use mathlib.Core.Bool.{Bool, true, false, cond, _&&_}
 use mathlib.Core.List.{List, [], _∷_}
 use Prim.Native.Nat.{ℕ}
@@ -11,6 +11,7 @@ use Rattle.lists.proofs.Numbers.{and-left, and-right}
 use Rattle.history.specs.Words.{Operation}
 use Rattle.history.specs.Ledger.{Ledger}
 use Rattle.history.specs.Reads.{findBy, touchingBy, nextBy, lastBy, cellsBy}
+use Rattle.history.specs.Results.{Result}
 use Rattle.history.specs.Refusals.{Answer, accepted, refused, Refusal, firstOf, openRefusals, recordRefusals, finishRefusals, windowRefusals, neighbourRefusals, blockRefusals, writeRefusals}
 use Rattle.history.specs.File.{fileBy}
 use Rattle.layout.specs.Tables.{Tables}
@@ -19,6 +20,7 @@ use Rattle.layout.specs.Reads.{valuesOf, ReadBy}
 use Rattle.layout.specs.Relations.{openingOf, OpenedBy, RecordedBy, FinishedBy, FoundBy, TouchedBy, NextGivenBy, LastGivenBy, BlockGivenBy}
 use Rattle.layout.specs.Files.{WrittenBy}
 use Rattle.cells.specs.Answers.{CellsReadBy}
+use Rattle.servercape.specs.Numbers.{ToldAs, changesOf}
 
 -- ── a list of refusals ──
 
@@ -51,13 +53,13 @@ open-positive {e} {kind} {t} told = first-positive (openRefusals (openingOf e ki
 pub record-positive : {scratch : ℕ} {o : Operation} {t t′ : Tables} → RecordedBy scratch o t t′ (refused 0) → ⊥
 unfolding recordRefusals positive
 record-positive {scratch} {o} {t} told =
-    let ill : WellFormed t → ⊥ = λ w. first-positive (recordRefusals (w .ledger) scratch o) tt refl (sym (told .formed (w .ledger) (w .encodes) (w .sound) .0)) in
+    let ill : WellFormed t → ⊥ = λ w. first-positive (recordRefusals (w .ledger) scratch o) _ refl (sym (told .formed (w .ledger) (w .encodes) (w .sound) .0)) in
     not-2 (told .unformed ill .0)
 
 pub finish-positive : {t t′ : Tables} → FinishedBy t t′ (refused 0) → ⊥
 unfolding finishRefusals positive
 finish-positive {t} told =
-    let ill : WellFormedForFinish t → ⊥ = λ w. first-positive (finishRefusals (w .ledger)) tt refl (sym (told .formed w .0)) in
+    let ill : WellFormedForFinish t → ⊥ = λ w. first-positive (finishRefusals (w .ledger)) _ refl (sym (told .formed w .0)) in
     not-2 (told .unformed ill .0)
 
 -- ── the reads: the ledger's answer, with other values ──
@@ -71,6 +73,11 @@ read-positive : {A B : Type 0} {t : Tables} {asked : Ledger → Answer A} {Hande
     → ((x : Answer A) → Handed x → refused 0 ≡ valuesOf values x) → ((l : Ledger) → asked l ≡ refused 0 → ⊥) → ReadBy t asked Handed → ⊥
 read-positive values says never told =
     not-2 (says (refused 2) (told .unformed (λ w. never (w .ledger) (values-refused values _ (says _ (told .formed (w .ledger) (w .encodes) (w .sound)))))))
+
+-- record, of which two values are handed out
+pub changes-positive : {scratch : ℕ} {o : Operation} {t t′ : Tables} → ToldAs changesOf (RecordedBy scratch o t t′) (refused 0) → ⊥
+changes-positive {scratch} {o} {t} {t′} told =
+    record-positive (subst (λ (x : Answer Result). RecordedBy scratch o t t′ x) (values-refused changesOf (told .behind) (told .is)) (told .holds))
 
 pub block-positive : {t : Tables} {k : ℕ} → BlockGivenBy t k (refused 0) → ⊥
 unfolding blockRefusals positive

@@ -9,11 +9,12 @@ ghost use lib.ListN.{length};
 ghost use Rattle.history.specs.Reads.{clockLabel};
 ghost use Rattle.layout.specs.Tables.{tables};
 ghost use Rattle.layout.specs.Relations.{OpenedBy, RecordedBy, FinishedBy, BlockGivenBy, FoundBy, TouchedBy, NextGivenBy, LastGivenBy};
+ghost use Rattle.history.specs.Results.{done};
 ghost use Rattle.layout.specs.Files.{WrittenBy, LoadedBy};
 ghost use Rattle.index_record.specs.Calls.{operation};
 ghost use Rattle.cells.specs.Answers.{CellsReadBy};
 ghost use Rattle.lengths.specs.Lengths.{lengthFor};
-ghost use Rattle.servercape.specs.Numbers.{ByNumber, counts, near, fields};
+ghost use Rattle.servercape.specs.Numbers.{ByNumber, ToldAs, changes, changesOf, counts, near, fields};
 use cells::Read;
 use file_load::Loaded;
 use file_write::Written;
@@ -69,10 +70,13 @@ pub extern "C" fn servercape_record(
     tick: u64,
     first: u64,
     bytes: &[u8],
+    updated: &mut u64,
+    cell: &mut u64,
 ) -> u64
-    ensures { λ r. ⌜ ByNumber (RecordedBy (length (now (scratch .entry))) (operation tick first (now (bytes .entry)))
+    ensures { λ r. ⌜ ByNumber (ToldAs changesOf (RecordedBy (length (now (scratch .entry))) (operation tick first (now (bytes .entry)))
         (tables (now (pieces .entry)) (now (blocks .entry)) (now (store .entry)) (now (nodes .entry)) (now (entries .entry)))
-        (tables (now (pieces .exit)) (now (blocks .exit)) (now (store .exit)) (now (nodes .entry)) (now (entries .entry)))) r tt tt ⌝ }
+        (tables (now (pieces .exit)) (now (blocks .exit)) (now (store .exit)) (now (nodes .entry)) (now (entries .entry))))) r
+        (changes (now (updated .entry)) (now (cell .entry))) (changes (now (updated .exit)) (now (cell .exit))) ⌝ }
 {
     let recorded = index::record_op(
         pieces,
@@ -86,7 +90,16 @@ pub extern "C" fn servercape_record(
         bytes,
     );
     match recorded {
-        Recorded::Accepted => 0,
+        Recorded::Read => {
+            *updated = 0;
+            *cell = 0;
+            0
+        }
+        Recorded::Update(changed) => {
+            *updated = 1;
+            *cell = changed;
+            0
+        }
         Recorded::Refused(number) => number,
     }
 }
@@ -102,7 +115,7 @@ pub extern "C" fn servercape_finish(
 ) -> u64
     ensures { λ r. ⌜ ByNumber (FinishedBy
         (tables (now (pieces .entry)) (now (blocks .entry)) (now (store .entry)) (now (nodes .entry)) (now (entries .entry)))
-        (tables (now (pieces .exit)) (now (blocks .exit)) (now (store .entry)) (now (nodes .exit)) (now (entries .exit)))) r tt tt ⌝ }
+        (tables (now (pieces .exit)) (now (blocks .exit)) (now (store .entry)) (now (nodes .exit)) (now (entries .exit)))) r done done ⌝ }
 {
     let finished = index::finalize(pieces, blocks, store, nodes, entries);
     match finished {

@@ -12,7 +12,7 @@ use Rattle.index_test.specs.declared.State.{State}
 use Rattle.index_test.specs.declared.State.the-variants.{Bad, Open, Closed}
 use Rattle.index_record.specs.Calls.{RecordedOpen}
 use Rattle.index_record.specs.declared.Recorded.{Recorded}
-use Rattle.index_record.specs.declared.Recorded.the-variants.{Accepted, Refused as RecordRefused}
+use Rattle.index_record.specs.declared.Recorded.the-variants.{Read as IsRead, Update as IsUpdate, Refused as RecordRefused}
 use Rattle.index_finish.specs.Answers.{finishedOf, FinishesOpen}
 use Rattle.index_finish.specs.declared.Finished.{Finished}
 use Rattle.index_finish.specs.declared.Finished.the-variants.{Finished as IsFinished, Refused as FinishRefused}
@@ -45,13 +45,16 @@ pub ruleset telling = (told-bad, told-open, told-closed)
 -- ── record and finish ──
 
 module _ {p b s p′ b′ s′ : List ℕ} {scratch : ℕ} {o : Operation} {x : Recorded} (told : RecordedOpen p b s p′ b′ s′ scratch o x) where
-  pub record-0 : x ≡ Accepted → Numbered (RecordedOpen p b s p′ b′ s′ scratch o) recordNumber 0
-  record-0 e = record { answer = x; holds = told; is = sym (ap recordNumber e) }
+  pub record-read : x ≡ IsRead → Numbered (RecordedOpen p b s p′ b′ s′ scratch o) recordNumber 0
+  record-read e = record { answer = x; holds = told; is = sym (ap recordNumber e) }
+
+  pub record-update : {c : ℕ} → x ≡ IsUpdate c → Numbered (RecordedOpen p b s p′ b′ s′ scratch o) recordNumber 0
+  record-update e = record { answer = x; holds = told; is = sym (ap recordNumber e) }
 
   pub record-n : {n : ℕ} → x ≡ RecordRefused n → Numbered (RecordedOpen p b s p′ b′ s′ scratch o) recordNumber n
   record-n e = record { answer = x; holds = told; is = sym (ap recordNumber e) }
 
-pub ruleset recording = (record-0, record-n)
+pub ruleset recording = (record-read, record-update, record-n)
 
 module _ {p b n e p′ b′ n′ e′ : List ℕ} {x : Finished} (told : FinishesOpen p b n e p′ b′ n′ e′ (finishedOf x)) where
   pub finish-0 : x ≡ IsFinished → FinishedAs p b n e p′ b′ n′ e′ 0

@@ -10,7 +10,7 @@ use Rattle.index_test.specs.Board.{Outcome}
 use Rattle.index_test.specs.declared.State.{State}
 use Rattle.index_test.specs.declared.State.the-variants.{Bad, Open, Closed}
 use Rattle.index_record.specs.declared.Recorded.{Recorded}
-use Rattle.index_record.specs.declared.Recorded.the-variants.{Accepted, Refused as RecordRefused}
+use Rattle.index_record.specs.declared.Recorded.the-variants.{Read as IsRead, Update as IsUpdate, Refused as RecordRefused}
 use Rattle.index_finish.specs.Answers.{finishedOf, FinishesOpen}
 use Rattle.index_finish.specs.declared.Finished.{Finished}
 use Rattle.index_finish.specs.declared.Finished.the-variants.{Finished as IsFinished, Refused as FinishRefused}
@@ -42,7 +42,8 @@ pub record Numbered {A : Type 0} (relation : A → Type 0) (number : A → ℕ) 
 
 -- 0, or the refusal's number
 abbrev pub recordNumber : Recorded → ℕ
-recordNumber Accepted = 0
+recordNumber IsRead = 0
+recordNumber (IsUpdate c) = 0
 recordNumber (RecordRefused n) = n
 
 abbrev pub finishNumber : Finished → ℕ

@@ -48,7 +48,8 @@ pub extern "C" fn servercape_inner_record(
 {
     let recorded = index_record::record_open(pieces, blocks, store, scratch, tick, first, bytes);
     match recorded {
-        Recorded::Accepted => 0,
+        Recorded::Read => 0,
+        Recorded::Update(_) => 0,
         Recorded::Refused(number) => number,
     }
 }

@@ -16,6 +16,7 @@ use Rattle.history.specs.Lent.{Lent, rowWidth, entryWidth, blockHead, nodeHead,
 use Rattle.history.specs.Tree.{noBlock}
 use Rattle.history.specs.Ledger.{Opening, Ledger, withNow, opened, finished, isRead, readBy, updateBy, recordBy, settled, finishBy}
 use Rattle.history.specs.Reads.{treeIn}
+use Rattle.history.specs.Results.{Result}
 use Rattle.history.specs.Refusals.{Answer, accepted, refused, openAnswer, recordAnswer, finishAnswer}
 use Rattle.history.specs.Calls.{Call, recordCall, finishCall, answerTo, acceptedBy, leaves, after, afterAll, noted, history}
 use Rattle.history.specs.Law.{LedgerLaw}
@@ -69,7 +70,7 @@ update-pieces : (kind : ℕ) (l : Ledger) (o : Operation) → 0 < length (update
 unfolding updateBy
 update-pieces kind l o = rw (length-append (below (stretchOf o .first) (l .now .pieces)) (pieceOf kind o ∷ above (ends (stretchOf o)) (l .now .pieces))) (omega arith)
 
-record-kept : (l : Ledger) (scratch : ℕ) (o : Operation) → recordAnswer l scratch o ≡ accepted tt → Kept l → Kept (recordBy l o)
+record-kept : (l : Ledger) (scratch : ℕ) (o : Operation) {r : Result} → recordAnswer l scratch o ≡ accepted r → Kept l → Kept (recordBy l o)
 unfolding recordBy readBy
 record-kept l scratch o e k = go (isRead (l .now) o)
   where
@@ -94,7 +95,7 @@ settled-lives l h (p ∷ ps) e some-piece =
       },
     )
 
-finish-kept : (l : Ledger) → finishAnswer l ≡ accepted tt → SoundBoard l → Kept l → Kept (finishBy l)
+finish-kept : (l : Ledger) {r : Result} → finishAnswer l ≡ accepted r → SoundBoard l → Kept l → Kept (finishBy l)
 unfolding finishBy settled sumOf
 finish-kept l e b k = record {
   stored =
@@ -114,12 +115,12 @@ after-kept : (l : Ledger) (h : List Operation) (k : Call) → LedgerLaw l h → 
 unfolding after leaves answerTo acceptedBy
 after-kept l h (recordCall scratch o) law kept = go (recordAnswer l scratch o) refl
   where
-    go : (x : Answer Unit) → recordAnswer l scratch o ≡ x → Kept (leaves x l (recordBy l o))
+    go : (x : Answer Result) → recordAnswer l scratch o ≡ x → Kept (leaves x l (recordBy l o))
     go (accepted a) e = record-kept l scratch o e kept
     go (refused n) e = kept
 after-kept l h finishCall law kept = go (finishAnswer l) refl
   where
-    go : (x : Answer Unit) → finishAnswer l ≡ x → Kept (leaves x l (finishBy l))
+    go : (x : Answer Result) → finishAnswer l ≡ x → Kept (leaves x l (finishBy l))
     go (accepted a) e = finish-kept l e (law .sound .sound .board) kept
     go (refused n) e = kept
 

@@ -12,6 +12,7 @@ use Rattle.history.specs.Tree.{nodeCount}
 use Rattle.history.specs.Rules.{rule23, apart}
 use Rattle.history.specs.Ledger.{Opening, Ledger, opened, finished}
 use Rattle.history.specs.Reads.{treeIn, blockBy}
+use Rattle.history.specs.Results.{Result}
 use Rattle.history.specs.Refusals.{Answer, accepted, refused, openAnswer, maxEndTick}
 use Rattle.history.specs.Calls.{Call, afterAll}
 use Rattle.history.specs.Sound.{Sound}
@@ -106,7 +107,7 @@ pub record SavedAndLoaded : Type 0 where
       → Reloads t (afterAll (opened a) ks) (AsLong t) (LoadedAgain a ks t)
   -- so for every index that was opened in tables of any contents and finished by any list of calls, each done by its contract.
   pub called : (end kind : ℕ) → 1 ≤ end → end ≤ maxEndTick → kind ≤ 4 → (t t₀ t′ : Tables) (opening : Answer Unit) → OpenedBy end kind t t₀ opening
-      → (ks : List Call) (given : List (Answer Unit)) → Run t₀ ks given t′ → finished (afterAll (opened (openingOf end kind t)) ks) ≡ true
+      → (ks : List Call) (given : List (Answer Result)) → Run t₀ ks given t′ → finished (afterAll (opened (openingOf end kind t)) ks) ≡ true
       → 0 < length (afterAll (opened (openingOf end kind t)) ks .now .blocks) → Slices t′
       → Reloads t′ (afterAll (opened (openingOf end kind t)) ks) (AsLong t′) (LoadedAgain (openingOf end kind t) ks t′)
 

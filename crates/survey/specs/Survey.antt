@@ -5,7 +5,7 @@ use mathlib.Core.Bool.{cond, _&&_}
 use mathlib.Core.Option.{Option, none, some}
 use mathlib.Core.List.{List, _∷_, _++_, map}
 use Prim.Native.Nat.{ℕ, suc, _+_, _≤_, _<_, _^_}
-use lib.ListN.{length, getD, drop}
+use lib.ListN.{length, drop}
 use lib.Dec.{ltb}
 use Rattle.lists.specs.Lists.{All}
 use Rattle.history.specs.Words.{Piece}
@@ -22,13 +22,7 @@ use Rattle.survey.specs.declared.Report.{Report}
 abbrev pub changeAt : (first size same : ℕ) → Option ℕ
 changeAt first size same = cond (ltb same size) (some (first + same)) none
 
--- ── comparing bytes ──
-
--- `matching`: how many of the bytes, up to `run`, are the store's from `at` on
-pub record Matching (store : List ℕ) (at : ℕ) (bytes : List ℕ) (from run out : ℕ) : Type 0 where
-  pub most : out ≤ run
-  pub same : (k : ℕ) → k < out → getD bytes (from + k) 0 ≡ getD store (at + k) 0
-  pub differs : out < run → getD bytes (from + out) 0 ≡ getD store (at + out) 0 → ⊥
+-- ── the bytes held ──
 
 -- Every cell below `place` is looked at: all of them, or all cells of the operation, are held with their bytes; or `same` of them, and the next one is a
 -- change.
@@ -37,15 +31,25 @@ pub record Matched (ps : List Piece) (first : ℕ) (bytes : List ℕ) (place sam
   pub rest : firstChange ps first bytes ≡ firstChange ps (first + same) (drop same bytes)
   pub stops : (first + same ≡ place) ⊎ ((same ≡ length bytes) ⊎ (firstChange ps (first + same) (drop same bytes) ≡ some (first + same)))
 
--- `held_bytes`: the link's piece, the lowest that ends past the place, is looked at too
-pub record HeldBytes (t store : List ℕ) (bytes : List ℕ) (link first place same out : ℕ) : Type 0 where
-  pub says : (xs ys : List ℕ) → Linked t (xs ++ link ∷ ys) → All (λ (p : PieceRow). rowEnd p ≤ place) (map (pieceAt t) xs) → place < endAt t link
-      → All (Stored store) (map (pieceAt t) (xs ++ link ∷ ys)) → place < first + length bytes → Matched (map (shown store) (map (pieceAt t) (xs ++ link ∷ ys))) first bytes place same
-      → Matched (map (shown store) (map (pieceAt t) (xs ++ link ∷ ys))) first bytes (endAt t link) out
+-- the lowest piece that ends past the place: none in front of it does, and where the place is not the first cell, a piece or a gap ends there
+pub record Lowest (t store : List ℕ) (bytes : List ℕ) (link first place next : ℕ) (xs ys : List ℕ) : Type 0 where
+  pub linked : Linked t (xs ++ link ∷ ys)
+  pub left : All (λ (p : PieceRow). rowEnd p ≤ place) (map (pieceAt t) xs)
+  pub past : place < endAt t link
+  pub clean : (place ≡ first) ⊎ (place ≤ pieceAt t link .first)
+  pub ends : next ≡ endAt t link
+  pub stored : All (Stored store) (map (pieceAt t) (xs ++ link ∷ ys))
+  pub within : place < first + length bytes
+  pub near : first + length bytes < 2 ^ 64
+
+-- `held_bytes`: the link's piece is looked at too
+pub record HeldBytes (t store : List ℕ) (bytes : List ℕ) (link first place next same out : ℕ) : Type 0 where
+  pub says : (xs ys : List ℕ) → Lowest t store bytes link first place next xs ys → Matched (map (shown store) (map (pieceAt t) (xs ++ link ∷ ys))) first bytes place same
+      → Matched (map (shown store) (map (pieceAt t) (xs ++ link ∷ ys))) first bytes next out
 
 -- `held_part`: where all cells below the place are held
-pub record HeldPart (t store : List ℕ) (bytes : List ℕ) (link first place same out : ℕ) : Type 0 where
-  pub says : first + same ≡ place → HeldBytes t store bytes link first place same out
+pub record HeldPart (t store : List ℕ) (bytes : List ℕ) (link first place next same out : ℕ) : Type 0 where
+  pub says : first + same ≡ place → HeldBytes t store bytes link first place next same out
 
 -- ── counting ──
 

@@ -4,12 +4,11 @@
 //   proofs/Holding    which bytes the pieces hold for a cell
 //   proofs/Changing   the first change, from one piece to the next
 //   proofs/Weighing   pieces, blocks and rests as sums over the pieces
-//   proofs/Surveying  one step for each return
+//   proofs/Matching   one step for each return, of what compares
+//   proofs/Surveying  and of the rest
 //   proofs/Telling    what is told is what the ledger says
-ghost use mathlib.Core.Path.{_≡_};
-ghost use Prim.Native.Nat.{_+_, _≤_, min};
-ghost use lib.ListN.{length};
-ghost use Rattle.survey.specs.Survey.{Matching, HeldPart, HeldBytes, RestsOf, Made, Surveyed};
+ghost use Rattle.survey.specs.Survey.{HeldPart, HeldBytes, RestsOf, Made, Surveyed};
+use comparison::Difference;
 use tables::piece;
 
 // What an operation meets: how many of its leading cells the pieces hold with its bytes, how many pieces there would be after an update, and how many
@@ -20,31 +19,8 @@ pub struct Report {
     pub blocks: u64,
 }
 
-// How many of the bytes from `from` on are the store's from `at` on, `run` at most.
-fn matching(store: &[u8], at: usize, bytes: &[u8], from: usize, run: usize) -> usize
-    requires { ⌜ (at + run ≤ length (now store)) × (from + run ≤ length (now bytes)) ⌝ }
-    ensures { λ r. ⌜ Matching (now (store .entry)) at (now (bytes .entry)) from run r ⌝ }
-{
-    let mut j = 0;
-    while j < run {
-        if store[at + j] != bytes[from + j] {
-            return j;
-        }
-        j += 1;
-    }
-    j
-}
-
-fn smaller(a: usize, b: usize) -> usize
-    ensures { λ r. ⌜ r ≡ min a b ⌝ }
-{
-    if a < b {
-        return a;
-    }
-    b
-}
-
-// How many leading cells are held with their bytes, where those below `place` are and the piece of `link` holds that one.
+// How many leading cells are held with their bytes, where those below `place` are: the piece of `link`, which ends at `next`, is the lowest that ends
+// after it.
 fn held_part(
     pieces: &[u64],
     store: &[u8],
@@ -52,38 +28,21 @@ fn held_part(
     link: u64,
     first: u64,
     place: u64,
-    same: usize,
-) -> usize
-    ensures { λ r. ⌜ HeldPart (now (pieces .entry)) (now (store .entry)) (now (bytes .entry)) link first place same r ⌝ }
+    next: u64,
+    same: u64,
+) -> u64
+    ensures { λ r. ⌜ HeldPart (now (pieces .entry)) (now (store .entry)) (now (bytes .entry)) link first place next same r ⌝ }
 {
-    let was = tables::get(pieces, link, piece::FIRST);
-    let length = tables::get(pieces, link, piece::LENGTH);
-    let offset = tables::get(pieces, link, piece::OFFSET);
-    if place < was {
+    if place < tables::get(pieces, link, piece::FIRST) {
         return same;
     }
-    let skip = place - was;
-    if length < skip {
-        return same;
+    match comparison::first_difference(pieces, store, link, first, bytes) {
+        Difference::Cell(cell) => tables::minus(cell, first),
+        Difference::Nothing => tables::smaller(tables::minus(next, first), bytes.len() as u64),
     }
-    if u64::MAX - offset < skip {
-        return same;
-    }
-    if bytes.len() < same {
-        return same;
-    }
-    let at = (offset + skip) as usize;
-    let run = smaller((length - skip) as usize, bytes.len() - same);
-    if store.len() < run {
-        return same;
-    }
-    if store.len() - run < at {
-        return same;
-    }
-    same + matching(store, at, bytes, same, run)
 }
 
-// How many leading cells are held with their bytes, once the piece of `link`, the lowest that ends after `place`, is looked at. Before it were `same`.
+// How many leading cells are held with their bytes, once the piece of `link` is looked at too. Before it were `same`: all below `place`, or up to a change.
 fn held_bytes(
     pieces: &[u64],
     store: &[u8],
@@ -91,17 +50,18 @@ fn held_bytes(
     link: u64,
     first: u64,
     place: u64,
-    same: usize,
-) -> usize
-    ensures { λ r. ⌜ HeldBytes (now (pieces .entry)) (now (store .entry)) (now (bytes .entry)) link first place same r ⌝ }
+    next: u64,
+    same: u64,
+) -> u64
+    ensures { λ r. ⌜ HeldBytes (now (pieces .entry)) (now (store .entry)) (now (bytes .entry)) link first place next same r ⌝ }
 {
     if place < first {
         return same;
     }
-    if place - first != same as u64 {
+    if place - first != same {
         return same;
     }
-    held_part(pieces, store, bytes, link, first, place, same)
+    held_part(pieces, store, bytes, link, first, place, next, same)
 }
 
 // How many rests a piece [was, next) that meets [first, end) leaves.
@@ -147,25 +107,24 @@ pub fn survey(pieces: &[u64], store: &[u8], first: u64, bytes: &[u8]) -> Report
     let mut place = first;
     let mut met: u64 = 0;
     let mut rests: u64 = 0;
-    let mut same: usize = 0;
+    let mut same: u64 = 0;
     while place < end {
         let link = piece_table::seek(pieces, place);
         if link == 0 {
-            let known = same as u64;
-            return made(count, met, rests, known);
+            return made(count, met, rests, same);
         }
         let was = tables::get(pieces, link, piece::FIRST);
         let next = tables::plus(was, tables::get(pieces, link, piece::LENGTH));
         if !merge_set::starts_below(pieces, link, end) {
-            return made(count, met, rests, same as u64);
+            return made(count, met, rests, same);
         }
         if next <= place {
-            return made(count, met, rests, same as u64);
+            return made(count, met, rests, same);
         }
-        same = held_bytes(pieces, store, bytes, link, first, place, same);
+        same = held_bytes(pieces, store, bytes, link, first, place, next, same);
         rests = tables::plus(rests, rests_of(was, next, first, end));
         met = tables::plus(met, 1);
         place = next;
     }
-    made(count, met, rests, same as u64)
+    made(count, met, rests, same)
 }

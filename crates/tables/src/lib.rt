@@ -6,7 +6,7 @@
 //   specs/Parts     parts of bytes
 //   piece, block, node, entry   its names in code
 ghost use mathlib.Core.Path.{_≡_};
-ghost use Prim.Native.Nat.{ℕ, _+_, _-_, _*_, _/_};
+ghost use Prim.Native.Nat.{ℕ, _+_, _-_, _*_, _/_, min, max};
 ghost use lib.ListN.{length, getD, set, replicate};
 ghost use lib.Seq.{sets};
 ghost use Rattle.lists.specs.Tests.{Decides};
@@ -66,6 +66,34 @@ pub fn plus(a: u64, b: u64) -> u64
         return a + b;
     }
     u64::MAX
+}
+
+// The difference, or 0 where there is none.
+pub fn minus(a: u64, b: u64) -> u64
+    ensures { λ r. ⌜ r ≡ a - b ⌝ }
+{
+    if b < a {
+        return a - b;
+    }
+    0
+}
+
+pub fn smaller(a: u64, b: u64) -> u64
+    ensures { λ r. ⌜ r ≡ min a b ⌝ }
+{
+    if a < b {
+        return a;
+    }
+    b
+}
+
+pub fn larger(a: u64, b: u64) -> u64
+    ensures { λ r. ⌜ r ≡ max a b ⌝ }
+{
+    if a < b {
+        return b;
+    }
+    a
 }
 
 // Every number of the table becomes 0.

@@ -6,4 +6,4 @@ use Rattle.servercape_inner.proofs.servercape_inner_record.Tie as tie
 
 pub servercape-inner-record-spec : {M : Type 1} → statement M
 servercape-inner-record-spec =
-    tie.close (tie.spec (λ c κs. search needs) (λ c. search needs) (λ c. search needs) (λ c. search needs) (λ c. search needs) (λ c. search needs) (λ c. search (recording, needs)) (λ c. search needs) (λ c. search needs) (λ c. search needs) (λ c. search (recording, needs)))
+    tie.close (tie.spec (λ c κs. search needs) (λ c. search needs) (λ c. search needs) (λ c. search needs) (λ c. search needs) (λ c. search needs) (λ c. search needs) (λ c. search (recording, needs)) (λ c. search needs) (λ c. search needs) (λ c. search needs) (λ c. search (recording, needs)) (λ c. search needs) (λ c. search needs) (λ c. search needs) (λ c. search (recording, needs)))

@@ -6,4 +6,4 @@ use Rattle.survey.proofs.held_part.Tie as tie
 
 pub held-part-spec : {M : Type 1} → statement M
 held-part-spec =
-    tie.close (tie.spec (λ c κs. search needs) (λ c κs. search needs) (λ c κs. search needs) (λ c. search surveying) (λ c. search surveying) (λ c. search needs) (λ c. search surveying) (λ c. search surveying) (λ c. search needs) (λ c. search needs) (λ c κs. search needs) (λ c. search surveying) (λ c. search needs) (λ c. search surveying) (λ c κs. search needs) (λ c. search needs) (λ c. search surveying))
+    tie.close (tie.spec (λ c κs. search needs) (λ c. search surveying) (λ c κs. search needs) (λ c. search needs) (λ c κs. search needs) (λ c. search needs) (λ c κs. search needs) (λ c κs. search needs) (λ c. search surveying) (λ c. search surveying))

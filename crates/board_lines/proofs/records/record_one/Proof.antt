@@ -6,7 +6,4 @@ use Rattle.board_lines.proofs.records.record_one.Tie as tie
 
 pub record-one-spec : {M : Type 1} → statement M
 record-one-spec =
-    tie.close
-    (tie.spec (λ c κs. search needs) (λ c. search needs) (λ c. search needs) (λ c κs. search needs) (λ c. search needs) (λ c. search needs)
-    (λ c. search needs) (λ c. search recordingOne) (λ c. search needs) (λ c. search needs) (λ c. search needs) (λ c. search needs)
-    (λ c. search recordingOne))
+    tie.close (tie.spec (λ c κs. search needs) (λ c. search needs) (λ c. search needs) (λ c. search needs) (λ c κs. search needs) (λ c. search needs) (λ c. search needs) (λ c. search needs) (λ c. search recordingOne) (λ c. search needs) (λ c. search needs) (λ c. search needs) (λ c. search recordingOne) (λ c. search needs) (λ c. search needs) (λ c. search needs) (λ c. search needs) (λ c. search recordingOne))
