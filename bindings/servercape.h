@@ -28,7 +28,8 @@ enum servercape_table {
     SERVERCAPE_SCRATCH = 5
 };
 
-/* How many numbers (of the store: bytes) to lend for so many rows. 0 where that is no 64-bit number, and for any other table. */
+/* How many numbers (of the store: bytes) to lend for so many rows. 0 where that is no 64-bit number, and for any other table. Of the scratch one row is
+   enough: 8 numbers. */
 uint64_t servercape_length(uint64_t table, uint64_t rows);
 
 /* The largest end tick. */
@@ -44,8 +45,9 @@ uint64_t servercape_open(
     uint64_t *entries, size_t entries_length,
     uint64_t end_tick, uint8_t kind);
 
-/* Records an operation: the bytes of the cells from `first` on, at a tick. Of the scratch only the length counts. Of an update `updated` is 1 and `cell` the
-   lowest cell that was unknown or had another byte; of a read, which changes no cell, both are 0.
+/* Records an operation: the bytes of the cells from `first` on, at a tick. Of an update `updated` is 1 and `cell` the lowest cell that was unknown or had
+   another byte; of a read, which changes no cell, both are 0. Of the scratch only the length counts: 8 numbers are enough for any number of pieces, and with
+   fewer every call is refused 2.
    Refusals 2, 3, 5 to 11. */
 uint64_t servercape_record(
     uint64_t *pieces, size_t pieces_length,

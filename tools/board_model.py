@@ -1,14 +1,14 @@
-"""Document 01 and requests 1 and 2 of document 02 as a plain model: an index that answers the calls of the stored list.
+"""Document 01 and requests 1, 2 and 9 of document 02 as a plain model: an index that answers the calls of the stored list.
 
 Nothing is shared with the crates. Pieces and blocks are lists, the tree is made of Python objects, and the loader reads fields from bytes. A call is a list of
 words and its answer a text, as in the list of the oracle: `open E KIND PIECES SCRATCH BLOCKS STORE NODES ENTRIES`, `record TICK FIRST HEX`, `finish`,
 `load AT BLOCKS STORE NODES ENTRIES HEX`, `block NUMBER`, `find TICK START END ROOM`, `cells TICK START END BYTEROOM HELDROOM`, `write ROOM`, `clock CELL`.
-What is lent is counted in rows; a table of -1 rows cannot hold its head.
+What is lent is counted in rows, the scratch in numbers; a table of -1 rows cannot hold its head.
 
 Of document 02: `touching TICK START END ROOM`, whose answer is the count and the numbers, and `next TICK CELL` and `last TICK CELL`, with a number or `missing`;
-record answers `read`, or `update` with the lowest cell that was unknown or had another byte.
+record answers `read`, or `update` with the lowest cell that was unknown or had another byte, and is refused 2 with a scratch of fewer than eight numbers.
 
-Two more are our own. `scratch ROWS` lends another scratch from there on. `damaged AT BY FROM TO HEX` loads a file into the tables of the load before, once
+Two more are our own. `scratch NUMBERS` lends another scratch from there on. `damaged AT BY FROM TO HEX` loads a file into the tables of the load before, once
 for each place from FROM up to TO: cut at that place where BY is 0, else with the byte there raised by BY. Its answer is `NUMBER*MANY` for each run of files
 that come out alike, refused with that number, or 0 for those that are taken.
 """
@@ -18,6 +18,7 @@ WORD = 1 << 64
 MOST_END = 1 << 63
 MINUTES = 1 << 32
 DAY = 1440
+LEAST_SCRATCH = 8
 
 
 class Refused(Exception):
@@ -260,8 +261,8 @@ class Model:
     def headed(self, state):
         return None if min(self.rows.values()) < 0 else state
 
-    def scratch(self, rows):
-        self.rows["scratch"] = rows
+    def scratch(self, numbers):
+        self.rows["scratch"] = numbers
         return ["lent"]
 
     def first_change(self, first, data):
@@ -294,7 +295,7 @@ class Model:
 
     def record(self, tick, first, word):
         data = unhexed(word)
-        refuse(2, self.state is None)
+        refuse(2, self.state is None or self.rows["scratch"] < LEAST_SCRATCH)
         refuse(3, self.state != "open")
         refuse(5, not data)
         refuse(6, first + len(data) > WORD - 1)
@@ -305,7 +306,7 @@ class Model:
             self.last_tick = tick
             return ["read"]
         pieces, blocks = self.updated(tick, first, data)
-        refuse(9, len(pieces) > min(self.rows["pieces"], self.rows["scratch"]))
+        refuse(9, len(pieces) > self.rows["pieces"])
         refuse(10, len(self.blocks) + len(blocks) + len(pieces) > self.rows["blocks"])
         refuse(11, self.used + len(data) > self.rows["store"])
         self.pieces, self.last_tick, self.used = pieces, tick, self.used + len(data)
@@ -328,7 +329,7 @@ class Model:
         rows = {"blocks": blocks, "store": store, "nodes": nodes, "entries": entries}
         if self.rows is None or self.rows | rows != self.rows:
             self.state = None
-        self.rows = (self.rows or {}) | rows
+        self.rows = (self.rows or {"scratch": LEAST_SCRATCH}) | rows
         return self.take(unhexed(word), at)
 
     def take(self, file, at):

@@ -19,7 +19,7 @@ from board_model import MOST_END, WORD, Model, hexed
 
 MARK = b"\xb7\x4f"
 MOST_INPUT = 65536
-ROWS = (512, 512, 1024, 65536, 1024, 4096)  # what `board` lends: pieces, scratch, blocks, store, nodes, entries
+ROWS = (512, 8 * 512, 1024, 65536, 1024, 4096)  # what `board` lends: pieces, scratch (in numbers), blocks, store, nodes, entries
 LARGEST = WORD - 1
 HEADER = "cell n from to clock bytes"
 DATA = os.path.join(os.path.dirname(os.path.abspath(__file__)), "..", "crates", "board_try", "stdin")

@@ -1,7 +1,7 @@
 #!/usr/bin/env python3
 """Makes the stored list that the program `replay` plays: calls with their answers, as its standard input.
 
-  stored.py make VECTORS FILE [ORACLE]   from the oracle's list, the boards of marked.txt and the own cases (stored_cases.py, _touching.py, _changes.py)
+  stored.py make VECTORS FILE [ORACLE]   from the oracle's list, the boards of marked.txt and the own cases (stored_cases.py, _touching, _changes, _scratch)
   stored.py show FILE [CASE]             the list, or one case of it, in words; cases count from 1
   stored.py spoil VECTORS FILE           the same cases, each up to a call whose answer is changed: replay must say that one of each differs
   stored.py --test                       tries itself: the model gives every answer of marked.txt, and rows are read as they were written
@@ -13,7 +13,7 @@ import collections
 import os
 import sys
 
-from board_model import BYTES_LAST, WORD, Model, hexed, unhexed
+from board_model import BYTES_LAST, LEAST_SCRATCH, WORD, Model, hexed, unhexed
 from board_oracle import compare
 from stored_cases import Dice, own_cases
 from stored_changes import change_cases
@@ -21,6 +21,7 @@ from stored_rows import (
     BLOCK, CASE, CELLS, CLOCK, DAMAGED, FIND, FINISH, LAST, LOAD, NEXT, OPEN, OWN, PART, RECORD, SCRATCH, TOUCHING, WRITE, Part, line, number, read_number, row,
     rows_of
 )
+from stored_scratch import scratch_cases
 from stored_touching import touching_cases
 
 MARKED = os.path.join(os.path.dirname(os.path.abspath(__file__)), "marked.txt")
@@ -29,8 +30,9 @@ MARKED = os.path.join(os.path.dirname(os.path.abspath(__file__)), "marked.txt")
 PIECE_HEAD, BLOCK_HEAD, NODE_HEAD, ENTRY_HEAD = 8, 2048, 8, 8
 ROW, ENTRY_ROW = 8, 2
 
-# What the program has room for: rows of each table, bytes of store, places of an answer, cells, bytes of a file.
+# What the program has room for: rows of each table, bytes of store, numbers of a scratch, places of an answer, cells, bytes of a file.
 PIECES, BLOCKS, STORE, NODES, ENTRIES = 64, 256, 4103, 4096, 8195
+SCRATCH_MOST = ROW * PIECES + 7
 ANSWER, WINDOW, FILE = 64, 64, 16384
 
 
@@ -53,10 +55,10 @@ def fits(value, most):
 
 
 class Case:
-    """Its tables are some numbers longer than their rows take, by its place in the list: a part of a row is no row."""
+    """Its tables are some numbers longer than their rows take, by its place in the list: a part of a row is no row. The scratch is as long as a call says."""
 
     def __init__(self, part, place):
-        self.part, self.slack, self.pieces = part, place % 8, 8 + place % 8
+        self.part, self.slack, self.pieces, self.numbers = part, place % 8, 8 + place % 8, LEAST_SCRATCH
 
     def table(self, head, width, rows, most):
         """The length of a table; with -1 rows it cannot hold its head."""
@@ -92,11 +94,12 @@ class Case:
         return rows
 
     def open(self, words, answer):
-        self.pieces, scratch = self.table(PIECE_HEAD, ROW, words[2], PIECES), self.table(0, ROW, words[3], PIECES)
-        return OPEN, [int(words[0]), int(words[1])] + [0] * 6 + [self.pieces, scratch] + self.lent(*words[4:])
+        self.pieces, self.numbers = self.table(PIECE_HEAD, ROW, words[2], PIECES), fits(int(words[3]), SCRATCH_MOST)
+        return OPEN, [int(words[0]), int(words[1])] + [0] * 6 + [self.pieces, self.numbers] + self.lent(*words[4:])
 
     def scratch(self, words, answer):
-        return SCRATCH, [0] * 9 + [self.table(0, ROW, words[0], PIECES)]
+        self.numbers = fits(int(words[0]), SCRATCH_MOST)
+        return SCRATCH, [0] * 9 + [self.numbers]
 
     def record(self, words, answer):
         start, length = self.bytes(words[2])
@@ -143,7 +146,7 @@ class Case:
 
     def load(self, words, answer):
         said = list(map(int, answer)) or [0] * 4
-        return LOAD, [int(words[0])] + self.bytes(words[5]) + said + [0, self.pieces, 0] + self.lent(*words[1:5])
+        return LOAD, [int(words[0])] + self.bytes(words[5]) + said + [0, self.pieces, self.numbers] + self.lent(*words[1:5])
 
     def clock(self, words, answer):
         return CLOCK, [int(words[0]), *map(int, answer)]
@@ -217,10 +220,19 @@ def modelled(calls):
     return [(call, model.answer(call).split()) for call in calls]
 
 
+def lent_now(call):
+    """A call of the oracle's list, which is older than request 9: by it the scratch's rows bound the pieces too. So the piece table is lent with as few rows as
+    that, and the scratch with eight numbers: every answer stays."""
+    if call[0] != "open":
+        return call
+    return call[:3] + [str(min(int(call[3]), int(call[4]))), str(LEAST_SCRATCH)] + call[5:]
+
+
 def oracle_cases(path):
     """The cases of the oracle's list with the model's cells: the list says of an update only that it is one."""
     cases = []
-    for case in vector_cases(path):
+    for listed in vector_cases(path):
+        case = [(lent_now(call), answer) for call, answer in listed]
         own = modelled([call for call, _ in case])
         cases.append([(call, said if answer == ["update"] == said[:1] else answer) for (call, answer), (_, said) in zip(case, own)])
     return cases
@@ -246,7 +258,7 @@ def tell(stored, vectors, whole):
 
 
 def own_lists():
-    return [(name, [list(map(str, call)) for call in calls]) for name, calls in own_cases() + touching_cases() + change_cases()]
+    return [(name, [list(map(str, call)) for call in calls]) for name, calls in own_cases() + touching_cases() + change_cases() + scratch_cases()]
 
 
 def put_out(vectors, own, out):

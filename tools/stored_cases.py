@@ -4,12 +4,12 @@ one file damaged at every place.
 Each case is a name and a list of calls in words (board_model.py); what a call answers is left to the model. All of it is determined: the dice are a
 fixed sequence of numbers.
 """
-from board_model import MINUTES, MOST_END, WORD, Model, hexed, number_bytes, unhexed
+from board_model import LEAST_SCRATCH, MINUTES, MOST_END, WORD, Model, hexed, number_bytes, unhexed
 from board_oracle import differs
 from stored_files import GROUPS, RIGHT, SMALL, TEN, TWENTY, file, node
 
 ROOMY = (67, 1027, 259, 515)  # rows of blocks, store, nodes, entries that the small files fit in
-WIDE = (64, 64, 256, 4096, 4096, 8192)  # rows of an open with room for everything
+WIDE = (64, LEAST_SCRATCH, 256, 4096, 4096, 8192)  # rows of an open with room for everything, and the scratch
 
 
 class Dice:
@@ -56,7 +56,7 @@ def reads_of(model, dice):
 def after_load(model, dice, content):
     """What is asked after a load that is taken: its blocks, reads, and the bytes again."""
     size = len(content)
-    tail = [["write", size], ["write", size - 1], ["write", size + 5], ["record", 0, 0, "01"], ["finish"]]
+    tail = [["write", size], ["write", max(0, size - 1)], ["write", size + 5], ["record", 0, 0, "01"], ["finish"]]
     return reads_of(model, dice) + tail
 
 
@@ -186,7 +186,7 @@ def file_of(end, kind, records):
 
 
 def need_of(end, records):
-    """The rows that a list of records and its finish need: pieces, blocks, store, nodes, entries."""
+    """What a list of records and its finish need: rows of pieces, the scratch, rows of blocks, store, nodes, entries."""
     model = Model()
     model.answer(list(map(str, ["open", end, 1, *WIDE])))
     pieces = 0
@@ -194,11 +194,11 @@ def need_of(end, records):
         model.answer(list(map(str, call)))
         pieces = max(pieces, len(model.pieces))
     blocks, nodes, entries = map(int, model.answer(["finish"]).split())
-    return [pieces, pieces, blocks, model.used, nodes, entries]
+    return [pieces, LEAST_SCRATCH, blocks, model.used, nodes, entries]
 
 
 def tight(dice, name, end, kind, records):
-    """Tables with exactly the rows that are needed, and each of them with one row fewer."""
+    """Tables with exactly the rows that are needed, and each of them with one row fewer, the scratch with one number."""
     need = need_of(end, records)
     yield board_case(f"{name}-exact", dice, end, kind, records, tuple(need))
     for i in range(6):
@@ -208,7 +208,7 @@ def tight(dice, name, end, kind, records):
 
 def over(dice, end, records):
     """Loads into the tables of a finished index: a damaged file leaves it (17 to 20) or leaves no index (21 to 24); a good one takes its place."""
-    rows = (16, 16, 67, 1027, 259, 515)
+    rows = (16, LEAST_SCRATCH, 67, 1027, 259, 515)
     calls = [["open", end, 1, *rows]] + records + [["finish"], ["block", 0], load(SMALL[:-1]), ["block", 0]]
     calls += [load(file([TEN], b"\2")), ["block", 1], load(SMALL), ["block", 0], ["block", 2], ["record", 0, 0, "01"]]
     calls += [load(file([TEN] * 68, b"\0")), ["block", 1], load(file([TEN], b"\0")), ["block", 0], ["finish"], ["find", 0, 0, 9, 9]]
@@ -242,7 +242,7 @@ def all_reads(blocks, end, cells):
 
 def damaged():
     """A board whose file is cut at every length and has every byte changed."""
-    rows, records = (64, 64, 230, 2000, 80, 400), bookings()
+    rows, records = (64, LEAST_SCRATCH, 230, 2000, 80, 400), bookings()
     content = file_of(DAMAGED_END, 2, records)
     front = b"\xaa" * DAMAGED_AT + content
     whole, reads = front.ljust(16384, b"\xaa"), all_reads(214, DAMAGED_END, 256)

@@ -57,7 +57,7 @@ def far():
 def refused():
     """A refusal changes nothing: what is asked after it is told as if it had not been. A read needs no room."""
     spent = ((0, 10, "05"), (1, 12, "05"), (1, 10, "05"), (1, 10, "0505"), (1, 9, "-"), (0, 11, "06"), (8, 11, "06"), (1, TOP, "05"), (2, 10, "0506"))
-    yield "no-piece", board(*spent, rows=(1, 1, 9, 9, 9, 9))
+    yield "no-piece", board(*spent, rows=(1, 9, 9, 9, 9, 9))
     yield "no-block", board(*spent, rows=(9, 9, 2, 9, 9, 9))
     yield "no-byte", board(*spent, rows=(9, 9, 9, 3, 9, 9))
     yield "no-head", board(*spent, rows=(-1, 9, 9, 9, 9, 9))

@@ -14,7 +14,6 @@ extern "C" {
         pieces: *mut u64, pieces_length: usize,
         blocks: *mut u64, blocks_length: usize,
         store: *mut u8, store_length: usize,
-        scratch: u64,
         tick: u64, first: u64,
         bytes: *const u8, bytes_length: usize,
     ) -> u64;
@@ -70,7 +69,8 @@ pub struct Tables {
     store: Vec<u8>,
     nodes: Vec<u64>,
     entries: Vec<u64>,
-    scratch: Vec<u64>,
+    /// Record asks for no more.
+    scratch: [u64; 8],
 }
 
 /// The five tables as pointers and lengths, in the order that every call has, and what comes after them.
@@ -99,7 +99,7 @@ impl Tables {
             store: vec![7; length(raw::SERVERCAPE_STORE, rows.bytes)],
             nodes: vec![7; length(raw::SERVERCAPE_NODES, rows.nodes)],
             entries: vec![7; length(raw::SERVERCAPE_ENTRIES, rows.entries)],
-            scratch: vec![7; length(raw::SERVERCAPE_SCRATCH, rows.pieces)],
+            scratch: [7; 8],
         };
         let number = unsafe {
             raw::servercape_open(
@@ -137,7 +137,6 @@ impl Tables {
                 self.pieces.as_mut_ptr(), self.pieces.len(),
                 self.blocks.as_mut_ptr(), self.blocks.len(),
                 self.store.as_mut_ptr(), self.store.len(),
-                self.scratch.len() as u64,
                 tick, first, bytes.as_ptr(), bytes.len(),
             )
         }

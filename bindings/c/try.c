@@ -43,7 +43,7 @@ static struct lent lend(uint64_t pieces, uint64_t blocks, uint64_t store, uint64
     x.store_length = servercape_length(SERVERCAPE_STORE, store);
     x.nodes_length = servercape_length(SERVERCAPE_NODES, nodes);
     x.entries_length = servercape_length(SERVERCAPE_ENTRIES, entries);
-    x.scratch_length = servercape_length(SERVERCAPE_SCRATCH, pieces);
+    x.scratch_length = servercape_length(SERVERCAPE_SCRATCH, 1);
     x.pieces = filled(8 * x.pieces_length);
     x.blocks = filled(8 * x.blocks_length);
     x.store = filled(x.store_length);
@@ -315,6 +315,57 @@ static void changes(struct lent x)
     record("no room for the bytes", x, 6, 30, x.store, 64, refusal(11));
 }
 
+/* A sum in which each place counts, over all that an index is lent. */
+static uint64_t sum_of(struct lent x)
+{
+    const void *slices[] = {x.pieces, x.blocks, x.store, x.nodes, x.entries, x.scratch};
+    const size_t lengths[] = {8 * x.pieces_length, 8 * x.blocks_length, x.store_length, 8 * x.nodes_length, 8 * x.entries_length, 8 * x.scratch_length};
+    uint64_t sum = 1;
+    for (int k = 0; k < 6; k++)
+        for (size_t i = 0; i < lengths[k]; i++)
+            sum = 9 * sum + ((const uint8_t *)slices[k])[i];
+    return sum;
+}
+
+/* Refused 2, and nothing changes, the values handed out neither. */
+static void too_short(const char *what, struct lent x, uint64_t tick, uint64_t first, size_t length)
+{
+    uint64_t before = sum_of(x);
+    for (size_t numbers = 0; numbers < 8; numbers++) {
+        struct lent y = x;
+        y.scratch_length = numbers;
+        record(what, y, tick, first, (const uint8_t[]){9, 9}, length, refusal(2));
+    }
+    same("kept tables", sum_of(x), before);
+}
+
+/* Eight numbers are enough for any number of pieces; with fewer record is refused 2, before all else, on an open and on a finished index. */
+static void scratch(void)
+{
+    struct lent x = lend(10, 32, 64, 64, 64);
+    uint64_t found = 77, number = 77;
+    same("a scratch of one row", x.scratch_length, 8);
+    same("open", servercape_open(TABLES(x), 8, 1), 0);
+    too_short("short, no piece", x, 1, 0, 1);
+    for (uint64_t k = 0; k < 10; k++)
+        record("ten pieces", x, 1, 2 * k, (const uint8_t[]){9}, 1, update(2 * k));
+    record("the table is full", x, 1, 20, (const uint8_t[]){9}, 1, refusal(9));
+    too_short("short, an update", x, 7, 1, 1);
+    too_short("short, a read", x, 1, 2, 1);
+    too_short("short, no cells", x, 1, 2, 0);
+    too_short("short, last cell", x, 1, UINT64_MAX, 2);
+    too_short("short, tick at the end", x, 8, 2, 1);
+    too_short("short, tick goes back", x, 0, 2, 1);
+    too_short("short, the table is full", x, 1, 20, 1);
+    record("the tick is as it was", x, 1, 2, (const uint8_t[]){9}, 1, a_read);
+    same("finish", servercape_finish(TABLES(x)), 0);
+    too_short("short, finished", x, 2, 1, 1);
+    record("finished", x, 2, 1, (const uint8_t[]){9}, 1, refusal(3));
+    same("next", servercape_next(TABLES(x), 7, 18, &found, &number), 0);
+    same("the tenth piece", number, 9);
+    give_back(x);
+}
+
 static void without_blocks(struct lent x)
 {
     uint64_t count = 77;
@@ -379,6 +430,7 @@ int main(void)
     midnight(x);
     same_tick(x);
     changes(x);
+    scratch();
     without_blocks(x);
     same("clock", servercape_clock((UINT64_C(7) << 32) + 3 * 1440 + 605), 1005);
     give_back(x);

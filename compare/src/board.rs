@@ -29,6 +29,9 @@ impl Block {
     }
 }
 
+/// The numbers of a scratch that record does with (document 02, request 9).
+pub const LEAST_SCRATCH: usize = 8;
+
 /// A stretch that is known now.
 #[derive(Clone)]
 struct Piece {
@@ -128,8 +131,11 @@ impl Board {
         next
     }
 
-    /// Records an operation: 0, or the number of the refusal.
-    pub fn record(&mut self, op: &Op) -> u64 {
+    /// Records an operation with a scratch of so many numbers: 0, or the number of the refusal.
+    pub fn record(&mut self, op: &Op, scratch: usize) -> u64 {
+        if scratch < LEAST_SCRATCH {
+            return 2;
+        }
         if op.bytes.is_empty() {
             return 5;
         }
@@ -203,6 +209,14 @@ pub struct Closed {
 }
 
 impl Closed {
+    /// What record answers, whatever the operation.
+    pub fn record(&self, scratch: usize) -> u64 {
+        if scratch < LEAST_SCRATCH {
+            return 2;
+        }
+        3
+    }
+
     /// The byte of a cell at a tick, from the live blocks that hold it.
     pub fn cell(&self, tick: u64, cell: u64) -> Option<u8> {
         let block = self.blocks.iter().find(|b| b.live(tick) && b.first <= cell && cell < b.end())?;

@@ -1,7 +1,7 @@
 //! Good files and damaged copies of them, loaded by the proved calls, by the plain reading of the document and by the Rust.
 use crate::board::Closed;
 use crate::file;
-use crate::lists::{lists_of, number, owned, read};
+use crate::lists::{closed_records, lists_of, number, owned, read};
 use crate::random::Random;
 use crate::rust::{Answer, Job, Query, Rust};
 use crate::tally::Tally;
@@ -151,10 +151,11 @@ fn loaded(random: &mut Random, case: &Case, tally: &mut Tally) -> Loaded {
         tally.refused(number);
     }
     let (mut index, mut asked) = (None, vec![]);
-    if let (Ok((loaded, next)), Ok((closed, want_next))) = (got, want) {
+    if let (Ok((mut loaded, next)), Ok((closed, want_next))) = (got, want) {
         tally.count(41, "  of these taken: blocks, finds, cells and the bytes written again compared", 1);
         tally.same(|| format!("next position after {case:?}"), &next, &want_next);
         asked = queries(random, &closed);
+        closed_records(&mut loaded, &closed, tally, &|| format!("{case:?}"));
         read(&loaded, &closed, &asked, tally, &|| format!("{case:?}"));
         let again = loaded.write().expect("a loaded index");
         tally.same(|| format!("bytes written again of {case:?}"), &again, &case.file[case.at..next].to_vec());

@@ -1,5 +1,5 @@
 //! Lists of operations, played by the proved calls, by the plain reading of the document and by the Rust.
-use crate::board::{Block, Board, Closed, Difference, Known, Op};
+use crate::board::{Block, Board, Closed, Difference, Known, Op, LEAST_SCRATCH};
 use crate::file;
 use crate::rust::{Answer, Job, Query, Rust};
 use crate::tally::Tally;
@@ -22,26 +22,40 @@ pub const UNBOUNDED: Room = Room { pieces: u64::MAX, blocks: u64::MAX, bytes: u6
 
 /// What must come of a list.
 struct Expected {
-    /// What record says of each operation, or the number of its refusal.
-    recorded: Vec<Result<Recorded, u64>>,
+    /// What record says of each operation with each scratch that is tried, or the number of its refusal.
+    recorded: Vec<Told>,
     closed: Result<Closed, u64>,
     /// The accepted operations, and the first of them that meets a difference.
     accepted: Vec<Op>,
     meets: Option<(usize, Difference)>,
 }
 
+/// What record must say of an operation with a scratch of so many numbers.
+struct Told {
+    op: Op,
+    scratch: usize,
+    answer: Result<Recorded, u64>,
+}
+
+/// The lengths of a scratch that are tried with one operation after the other: too short twice, then by turns just long enough, longer, as long as the pieces.
+fn scratches(room: Room, place: usize) -> [usize; 3] {
+    let enough = [LEAST_SCRATCH, LEAST_SCRATCH + 1, 8 + 8 * room.pieces as usize];
+    [0, LEAST_SCRATCH - 1, enough[place % enough.len()]]
+}
+
 fn expected(case: &Case) -> Expected {
     let mut board = Board::open(case.end, case.kind, case.room);
     let mut known = Known::default();
     let (mut recorded, mut accepted, mut meets) = (vec![], vec![], None);
-    for op in &case.ops {
+    let calls = case.ops.iter().enumerate().flat_map(|(place, op)| scratches(case.room, place).map(|scratch| (op, scratch)));
+    for (op, scratch) in calls {
         let before = board.clone();
-        let number = board.record(op);
+        let number = board.record(op, scratch);
+        let answer = if number == 0 { Ok(known.record(op)) } else { Err(number) };
+        recorded.push(Told { op: op.clone(), scratch, answer });
         if number != 0 {
-            recorded.push(Err(number));
             continue;
         }
-        recorded.push(Ok(known.record(op)));
         if meets.is_none() {
             meets = before.meets(op).map(|d| (accepted.len(), d));
         }
@@ -55,7 +69,7 @@ pub fn need(case: &Case) -> Room {
     let mut board = Board::open(case.end, case.kind, UNBOUNDED);
     let mut most = (0, 0, 0);
     for op in &case.ops {
-        board.record(op);
+        board.record(op, LEAST_SCRATCH);
         let (pieces, blocks, bytes) = board.use_now();
         most = (most.0.max(pieces), most.1.max(blocks), most.2.max(bytes));
     }
@@ -78,8 +92,12 @@ pub fn owned(block: servercape::Block) -> Block {
 }
 
 /// Records an operation and compares with the document: the number of the refusal; else what changed.
-fn recorded(index: &mut Index, op: &Op, want: &Result<Recorded, u64>, tally: &mut Tally, of: &dyn Fn() -> String) {
-    let got = index.record(op.tick, op.first, &op.bytes);
+fn recorded(index: &mut Index, want: &Told, tally: &mut Tally, of: &dyn Fn() -> String) {
+    let Told { op, scratch, answer: want } = want;
+    let got = index.record_with(&vec![77; *scratch], op.tick, op.first, &op.bytes);
+    if *scratch < LEAST_SCRATCH {
+        return short(number(&got), *scratch, want.err(), tally, of);
+    }
     tally.same(|| format!("record {op:?} of {}", of()), &number(&got), &want.err().unwrap_or(0));
     tally.count(1, "operations recorded, the answer compared with the document", 1);
     match got {
@@ -94,16 +112,35 @@ fn recorded(index: &mut Index, op: &Op, want: &Result<Recorded, u64>, tally: &mu
     }
 }
 
+/// What came of a scratch that is too short.
+fn short(got: u64, scratch: usize, want: Option<u64>, tally: &mut Tally, of: &dyn Fn() -> String) {
+    tally.same(|| format!("short scratch, {scratch} of {}", of()), &Some(got), &want);
+    tally.count(1, "operations with a scratch that is too short, the answer compared with the document", 1);
+    tally.refused(got);
+}
+
+/// Record on a closed index, which nothing may change: what is read afterwards is compared.
+pub fn closed_records(index: &mut Index, want: &Closed, tally: &mut Tally, of: &dyn Fn() -> String) {
+    for scratch in [0, LEAST_SCRATCH - 1, LEAST_SCRATCH, LEAST_SCRATCH + 1] {
+        let got = number(&index.record_with(&vec![77; scratch], want.end - 1, 0, &[1]));
+        tally.same(|| format!("closed index, scratch of {scratch} of {}", of()), &got, &want.record(scratch));
+        tally.refused(got);
+    }
+}
+
 /// Plays a list, compares every answer with the document's, and gives the finished index.
 fn played(case: &Case, want: &Expected, tally: &mut Tally) -> Option<Index> {
     let mut index = opened(case);
-    for (op, want) in case.ops.iter().zip(&want.recorded) {
-        recorded(&mut index, op, want, tally, &|| format!("{case:?}"));
+    for want in &want.recorded {
+        recorded(&mut index, want, tally, &|| format!("{case:?}"));
     }
     let got = number(&index.finish());
     tally.same(|| format!("finish of {case:?}"), &got, &want.closed.as_ref().err().copied().unwrap_or(0));
     if got != 0 {
         tally.refused(got);
+    }
+    if let (0, Ok(closed)) = (got, &want.closed) {
+        closed_records(&mut index, closed, tally, &|| format!("{case:?}"));
     }
     (got == 0).then_some(index)
 }

@@ -1,5 +1,5 @@
 //! The lists that are tried: every list of a small world, and random ones around each boundary.
-use crate::board::{Board, Op};
+use crate::board::{Board, Op, LEAST_SCRATCH};
 use crate::lists::{need, Case, UNBOUNDED};
 use crate::random::Random;
 use crate::rust::Query;
@@ -137,7 +137,7 @@ pub fn random_case(random: &mut Random, size: u64) -> Case {
             ops.push(next);
         }
         let last = ops.last().unwrap();
-        if board.record(last) == 0 {
+        if board.record(last, LEAST_SCRATCH) == 0 {
             tick = last.tick;
         }
     }

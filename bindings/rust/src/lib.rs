@@ -86,9 +86,12 @@ pub struct Index {
     store: Vec<u8>,
     nodes: Vec<u64>,
     entries: Vec<u64>,
-    scratch: Vec<u64>,
+    scratch: [u64; SCRATCH],
     room: Room,
 }
+
+/// The numbers of the scratch that record is lent, whatever the room: it asks for no more, and writes nothing there.
+const SCRATCH: usize = 8;
 
 /// A call with the five tables in front: which of them it may write to, then what comes after them.
 macro_rules! call {
@@ -126,7 +129,7 @@ impl Index {
             store: vec![0; length(raw::SERVERCAPE_STORE, room.bytes)],
             nodes: numbers(raw::SERVERCAPE_NODES, room.nodes),
             entries: numbers(raw::SERVERCAPE_ENTRIES, room.entries),
-            scratch: numbers(raw::SERVERCAPE_SCRATCH, room.pieces),
+            scratch: [0; SCRATCH],
             room,
         }
     }
@@ -163,10 +166,17 @@ impl Index {
 
     /// Records the bytes of the cells from `first` on, at a tick, and says what that changed. Refusals 3, 5 to 11.
     pub fn record(&mut self, tick: u64, first: u64, bytes: &[u8]) -> Result<Recorded, Refusal> {
+        let scratch = self.scratch;
+        self.record_with(&scratch, tick, first, bytes)
+    }
+
+    /// The same with a scratch of the caller's, of which only the length counts. With fewer than eight numbers it is refused 2, before all else. Refusals 2, 3,
+    /// 5 to 11.
+    pub fn record_with(&mut self, scratch: &[u64], tick: u64, first: u64, bytes: &[u8]) -> Result<Recorded, Refusal> {
         let (mut updated, mut cell) = (0, 0);
         Refusal::unless_zero(unsafe {
             call!(servercape_record, self, as_mut_ptr as_mut_ptr as_mut_ptr as_ptr as_ptr,
-                self.scratch.as_ptr(), self.scratch.len(), tick, first, bytes.as_ptr(), bytes.len(), &mut updated, &mut cell)
+                scratch.as_ptr(), scratch.len(), tick, first, bytes.as_ptr(), bytes.len(), &mut updated, &mut cell)
         })?;
         Ok(if updated == 1 { Recorded::Update { cell } } else { Recorded::Read })
     }

@@ -6,6 +6,7 @@ pub const SERVERCAPE_BLOCKS: u64 = 1;
 pub const SERVERCAPE_STORE: u64 = 2;
 pub const SERVERCAPE_NODES: u64 = 3;
 pub const SERVERCAPE_ENTRIES: u64 = 4;
+/// One row is enough: 8 numbers.
 pub const SERVERCAPE_SCRATCH: u64 = 5;
 
 extern "C" {

@@ -24,7 +24,7 @@ impl fmt::Display for Refusal {
     fn fmt(&self, f: &mut fmt::Formatter) -> fmt::Result {
         let why = match self.number() {
             1 => "the end tick is 0 or above 2^63, or the kind is above 4",
-            2 => "the tables are not well formed",
+            2 => "the tables are not well formed, or the scratch has fewer than 8 numbers",
             3 => "the index is finished or loaded",
             4 => "the index is not finished or loaded",
             5 => "the operation has no cells",

@@ -236,6 +236,36 @@ fn the_room_is_used_to_its_end() {
 }
 
 #[test]
+fn eight_numbers_for_any_number_of_pieces() {
+    let mut index = Index::open(Room { pieces: 10, ..Room::even(64) }, 8, Kind::Memory).unwrap();
+    for k in 0..10 {
+        assert_eq!(index.record(0, 2 * k, &[7]), update(2 * k));
+    }
+    assert_eq!(number(index.record(0, 20, &[7])), 9);
+    assert_eq!(number(index.record_with(&[0; 640], 0, 20, &[7])), 9, "a longer scratch makes no room");
+    assert_eq!(index.record_with(&[0; 9], 1, 0, &[7, 8]), update(1));
+    index.finish().unwrap();
+    assert_eq!(index.touching(1, 0..100).unwrap().len(), 10);
+    assert_eq!(unsafe { servercape::raw::servercape_length(servercape::raw::SERVERCAPE_SCRATCH, 1) }, 8);
+}
+
+#[test]
+fn a_short_scratch_is_refused_first() {
+    let mut index = opened(8);
+    assert_eq!(index.record_with(&[0; 8], 4, 5, &[1]), update(5));
+    for short in [&[][..], &[0; 7]] {
+        assert_eq!(number(index.record_with(short, 7, 5, &[2])), 2, "an update");
+        assert_eq!(number(index.record_with(short, 4, 5, &[1])), 2, "a read");
+        assert_eq!(number(index.record_with(short, 8, u64::MAX, &[])), 2, "before 5 to 8");
+    }
+    assert_eq!(index.record(4, 5, &[1]), READ, "nothing has changed, the last tick neither");
+    index.finish().unwrap();
+    assert_eq!((number(index.record_with(&[0; 7], 5, 5, &[1])), number(index.record_with(&[0; 8], 5, 5, &[1]))), (2, 3));
+    assert_eq!(index.blocks().unwrap().map(|b| shown(&b)).collect::<Vec<_>>(), ["5 1 4 8 01"]);
+    assert_eq!(index.next(4, 0), Ok(Some(0)), "reads are lent no scratch");
+}
+
+#[test]
 fn the_largest_end_tick() {
     assert_eq!(number(Index::open(Room::even(1), Index::MAX_END_TICK + 1, Kind::Unique)), 1);
     let mut index = Index::open(Room::even(64), Index::MAX_END_TICK, Kind::Unique).unwrap();

@@ -27,11 +27,11 @@ use Rattle.board_lines.proofs.Standing.{record-stands}
 
 -- ── the returns of `record_one` ──
 
-module _ {pieces blocks store pieces′ blocks′ store′ : List ℕ} {o : Operation} {r : Recorded} (d : RecordedOpen pieces blocks store pieces′ blocks′ store′ boardScratch o r) where
+module _ {pieces blocks store pieces′ blocks′ store′ : List ℕ} {o : Operation} {r : Recorded} (d : RecordedOpen pieces blocks store pieces′ blocks′ store′ o r) where
   given : (nodes entries : List ℕ) (l : Ledger) → Standing (tables pieces blocks store nodes entries) l
       → (recordedOf r ≡ recordAnswer l boardScratch o)
       × RecordLeaves (recordAnswer l boardScratch o) l o (tables pieces blocks store nodes entries) (tables pieces′ blocks′ store′ nodes entries)
-  given nodes entries l s = d .formed nodes entries l (s .encodes) (s .law .sound .sound) (s .unfinished)
+  given nodes entries l s = d .formed nodes entries l boardScratch refl (s .encodes) (s .law .sound .sound) (s .unfinished)
 
   left : (nodes entries : List ℕ) (l : Ledger) → Standing (tables pieces blocks store nodes entries) l
       → Standing (tables pieces′ blocks′ store′ nodes entries) (after l (recordCall boardScratch o))

@@ -4,10 +4,7 @@ ghost use Rattle.board_lines.specs.Lines.{RecordedOne, RecordedAll};
 use board_input::Item;
 use index_record::Recorded;
 
-// The length of the scratch: as many rows as there are pieces. Nothing is written to a scratch, so none is made.
-const SCRATCH: u64 = tables::ROW as u64 * 512;
-
-// Records an operation; a refused one is record k, and its line is put.
+// Records an operation; a refused one is record k, and its line is put. Nothing is written to a scratch, so none is made.
 fn record_one(
     pieces: &mut [u64],
     blocks: &mut [u64],
@@ -22,7 +19,7 @@ fn record_one(
     ensures { λ r. ⌜ RecordedOne (now (pieces .entry)) (now (blocks .entry)) (now (store .entry)) (now (pieces .exit)) (now (blocks .exit)) (now (store .exit))
         (operation tick first (now (bytes .entry))) k (now (out .entry)) at (now (out .exit)) r ⌝ }
 {
-    match index_record::record_open(pieces, blocks, store, SCRATCH, tick, first, bytes) {
+    match index_record::record_open(pieces, blocks, store, tick, first, bytes) {
         Recorded::Read => at,
         Recorded::Update(_) => at,
         Recorded::Refused(number) => board_text::op_refused(out, at, k, number),

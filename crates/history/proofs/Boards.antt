@@ -3,7 +3,7 @@ use mathlib.Core.Path.{_≡_, refl}
 use mathlib.Core.List.{map, filterMap, flatten, flatMap}
 use Rattle.lists.specs.Lists.{has, count, countFrom, sumOf}
 use Rattle.history.specs.Words.{stretchOf, byteAt, heldAt, clip, clipPiece, below, inside, above}
-use Rattle.history.specs.Lent.{tooShort, pieceSpace}
+use Rattle.history.specs.Lent.{tooShort}
 use Rattle.history.specs.Tree.{insert, addLocation, addAll, treeOf, nodeCount, entryCount, entriesIn, widths}
 use Rattle.history.specs.Find.{path, visited, window, find}
 use Rattle.history.specs.Rules.{every, halved, filled, lived, numbered, placed, ascends, sorted, summed, rule23, shares, apart}
@@ -13,15 +13,15 @@ use Rattle.history.specs.Reads.{findBy, ascendingFrom, liveBy, lastIn, s
 use Rattle.history.specs.Refusals.{firstOf, openRefusals, recordRefusals, finishRefusals, windowRefusals, neighbourRefusals, blockRefusals}
 use Rattle.history.specs.Calls.{answerTo, acceptedBy, leaves, after, answers, afterAll}
 use Rattle.history.specs.Boards.{marked, edges, loading, told, played, expected, loadedAs, Load, listingInput, listingOutput, refusedInput, refusedOutput, MarkedBoards}
-use Rattle.history.specs.Requested.{touchingBoards, changeBoards, labelBoards, RequestedBoards}
+use Rattle.history.specs.Requested.{scratchBoards, touchingBoards, changeBoards, labelBoards, RequestedBoards}
 use Rattle.history.specs.Printed.{printed, parsed, inputOf, recordsFrom, nextRecord, onto, readRecord, recordLines, openLines, linesFrom, lastLines, opLine, refusedLine, blockLine, digits, fourDigits, hexDigit, hexBytes}
 
 marked-right : map played marked ≡ map expected marked
-unfolding marked played expected told opened answers afterAll after leaves answerTo acceptedBy recordBy finishBy settled readBy updateBy changed firstChange has stretchOf byteAt heldAt clip clipPiece below inside above filterMap firstOf openRefusals recordRefusals finishRefusals windowRefusals blockRefusals tooShort pieceSpace insert addLocation addAll treeOf nodeCount entryCount path visited window find findBy shows seen cellsBy countFrom labelOf clockLabel
+unfolding marked played expected told opened answers afterAll after leaves answerTo acceptedBy recordBy finishBy settled readBy updateBy changed firstChange has stretchOf byteAt heldAt clip clipPiece below inside above filterMap firstOf openRefusals recordRefusals finishRefusals windowRefusals blockRefusals tooShort insert addLocation addAll treeOf nodeCount entryCount path visited window find findBy shows seen cellsBy countFrom labelOf clockLabel
 marked-right = refl
 
 edges-right : map played edges ≡ map expected edges
-unfolding edges played expected told opened answers afterAll after leaves answerTo acceptedBy recordBy finishBy settled readBy updateBy changed firstChange has stretchOf byteAt heldAt clip clipPiece below inside above filterMap firstOf openRefusals recordRefusals finishRefusals windowRefusals blockRefusals tooShort pieceSpace insert addLocation addAll treeOf nodeCount entryCount path visited window find findBy shows seen cellsBy countFrom labelOf clockLabel
+unfolding edges played expected told opened answers afterAll after leaves answerTo acceptedBy recordBy finishBy settled readBy updateBy changed firstChange has stretchOf byteAt heldAt clip clipPiece below inside above filterMap firstOf openRefusals recordRefusals finishRefusals windowRefusals blockRefusals tooShort insert addLocation addAll treeOf nodeCount entryCount path visited window find findBy shows seen cellsBy countFrom labelOf clockLabel
 edges-right = refl
 
 files-right : map loadedAs loading ≡ map (λ (x : Load). x .comes) loading
@@ -29,15 +29,15 @@ unfolding loading loadedAs load readFile readRoot readNodes readBlock many numbe
 files-right = refl
 
 listing-printed : printed listingInput ≡ listingOutput
-unfolding printed listingInput listingOutput parsed inputOf recordsFrom nextRecord onto readRecord number field give onward _>>=_ refuse_unless_ numberOf bytesOf recordLines openLines linesFrom lastLines opLine refusedLine blockLine digits fourDigits hexDigit hexBytes flatten flatMap opened answers afterAll after leaves answerTo acceptedBy recordBy finishBy settled readBy updateBy changed firstChange has stretchOf byteAt heldAt clip clipPiece below inside above filterMap firstOf openRefusals recordRefusals finishRefusals windowRefusals blockRefusals tooShort pieceSpace insert addLocation addAll treeOf nodeCount entryCount path visited window find findBy shows seen cellsBy countFrom labelOf clockLabel
+unfolding printed listingInput listingOutput parsed inputOf recordsFrom nextRecord onto readRecord number field give onward _>>=_ refuse_unless_ numberOf bytesOf recordLines openLines linesFrom lastLines opLine refusedLine blockLine digits fourDigits hexDigit hexBytes flatten flatMap opened answers afterAll after leaves answerTo acceptedBy recordBy finishBy settled readBy updateBy changed firstChange has stretchOf byteAt heldAt clip clipPiece below inside above filterMap firstOf openRefusals recordRefusals finishRefusals windowRefusals blockRefusals tooShort insert addLocation addAll treeOf nodeCount entryCount path visited window find findBy shows seen cellsBy countFrom labelOf clockLabel
 listing-printed = refl
 
 refusal-printed : printed refusedInput ≡ refusedOutput
-unfolding printed refusedInput refusedOutput parsed inputOf recordsFrom nextRecord onto readRecord number field give onward _>>=_ refuse_unless_ numberOf bytesOf recordLines openLines linesFrom lastLines opLine refusedLine blockLine digits fourDigits hexDigit hexBytes flatten flatMap opened answers afterAll after leaves answerTo acceptedBy recordBy finishBy settled readBy updateBy changed firstChange has stretchOf byteAt heldAt clip clipPiece below inside above filterMap firstOf openRefusals recordRefusals finishRefusals windowRefusals blockRefusals tooShort pieceSpace insert addLocation addAll treeOf nodeCount entryCount path visited window find findBy shows seen cellsBy countFrom labelOf clockLabel
+unfolding printed refusedInput refusedOutput parsed inputOf recordsFrom nextRecord onto readRecord number field give onward _>>=_ refuse_unless_ numberOf bytesOf recordLines openLines linesFrom lastLines opLine refusedLine blockLine digits fourDigits hexDigit hexBytes flatten flatMap opened answers afterAll after leaves answerTo acceptedBy recordBy finishBy settled readBy updateBy changed firstChange has stretchOf byteAt heldAt clip clipPiece below inside above filterMap firstOf openRefusals recordRefusals finishRefusals windowRefusals blockRefusals tooShort insert addLocation addAll treeOf nodeCount entryCount path visited window find findBy shows seen cellsBy countFrom labelOf clockLabel
 refusal-printed = refl
 
 pub boards-right : MarkedBoards
-unfolding printed listingInput listingOutput parsed inputOf recordsFrom nextRecord onto readRecord number field give onward _>>=_ refuse_unless_ numberOf bytesOf recordLines openLines linesFrom lastLines opLine refusedLine blockLine digits fourDigits hexDigit hexBytes flatten flatMap opened answers afterAll after leaves answerTo acceptedBy recordBy finishBy settled readBy updateBy changed firstChange has stretchOf byteAt heldAt clip clipPiece below inside above filterMap firstOf openRefusals recordRefusals finishRefusals windowRefusals blockRefusals tooShort pieceSpace insert addLocation addAll treeOf nodeCount entryCount path visited window find findBy shows seen cellsBy countFrom labelOf clockLabel
+unfolding printed listingInput listingOutput parsed inputOf recordsFrom nextRecord onto readRecord number field give onward _>>=_ refuse_unless_ numberOf bytesOf recordLines openLines linesFrom lastLines opLine refusedLine blockLine digits fourDigits hexDigit hexBytes flatten flatMap opened answers afterAll after leaves answerTo acceptedBy recordBy finishBy settled readBy updateBy changed firstChange has stretchOf byteAt heldAt clip clipPiece below inside above filterMap firstOf openRefusals recordRefusals finishRefusals windowRefusals blockRefusals tooShort insert addLocation addAll treeOf nodeCount entryCount path visited window find findBy shows seen cellsBy countFrom labelOf clockLabel
 boards-right = record {
   boards = marked-right;
   refusals = edges-right;
@@ -51,5 +51,5 @@ boards-right = record {
 }
 
 pub requested-right : RequestedBoards
-unfolding touchingBoards changeBoards labelBoards played expected told opened answers afterAll after leaves answerTo acceptedBy recordBy finishBy settled readBy updateBy changed firstChange has stretchOf byteAt heldAt clip clipPiece below inside above filterMap firstOf recordRefusals finishRefusals windowRefusals neighbourRefusals tooShort pieceSpace insert addLocation addAll treeOf nodeCount entryCount path visited window find findBy ascendingFrom liveBy lastIn labelOf clockLabel
-requested-right = record { item-1 = refl; item-2 = refl; item-4 = refl }
+unfolding touchingBoards changeBoards labelBoards scratchBoards played expected told opened answers afterAll after leaves answerTo acceptedBy recordBy finishBy settled readBy updateBy changed firstChange has stretchOf byteAt heldAt clip clipPiece below inside above filterMap firstOf recordRefusals finishRefusals windowRefusals neighbourRefusals tooShort insert addLocation addAll treeOf nodeCount entryCount path visited window find findBy ascendingFrom liveBy lastIn labelOf clockLabel
+requested-right = record { item-1 = refl; item-2 = refl; item-4 = refl; item-9 = refl }

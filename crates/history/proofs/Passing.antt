@@ -9,7 +9,7 @@ use lib.ListN.{length}
 use borrow.Author.Tests.{ltb-false, leb-false, eqb-false}
 use Rattle.lists.proofs.Numbers.{or-left, or-right}
 use Rattle.history.specs.Words.{Operation, size, ends, stretchOf}
-use Rattle.history.specs.Lent.{Lent, rowWidth, pieceRows, blockRows, nodeRows, entryRows, pieceSpace}
+use Rattle.history.specs.Lent.{Lent, pieceRows, blockRows, nodeRows, entryRows}
 use Rattle.history.specs.Tree.{treeOf, nodeCount, entryCount}
 use Rattle.history.specs.Ledger.{Opening, Moment, Ledger, finished, isRead, updateBy, settled}
 use Rattle.history.specs.Results.{Result}
@@ -80,13 +80,12 @@ taken l scratch o e =
 
 pub room : (l : Ledger) (scratch : ℕ) (o : Operation) {r : Result} → recordAnswer l scratch o ≡ accepted r → isRead (l .now) o ≡ false
     → Room (l .opening .lent) (updateBy (l .opening .kind) (l .now) o)
-unfolding recordRefusals pieceSpace
+unfolding recordRefusals
 room l scratch o e u =
     let p = passed _ _ e in
     let next = updateBy (l .opening .kind) (l .now) o in
-    let fits : length (next .pieces) ≤ min (pieceRows (l .opening .lent)) (scratch / rowWidth) = ltb-false _ _ (really (p .1 .1 .1 .1 .1 .1 .0)) in
     record {
-      pieces = omega arith;
+      pieces = ltb-false _ _ (really (p .1 .1 .1 .1 .1 .1 .0));
       blocks = ltb-false _ _ (really (p .1 .1 .1 .1 .1 .1 .1 .0));
       store = ltb-false _ _ (really (p .1 .1 .1 .1 .1 .1 .1 .1 .0));
     }

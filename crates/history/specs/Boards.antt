@@ -77,7 +77,7 @@ expected b = map (λ c. c .fact) (b .cases)
 -- ── short names ──
 
 -- lengths for so many pieces, blocks, store bytes, nodes and entries
-abbrev lengths : (pieces blocks store nodes entries : ℕ) → Lent
+abbrev pub lengths : (pieces blocks store nodes entries : ℕ) → Lent
 lengths p b s n e =
     record {
       pieces = pieceHead + rowWidth * p;
@@ -95,12 +95,12 @@ ample = lengths 512 1024 65536 1024 4096
 abbrev pub on : ℕ → Lent → Opening
 on e lent = openingFor e 1 lent
 
--- tick, first cell, bytes; with a scratch of so many rows
-abbrev opWith : (rows t first : ℕ) → List ℕ → Call
-opWith rows t f bs = recordCall (rowWidth * rows) (record { tick = t; first = f; bytes = bs })
+-- tick, first cell, bytes; with a scratch of so many numbers
+abbrev pub opWith : (scratch t first : ℕ) → List ℕ → Call
+opWith scratch t f bs = recordCall scratch (record { tick = t; first = f; bytes = bs })
 
 abbrev pub op : (t first : ℕ) → List ℕ → Call
-op t f bs = opWith 512 t f bs
+op t f bs = opWith (rowWidth * 512) t f bs
 
 -- first cell, bytes, written
 abbrev pieceOn : (first : ℕ) → List ℕ → ℕ → Piece
@@ -259,11 +259,11 @@ edges =
       calls = op 1 5 (1 ∷ []) ∷ [];
       cases = whatFind 1 0 9 9 is found (refused 4) ∷ whatCells 1 0 9 9 9 is cells (refused 4) ∷ whatBlock 0 is block (refused 4) ∷ [];
     }
-    -- 9 by the table and by the scratch; a read is accepted with a short scratch
+    -- 9 by the table; an operation that repeats what stands is accepted
     ∷ record {
       opening = on 8 scant;
-      calls = op 0 5 (1 ∷ []) ∷ opWith 1 0 7 (2 ∷ []) ∷ op 0 7 (2 ∷ []) ∷ op 1 9 (3 ∷ []) ∷ opWith 0 2 7 (2 ∷ []) ∷ [];
-      cases = whatAnswers is answered (from! 5 ∷ refused 9 ∷ from! 7 ∷ refused 9 ∷ known! ∷ [])
+      calls = op 0 5 (1 ∷ []) ∷ op 0 7 (2 ∷ []) ∷ op 1 9 (3 ∷ []) ∷ op 2 7 (2 ∷ []) ∷ [];
+      cases = whatAnswers is answered (from! 5 ∷ from! 7 ∷ refused 9 ∷ known! ∷ [])
           ∷ whatPieces is pieces (pieceOn 5 (1 ∷ []) 0 ∷ pieceOn 7 (2 ∷ []) 0 ∷ [])
           ∷ [];
     }

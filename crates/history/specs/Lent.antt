@@ -1,6 +1,6 @@
 -- What is lent: the lengths of the tables, and how many rows they have (01, "Words", Lent). Head sizes and widths are those of docs/LAYOUT.md.
 use mathlib.Core.Bool.{Bool, _||_}
-use Prim.Native.Nat.{ℕ, _-_, _/_, min}
+use Prim.Native.Nat.{ℕ, _-_, _/_}
 use lib.Dec.{ltb}
 
 -- ── heads and widths, in numbers ──
@@ -54,6 +54,6 @@ entryRows n = (n .entries - entryHead) / entryWidth
 unfoldable pub tooShort : Lent → Bool
 tooShort n = ltb (n .pieces) pieceHead || ltb (n .blocks) blockHead || ltb (n .nodes) nodeHead || ltb (n .entries) entryHead
 
--- The space for pieces is the piece table's rows or the scratch's, whichever are fewer. A scratch has no head.
-unfoldable pub pieceSpace : Lent → (scratch : ℕ) → ℕ
-pieceSpace n scratch = min (pieceRows n) (scratch / rowWidth)
+-- the numbers of a scratch that record does with (02, Item 9); a scratch has no head
+abbrev pub leastScratch : ℕ
+leastScratch = 8

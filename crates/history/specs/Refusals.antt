@@ -7,7 +7,7 @@ use Prim.Native.Nat.{ℕ, _+_, _-_, _^_}
 use lib.Dec.{leb, ltb, eqb}
 use lib.ListN.{length}
 use Rattle.history.specs.Words.{Operation, Block}
-use Rattle.history.specs.Lent.{blockRows, nodeRows, entryRows, tooShort, pieceSpace}
+use Rattle.history.specs.Lent.{pieceRows, blockRows, nodeRows, entryRows, tooShort, leastScratch}
 use Rattle.history.specs.Tree.{treeOf, nodeCount, entryCount}
 use Rattle.history.specs.Ledger.{Opening, Ledger, finished, changed, isRead, updateBy, settled}
 use Rattle.history.specs.Results.{Result, done, resultOf}
@@ -53,8 +53,8 @@ recordRefusals l scratch o =
     let lent = l .opening .lent in
     let update = not (isRead (l .now) o) in
     let next = updateBy (l .opening .kind) (l .now) o in
-    -- its lent tables aren't well formed: of the ledger's, because their lengths are too short
-    2 if tooShort lent
+    -- its lent tables aren't well formed: of the ledger's, because their lengths are too short; or the scratch is
+    2 if (tooShort lent || ltb scratch leastScratch)
     -- the index is finished or loaded
     ∷ 3 if finished l
     -- no cells
@@ -66,7 +66,7 @@ recordRefusals l scratch o =
     -- tick below the last accepted one's
     ∷ 8 if ltb (o .tick) (l .now .last)
     -- an update would leave more pieces than there is space for
-    ∷ 9 if (update && ltb (pieceSpace lent scratch) (length (next .pieces)))
+    ∷ 9 if (update && ltb (pieceRows lent) (length (next .pieces)))
     -- blocks recorded plus pieces, after the update, exceed the block table
     ∷ 10 if (update && ltb (blockRows lent) (length (next .blocks) + length (next .pieces)))
     -- the bytes of all accepted updates and of this update exceed the store

@@ -1,12 +1,12 @@
 -- The boards to try of document 02, request by request. `requested_boards` makes it part of the build that every one comes out as it must.
 use mathlib.Core.Path.{_≡_}
 use mathlib.Core.Option.{none, some}
-use mathlib.Core.List.{List, [], _∷_, map}
-use Prim.Native.Nat.{ℕ, _-_, _^_}
+use mathlib.Core.List.{List, [], _∷_, _++_, map}
+use Prim.Native.Nat.{ℕ, _-_, _*_, _^_}
 use lib.ListN.{replicate}
 use Rattle.history.specs.Refusals.{accepted, refused}
 use Rattle.history.specs.Calls.{finishCall}
-use Rattle.history.specs.Boards.{Fact, answered, touching, neighbour, label, _is_, Board, whatAnswers, whatFind, whatTouching, whatNext, whatLast, whatLabel, played, expected, ample, on, op, from!, known!, done!, listed, listing}
+use Rattle.history.specs.Boards.{Fact, answered, touching, neighbour, label, _is_, Board, whatAnswers, whatFind, whatTouching, whatNext, whatLast, whatLabel, played, expected, lengths, ample, on, opWith, op, from!, known!, done!, listed, listing}
 
 -- ── Item 1 ──
 
@@ -141,9 +141,28 @@ labelBoards =
     }
     ∷ []
 
+-- ── Item 9 ──
+
+unfoldable pub scratchBoards : List Board
+scratchBoards =
+    -- ten pieces with eight numbers, the most that the table has; then 9, by the table alone
+    record {
+      opening = on 8 (lengths 10 99 99 99 99);
+      calls = map (λ k. opWith 8 0 (2 * k) (7 ∷ [])) (0 ∷ 1 ∷ 2 ∷ 3 ∷ 4 ∷ 5 ∷ 6 ∷ 7 ∷ 8 ∷ 9 ∷ 10 ∷ []);
+      cases = whatAnswers is answered (map (λ k. from! (2 * k)) (0 ∷ 1 ∷ 2 ∷ 3 ∷ 4 ∷ 5 ∷ 6 ∷ 7 ∷ 8 ∷ 9 ∷ []) ++ (refused 9 ∷ [])) ∷ [];
+    }
+    -- seven numbers or none are 2, whatever else holds of the call, open or closed; finish and the reads are lent none
+    ∷ record {
+      opening = on 8 ample;
+      calls = opWith 8 4 5 (1 ∷ []) ∷ opWith 7 4 5 (1 ∷ []) ∷ opWith 0 3 5 [] ∷ finishCall ∷ opWith 7 5 5 (1 ∷ []) ∷ opWith 8 5 5 (1 ∷ []) ∷ [];
+      cases = whatAnswers is answered (from! 5 ∷ refused 2 ∷ refused 2 ∷ done! ∷ refused 2 ∷ refused 3 ∷ []) ∷ whatNext 4 0 is number 0 ∷ [];
+    }
+    ∷ []
+
 -- ── the result ──
 
 pub record RequestedBoards : Type 0 where
   pub item-1 : map played touchingBoards ≡ map expected touchingBoards
   pub item-2 : map played changeBoards ≡ map expected changeBoards
   pub item-4 : map played labelBoards ≡ map expected labelBoards
+  pub item-9 : map played scratchBoards ≡ map expected scratchBoards

@@ -67,8 +67,10 @@ impl Index {
     }
 }
 
-// Records an operation: a read where every cell is known with its byte, else an update. The scratch's length bounds the space for pieces; nothing is
-// written to it.
+// The numbers of a scratch that record does with.
+pub const LEAST_SCRATCH: usize = 8;
+
+// Records an operation: a read where every cell is known with its byte, else an update. Nothing is written to the scratch.
 pub fn record_op(
     pieces: &mut [u64],
     blocks: &mut [u64],
@@ -84,21 +86,14 @@ pub fn record_op(
         (tables (now (pieces .entry)) (now (blocks .entry)) (now (store .entry)) (now (nodes .entry)) (now (entries .entry)))
         (tables (now (pieces .exit)) (now (blocks .exit)) (now (store .exit)) (now (nodes .entry)) (now (entries .entry))) (recordedOf r) ⌝ }
 {
+    if scratch.len() < LEAST_SCRATCH {
+        return Recorded::Refused(2);
+    }
     let state = index_test::test(pieces, blocks, store, nodes, entries);
     match state {
         State::Bad => Recorded::Refused(2),
         State::Closed => Recorded::Refused(3),
-        State::Open => {
-            index_record::record_open(
-                pieces,
-                blocks,
-                store,
-                scratch.len() as u64,
-                tick,
-                first,
-                bytes,
-            )
-        }
+        State::Open => index_record::record_open(pieces, blocks, store, tick, first, bytes),
     }
 }
 

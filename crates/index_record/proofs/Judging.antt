@@ -12,7 +12,7 @@ use Rattle.lists.specs.Lists.{All}
 use Rattle.lists.proofs.Lists.{all-map, all-of-map}
 use Rattle.lists.proofs.Numbers.{lt-or-le}
 use Rattle.history.specs.Words.{Operation, stretchOf}
-use Rattle.history.specs.Lent.{rowWidth, pieceHead, blockHead, tooShort, pieceSpace, blockRows}
+use Rattle.history.specs.Lent.{rowWidth, pieceHead, blockHead, tooShort, pieceRows, blockRows}
 use Rattle.history.specs.Ledger.{Ledger, changed, isRead, updateBy}
 use Rattle.history.specs.Results.{Result, read, resultOf}
 use Rattle.history.specs.Refusals.{Answer, accepted, firstOf}
@@ -107,40 +107,37 @@ module _ (space rows bytes pieces blocks used : ℕ) where
 pub sum-fits : (limit a b : ℕ) {q : Bool} → q ≡ ltb limit (a + b) → q ≡ false → a + b ≤ limit
 sum-fits limit a b e h = ltb-false limit (a + b) (sym e ∙ h)
 
-module _ {pieces blocks store : List ℕ} {scratch left made size : ℕ} where
-  pub space-pieces : {rows : ℕ} → rows ≡ (length pieces - pieceHead) / rowWidth → rows < left → SpaceTested pieces blocks store scratch left made size 9
+module _ {pieces blocks store : List ℕ} {left made size : ℕ} where
+  pub space-pieces : {rows : ℕ} → rows ≡ (length pieces - pieceHead) / rowWidth → rows < left → SpaceTested pieces blocks store left made size 9
   space-pieces e h = record { finds = space-nine _ _ _ _ _ _ (omega arith) }
 
-  pub space-scratch : {rows : ℕ} → rows ≡ (scratch - 0) / rowWidth → rows < left → SpaceTested pieces blocks store scratch left made size 9
-  space-scratch e h = record { finds = space-nine _ _ _ _ _ _ (omega arith) }
-
-  module _ {rows room space count : ℕ} {q : Bool} (er : rows ≡ (length pieces - pieceHead) / rowWidth) (hr : left ≤ rows) (et : room ≡ (scratch - 0) / rowWidth) (hs : left ≤ room)
+  module _ {rows space count : ℕ} {q : Bool} (er : rows ≡ (length pieces - pieceHead) / rowWidth) (hr : left ≤ rows)
       (es : space ≡ (length blocks - blockHead) / rowWidth) (ec : count ≡ blockColumn blocks 0 headCount) (eq : q ≡ ltb space (count + made)) where
-    pub space-blocks : q ≡ true → SpaceTested pieces blocks store scratch left made size 10
+    pub space-blocks : q ≡ true → SpaceTested pieces blocks store left made size 10
     space-blocks h =
         let more : space < count + made = ltb-true space (count + made) (sym eq ∙ h) in
         record { finds = space-ten _ _ _ _ _ _ (omega arith) (omega arith) }
 
     module _ {q₂ : Bool} (eq₂ : q₂ ≡ ltb space (count + made + left)) where
-      pub space-both : q₂ ≡ true → SpaceTested pieces blocks store scratch left made size 10
+      pub space-both : q₂ ≡ true → SpaceTested pieces blocks store left made size 10
       space-both h =
           let more : space < count + made + left = ltb-true space (count + made + left) (sym eq₂ ∙ h) in
           record { finds = space-ten _ _ _ _ _ _ (omega arith) (omega arith) }
 
       module _ {used : ℕ} {q₃ : Bool} (h₂ : q₂ ≡ false) (eu : used ≡ blockColumn blocks 0 headUsed) (eq₃ : q₃ ≡ ltb (length store) (used + size)) where
-        pub space-store : q₃ ≡ true → SpaceTested pieces blocks store scratch left made size 11
+        pub space-store : q₃ ≡ true → SpaceTested pieces blocks store left made size 11
         space-store h =
             let fits : count + made + left ≤ space = ltb-false space (count + made + left) (sym eq₂ ∙ h₂) in
             let more : length store < used + size = ltb-true (length store) (used + size) (sym eq₃ ∙ h) in
             record { finds = space-eleven _ _ _ _ _ _ (omega arith) (omega arith) (omega arith) }
 
-        pub space-passes : q₃ ≡ false → SpaceTested pieces blocks store scratch left made size 0
+        pub space-passes : q₃ ≡ false → SpaceTested pieces blocks store left made size 0
         space-passes h =
             let fits : count + made + left ≤ space = ltb-false space (count + made + left) (sym eq₂ ∙ h₂) in
             let room : used + size ≤ length store = ltb-false (length store) (used + size) (sym eq₃ ∙ h) in
             record { finds = space-free _ _ _ _ _ _ (omega arith) (omega arith) (omega arith) }
 
-pub ruleset spacing = (space-pieces, space-scratch, space-blocks, space-both, space-store, space-passes)
+pub ruleset spacing = (space-pieces, space-blocks, space-both, space-store, space-passes)
 
 -- ── `refusal` ──
 
@@ -178,18 +175,17 @@ module _ (t : Tables) (l : Ledger) (o : Operation) (e : Encodes t l) where
       → First n (callRefusals (l .opening .end) (l .now .last) (o .tick) (o .first) (length (o .bytes)))
   call-same n f = rw (← e .end, ← e .last) f
 
-  space-same : (scratch n : ℕ) (r : Report) → Told l o r → First n (lentRefusals (t .pieces) (t .blocks) (t .store) scratch (r .pieces) (r .blocks) (length (o .bytes)))
-      → First n (spaceRefusals (pieceSpace (l .opening .lent) scratch) (blockRows (l .opening .lent)) (l .opening .lent .store) (length (updateBy (l .opening .kind) (l .now) o .pieces))
+  space-same : (n : ℕ) (r : Report) → Told l o r → First n (lentRefusals (t .pieces) (t .blocks) (t .store) (r .pieces) (r .blocks) (length (o .bytes)))
+      → First n (spaceRefusals (pieceRows (l .opening .lent)) (blockRows (l .opening .lent)) (l .opening .lent .store) (length (updateBy (l .opening .kind) (l .now) o .pieces))
       (length (updateBy (l .opening .kind) (l .now) o .blocks)) (length (updateBy (l .opening .kind) (l .now) o .store)))
-  unfolding pieceSpace
-  space-same scratch n r v f = rw (v .pieces, v .blocks, v .store, e .lengths, ← e .count, ← e .used) f
+  space-same n r v f = rw (v .pieces, v .blocks, v .store, e .lengths, ← e .count, ← e .used) f
 
 module _ {pieces blocks store bytes : List ℕ} {tick first n : ℕ}
     (call : CallTested blocks tick first (length bytes) n) where
-  pub judge-call : {scratch : ℕ} → (n ≡ 0 → ⊥) → Judged pieces blocks store scratch (operation tick first bytes) (Refused n)
-  judge-call {scratch} h = record {
-    says = λ nodes entries l e s still.
-        answer-call l scratch (operation tick first bytes) (ap tooShort (e .lengths) ∙ e .heads) still n
+  pub judge-call : (n ≡ 0 → ⊥) → Judged pieces blocks store (operation tick first bytes) (Refused n)
+  judge-call h = record {
+    says = λ nodes entries l scratch long e s still.
+        answer-call l scratch (operation tick first bytes) (ap tooShort (e .lengths) ∙ e .heads) long still n
         (call-same (tables pieces blocks store nodes entries) l (operation tick first bytes) e n (call .finds) .number h);
   }
 
@@ -204,32 +200,32 @@ module _ {pieces blocks store bytes : List ℕ} {tick first n : ℕ}
         told (tables pieces blocks store nodes entries) l (operation tick first bytes) r e s few fits
         (call-sized (l .opening .end) (l .now .last) tick first (length bytes) (passes nodes entries l e)) v
 
-    pub judge-read : {scratch : ℕ} → length bytes ≤ r .same → Judged pieces blocks store scratch (operation tick first bytes) Read
-    judge-read {scratch} h = record {
-      says = λ nodes entries l e s still.
+    pub judge-read : length bytes ≤ r .same → Judged pieces blocks store (operation tick first bytes) Read
+    judge-read h = record {
+      says = λ nodes entries l scratch long e s still.
           let read : isRead (l .now) (operation tick first bytes) ≡ true = tells nodes entries l e s .read ∙ ap not (le-ltb (r .same) (length bytes) h) in (
-            answer-read l scratch (operation tick first bytes) (ap tooShort (e .lengths) ∙ e .heads) still (passes nodes entries l e) read
+            answer-read l scratch (operation tick first bytes) (ap tooShort (e .lengths) ∙ e .heads) long still (passes nodes entries l e) read
                 ∙ ap {B = Answer Result} accepted (ap resultOf (tells nodes entries l e s .change) ∙ known first (length bytes) (r .same) (le-ltb (r .same) (length bytes) h)),
             read,
           );
     }
 
-    module _ {scratch m : ℕ} (h : r .same < length bytes) (space : SpaceTested pieces blocks store scratch (r .pieces) (r .blocks) (length bytes) m) where
+    module _ {m : ℕ} (h : r .same < length bytes) (space : SpaceTested pieces blocks store (r .pieces) (r .blocks) (length bytes) m) where
       update : (nodes entries : List ℕ) (l : Ledger) → Encodes (tables pieces blocks store nodes entries) l → Sound l → isRead (l .now) (operation tick first bytes) ≡ false
       update nodes entries l e s = tells nodes entries l e s .read ∙ ap not (lt-ltb (r .same) (length bytes) h)
 
-      pub judge-space : (m ≡ 0 → ⊥) → Judged pieces blocks store scratch (operation tick first bytes) (Refused m)
+      pub judge-space : (m ≡ 0 → ⊥) → Judged pieces blocks store (operation tick first bytes) (Refused m)
       judge-space full = record {
-        says = λ nodes entries l e s still.
-            answer-space l scratch (operation tick first bytes) (ap tooShort (e .lengths) ∙ e .heads) still (passes nodes entries l e) (update nodes entries l e s) m
-            (space-same (tables pieces blocks store nodes entries) l (operation tick first bytes) e scratch m r (tells nodes entries l e s) (space .finds) .number full);
+        says = λ nodes entries l scratch long e s still.
+            answer-space l scratch (operation tick first bytes) (ap tooShort (e .lengths) ∙ e .heads) long still (passes nodes entries l e) (update nodes entries l e s) m
+            (space-same (tables pieces blocks store nodes entries) l (operation tick first bytes) e m r (tells nodes entries l e s) (space .finds) .number full);
       }
 
-      pub judge-update : {cell : ℕ} → m ≡ 0 → cell ≡ first + r .same → Judged pieces blocks store scratch (operation tick first bytes) (Update cell)
+      pub judge-update : {cell : ℕ} → m ≡ 0 → cell ≡ first + r .same → Judged pieces blocks store (operation tick first bytes) (Update cell)
       judge-update {cell} free is = record {
-        says = λ nodes entries l e s still. (
-          answer-update l scratch (operation tick first bytes) (ap tooShort (e .lengths) ∙ e .heads) still (passes nodes entries l e) (update nodes entries l e s)
-              (space-same (tables pieces blocks store nodes entries) l (operation tick first bytes) e scratch m r (tells nodes entries l e s) (space .finds) .nothing free)
+        says = λ nodes entries l scratch long e s still. (
+          answer-update l scratch (operation tick first bytes) (ap tooShort (e .lengths) ∙ e .heads) long still (passes nodes entries l e) (update nodes entries l e s)
+              (space-same (tables pieces blocks store nodes entries) l (operation tick first bytes) e m r (tells nodes entries l e s) (space .finds) .nothing free)
               ∙ ap {B = Answer Result} accepted (ap resultOf (tells nodes entries l e s .change) ∙ rw (lt-ltb (r .same) (length bytes) h, is)),
           update nodes entries l e s,
         );

@@ -8,7 +8,7 @@ use lib.Dec.{ltb}
 use lib.ListN.{length}
 use borrow.Author.Tests.{ltb-false, eqb-false}
 use Rattle.history.specs.Words.{Operation}
-use Rattle.history.specs.Lent.{tooShort, pieceSpace, blockRows}
+use Rattle.history.specs.Lent.{tooShort, pieceRows, blockRows, leastScratch}
 use Rattle.history.specs.Ledger.{changed, Ledger, finished, isRead, updateBy}
 use Rattle.history.specs.Results.{Result, resultOf}
 use Rattle.history.specs.Refusals.{Answer, accepted, refused, Refusal, _if_, firstOf, recordRefusals, recordAnswer}
@@ -77,12 +77,12 @@ call-sized end last tick first size e =
 -- ── the ledger's answer ──
 
 -- of a finished index
-pub answer-finished : (l : Ledger) (scratch : ℕ) (o : Operation) → tooShort (l .opening .lent) ≡ false → finished l ≡ true → recordAnswer l scratch o ≡ refused 3
+pub answer-finished : (l : Ledger) (scratch : ℕ) (o : Operation) → tooShort (l .opening .lent) ≡ false → ltb scratch leastScratch ≡ false → finished l ≡ true → recordAnswer l scratch o ≡ refused 3
 unfolding recordRefusals firstOf
-answer-finished l scratch o fits done = rw (fits, done)
+answer-finished l scratch o fits long done = rw (fits, long, done)
 
 -- of an open one
-module _ (l : Ledger) (scratch : ℕ) (o : Operation) (fits : tooShort (l .opening .lent) ≡ false) (still : finished l ≡ false) where
+module _ (l : Ledger) (scratch : ℕ) (o : Operation) (fits : tooShort (l .opening .lent) ≡ false) (long : ltb scratch leastScratch ≡ false) (still : finished l ≡ false) where
   abbrev ofCall : List Refusal
   ofCall = callRefusals (l .opening .end) (l .now .last) (o .tick) (o .first) (length (o .bytes))
 
@@ -90,7 +90,7 @@ module _ (l : Ledger) (scratch : ℕ) (o : Operation) (fits : tooShort (l .openi
   abbrev ofUpdate : (update : Bool) → List Refusal
   ofUpdate update =
       let next = updateBy (l .opening .kind) (l .now) o in
-      9 if (update && ltb (pieceSpace (l .opening .lent) scratch) (length (next .pieces)))
+      9 if (update && ltb (pieceRows (l .opening .lent)) (length (next .pieces)))
       ∷ 10 if (update && ltb (blockRows (l .opening .lent)) (length (next .blocks) + length (next .pieces)))
       ∷ 11 if (update && ltb (l .opening .lent .store) (length (next .store)))
       ∷ []
@@ -98,7 +98,7 @@ module _ (l : Ledger) (scratch : ℕ) (o : Operation) (fits : tooShort (l .openi
   abbrev ofSpace : List Refusal
   ofSpace =
       let next = updateBy (l .opening .kind) (l .now) o in
-      spaceRefusals (pieceSpace (l .opening .lent) scratch) (blockRows (l .opening .lent)) (l .opening .lent .store) (length (next .pieces)) (length (next .blocks)) (length (next .store))
+      spaceRefusals (pieceRows (l .opening .lent)) (blockRows (l .opening .lent)) (l .opening .lent .store) (length (next .pieces)) (length (next .blocks)) (length (next .store))
 
   -- what an accepted call gives
   abbrev given : Result
@@ -106,7 +106,7 @@ module _ (l : Ledger) (scratch : ℕ) (o : Operation) (fits : tooShort (l .openi
 
   split : recordAnswer l scratch o ≡ firstOf (ofCall ++ ofUpdate (not (isRead (l .now) o))) given
   unfolding recordRefusals callRefusals firstOf
-  split = rw (fits, still)
+  split = rw (fits, long, still)
 
   pub answer-call : (n : ℕ) → answerBy ofCall ≡ refused n → recordAnswer l scratch o ≡ refused n
   answer-call n e =

@@ -5,7 +5,9 @@ use mathlib.Core.Bool.{true, false}
 use mathlib.Core.List.{List}
 use Prim.Native.Nat.{ℕ}
 use lib.ListN.{set}
+use lib.Dec.{ltb}
 use Rattle.history.specs.Words.{Operation}
+use Rattle.history.specs.Lent.{leastScratch}
 use Rattle.history.specs.Ledger.{Ledger, finished, isRead, recordBy}
 use Rattle.history.specs.Results.{Result, read, update}
 use Rattle.history.specs.Refusals.{Answer, accepted, refused, recordAnswer}
@@ -32,8 +34,8 @@ Verdicts Read l scratch o = (recordAnswer l scratch o ≡ accepted read) × (isR
 Verdicts (Update c) l scratch o = (recordAnswer l scratch o ≡ accepted (update c)) × (isRead (l .now) o ≡ false)
 
 -- `refusal`
-pub record Judged (pieces blocks store : List ℕ) (scratch : ℕ) (o : Operation) (v : Verdict) : Type 0 where
-  pub says : (nodes entries : List ℕ) (l : Ledger) → Encodes (tables pieces blocks store nodes entries) l → Sound l → finished l ≡ false → Verdicts v l scratch o
+pub record Judged (pieces blocks store : List ℕ) (o : Operation) (v : Verdict) : Type 0 where
+  pub says : (nodes entries : List ℕ) (l : Ledger) (scratch : ℕ) → ltb scratch leastScratch ≡ false → Encodes (tables pieces blocks store nodes entries) l → Sound l → finished l ≡ false → Verdicts v l scratch o
 
 -- ── what an accepted operation does ──
 
@@ -54,8 +56,8 @@ recordedOf IsRead = accepted read
 recordedOf (IsUpdate c) = accepted (update c)
 recordedOf (RecordRefused n) = refused n
 
--- `record_open`: of an open index, what layout's `RecordedBy` says of well-formed tables
-pub record RecordedOpen (pieces blocks store pieces′ blocks′ store′ : List ℕ) (scratch : ℕ) (o : Operation) (r : Recorded) : Type 0 where
-  pub formed : (nodes entries : List ℕ) (l : Ledger) → Encodes (tables pieces blocks store nodes entries) l → Sound l → finished l ≡ false
+-- `record_open`: of an open index and a scratch that is long enough, what layout's `RecordedBy` says of well-formed tables
+pub record RecordedOpen (pieces blocks store pieces′ blocks′ store′ : List ℕ) (o : Operation) (r : Recorded) : Type 0 where
+  pub formed : (nodes entries : List ℕ) (l : Ledger) (scratch : ℕ) → ltb scratch leastScratch ≡ false → Encodes (tables pieces blocks store nodes entries) l → Sound l → finished l ≡ false
       → (recordedOf r ≡ recordAnswer l scratch o)
       × RecordLeaves (recordAnswer l scratch o) l o (tables pieces blocks store nodes entries) (tables pieces′ blocks′ store′ nodes entries)

@@ -2,7 +2,7 @@
 -- stands in proofs/Refusing.antt.
 use mathlib.Core.Path.{_≡_}
 use mathlib.Core.List.{List, [], _∷_}
-use Prim.Native.Nat.{ℕ, _+_, _-_, _/_, _^_, min}
+use Prim.Native.Nat.{ℕ, _+_, _-_, _/_, _^_}
 use lib.Dec.{leb, ltb, eqb}
 use lib.ListN.{length}
 use Rattle.history.specs.Lent.{rowWidth, pieceHead, blockHead}
@@ -27,9 +27,9 @@ spaceRefusals space rows bytes pieces blocks used =
     ∷ []
 
 -- the same by the lent tables: an update of `size` bytes leaves `left` pieces and records `made` blocks
-abbrev pub lentRefusals : (pieces blocks store : List ℕ) (scratch left made size : ℕ) → List Refusal
-lentRefusals pieces blocks store scratch left made size =
-    spaceRefusals (min ((length pieces - pieceHead) / rowWidth) (scratch / rowWidth)) ((length blocks - blockHead) / rowWidth) (length store) left
+abbrev pub lentRefusals : (pieces blocks store : List ℕ) (left made size : ℕ) → List Refusal
+lentRefusals pieces blocks store left made size =
+    spaceRefusals ((length pieces - pieceHead) / rowWidth) ((length blocks - blockHead) / rowWidth) (length store) left
     (blockColumn blocks 0 headCount + made) (blockColumn blocks 0 headUsed + size)
 
 -- the answer by a list of refusals
@@ -46,5 +46,5 @@ pub record CallTested (blocks : List ℕ) (tick first size n : ℕ) : Type 0 whe
   pub finds : First n (callRefusals (blockColumn blocks 0 headEnd) (blockColumn blocks 0 headLast) tick first size)
 
 -- `space_refusal`
-pub record SpaceTested (pieces blocks store : List ℕ) (scratch left made size n : ℕ) : Type 0 where
-  pub finds : First n (lentRefusals pieces blocks store scratch left made size)
+pub record SpaceTested (pieces blocks store : List ℕ) (left made size n : ℕ) : Type 0 where
+  pub finds : First n (lentRefusals pieces blocks store left made size)

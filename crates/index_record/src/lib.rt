@@ -67,17 +67,13 @@ fn space_refusal(
     pieces: &[u64],
     blocks: &[u64],
     store: &[u8],
-    scratch: u64,
     left: u64,
     made: u64,
     size: u64,
 ) -> u64
-    ensures { λ r. ⌜ SpaceTested (now (pieces .entry)) (now (blocks .entry)) (now (store .entry)) scratch left made size r ⌝ }
+    ensures { λ r. ⌜ SpaceTested (now (pieces .entry)) (now (blocks .entry)) (now (store .entry)) left made size r ⌝ }
 {
     if tables::rows(pieces.len(), piece::HEAD) < left {
-        return 9;
-    }
-    if tables::rows(scratch as usize, 0) < left {
         return 9;
     }
     let space = tables::rows(blocks.len(), block::HEAD);
@@ -95,17 +91,16 @@ fn space_refusal(
     0
 }
 
-// What becomes of an operation; `scratch` is the length of the lent scratch, in numbers.
+// What becomes of an operation.
 pub fn refusal(
     pieces: &[u64],
     blocks: &[u64],
     store: &[u8],
-    scratch: u64,
     tick: u64,
     first: u64,
     bytes: &[u8],
 ) -> Verdict
-    ensures { λ v. ⌜ Judged (now (pieces .entry)) (now (blocks .entry)) (now (store .entry)) scratch (operation tick first (now (bytes .entry))) v ⌝ }
+    ensures { λ v. ⌜ Judged (now (pieces .entry)) (now (blocks .entry)) (now (store .entry)) (operation tick first (now (bytes .entry))) v ⌝ }
 {
     let size = bytes.len() as u64;
     let number = call_refusal(blocks, tick, first, size);
@@ -119,7 +114,7 @@ pub fn refusal(
     }
     let left = after.pieces;
     let made = after.blocks;
-    let full = space_refusal(pieces, blocks, store, scratch, left, made, size);
+    let full = space_refusal(pieces, blocks, store, left, made, size);
     if full != 0 {
         return Verdict::Refused(full);
     }
@@ -159,20 +154,19 @@ pub fn enter_update(
     block_table::set_last(blocks, tick);
 }
 
-// Records an operation in the tables of an open index.
+// Records an operation in the tables of an open index. Nothing is written to a scratch, so none is lent here.
 pub fn record_open(
     pieces: &mut [u64],
     blocks: &mut [u64],
     store: &mut [u8],
-    scratch: u64,
     tick: u64,
     first: u64,
     bytes: &[u8],
 ) -> Recorded
     ensures { λ r. ⌜ RecordedOpen (now (pieces .entry)) (now (blocks .entry)) (now (store .entry)) (now (pieces .exit)) (now (blocks .exit)) (now (store .exit))
-        scratch (operation tick first (now (bytes .entry))) r ⌝ }
+        (operation tick first (now (bytes .entry))) r ⌝ }
 {
-    let verdict = refusal(pieces, blocks, store, scratch, tick, first, bytes);
+    let verdict = refusal(pieces, blocks, store, tick, first, bytes);
     match verdict {
         Verdict::Refused(number) => Recorded::Refused(number),
         Verdict::Read => {

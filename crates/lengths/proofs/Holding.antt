@@ -25,5 +25,5 @@ rows-held rows n scratch =
       store = λ e h. let long = uncut (n .store) (0 + 1 * rows) e h in omega arith;
       nodes = λ e h. let long = uncut (n .nodes) (nodeHead + rowWidth * rows) e h in omega arith;
       entries = λ e h. let long = uncut (n .entries) (entryHead + entryWidth * rows) e h in omega arith;
-      scratch-rows = λ e h. let long = uncut scratch (0 + rowWidth * rows) e h in omega arith;
+      scratch-long = λ e h. let long = uncut scratch (0 + rowWidth * rows) e h in omega arith;
     }

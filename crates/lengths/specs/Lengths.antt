@@ -2,10 +2,10 @@
 use mathlib.Core.Path.{_≡_}
 use mathlib.Core.Bool.{cond}
 use mathlib.Core.List.{List, [], _∷_}
-use Prim.Native.Nat.{ℕ, _+_, _*_, _/_, _^_, _<_}
+use Prim.Native.Nat.{ℕ, _+_, _*_, _^_, _≤_, _<_}
 use lib.Dec.{ltb}
 use lib.ListN.{getD}
-use Rattle.history.specs.Lent.{Lent, pieceRows, blockRows, nodeRows, entryRows, rowWidth, entryWidth, pieceHead, blockHead, nodeHead, entryHead}
+use Rattle.history.specs.Lent.{Lent, pieceRows, blockRows, nodeRows, entryRows, leastScratch, rowWidth, entryWidth, pieceHead, blockHead, nodeHead, entryHead}
 
 -- pieces, blocks, store, nodes, entries, scratch: the head, and the width of a row; a byte is the store's row
 abbrev pub heads : List ℕ
@@ -31,7 +31,8 @@ pub record RowsHeld (rows : ℕ) (n : Lent) (scratch : ℕ) : Type 0 where
   pub store : n .store ≡ lengthFor 2 rows → 0 < n .store → n .store ≡ rows
   pub nodes : n .nodes ≡ lengthFor 3 rows → 0 < n .nodes → nodeRows n ≡ rows
   pub entries : n .entries ≡ lengthFor 4 rows → 0 < n .entries → entryRows n ≡ rows
-  pub scratch-rows : scratch ≡ lengthFor 5 rows → 0 < scratch → scratch / rowWidth ≡ rows
+  -- of the scratch one row is enough
+  pub scratch-long : scratch ≡ lengthFor 5 rows → 0 < scratch → leastScratch ≤ scratch
 
 abbrev pub LengthsHold : Type 0
 LengthsHold = (rows : ℕ) (n : Lent) (scratch : ℕ) → RowsHeld rows n scratch

@@ -44,14 +44,14 @@ pub ruleset telling = (told-bad, told-open, told-closed)
 
 -- ── record and finish ──
 
-module _ {p b s p′ b′ s′ : List ℕ} {scratch : ℕ} {o : Operation} {x : Recorded} (told : RecordedOpen p b s p′ b′ s′ scratch o x) where
-  pub record-read : x ≡ IsRead → Numbered (RecordedOpen p b s p′ b′ s′ scratch o) recordNumber 0
+module _ {p b s p′ b′ s′ : List ℕ} {o : Operation} {x : Recorded} (told : RecordedOpen p b s p′ b′ s′ o x) where
+  pub record-read : x ≡ IsRead → Numbered (RecordedOpen p b s p′ b′ s′ o) recordNumber 0
   record-read e = record { answer = x; holds = told; is = sym (ap recordNumber e) }
 
-  pub record-update : {c : ℕ} → x ≡ IsUpdate c → Numbered (RecordedOpen p b s p′ b′ s′ scratch o) recordNumber 0
+  pub record-update : {c : ℕ} → x ≡ IsUpdate c → Numbered (RecordedOpen p b s p′ b′ s′ o) recordNumber 0
   record-update e = record { answer = x; holds = told; is = sym (ap recordNumber e) }
 
-  pub record-n : {n : ℕ} → x ≡ RecordRefused n → Numbered (RecordedOpen p b s p′ b′ s′ scratch o) recordNumber n
+  pub record-n : {n : ℕ} → x ≡ RecordRefused n → Numbered (RecordedOpen p b s p′ b′ s′ o) recordNumber n
   record-n e = record { answer = x; holds = told; is = sym (ap recordNumber e) }
 
 pub ruleset recording = (record-read, record-update, record-n)

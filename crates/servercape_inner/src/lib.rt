@@ -38,15 +38,14 @@ pub extern "C" fn servercape_inner_record(
     pieces: &mut [u64],
     blocks: &mut [u64],
     store: &mut [u8],
-    scratch: u64,
     tick: u64,
     first: u64,
     bytes: &[u8],
 ) -> u64
     ensures { λ r. ⌜ Numbered (RecordedOpen (now (pieces .entry)) (now (blocks .entry)) (now (store .entry)) (now (pieces .exit)) (now (blocks .exit)) (now (store .exit))
-        scratch (operation tick first (now (bytes .entry)))) recordNumber r ⌝ }
+        (operation tick first (now (bytes .entry)))) recordNumber r ⌝ }
 {
-    let recorded = index_record::record_open(pieces, blocks, store, scratch, tick, first, bytes);
+    let recorded = index_record::record_open(pieces, blocks, store, tick, first, bytes);
     match recorded {
         Recorded::Read => 0,
         Recorded::Update(_) => 0,

@@ -6,4 +6,4 @@ use Rattle.index.proofs.record_op.Tie as tie
 
 pub record-op-spec : {M : Type 1} → statement M
 record-op-spec =
-    tie.close (tie.spec (λ c κs. search needs) (λ c. search needs) (λ c. search needs) (λ c. search needs) (λ c κs. search needs) (λ c. search needs) (λ c. search needs) (λ c. search needs) (λ c. search recordings) (λ c. search needs) (λ c. search needs) (λ c. search needs) (λ c. search recordings) (λ c. search needs) (λ c. search needs) (λ c. search needs) (λ c. search recordings))
+    tie.close (tie.spec (λ c. search recordings) (λ c κs. search needs) (λ c. search needs) (λ c. search needs) (λ c. search needs) (λ c κs. search needs) (λ c. search needs) (λ c. search needs) (λ c. search needs) (λ c. search recordings) (λ c. search needs) (λ c. search needs) (λ c. search needs) (λ c. search recordings) (λ c. search needs) (λ c. search needs) (λ c. search needs) (λ c. search recordings))
