@@ -13,7 +13,7 @@ use Rattle.lists.proofs.Lists.{count-from-length, count-from-at}
 use Rattle.lists.proofs.Counting.{all-count-from, count-from-append}
 use Rattle.lists.proofs.Maps.{map-append, length-of-map, getD-of-map, map-all}
 use Rattle.lists.proofs.Parts.{drop-take}
-use Rattle.history.specs.Words.{Block, firstCell}
+use Rattle.history.specs.Words.{Block, aBlock, firstCell}
 use Rattle.history.specs.Tree.{noBlock, keyIn}
 use Rattle.tables.specs.Columns.{blockColumn, blockFirst, blockLength, blockCreated, blockDestroyed, blockOffset, blockOwner, blockNext}
 use Rattle.block_table.specs.Blocks.{firstCellAt, StartsBefore, lengthAt, offsetAt, BlockRow, shownBlock, bytesAt, blockOfRow, blocksOf, SameRows, Stored}
@@ -34,7 +34,7 @@ starts-first {t} {one} {other} {f} {g} ef eg =
 pub shown-is : (store : List ℕ) (r : BlockRow) (b : Block) → r .owner ≡ b .kind → r .first ≡ firstCell b
     → take (r .size) (drop (r .offset) store) ≡ b .stretch .bytes → r .created ≡ b .created → r .destroyed ≡ b .destroyed → shownBlock store r ≡ b
 shown-is store r b own first bytes born died =
-    λ i. record { kind = own i; stretch = record { first = first i; bytes = bytes i }; created = born i; destroyed = died i }
+    λ i. aBlock (own i) (first i) (bytes i) (born i) (died i)
 
 -- ── how many, and which ──
 

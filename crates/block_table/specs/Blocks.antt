@@ -5,7 +5,7 @@ use Prim.Native.Nat.{ℕ, _+_, _*_, _≤_, _<_}
 use lib.ListN.{length, getD, take, drop}
 use Rattle.lists.specs.Lists.{countFrom}
 use Rattle.history.specs.Lent.{rowWidth, blockHead}
-use Rattle.history.specs.Words.{Block}
+use Rattle.history.specs.Words.{Block, aBlock}
 use Rattle.tables.specs.Columns.{blockColumn, blockBase, blockFirst, blockLength, blockCreated, blockDestroyed, blockOffset, blockOwner, headCount}
 
 -- ── columns ──
@@ -66,13 +66,7 @@ noRow = record { first = 0; size = 0; created = 0; destroyed = 0; offset = 0; ow
 
 -- the block that it stands for
 abbrev pub shownBlock : (store : List ℕ) → BlockRow → Block
-shownBlock store r =
-    record {
-      kind = r .owner;
-      stretch = record { first = r .first; bytes = take (r .size) (drop (r .offset) store) };
-      created = r .created;
-      destroyed = r .destroyed;
-    }
+shownBlock store r = aBlock (r .owner) (r .first) (take (r .size) (drop (r .offset) store)) (r .created) (r .destroyed)
 
 -- what the row of a link says
 abbrev pub rowAt : (blocks : List ℕ) (link : ℕ) → BlockRow

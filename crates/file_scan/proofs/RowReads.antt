@@ -7,7 +7,7 @@ use native.Mathlib.Omega.{arith}
 use lib.ListN.{length}
 use lib.Dec.{eqb}
 use borrow.Author.Tests.{eq-eqb, ne-eqb, le-leb, lt-leb}
-use Rattle.history.specs.Words.{Block, size}
+use Rattle.history.specs.Words.{Block, aBlock, size}
 use Rattle.history.specs.File.{Read, got, onward, _>>=_, give, refuse_unless_, field, number, many, readBlock}
 use Rattle.history.proofs.FileYields.{got-value, got-next}
 use Rattle.fields.specs.Fields.{readOf}
@@ -56,7 +56,7 @@ pub ruleset numbering = (four-first, four-second, four-third, four-fourth, four-
 abbrev pub blockRest : (kind : ℕ) (file : List ℕ) → Numbers → ℕ → Read Block
 blockRest kind file q at =
     onward (field (q .b) file at)
-    (λ bytes next. got (record { kind = kind; stretch = record { first = q .a; bytes = bytes }; created = q .c; destroyed = q .d }) next)
+    (λ bytes next. got (aBlock kind (q .a) bytes (q .c) (q .d)) next)
 
 -- a block is its kind byte, four numbers and its bytes
 pub block-parts : (kind : ℕ) (file : List ℕ) (at : ℕ)

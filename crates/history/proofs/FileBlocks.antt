@@ -5,7 +5,7 @@ use Prim.Native.Nat.{ℕ, _<_, _≤_, _+_}
 use native.Mathlib.Omega.{arith}
 use lib.ListN.{length, getD, take, drop}
 use borrow.Author.Tests.{eq-eqb, ne-eqb}
-use Rattle.history.specs.Words.{Block}
+use Rattle.history.specs.Words.{Block, aBlock}
 use Rattle.history.specs.File.{got, _>>=_, onward, give, refuse_unless_, field, readBlock, fault, Reader}
 use Rattle.history.proofs.FileReads.{field-read, field-cut, number-cut, byte-read}
 use Rattle.history.proofs.FileFields.{four-read, four-cut, numberAt}
@@ -21,12 +21,7 @@ blockEnd file at = at + blockHeadBytes + numberAt file (at + 9)
 -- the block at a position
 abbrev pub blockIn : (file : List ℕ) (at : ℕ) → Block
 blockIn file at =
-    record {
-      kind = getD file at 0;
-      stretch = record { first = numberAt file (at + 1); bytes = take (numberAt file (at + 9)) (drop (at + blockHeadBytes) file) };
-      created = numberAt file (at + 17);
-      destroyed = numberAt file (at + 25);
-    }
+    aBlock (getD file at 0) (numberAt file (at + 1)) (take (numberAt file (at + 9)) (drop (at + blockHeadBytes) file)) (numberAt file (at + 17)) (numberAt file (at + 25))
 
 module _ (kind : ℕ) (file : List ℕ) (at : ℕ) where
   -- no kind byte
@@ -44,7 +39,7 @@ module _ (kind : ℕ) (file : List ℕ) (at : ℕ) where
       -- behind the kind byte: the four numbers and the bytes
       abbrev behind : ℕ → ℕ → ℕ → ℕ → Reader Block
       behind first cells born died =
-          field cells >>= (λ bs. give (record { kind = getD file at 0; stretch = record { first = first; bytes = bs }; created = born; destroyed = died }))
+          field cells >>= (λ bs. give (aBlock (getD file at 0) first bs born died))
 
       -- cut in the head
       pub block-short : length file < at + blockHeadBytes → readBlock kind file at ≡ fault 17

@@ -3,7 +3,7 @@ use mathlib.Core.Path.{_≡_, refl}
 use mathlib.Core.List.{List, [], _∷_, flatten, flatMap}
 use Rattle.lists.specs.Lists.{has, count, countFrom, sumOf}
 use Prim.Native.Nat.{ℕ, _+_, _*_}
-use Rattle.history.specs.Words.{Block}
+use Rattle.history.specs.Words.{Block, aBlock}
 use Rattle.history.specs.Lent.{Lent, rowWidth, entryWidth, blockHead, nodeHead, entryHead}
 use Rattle.history.specs.Tree.{treeOf, addAll, addLocation, insert, entriesIn, nodeCount, entryCount, widths}
 use Rattle.history.specs.Rules.{every, halved, filled, lived, numbered, placed, sorted, ascends, summed, rule23, apart, shares}
@@ -13,7 +13,7 @@ use Rattle.history.specs.File.{fileOf, contents, fileBytes, blockBytes, 
 
 -- E = 2, kind 3: one block of two cells, live at tick 0 alone, so that it stands in the left half
 abbrev pub early : List Block
-early = record { kind = 3; stretch = record { first = 258; bytes = 7 ∷ 9 ∷ [] }; created = 0; destroyed = 1 } ∷ []
+early = aBlock 3 258 (7 ∷ 9 ∷ []) 0 1 ∷ []
 
 abbrev pub earlyFile : List ℕ
 earlyFile =
@@ -54,7 +54,7 @@ early-written = refl
 -- ── the listing ──
 
 abbrev pub listed : (first created destroyed : ℕ) → List ℕ → Block
-listed f c d bytes = record { kind = 1; stretch = record { first = f; bytes = bytes }; created = c; destroyed = d }
+listed f c d bytes = aBlock 1 f bytes c d
 
 abbrev pub listing : List Block
 listing =

@@ -5,7 +5,7 @@ use mathlib.Core.Option.{Option}
 use mathlib.Core.List.{List, [], _∷_, _++_, map, flatten}
 use Prim.Native.Nat.{ℕ, _+_, _-_, _*_, _^_}
 use lib.ListN.{length, take, replicate, set}
-use Rattle.history.specs.Words.{Piece, Block}
+use Rattle.history.specs.Words.{Piece, Block, aBlock}
 use Rattle.history.specs.Lent.{Lent, rowWidth, entryWidth, pieceHead, blockHead, nodeHead, entryHead}
 use Rattle.history.specs.Tree.{Tree, hole, node}
 use Rattle.history.specs.Ledger.{Opening, opened, openingFor}
@@ -108,7 +108,7 @@ pieceOn f bs w = record { kind = 1; stretch = record { first = f; bytes = bs }; 
 
 -- first cell, bytes, created, destroyed
 abbrev blockOn : (first : ℕ) → List ℕ → ℕ → ℕ → Block
-blockOn f bs c d = record { kind = 1; stretch = record { first = f; bytes = bs }; created = c; destroyed = d }
+blockOn f bs c d = aBlock 1 f bs c d
 
 abbrev yes! : Answer Unit
 yes! = accepted tt

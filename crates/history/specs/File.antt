@@ -7,7 +7,7 @@ use Prim.Native.Nat.{ℕ, zero, suc, _+_, _*_, _^_, _/_, _%_}
 use lib.ListN.{length, take, drop}
 use lib.Dec.{leb, ltb, eqb}
 use Rattle.lists.specs.Lists.{has, countFrom, sumOf}
-use Rattle.history.specs.Words.{Block, size, firstCell}
+use Rattle.history.specs.Words.{Block, aBlock, size, firstCell}
 use Rattle.history.specs.Lent.{Lent, blockRows, nodeRows, entryRows}
 use Rattle.history.specs.Tree.{Tree, hole, node, mid, blockAt, nodeCount, entryCount, entriesIn}
 use Rattle.history.specs.Rules.{every, halved, filled, lived, rule23, apart}
@@ -183,7 +183,7 @@ readBlock kind = do
   created ← number 8
   destroyed ← number 8
   bytes ← field cells
-  give (record { kind = own; stretch = record { first = first; bytes = bytes }; created = created; destroyed = destroyed })
+  give (aBlock own first bytes created destroyed)
 
 -- a node, whose children are read by `child`. 19: a presence byte other than 0 or 1.
 abbrev pub readNode : (child : Reader Nodes) → Reader Nodes

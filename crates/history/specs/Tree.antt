@@ -5,7 +5,7 @@ use Prim.Native.Nat.{ℕ, zero, suc, _+_, _*_, _-_, _/_}
 use lib.ListN.{length, getD}
 use lib.Dec.{leb, ltb}
 use Rattle.lists.specs.Lists.{count}
-use Rattle.history.specs.Words.{Block, firstCell}
+use Rattle.history.specs.Words.{Block, aBlock, firstCell}
 
 -- no node; or a node: its entries, which are block numbers, and its two halves
 pub data Tree : Type 0 where
@@ -67,7 +67,7 @@ addAll key e n [] t = t
 addAll key e n (b ∷ bs) t = addAll key e (suc n) bs (addLocation key 63 n (b .created) (b .destroyed) 0 e t)
 
 abbrev pub noBlock : Block
-noBlock = record { kind = 0; stretch = record { first = 0; bytes = [] }; created = 0; destroyed = 0 }
+noBlock = aBlock 0 0 [] 0 0
 
 -- block k, and its first cell
 abbrev pub blockAt : List Block → (k : ℕ) → Block

@@ -52,6 +52,10 @@ pub record Block : Type 0 where
   pub created : ℕ
   pub destroyed : ℕ
 
+-- a block written out; every other place that makes one from its parts says it by this
+abbrev pub aBlock : (kind first : ℕ) (bytes : List ℕ) (created destroyed : ℕ) → Block
+aBlock kind first bytes created destroyed = record { kind = kind; stretch = record { first = first; bytes = bytes }; created = created; destroyed = destroyed }
+
 -- a block's first cell
 abbrev pub firstCell : Block → ℕ
 firstCell b = b .stretch .first

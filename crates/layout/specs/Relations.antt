@@ -7,7 +7,7 @@ use mathlib.Core.List.{List, [], _∷_}
 use Prim.Native.Nat.{ℕ, suc, _+_, _*_, _≤_, _<_}
 use lib.ListN.{length, getD, set, take, drop, replicate}
 use lib.Seq.{sets}
-use Rattle.history.specs.Words.{Operation, Block, size}
+use Rattle.history.specs.Words.{Operation, Block, aBlock, size}
 use Rattle.history.specs.Lent.{rowWidth}
 use Rattle.history.specs.Tree.{treeOf}
 use Rattle.history.specs.Ledger.{Opening, Ledger, isRead, recordBy, finishBy, openingFor}
@@ -161,13 +161,7 @@ fieldsAt offset b =
 
 -- the block that fields stand for
 abbrev pub blockIn : (store : List ℕ) → Fields → Block
-blockIn store f =
-    record {
-      kind = f .kind;
-      stretch = record { first = f .first; bytes = take (f .length) (drop (f .offset) store) };
-      created = f .created;
-      destroyed = f .destroyed;
-    }
+blockIn store f = aBlock (f .kind) (f .first) (take (f .length) (drop (f .offset) store)) (f .created) (f .destroyed)
 
 -- The ledger's block: its fields, with the offset that the row of link k + 1 has, and its bytes there, whole.
 pub record BlockHanded (t : Tables) (k : ℕ) (answer : Answer Fields) (x : Answer Block) : Type 0 where

@@ -10,7 +10,7 @@ use Rattle.lists.specs.Tests.{Decides}
 use Rattle.lists.proofs.Lists.{count-from-length, count-from-at}
 use Rattle.lists.proofs.Maps.{length-of-map, getD-of-map}
 use Rattle.history.specs.Lent.{rowWidth, entryWidth, blockHead, nodeHead, entryHead}
-use Rattle.history.specs.Words.{Block}
+use Rattle.history.specs.Words.{Block, aBlock}
 use Rattle.history.specs.Rules.{isHole, rule23}
 use Rattle.history.specs.Sound.{isEmpty}
 use Rattle.history.specs.Tree.{Tree, noBlock, nodeCount, entryCount, blockAt}
@@ -66,7 +66,7 @@ tested-rule-23 t kind e bs T {r} block-room entry-room closed rooted test = reco
 -- the block of a row, without its kind and bytes, of which a tree knows nothing
 unfoldable pub rowBlock : (blocks : List ℕ) (k : ℕ) → Block
 rowBlock blocks k =
-    record { kind = 0; stretch = record { first = firstCellIn blocks k; bytes = [] }; created = createdIn blocks k; destroyed = destroyedIn blocks k }
+    aBlock 0 (firstCellIn blocks k) [] (createdIn blocks k) (destroyedIn blocks k)
 
 -- every block table has blocks, so what is decided is never empty
 pub rows-blocks : (blocks : List ℕ) (n : ℕ) → BlockRows blocks n (map (rowBlock blocks) (countFrom 0 n))

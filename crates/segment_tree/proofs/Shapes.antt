@@ -10,7 +10,7 @@ use lib.Dec.{ltb}
 use Rattle.lists.specs.Lists.{Mem, Distinct, count, countFrom}
 use Rattle.lists.proofs.Numbers.{bool-cases, lt-or-le, eq-or-ne}
 use Rattle.lists.proofs.Counting.{mem-count, count-mem, distinct-count, count-from-out, count-from-count}
-use Rattle.history.specs.Words.{Block}
+use Rattle.history.specs.Words.{Block, aBlock}
 use Rattle.history.specs.Tree.{Tree, hole, node, mid, halves, covers, entriesOf, leftOf, rightOf, insert, addLocation, addAll, keyIn, treeOf, nodeCount, entryCount}
 use Rattle.history.proofs.TreeInserting.{insert-nil, insert-on, insert-length}
 use Rattle.history.proofs.TreeAdding.{made, listed, add-here, add-last, add-below}
@@ -108,7 +108,7 @@ shape-lives e (x ∷ xs) T = shape-lives e xs (addLife e x T) ∙ ap (addLives e
 module _ (life : ℕ → Life) (e : ℕ) where
   -- rows as blocks, whose numbers are their keys: no two of them are alike
   rowBlock : ℕ → Block
-  rowBlock k = record { kind = 0; stretch = record { first = 0; bytes = [] }; created = life k .created; destroyed = life k .destroyed }
+  rowBlock k = aBlock 0 0 [] (life k .created) (life k .destroyed)
 
   shape-each : (ks : List ℕ) (T : Tree) → shape (addEach rowBlock (λ k. k) e ks T) ≡ addLives e (map life ks) (shape T)
   unfolding addEach addLives rowBlock
