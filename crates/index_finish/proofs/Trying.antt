@@ -30,7 +30,7 @@ use Rattle.segment_tree.specs.Lives.{entryRowsIn, roomFor, rowsToCount, Countab
 use Rattle.segment_tree.specs.Fill as fill
 use Rattle.segment_tree.specs.Fill.{lentTables}
 use Rattle.segment_test.specs.Test.{lent, BlockRows, ClosedTree}
-use Rattle.segment_apart.specs.Apart.{SeenApart, ApartByTree}
+use Rattle.segment_apart.specs.Apart.{ClosedApart}
 use Rattle.layout.specs.Tables.{Tables}
 use Rattle.layout.specs.Formed.{Blank}
 use Rattle.index_finish.specs.Trial.{Tryable, StandsApart, BlocksApart}
@@ -47,7 +47,7 @@ module _ {blocks nodes entries : List ℕ} {kind e n : ℕ} {q : Bool}
   pub tree-none : not q ≡ true → StandsApart (lent blocks nodes entries) kind e n false
   tree-none f = record { shown = λ z. absurd (false≢true z); shares = λ z bs rows bounded index u. tree bs rows .not (not-true q f) index }
 
-  pub tree-asked : {r : Bool} → not q ≡ false → ApartByTree (lent blocks nodes entries) kind e n r → StandsApart (lent blocks nodes entries) kind e n r
+  pub tree-asked : {r : Bool} → not q ≡ false → ClosedApart (lent blocks nodes entries) kind e n r → StandsApart (lent blocks nodes entries) kind e n r
   tree-asked f d = record {
     shown = λ z bs rows bounded. d .decides bs rows (tree bs rows .yes (not-false q f)) bounded .yes z;
     shares = λ z bs rows bounded index u. d .decides bs rows index bounded .not z u;
