@@ -4,19 +4,18 @@ ghost use Rattle.segment_test.specs.Test.{lent};
 ghost use Rattle.segment_apart.specs.Birth.{BirthClear};
 ghost use Rattle.segment_apart.specs.Apart.{ClosedApart};
 use segment_walk::walk;
-use tables::block;
 
 // Whether block k is clear of those that are live when it is created.
 fn birth_clear(blocks: &[u64], nodes: &[u64], entries: &[u64], kind: u64, end: u64, k: u64) -> bool
     ensures { λ r. ⌜ BirthClear (now (blocks .entry)) (now (nodes .entry)) (now (entries .entry)) kind end k r ⌝ }
 {
-    let created = segment_clear::column(blocks, k, block::CREATED);
-    if segment_clear::column(blocks, k, block::DESTROYED) <= created {
+    let row = segment_clear::row_of(blocks, k);
+    if row.destroyed <= row.created {
         return true;
     }
     let root = walk::root(nodes, kind, end);
-    let own = segment_clear::own_of(blocks, k);
-    segment_clear::way_clear(blocks, nodes, entries, root, created, own)
+    let own = segment_clear::own_of(k, row);
+    segment_clear::way_clear(blocks, nodes, entries, root, row.created, own)
 }
 
 // Whether each of the n blocks is clear of those that are live when it is created: then no two share a cell at any tick. For each block at most 64

@@ -17,6 +17,8 @@ use Rattle.history.specs.Tree.{Tree, hole, node}
 use Rattle.history.specs.Find.{path}
 use Rattle.history.proofs.RulesLaws.{ascends-decides, sorted-here}
 use Rattle.tables.specs.Columns.{column, blockColumn, blockBase, blockLength}
+use Rattle.block_table.specs.declared.Row.{Row}
+use Rattle.block_table.specs.RowRead.{Reads}
 use Rattle.segment_table.specs.Closed.{TreeAt, run, blockIn, firstCellIn}
 use Rattle.segment_table.proofs.Closed.{run-all, run-mem, run-at, run-length}
 use Rattle.segment_walk.specs.declared.walk.Node.{Node}
@@ -26,23 +28,35 @@ use Rattle.segment_walk.specs.Rowing.{rowsAt, RunOf, Parts, Lower}
 use Rattle.segment_walk.proofs.Halving.{present, absent-hole, Down, down}
 use Rattle.segment_walk.proofs.Rowing.{run-of}
 use Rattle.segment_clear.specs.declared.Own.{Own}
-use Rattle.segment_clear.specs.Clear.{endIn, EndsBy, Owns, Parted, Reached, Clears, RunClear, WayClear}
+use Rattle.segment_clear.specs.Clear.{endIn, EndsBy, Owned, Owns, Parted, Reached, Clears, RunClear, WayClear}
 
 -- ── blocks ──
 
 pub column-of : (t : List ℕ) (k c : ℕ) {r : ℕ} → r ≡ column t k (blockHead + c) → r ≡ blockColumn t (suc k) c
 column-of t k c {r} e = let p : rowWidth * k + (blockHead + c) ≡ rowWidth * suc k + (blockBase + c) = omega arith in rw (← p) e
 
-module _ {t : List ℕ} {k first : ℕ} (ef : first ≡ firstCellIn t k) where
-  module _ {many : ℕ} (em : many ≡ blockColumn t (suc k) blockLength) where
-    pub ends-late : {place : ℕ} → first ≤ place → Decides (leb many (place - first)) (EndsBy t k place)
-    ends-late {place} h = record {
-      yes = λ e. record { is = omega (arith, leb-true many (place - first) e) };
-      not = λ e b. omega (arith, leb-false many (place - first) e, b .is);
-    }
+-- the link of block k
+pub row-behind : {t : List ℕ} (k : ℕ) {row : Row} → Reads t (k + 1) row → Reads t (suc k) row
+row-behind k reads = let e : k + 1 ≡ suc k = omega arith in rw e at reads
 
-  pub ends-early : {place : ℕ} → place < first → Decides false (EndsBy t k place)
-  ends-early h = refute (λ b. omega (arith, b .is))
+-- what the row of block k says is what is owned
+pub owned-owns : {t : List ℕ} {k : ℕ} {row : Row} {own : Own} → Reads t (suc k) row → Owned k row own → Owns t k own
+owned-owns reads is = record {
+  number = is .number;
+  first = is .first ∙ reads .first;
+  end = λ fits. let e = is .end (rw (reads .first, reads .length) fits) in e ∙ rw (reads .first, reads .length) refl;
+  forward = is .forward;
+}
+
+module _ {t : List ℕ} {k : ℕ} {row : Row} (reads : Reads t (suc k) row) where
+  pub ends-late : {place : ℕ} → row .first ≤ place → Decides (leb (row .length) (place - row .first)) (EndsBy t k place)
+  ends-late {place} h = record {
+    yes = λ e. record { is = omega (arith, reads .first, reads .length, leb-true (row .length) (place - row .first) e) };
+    not = λ e b. omega (arith, reads .first, reads .length, leb-false (row .length) (place - row .first) e, b .is);
+  }
+
+  pub ends-early : {place : ℕ} → place < row .first → Decides false (EndsBy t k place)
+  ends-early h = refute (λ b. omega (arith, reads .first, b .is))
 
 pub ruleset ending = (ends-early, ends-late)
 

@@ -7,6 +7,7 @@ use Rattle.lists.specs.Lists.{All, Ascending, Mem}
 use Rattle.history.specs.Tree.{Tree}
 use Rattle.history.specs.Find.{path}
 use Rattle.tables.specs.Columns.{blockColumn, blockLength}
+use Rattle.block_table.specs.declared.Row.{Row}
 use Rattle.segment_table.specs.Closed.{firstCellIn}
 use Rattle.segment_walk.specs.declared.walk.Node.{Node}
 use Rattle.segment_walk.specs.declared.rows.Rows.{Rows}
@@ -23,6 +24,13 @@ endIn blocks k = firstCellIn blocks k + blockColumn blocks (suc k) blockLength
 -- block k ends at a place or before it
 pub record EndsBy (blocks : List ℕ) (k place : ℕ) : Type 0 where
   pub is : endIn blocks k ≤ place
+
+-- block k as its row says it
+pub record Owned (k : ℕ) (row : Row) (own : Own) : Type 0 where
+  pub number : own .number ≡ k
+  pub first : own .first ≡ row .first
+  pub end : row .first + row .length ≤ 2 ^ 64 - 1 → own .end ≡ row .first + row .length
+  pub forward : own .first ≤ own .end
 
 -- what is looked at is block k
 pub record Owns (blocks : List ℕ) (k : ℕ) (own : Own) : Type 0 where

@@ -8,7 +8,9 @@ ghost use Prim.Native.Nat.{suc, _<_};
 ghost use Rattle.lists.specs.Tests.{Decides};
 ghost use Rattle.history.specs.Lent.{rowWidth};
 ghost use Rattle.tables.specs.Columns.{blockColumn};
-ghost use Rattle.segment_clear.specs.Clear.{EndsBy, Owns, RunClear, WayClear};
+ghost use Rattle.block_table.specs.RowRead.{Reads};
+ghost use Rattle.segment_clear.specs.Clear.{EndsBy, Owned, RunClear, WayClear};
+use block_table::Row;
 use segment_walk::rows;
 use segment_walk::rows::Rows;
 use segment_walk::walk;
@@ -31,12 +33,28 @@ pub fn column(blocks: &[u64], k: u64, col: usize) -> u64
     tables::get(blocks, k, block::HEAD + col)
 }
 
-// Block k. An end that passes 2^64, which no sound table has, is cut.
-pub fn own_of(blocks: &[u64], k: u64) -> Own
-    ensures { λ r. ⌜ Owns (now (blocks .entry)) k r ⌝ }
+// The row of block k.
+pub fn row_of(blocks: &[u64], k: u64) -> Row
+    ensures { λ r. ⌜ Reads (now (blocks .entry)) (suc k) r ⌝ }
 {
-    let first = column(blocks, k, block::FIRST);
-    let length = column(blocks, k, block::LENGTH);
+    if k < u64::MAX {
+        return block_table::read(blocks, k + 1);
+    }
+    Row {
+        first: column(blocks, k, block::FIRST),
+        length: column(blocks, k, block::LENGTH),
+        created: column(blocks, k, block::CREATED),
+        destroyed: column(blocks, k, block::DESTROYED),
+        next: column(blocks, k, block::NEXT),
+    }
+}
+
+// Block k, as its row says it. An end that passes 2^64, which no sound table has, is cut.
+pub fn own_of(k: u64, row: Row) -> Own
+    ensures { λ r. ⌜ Owned k row r ⌝ }
+{
+    let first = row.first;
+    let length = row.length;
     if u64::MAX - first < length {
         return Own {
             number: k,
@@ -55,11 +73,11 @@ pub fn own_of(blocks: &[u64], k: u64) -> Own
 fn ends_by(blocks: &[u64], k: u64, place: u64) -> bool
     ensures { λ r. ⌜ Decides r (EndsBy (now (blocks .entry)) k place) ⌝ }
 {
-    let first = column(blocks, k, block::FIRST);
-    if place < first {
+    let row = row_of(blocks, k);
+    if place < row.first {
         return false;
     }
-    column(blocks, k, block::LENGTH) <= place - first
+    row.length <= place - row.first
 }
 
 // Whether the last other block in the rows of a node that starts before the block's end, ends where the block starts or before. A binary search.

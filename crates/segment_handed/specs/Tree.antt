@@ -4,15 +4,17 @@ use mathlib.Core.Path.{_≡_}
 use mathlib.Core.Logic.{_⊎_}
 use mathlib.Core.Bool.{Bool, true}
 use mathlib.Core.List.{List}
-use Prim.Native.Nat.{ℕ, _-_, _≤_, _<_}
+use Prim.Native.Nat.{ℕ, suc, _-_, _≤_, _<_}
 use Rattle.lists.specs.Lists.{Mem}
 use Rattle.history.specs.Tree.{Tree}
 use Rattle.history.specs.Find.{path}
 use Rattle.apart_laws.specs.Slots.{stretchAt, Refilled}
 use Rattle.apart_laws.specs.Parted.{PartedIn}
-use Rattle.apart_laws.specs.RightFirst.{HeldAll, RightFirst}
+use Rattle.apart_laws.specs.RightFirst.{Held, HeldAll, RightFirst}
 use Rattle.slots.specs.declared.Slots.{Slots}
 use Rattle.slots.specs.Steps.{slotsOf}
+use Rattle.block_table.specs.declared.Row.{Row}
+use Rattle.block_table.specs.RowRead.{Reads}
 use Rattle.segment_table.specs.Closed.{blockIn}
 use Rattle.segment_walk.specs.declared.walk.Node.{Node}
 use Rattle.segment_walk.specs.declared.rows.Rows.{Rows}
@@ -73,6 +75,16 @@ pub record Paid (blocks : List ℕ) (n : ℕ) (root top : Node) (whole upper : T
 pub record Owed (blocks nodes entries : List ℕ) (root top : Node) (max destroyed : ℕ) (own : Own) (after : Slots) (r : Bool) : Type 0 where
   pub shown : r ≡ true → (n kind k : ℕ) (whole upper : Tree) → Place blocks nodes entries n kind root top whole upper max → k < n → Owns blocks k own
       → destroyed ≡ destroyedIn blocks k → destroyed ≡ max → Paid blocks n root top whole upper max after k
+
+-- yes is said of a block that is neither created at lo nor destroyed at hi
+pub record Passes (row : Row) (lo hi : ℕ) (r : Bool) : Type 0 where
+  pub shown : r ≡ true → ((row .created ≡ lo → ⊥) × (row .destroyed ≡ hi → ⊥))
+
+-- the block is held, with the slots for min that go on from those before
+pub record BlockHeld (blocks nodes entries : List ℕ) (root top : Node) (lo hi k : ℕ) (row : Row) (after born : Slots) (seen : Seen) : Type 0 where
+  pub shown : seen .all ≡ true → (n kind : ℕ) (whole upper : Tree) → Place blocks nodes entries n kind root top whole upper hi → k < n → Reads blocks (suc k) row
+      → lo < destroyedIn blocks k
+      → Held (rowBlocks blocks n) (root .max) (OpenAt blocks n root whole) lo hi (spineOf top upper) (slotsOf after) k (slotsOf born) (slotsOf (seen .slots))
 
 -- and only where every block of the rows is held so, with the slots for min that go on from those before
 pub record RunHeld (blocks nodes entries : List ℕ) (root top : Node) (rows : Rows) (lo hi : ℕ) (after born : Slots) (seen : Seen) : Type 0 where

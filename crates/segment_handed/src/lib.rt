@@ -11,15 +11,15 @@
 //   proofs/Showing  the walk shows rule 24
 ghost use Prim.Native.Nat.{_<_};
 ghost use Rattle.segment_test.specs.Test.{lent};
-ghost use Rattle.segment_handed.specs.Tree.{Owed, RunHeld, TreeHeld};
+ghost use Rattle.segment_handed.specs.Tree.{Owed, Passes, BlockHeld, RunHeld, TreeHeld};
 ghost use Rattle.segment_handed.specs.Handed.{HandedOn};
+use block_table::Row;
 use segment_clear::Own;
 use segment_walk::rows;
 use segment_walk::rows::Rows;
 use segment_walk::walk;
 use segment_walk::walk::Node;
 use slots::Slots;
-use tables::block;
 use tables::entry;
 
 // Whether all blocks were held, and the slots for the min of a node.
@@ -59,7 +59,50 @@ fn owes_none(
     segment_clear::way_clear(blocks, nodes, entries, root, max - 1, own)
 }
 
-// The blocks in the rows of a node [min, max): what is created at min is counted, what is destroyed at max is held against the slots for max.
+// Whether a block is neither created at min nor destroyed at max: it only passes through the node. So do most.
+fn passes(row: Row, min: u64, max: u64) -> bool
+    ensures { λ r. ⌜ Passes row min max r ⌝ }
+{
+    if row.created == min {
+        return false;
+    }
+    row.destroyed != max
+}
+
+// A block in the rows of a node [min, max): if it is created at min, it is counted; if it is destroyed at max, nothing may be owed for it.
+fn hold_block(
+    blocks: &[u64],
+    nodes: &[u64],
+    entries: &[u64],
+    root: Node,
+    top: Node,
+    min: u64,
+    max: u64,
+    k: u64,
+    row: Row,
+    after: Slots,
+    born: Slots,
+) -> Seen
+    requires { ⌜ 0 < max ⌝ }
+    ensures { λ r. ⌜ BlockHeld (now (blocks .entry)) (now (nodes .entry)) (now (entries .entry)) root top min max k row after born r ⌝ }
+{
+    let own = segment_clear::own_of(k, row);
+    let all = owes_none(
+        blocks,
+        nodes,
+        entries,
+        root,
+        top,
+        max,
+        row.destroyed,
+        own,
+        after,
+    );
+    let slots = slots::count(born, min, row.created, own.first, own.end);
+    Seen { all, slots }
+}
+
+// The blocks in the rows of a node, one after the other.
 fn hold_run(
     blocks: &[u64],
     nodes: &[u64],
@@ -77,30 +120,38 @@ fn hold_run(
 {
     let to = rows.to;
     let mut row = rows.from;
-    let mut slots = born;
+    let mut seen = Seen {
+        all: true,
+        slots: born,
+    };
     while row < to {
         let next = row + 1;
         let k = entry::get(entries, row as u64, entry::BLOCK);
-        let created = segment_clear::column(blocks, k, block::CREATED);
-        let destroyed = segment_clear::column(blocks, k, block::DESTROYED);
-        let own = segment_clear::own_of(blocks, k);
-        if !owes_none(
-            blocks,
-            nodes,
-            entries,
-            root,
-            top,
-            max,
-            destroyed,
-            own,
-            after,
-        ) {
-            return Seen { all: false, slots };
+        let read = segment_clear::row_of(blocks, k);
+        if passes(read, min, max) {
+            row = next;
+        } else {
+            let slots = seen.slots;
+            seen = hold_block(
+                blocks,
+                nodes,
+                entries,
+                root,
+                top,
+                min,
+                max,
+                k,
+                read,
+                after,
+                slots,
+            );
+            if !seen.all {
+                return seen;
+            }
+            row = next;
         }
-        slots = slots::count(slots, min, created, own.first, own.end);
-        row = next;
     }
-    Seen { all: true, slots }
+    seen
 }
 
 // The tree at a node, the right half first: its slots for mid are those that the left half is held against. `top` is the highest node that ends where this one

@@ -5,4 +5,4 @@ use Rattle.segment_clear.proofs.ends_by.Statement.{statement}
 use Rattle.segment_clear.proofs.ends_by.Tie as tie
 
 pub ends-by-spec : {M : Type 1} → statement M
-ends-by-spec = tie.close (tie.spec (λ c κs. search needs) (λ c. search ending) (λ c κs. search needs) (λ c. search ending))
+ends-by-spec = tie.close (tie.spec (λ c κs. search needs) (λ c. search ending) (λ c. search ending))

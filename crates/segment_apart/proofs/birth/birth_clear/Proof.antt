@@ -7,5 +7,5 @@ use Rattle.segment_apart.proofs.birth.birth_clear.Tie as tie
 pub birth-clear-spec : {M : Type 1} → statement M
 birth-clear-spec =
     tie.close
-    (tie.spec (λ c κs. search needs) (λ c κs. search needs) (λ c. search bearing) (λ c κs. search needs) (λ c κs. search needs) (λ c κs. search needs)
+    (tie.spec (λ c κs. search needs) (λ c. search bearing) (λ c κs. search needs) (λ c κs. search needs) (λ c κs. search needs)
     (λ c. search bearing))
