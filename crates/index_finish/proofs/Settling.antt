@@ -6,29 +6,24 @@ use Prim.Native.Nat.{ℕ, suc, _+_, _-_, _*_, _≤_, _<_, _^_}
 use native.Mathlib.Omega.{arith}
 use lib.ListN.{length, getD, set, take, replicate, length-set, length-replicate}
 use lib.Seq.{getD-set-same, getD-set-other}
-use Rattle.lists.specs.Lists.{All, all-nil, all-cons, Pairs, pairs-nil, pairs-cons, Ascending, count}
-use Rattle.lists.proofs.Lists.{all-map, all-both, all-at, all-of-map}
+use Rattle.lists.specs.Lists.{All, all-nil}
+use Rattle.lists.proofs.Lists.{all-at, all-of-map}
 use Rattle.lists.proofs.Maps.{length-of-map, getD-of-map}
 use Rattle.lists.proofs.Numbers.{le-or-lt}
 use Rattle.history.specs.Lent.{rowWidth, blockHead, nodeHead, entryHead}
-use Rattle.history.specs.Words.{Block, size}
-use Rattle.history.specs.Tree.{treeOf, entryCount}
-use Rattle.history.specs.Rules.{Apart}
+use Rattle.history.specs.Words.{Block, firstCell}
+use Rattle.history.specs.Tree.{treeOf, noBlock, keyIn, entryCount}
 use Rattle.history.specs.Ledger.{Ledger, finishBy}
-use Rattle.history.proofs.Steps.{settled-sound}
 use Rattle.tables.specs.Columns.{blockColumn, blockBase, blockLength, blockOffset, blockNext, blockSpare, headState, headEnd, headKind, headCount, headUsed, headLast}
-use Rattle.block_table.specs.Blocks.{Room, lengthAt, offsetAt, blocksOf, SameRows, Stored, blockCount}
+use Rattle.block_table.specs.Blocks.{Room, lengthAt, offsetAt, blockOfRow, blocksOf, SameRows, Stored, blockCount}
 use Rattle.block_table.proofs.Keeping.{rows-set, rows-then, kept-column}
-use Rattle.block_table.proofs.Blocks.{blocks-length, blocks-kept}
+use Rattle.block_table.proofs.Blocks.{blocks-length, blocks-at, blocks-kept}
 use Rattle.block_table.specs.Appended.{blockRow}
 use Rattle.block_table.proofs.Appending.{appended-kept, appended-length, appended-other}
 use Rattle.segment_table.specs.Closed as closed
 use Rattle.segment_table.specs.Alone.{TreeAlone}
-use Rattle.ordering.specs.Order as order
-use Rattle.ordering.specs.Order.{nextAt, rankOf, Trail, InOrder, numbersOf, Ordered, SortedMore}
-use Rattle.ordering.proofs.Rank.{rank-first}
+use Rattle.ordering.specs.Order.{InOrder, Ordered, SortedMore}
 use Rattle.ordering.proofs.Keeping.{order-column, order-kept, stored-order, blocks-order}
-use Rattle.ordering.proofs.Numbering.{order-counts, order-blocks}
 use Rattle.piece_table.specs.Piece.{PieceRow, pieceAt}
 use Rattle.piece_table.specs.Rep.{Links}
 use Rattle.piece_table.specs.Shown.{shown}
@@ -37,7 +32,7 @@ use Rattle.recording.specs.Calls.{ExtractedMembers}
 use Rattle.recording.specs.Recorded.{blockRowOf, recorded}
 use Rattle.recording.proofs.Recorded.{recorded-out, recorded-blocks, recorded-count, recorded-row}
 use Rattle.segment_tree.specs.Lives.{Counted, entryRowsIn}
-use Rattle.segment_tree.specs.Fill.{Met, met-end, met-next, lentTables, Closable, ClosedTree}
+use Rattle.segment_tree.specs.Fill.{lentTables, Closable, ClosedTree}
 use Rattle.layout.specs.Tables.{Tables, tables, lengthsOf, headAt}
 use Rattle.layout.specs.Encodes.{Encodes, closedState}
 use Rattle.layout.specs.Relations.{AppendedInOrder, SameBytes}
@@ -110,38 +105,24 @@ module _ (e : ℕ) (rs : List PieceRow) (b : List ℕ) where
         behind : (link i : ℕ) → link ≡ suc (blockCount b) + i → i < length rs → offsetAt (grown e rs b) link + lengthAt (grown e rs b) link ≤ used
         behind link i at h = rw (at, grown-column i blockOffset h (omega arith), grown-column i blockLength h (omega arith)) (all-at noPiece new i h)
 
--- ── the order, as the closing of the tree asks for it ──
+-- ── the blocks, as the closing of the tree asks for them ──
 
-trail-met : {b : List ℕ} {lo hi low k : ℕ} {xs : List ℕ} → Trail b lo hi low k xs → Met b k (numbersOf xs)
-trail-met (order.end z) = met-end z
-trail-met {b} {k = k} (order.link {x = x} {xs = xs} e a u c r) =
-    met-next {link = k} {k = x - 1} (omega arith) (subst (λ (y : ℕ). Met b (nextAt b y) (numbersOf xs)) (sym e) (trail-met r))
-
-ranks-ascend : {key : ℕ → ℕ} {n : ℕ} {xs : List ℕ} → n ≤ 2 ^ 64 → All (λ k. k < n) xs → Ascending (λ k. rankOf (key k) k) xs → Pairs (λ x y. key x ≤ key y) xs
-ranks-ascend few all-nil pairs-nil = pairs-nil
-ranks-ascend {key} few (all-cons {x} h hs) (pairs-cons a p) =
-    pairs-cons {x = x} (all-both (λ y l r. rank-first (key x) x (key y) y r (omega arith)) hs a) (ranks-ascend few hs p)
-
-module _ (store : List ℕ) {b : List ℕ} {n : ℕ} {bs : List Block} (o : InOrder b n) (is : bs ≡ blocksOf store b n) where
+module _ (store b : List ℕ) {n : ℕ} {bs : List Block} (is : bs ≡ blocksOf store b n) where
   bs-length : length bs ≡ n
   bs-length = ap length is ∙ blocks-length store b n
 
-  pub closable : {nodes entries : List ℕ} {e kind : ℕ} → n ≤ 2 ^ 64 → 0 < e → e ≤ 2 ^ 63 → Counted nodes kind e (treeOf e bs) → nodeHead ≤ length nodes → entryHead ≤ length entries
-      → entryCount (treeOf e bs) ≤ entryRowsIn entries → Apart bs → All (λ (x : Block). 0 < size (x .stretch)) bs → Closable (lentTables b nodes entries) n e kind bs (numbersOf (o .links))
-  closable few some small counted nodes-headed entries-headed space apart filled = record {
-    some = some;
+  pub closable : {nodes entries : List ℕ} {e kind : ℕ} → e ≤ 2 ^ 63 → Counted nodes kind e (treeOf e bs) → nodeHead ≤ length nodes → entryHead ≤ length entries
+      → entryCount (treeOf e bs) ≤ entryRowsIn entries → Closable (lentTables b nodes entries) n e kind bs
+  unfolding blockOfRow
+  closable small counted nodes-headed entries-headed space = record {
     small = small;
     counted = counted;
     nodes-headed = nodes-headed;
     entries-headed = entries-headed;
     space = space;
+    many = sym bs-length;
     lives-are = rw (bs-length, is) (row-lives store b n);
-    apart = apart;
-    filled = filled;
-    met = trail-met (o .trail);
-    many = omega (arith, length-of-map (λ k. k - 1) (o .links), o .many);
-    once = λ k. rw bs-length (order-counts o k);
-    ascends = rw is (ranks-ascend few (order-blocks o store .below) (order-blocks o store .ascending));
+    cells-are = λ k h. sym (ap (λ (l : List Block). keyIn l k) is ∙ ap firstCell (blocks-at store b n k noBlock (omega (arith, bs-length))));
   }
 
 -- ── the finished tables ──
@@ -229,9 +210,6 @@ module _ {pieces was store blank entries b nodes : List ℕ} {l : Ledger} (a : A
         (subst (λ (k : ℕ). Stored (headAt t headUsed) b k) (sym (head-is headCount (omega arith) (λ z. omega arith))) (stored-order (a .ordered .only) (s .encodes .blocks-stored)))
         (all-of-map (pieceAt pieces) (s .encodes .pieces-stored)))
 
-    all-filled : All (λ (x : Block). 0 < size (x .stretch)) (allBlocks l)
-    all-filled = all-map (λ x h. h .stretch .some-cell) (settled-sound l (s .sound .board))
-
     -- a column of a new row, but for the order
     new-column : (i c : ℕ) → i < length rs → c < rowWidth → (c ≡ blockNext → ⊥) → blockColumn b′ (suc n + i) c ≡ getD (blockRow (blockRowOf e (getD rs i noPiece))) c 0
     new-column i c h k f = order-column (o .only) (suc n + i) c k f ∙ grown-column e rs b fits i c h k
@@ -269,10 +247,9 @@ module _ {pieces was store blank entries b nodes : List ℕ} {l : Ledger} (a : A
           ∙ a .ordered .only .same i (λ k p q. omega (arith, count-is));
     }
 
-    tree-closable : length was < 2 ^ 64 → Closable (lentTables b′ nodes entries) (n + length rs) e (l .opening .kind) (allBlocks l) (numbersOf (o .order .links))
-    tree-closable few =
-        closable store (o .order) blocks-are (omega (arith, few, b-long, fits)) (omega (arith, s .sound .board .some-tick)) (s .sound .board .end-most) (a .tallied .counted)
-        (omega (arith, a .nodes-long, heads s .nodes)) (heads s .entries) (a .tallied .space) (a .tallied .apart) all-filled
+    tree-closable : Closable (lentTables b′ nodes entries) (n + length rs) e (l .opening .kind) (allBlocks l)
+    tree-closable =
+        closable store b′ blocks-are (s .sound .board .end-most) (a .tallied .counted) (omega (arith, a .nodes-long, heads s .nodes)) (heads s .entries) (a .tallied .space)
 
     module _ {nodes′ entries′ : List ℕ} (nodes-long : length nodes′ ≡ length nodes) (entries-long : length entries′ ≡ length entries)
         (tree : closed.Closed (lentTables b′ nodes′ entries′) (l .opening .kind) e (wholeTree l)) (alone : TreeAlone nodes′ entries′ (wholeTree l)) where
@@ -329,7 +306,7 @@ settle-done {pieces} {b} {nodes} {entries} {b₁} {b₂} {b₃} {nodes′} {entr
         let sorted : SortedMore (g a) b₃ (n a) (n a + length (rs a)) = rw (← b₂-is, ← all-is, ← er) sort in
         let o : Ordered (g a) b₃ (n a + length (rs a)) = sorted .done (g-order a) (omega arith) (g-room a) in
         let made : ClosedTree (lentTables b₃ nodes entries) (lentTables b₃ nodes′ entries′) (n a + length (rs a)) (l .opening .end) (l .opening .kind) = rw (← all-is, ← end-is, ← kind-is) close in
-        let c = tree-closable a o few in
+        let c = tree-closable a o in
         rw zeros
-        (finished-tables a o nodes-long entries-long (made .done (allBlocks l) (numbersOf (o .order .links)) c)
-        (made .alone (allBlocks l) (numbersOf (o .order .links)) c (a .entry-zeros)))
+        (finished-tables a o nodes-long entries-long (made .done (allBlocks l) c)
+        (made .alone (allBlocks l) c (a .entry-zeros)))

@@ -22,7 +22,7 @@ use Rattle.segment_table.specs.Closed.{Closed}
 use Rattle.history.specs.Ledger.{Ledger}
 use Rattle.block_table.specs.Blocks.{blockOfRow, blocksOf, Filled}
 use Rattle.block_table.proofs.Blocks.{blocks-length, blocks-at, bytes-length}
-use Rattle.ordering.specs.Order.{numbersOf, Ordered}
+use Rattle.ordering.specs.Order.{Ordered}
 use Rattle.ordering.specs.Apart.{Unshared, TestedApart}
 use Rattle.ordering.proofs.Agreeing.{unshared-apart}
 use Rattle.segment_tree.specs.Count.{rowsIn}
@@ -128,8 +128,7 @@ module _ {store blocks nodes entries : List ℕ} {kind e n : ℕ} (t : Tryable s
       let apart : Apart bs = unshared-apart store (t .stored) u in
       let fits : entryCount (treeOf e bs) ≤ entryRowsIn entries = room-space (rowsIn nodes) (entryRowsIn entries) (treeOf e bs) (c .answer) z in
       let closed : Closed (lentTables blocks nodes′ entries′) kind e (treeOf e bs) =
-      made .done bs (numbersOf (t .order .links))
-      (closable store (t .order) refl (omega (arith, t .few)) (t .some) (t .small) (c .counted z) (omega (arith, t .nodes-headed)) (t .entries-headed) fits apart each-filled) in
+      made .done bs (closable store blocks refl (t .small) (c .counted z) (omega (arith, t .nodes-headed)) (t .entries-headed) fits) in
       record {
         tree = treeOf e bs;
         block-room = omega (arith, t .room, blocks-length store blocks n);
