@@ -1,34 +1,41 @@
 -- `seek`: the descent finds what a walk along the list would. Assumes nothing.
-use mathlib.Core.Bool.{Bool, true, false, cond}
-use mathlib.Core.List.{List, [], _∷_, _++_}
+use mathlib.Core.Bool.{Bool, true, false, cond, false≢true}
+use mathlib.Core.List.{List, [], _∷_, _++_, map}
 use mathlib.Core.Path.{_≡_, refl, sym, ap, _∙_}
-use Prim.Native.Nat.{ℕ, _-_, _≤_, _<_}
+use Prim.Native.Nat.{ℕ, _+_, _-_, _/_, _≤_, _<_}
 use native.Mathlib.Omega.{arith}
 use lib.Dec.{ltb}
+use lib.ListN.{length}
 use borrow.Author.Tests.{lt-ltb, le-ltb, ltb-true, ltb-false}
-use Rattle.lists.specs.Lists.{all-nil, all-cons, Mem, here, there, Ascending}
-use Rattle.tables.specs.Columns.{column, pieceLength, pieceFirst, piecesRoot, pieceRight, pieceLeft}
+use Rattle.lists.proofs.Maps.{map-append}
+use Rattle.lists.specs.Lists.{All, all-nil, all-cons, Mem, here, there, Ascending}
+use Rattle.lists.specs.Tests.{Decides}
+use Rattle.tables.specs.Columns.{column, pieceLength, pieceFirst, piecesRoot, piecesCount, pieceRight, pieceLeft}
+use Rattle.merge_set.proofs.Links.{Put, found}
 use Rattle.merge_set.proofs.Order.{ascending-left, ascending-right, ascending-across, ascending-tail}
 use Rattle.merge_set.specs.Table.{Shape}
 use Rattle.merge_set.specs.Tree.{Tree, leaf, node, height, rows}
 use Rattle.piece_table.proofs.Order.{follow-ends}
-use Rattle.piece_table.proofs.Removing.{linked-depth}
-use Rattle.piece_table.specs.Calls.{endAt, EndsAfter, sought, firstPast, SoughtFrom, Met, Sought}
-use Rattle.piece_table.specs.Piece.{pieceAt}
+use Rattle.piece_table.proofs.Removing.{linked-depth, linked-dense}
+use Rattle.piece_table.specs.Calls.{endAt, EndsPast, EndsAfter, sought, firstPast, SoughtFrom, Met, Sought, HasCell}
+use Rattle.piece_table.specs.Piece.{PieceRow, rowEnd, pieceAt, Follow}
 use Rattle.piece_table.specs.Rep.{Linked}
 
--- ── `ends_after` ──
+-- ── `ends_past`, `ends_after` ──
 
-module _ {t : List ℕ} {k place first size : ℕ} (ef : first ≡ column t k pieceFirst) (es : size ≡ column t k pieceLength) where
-  pub ends-after-low : place < first → EndsAfter t k place true
-  ends-after-low h = record { is = sym (lt-ltb place (endAt t k) (omega arith)) }
+pub ends-past-low : {first size place : ℕ} → place < first → EndsPast first size place true
+ends-past-low {first} {size} {place} h = record { is = sym (lt-ltb place (first + size) (omega arith)) }
 
-  pub ends-after-rest : first ≤ place → EndsAfter t k place (ltb (place - first) size)
-  ends-after-rest h = record { is = go (ltb (place - first) size) refl }
-    where
-      go : (q : Bool) → ltb (place - first) size ≡ q → ltb (place - first) size ≡ ltb place (endAt t k)
-      go true e = e ∙ sym (lt-ltb place (endAt t k) (omega (arith, ltb-true (place - first) size e)))
-      go false e = e ∙ sym (le-ltb place (endAt t k) (omega (arith, ltb-false (place - first) size e)))
+pub ends-past-rest : {first size place : ℕ} → first ≤ place → EndsPast first size place (ltb (place - first) size)
+ends-past-rest {first} {size} {place} h = record { is = go (ltb (place - first) size) refl }
+  where
+    go : (q : Bool) → ltb (place - first) size ≡ q → ltb (place - first) size ≡ ltb place (first + size)
+    go true e = e ∙ sym (lt-ltb place (first + size) (omega (arith, ltb-true (place - first) size e)))
+    go false e = e ∙ sym (le-ltb place (first + size) (omega (arith, ltb-false (place - first) size e)))
+
+pub ends-after-done : {t : List ℕ} {k place first size : ℕ} {q : Bool} → first ≡ column t k pieceFirst → size ≡ column t k pieceLength
+    → EndsPast first size place q → EndsAfter t k place q
+ends-after-done ef es e = record { is = rw (← ef, ← es) (e .is) }
 
 -- ── the model ──
 
@@ -78,46 +85,63 @@ met t place (x ∷ xs) = go (ltb place (endAt t x)) refl (met t place xs)
           head = m .head;
         }
 
--- ── the returns ──
+-- ── `seek_from` ──
 
-pub seek-from-leaf : {t : List ℕ} {k place best fuel : ℕ} → k ≡ 0 → SoughtFrom t k place best fuel best
-unfolding Shape sought
-seek-from-leaf {t} {k} {place} {best} {fuel} z = record { says = go }
-  where
-    go : (T : Tree) → Shape t k T → height T ≤ fuel → best ≡ sought (endAt t) place best T
-    go leaf s h = refl
-    go (node a x b) s h = absurd (omega (arith, s .is, s .valid .some))
+-- on the way down: what the rest of the way finds, the whole finds
+pub record Sinks (t : List ℕ) (link place best fuel at found left : ℕ) : Type 0 where
+  pub rest : (o : ℕ) → SoughtFrom t at place found left o → SoughtFrom t link place best fuel o
 
-module _ {t : List ℕ} {k place best fuel : ℕ} (nz : k ≡ 0 → ⊥) where
-  pub seek-from-stop : fuel ≡ 0 → SoughtFrom t k place best fuel best
-  unfolding Shape height
-  seek-from-stop z = record { says = go }
+pub sinks-start : {t : List ℕ} {link place best fuel : ℕ} → Sinks t link place best fuel link best fuel
+sinks-start = record { rest = λ o s. s }
+
+module _ {t : List ℕ} {link place best fuel at found left : ℕ} (w : Sinks t link place best fuel at found left) where
+  pub sinks-leaf : at ≡ 0 → SoughtFrom t link place best fuel found
+  unfolding Shape sought
+  sinks-leaf z = w .rest found (record { says = go })
     where
-      go : (T : Tree) → Shape t k T → height T ≤ fuel → best ≡ sought (endAt t) place best T
-      go leaf s h = absurd (nz s)
+      go : (T : Tree) → Shape t at T → height T ≤ left → found ≡ sought (endAt t) place found T
+      go leaf s h = refl
+      go (node a x b) s h = absurd (omega (arith, s .is, s .valid .some))
+
+  pub sinks-end : left ≤ 0 → SoughtFrom t link place best fuel found
+  unfolding Shape height sought
+  sinks-end z = w .rest found (record { says = go })
+    where
+      go : (T : Tree) → Shape t at T → height T ≤ left → found ≡ sought (endAt t) place found T
+      go leaf s h = refl
       go (node a x b) s h = absurd (omega arith)
 
-  module _ {q : Bool} {m o : ℕ} (eq : EndsAfter t k place q) where
-    pub seek-from-left : q ≡ true → m ≡ column t k pieceLeft → SoughtFrom t m place k (fuel - 1) o → SoughtFrom t k place best fuel o
+  pub sinks-far : {rows : ℕ} → rows ≡ length t / 8 → rows ≤ at → (at ≡ 0 → ⊥) → SoughtFrom t link place best fuel found
+  unfolding Shape sought
+  sinks-far {rows} e far nz = w .rest found (record { says = go })
+    where
+      go : (T : Tree) → Shape t at T → height T ≤ left → found ≡ sought (endAt t) place found T
+      go leaf s h = absurd (nz s)
+      go (node a x b) s h = absurd (omega (arith, s .is, s .valid .room))
+
+  module _ {q : Bool} {first size m : ℕ} (nz : at ≡ 0 → ⊥) (ef : first ≡ column t at pieceFirst) (es : size ≡ column t at pieceLength) (eq : EndsPast first size place q) where
+    pub sinks-left : q ≡ true → m ≡ column t at pieceLeft → Sinks t link place best fuel m at (left - 1)
     unfolding Shape height sought
-    seek-from-left e em p = record { says = go }
+    sinks-left y em = record { rest = λ o p. w .rest o (record { says = go o p }) }
       where
-        go : (T : Tree) → Shape t k T → height T ≤ fuel → o ≡ sought (endAt t) place best T
-        go leaf s h = absurd (nz s)
-        go (node A x B) s h =
-            let test : ltb place (endAt t x) ≡ true = rw (← s .is) (sym (eq .is) ∙ e) in
-            let p′ : SoughtFrom t m place x (fuel - 1) o = rw (s .is) at p in
+        go : (o : ℕ) → SoughtFrom t m place at (left - 1) o → (T : Tree) → Shape t at T → height T ≤ left → o ≡ sought (endAt t) place found T
+        go o p leaf s h = absurd (nz s)
+        go o p (node A x B) s h =
+            let test : ltb place (endAt t x) ≡ true = rw (← s .is, ← ef, ← es) (sym (eq .is) ∙ y) in
+            let p′ : SoughtFrom t m place x (left - 1) o = rw (s .is) at p in
             rw test (p′ .says A (rw (em, s .is) (s .left)) (omega arith))
 
-    pub seek-from-right : q ≡ false → m ≡ column t k pieceRight → SoughtFrom t m place best (fuel - 1) o → SoughtFrom t k place best fuel o
+    pub sinks-right : q ≡ false → m ≡ column t at pieceRight → Sinks t link place best fuel m found (left - 1)
     unfolding Shape height sought
-    seek-from-right e em p = record { says = go }
+    sinks-right n em = record { rest = λ o p. w .rest o (record { says = go o p }) }
       where
-        go : (T : Tree) → Shape t k T → height T ≤ fuel → o ≡ sought (endAt t) place best T
-        go leaf s h = absurd (nz s)
-        go (node A x B) s h =
-            let test : ltb place (endAt t x) ≡ false = rw (← s .is) (sym (eq .is) ∙ e) in
+        go : (o : ℕ) → SoughtFrom t m place found (left - 1) o → (T : Tree) → Shape t at T → height T ≤ left → o ≡ sought (endAt t) place found T
+        go o p leaf s h = absurd (nz s)
+        go o p (node A x B) s h =
+            let test : ltb place (endAt t x) ≡ false = rw (← s .is, ← ef, ← es) (sym (eq .is) ∙ n) in
             rw test (p .says B (rw (em, s .is) (s .right)) (omega arith))
+
+-- ── `seek` ──
 
 pub seek-done : {t : List ℕ} {root place o : ℕ} → root ≡ column t 0 piecesRoot → SoughtFrom t root place 0 92 o → Sought t place o
 seek-done {t} {root} {place} {o} er p = record { says = go }
@@ -128,5 +152,50 @@ seek-done {t} {root} {place} {o} er p = record { says = go }
         let e : o ≡ firstPast (endAt t) place 0 xs = p .says (r .dense .tree) (rw er (r .dense .shape)) (linked-depth r) ∙ sought-rows (endAt t) place 0 (r .dense .tree) asc ∙ ap (firstPast (endAt t) place 0) (r .dense .is) in
         rw e (met t place xs)
 
+-- ── `has_cell`, `seek_near` ──
+
+pub has-cell-none : {t : List ℕ} {link cell : ℕ} → link ≡ 0 → Decides false (HasCell t link cell)
+has-cell-none z = record { yes = λ e. absurd (false≢true e); not = λ _ h. omega (arith, h .some) }
+
+pub has-cell-high : {t : List ℕ} {link cell count : ℕ} → count ≡ column t 0 piecesCount → count < link → Decides false (HasCell t link cell)
+has-cell-high ec far = record { yes = λ e. absurd (false≢true e); not = λ _ h. omega (arith, far, h .within) }
+
+pub has-cell-low : {t : List ℕ} {link cell first : ℕ} → first ≡ column t link pieceFirst → cell < first → Decides false (HasCell t link cell)
+has-cell-low ef low = record { yes = λ e. absurd (false≢true e); not = λ _ h. omega (arith, low, h .from) }
+
+pub has-cell-rest : {t : List ℕ} {link cell count first : ℕ} {q : Bool} → (link ≡ 0 → ⊥) → count ≡ column t 0 piecesCount → link ≤ count
+    → first ≡ column t link pieceFirst → first ≤ cell → EndsAfter t link cell q → Decides q (HasCell t link cell)
+has-cell-rest {t} {link} {cell} nz ec le ef from e =
+    record {
+      yes = λ y. record { some = omega (arith, nz); within = omega arith; from = omega arith; below = ltb-true cell (endAt t link) (sym (e .is) ∙ y) };
+      not = λ n h. omega (arith, h .below, ltb-false cell (endAt t link) (sym (e .is) ∙ n));
+    }
+
+-- what stands before a piece ends where it starts, or before
+before-first : (qs : List PieceRow) (p : PieceRow) (rs : List PieceRow) (low place : ℕ) → Follow low (qs ++ p ∷ rs) → p .first ≤ place → low ≤ place × All (λ (q : PieceRow). rowEnd q ≤ place) qs
+before-first [] p rs low place f h = (omega (arith, f .0), all-nil)
+before-first (q ∷ qs) p rs low place f h =
+    let r : rowEnd q ≤ place × All (λ (q : PieceRow). rowEnd q ≤ place) qs = before-first qs p rs (rowEnd q) place (f .2) h in
+    (omega (arith, r .0, f .0), all-cons (r .0) (r .1))
+
+-- the piece that has the place is the lowest that ends past it
+pub seek-near-here : {t : List ℕ} {place near : ℕ} {q : Bool} → Decides q (HasCell t near place) → q ≡ true → Sought t place near
+seek-near-here {t} {place} {near} d y = record { says = go }
+  where
+    go : (xs : List ℕ) → Linked t xs → Met t place near xs
+    go xs r =
+        let h : HasCell t near place = d .yes y in
+        let put : (zs : List ℕ) × Put near zs xs = found xs (linked-dense r near (h .some) (h .within)) in
+        let us : List ℕ = put .1 .front in
+        let bs : List ℕ = put .1 .back in
+        let f : Follow 0 (map (pieceAt t) us ++ pieceAt t near ∷ map (pieceAt t) bs) = rw (put .1 .with-it, map-append (pieceAt t) us (near ∷ bs)) at (r .order) in
+        record {
+          front = us;
+          back = near ∷ bs;
+          is = put .1 .with-it;
+          left = before-first (map (pieceAt t) us) (pieceAt t near) (map (pieceAt t) bs) 0 place f (h .from) .1;
+          head = (refl, h .below);
+        }
+
 -- the steps, for `search` at a return
-pub ruleset seeking = (ends-after-low, ends-after-rest, seek-from-leaf, seek-from-stop, seek-from-left, seek-from-right, seek-done)
+pub ruleset seeking = (ends-past-low, ends-past-rest, ends-after-done, sinks-start, sinks-leaf, sinks-end, sinks-far, sinks-left, sinks-right, seek-done, has-cell-none, has-cell-high, has-cell-low, has-cell-rest, seek-near-here)

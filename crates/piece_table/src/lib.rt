@@ -12,7 +12,7 @@
 //   proofs/Testing  the test decides it
 //   proofs/Held     the contracts by links are contracts by pieces
 ghost use mathlib.Core.Path.{_≡_};
-ghost use Rattle.piece_table.specs.Calls.{HeadSet, WroteRow, EndsAfter, SoughtFrom, Sought, RemovedPiece, InsertedPiece, TrimmedBack, TrimmedFront};
+ghost use Rattle.piece_table.specs.Calls.{HeadSet, WroteRow, EndsPast, EndsAfter, SoughtFrom, Sought, HasCell, RemovedPiece, ReplacedPiece, InsertedPiece, TrimmedBack, TrimmedFront};
 ghost use Rattle.lists.specs.Tests.{Decides};
 ghost use Rattle.piece_table.specs.Test.{RowStands, RowFits, Walked, WellFormed};
 use tables::piece::COUNT;
@@ -56,34 +56,55 @@ pub fn remove_piece(table: &mut [u64], link: u64)
     set_head(table, moved, count - 1);
 }
 
-// Whether the piece of a link ends after `place`. It subtracts and does not add: in tables that nobody has tested the sum may pass 2^64.
-pub fn ends_after(table: &[u64], link: u64, place: u64) -> bool
-    ensures { λ b. ⌜ EndsAfter (now (table .entry)) link place b ⌝ }
+// Whether so many cells from `first` on end after `place`. It subtracts and does not add: in tables that nobody has tested the sum may pass 2^64.
+fn ends_past(first: u64, length: u64, place: u64) -> bool
+    ensures { λ b. ⌜ EndsPast first length place b ⌝ }
 {
-    let first = tables::get(table, link, FIRST);
-    let length = tables::get(table, link, LENGTH);
     if place < first {
         return true;
     }
     place - first < length
 }
 
-// The link of the lowest piece of the tree at `link`, at most `fuel` deep, that ends after `place`; `best` if there is none.
+// Whether the piece of a link ends after `place`.
+pub fn ends_after(table: &[u64], link: u64, place: u64) -> bool
+    ensures { λ b. ⌜ EndsAfter (now (table .entry)) link place b ⌝ }
+{
+    let first = tables::get(table, link, FIRST);
+    let length = tables::get(table, link, LENGTH);
+    ends_past(first, length, place)
+}
+
+// The link of the lowest piece of the tree at `link`, at most `fuel` deep, that ends after `place`; `best` if there is none. One test a row: this is
+// where record spends most of its time.
 fn seek_from(table: &[u64], link: u64, place: u64, best: u64, fuel: u64) -> u64
     ensures { λ o. ⌜ SoughtFrom (now (table .entry)) link place best fuel o ⌝ }
 {
-    if link == 0 {
-        return best;
+    let rows = table.len() / tables::ROW;
+    let mut at = link;
+    let mut found = best;
+    let mut left = fuel;
+    while left > 0 {
+        let row = at as usize;
+        if row == 0 {
+            return found;
+        }
+        if rows <= row {
+            return found;
+        }
+        let first = table[tables::ROW * row + FIRST];
+        let length = table[tables::ROW * row + LENGTH];
+        let below = table[tables::ROW * row + LEFT];
+        let above = table[tables::ROW * row + RIGHT];
+        left -= 1;
+        if ends_past(first, length, place) {
+            found = at;
+            at = below;
+        } else {
+            at = above;
+        }
     }
-    if fuel == 0 {
-        return best;
-    }
-    if ends_after(table, link, place) {
-        let l = tables::get(table, link, LEFT);
-        return seek_from(table, l, place, link, fuel - 1);
-    }
-    let r = tables::get(table, link, RIGHT);
-    seek_from(table, r, place, best, fuel - 1)
+    found
 }
 
 // The link of the lowest piece that ends after `place`; 0 if there is none.
@@ -92,6 +113,32 @@ pub fn seek(table: &[u64], place: u64) -> u64
 {
     let root = tables::get(table, 0, ROOT);
     seek_from(table, root, place, 0, DEEPEST)
+}
+
+// Whether the row of a link is in use, and its piece has the cell.
+fn has_cell(table: &[u64], link: u64, cell: u64) -> bool
+    ensures { λ b. ⌜ Decides b (HasCell (now (table .entry)) link cell) ⌝ }
+{
+    if link == 0 {
+        return false;
+    }
+    if tables::get(table, 0, COUNT) < link {
+        return false;
+    }
+    if cell < tables::get(table, link, FIRST) {
+        return false;
+    }
+    ends_after(table, link, cell)
+}
+
+// The same as `seek`. `near` is any number: where it is the link of the piece that has the place, no way down is needed.
+pub fn seek_near(table: &[u64], place: u64, near: u64) -> u64
+    ensures { λ o. ⌜ Sought (now (table .entry)) place o ⌝ }
+{
+    if has_cell(table, near, place) {
+        return near;
+    }
+    seek(table, place)
 }
 
 // Writes a piece to the row of a link, and leaves its place in the tree.
@@ -112,6 +159,22 @@ fn write_row(
     tables::put(table, link, WRITTEN, written);
     tables::put(table, link, OFFSET, offset);
     tables::put(table, link, OWNER, owner);
+}
+
+// Puts another piece in the place of a link's: in its row, so that the tree stays as it is.
+pub fn replace_piece(
+    table: &mut [u64],
+    link: u64,
+    first: u64,
+    length: u64,
+    written: u64,
+    offset: u64,
+    owner: u64,
+)
+    ensures { λ _. ⌜ ReplacedPiece (now (table .entry)) (now (table .exit)) link
+        (record { first = first; size = length; written = written; offset = offset; owner = owner }) ⌝ }
+{
+    write_row(table, link, first, length, written, offset, owner);
 }
 
 // Inserts a piece that meets no other, where there is a row for it.
