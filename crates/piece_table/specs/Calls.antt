@@ -79,6 +79,12 @@ pub record HasCell (t : List ℕ) (link cell : ℕ) : Type 0 where
   pub from : firstAt t link ≤ cell
   pub below : cell < endAt t link
 
+-- `has_ended`: the row is in use, and its piece ends at the place or before
+pub record HasEnded (t : List ℕ) (link place : ℕ) : Type 0 where
+  pub some : 0 < link
+  pub within : link ≤ column t 0 piecesCount
+  pub to : endAt t link ≤ place
+
 -- ── pieces ──
 
 -- `remove_piece`: the pieces without the link's, in a table that is dense again

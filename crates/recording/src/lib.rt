@@ -67,11 +67,18 @@ fn split(pieces: &mut [u64], link: u64, from: u64, to: u64)
 }
 
 // Records what the lowest piece in [first, end) has there, and gives its link, if it lies in there wholly; cuts it at the end and gives 0, if it
-// reaches on; 0 if there is none.
-fn meet_one(pieces: &mut [u64], blocks: &mut [u64], tick: u64, first: u64, end: u64) -> u64
+// reaches on; 0 if there is none. `near` is a guess, here and below: the link of a piece that has the first cell or ends there, or any number.
+fn meet_one(
+    pieces: &mut [u64],
+    blocks: &mut [u64],
+    tick: u64,
+    first: u64,
+    end: u64,
+    near: u64,
+) -> u64
     ensures { λ link. ⌜ MetOne (now (pieces .entry)) (now (pieces .exit)) (now (blocks .entry)) (now (blocks .exit)) tick first end link ⌝ }
 {
-    let link = piece_table::seek(pieces, first);
+    let link = piece_table::seek_near(pieces, first, near);
     if link == 0 {
         return 0;
     }
@@ -88,10 +95,17 @@ fn meet_one(pieces: &mut [u64], blocks: &mut [u64], tick: u64, first: u64, end: 
 }
 
 // Takes the lowest piece in [first, end) out, and records it; or cuts it at the end and stops; stops if there is none. Tells whether to go on.
-fn clear_one(pieces: &mut [u64], blocks: &mut [u64], tick: u64, first: u64, end: u64) -> bool
+fn clear_one(
+    pieces: &mut [u64],
+    blocks: &mut [u64],
+    tick: u64,
+    first: u64,
+    end: u64,
+    near: u64,
+) -> bool
     ensures { λ more. ⌜ ClearedOne (now (pieces .entry)) (now (pieces .exit)) (now (blocks .entry)) (now (blocks .exit)) tick first end more ⌝ }
 {
-    let link = meet_one(pieces, blocks, tick, first, end);
+    let link = meet_one(pieces, blocks, tick, first, end, near);
     if link == 0 {
         return false;
     }
@@ -100,12 +114,12 @@ fn clear_one(pieces: &mut [u64], blocks: &mut [u64], tick: u64, first: u64, end:
 }
 
 // Takes out and records all that the pieces have in [first, end), where none reaches over the first cell.
-fn clear(pieces: &mut [u64], blocks: &mut [u64], tick: u64, first: u64, end: u64)
+fn clear(pieces: &mut [u64], blocks: &mut [u64], tick: u64, first: u64, end: u64, near: u64)
     ensures { λ _. ⌜ Cleared (now (pieces .entry)) (now (pieces .exit)) (now (blocks .entry)) (now (blocks .exit)) tick first end ⌝ }
 {
     let mut left = tables::get(pieces, 0, piece::COUNT);
     while left > 0 {
-        if !clear_one(pieces, blocks, tick, first, end) {
+        if !clear_one(pieces, blocks, tick, first, end, near) {
             return;
         }
         left -= 1;
@@ -121,14 +135,21 @@ fn clear_after(pieces: &mut [u64], blocks: &mut [u64], tick: u64, link: u64, end
     if end <= next {
         return;
     }
-    clear(pieces, blocks, tick, next, end);
+    clear(pieces, blocks, tick, next, end, link);
 }
 
 // Cuts what lies in [first, end) off a piece that reaches over the first cell, and records it. Tells whether there may be more in there.
-fn cut_first(pieces: &mut [u64], blocks: &mut [u64], tick: u64, first: u64, end: u64) -> bool
+fn cut_first(
+    pieces: &mut [u64],
+    blocks: &mut [u64],
+    tick: u64,
+    first: u64,
+    end: u64,
+    near: u64,
+) -> bool
     ensures { λ more. ⌜ CutFirst (now (pieces .entry)) (now (pieces .exit)) (now (blocks .entry)) (now (blocks .exit)) tick first end more ⌝ }
 {
-    let link = piece_table::seek(pieces, first);
+    let link = piece_table::seek_near(pieces, first, near);
     if link == 0 {
         return false;
     }
@@ -154,12 +175,13 @@ fn take_place(
     length: u64,
     offset: u64,
     owner: u64,
+    near: u64,
 )
     requires { ⌜ first + length < 2 ^ 64 ⌝ }
     ensures { λ _. ⌜ TookPlace (now (pieces .entry)) (now (pieces .exit)) (now (blocks .entry)) (now (blocks .exit))
         (record { first = first; size = length; written = tick; offset = offset; owner = owner }) ⌝ }
 {
-    let link = meet_one(pieces, blocks, tick, first, first + length);
+    let link = meet_one(pieces, blocks, tick, first, first + length, near);
     if link == 0 {
         piece_table::insert_piece(pieces, first, length, tick, offset, owner);
         return;
@@ -170,7 +192,8 @@ fn take_place(
     piece_table::replace_piece(pieces, row, first, length, tick, offset, owner);
 }
 
-// What an update at `tick` does to the pieces and the blocks; its bytes stand in the store at `offset`.
+// What an update at `tick` does to the pieces and the blocks; its bytes stand in the store at `offset`. `near` is a guess for the piece that has the
+// first cell.
 pub fn apply_update(
     pieces: &mut [u64],
     blocks: &mut [u64],
@@ -179,6 +202,7 @@ pub fn apply_update(
     length: u64,
     offset: u64,
     owner: u64,
+    near: u64,
 )
     ensures { λ _. ⌜ AppliedUpdate (now (pieces .entry)) (now (pieces .exit)) (now (blocks .entry)) (now (blocks .exit))
         (record { first = first; size = length; written = tick; offset = offset; owner = owner }) ⌝ }
@@ -186,8 +210,8 @@ pub fn apply_update(
     if u64::MAX - first < length {
         return;
     }
-    if cut_first(pieces, blocks, tick, first, first + length) {
-        take_place(pieces, blocks, tick, first, length, offset, owner);
+    if cut_first(pieces, blocks, tick, first, first + length, near) {
+        take_place(pieces, blocks, tick, first, length, offset, owner, near);
         return;
     }
     piece_table::insert_piece(pieces, first, length, tick, offset, owner);

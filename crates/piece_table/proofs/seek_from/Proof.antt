@@ -5,10 +5,10 @@ use Rattle.piece_table.proofs.seek_from.Statement.{statement}
 use Rattle.piece_table.proofs.seek_from.Tie as tie
 
 abbrev Inv-loop : tie.InvT-loop
-Inv-loop table link place best fuel rows at₀ found₀ left₀ at found left = Sinks table link place best fuel at found left
+Inv-loop table link place fuel rows at₀ found₀ after₀ left₀ at found after left = Sinks table link place 0 fuel at found left
 
 abbrev μ-loop : tie.MeasureT-loop
-μ-loop table link place best fuel rows at₀ found₀ left₀ at found left = left
+μ-loop table link place fuel rows at₀ found₀ after₀ left₀ at found after left = left
 
 pub seek-from-spec : {M : Type 1} → statement M
 seek-from-spec =

@@ -11,7 +11,7 @@ whole c =
     let recorded = c .before .before .before .before .before in
     let tested = recorded .before .before .before .before in
     let sought = tested .before .before .before in
-    meet-one-whole (sought .seek .ensures) (tested .before .before .if1 .left) (tested .starts-below .ensures) (not-false _ (recorded .before .before .before .if2 .left)) (recorded .record-part .ensures) (c .before .ends-after .ensures) (c .if3 .left)
+    meet-one-whole (sought .seek-near .ensures) (tested .before .before .if1 .left) (tested .starts-below .ensures) (not-false _ (recorded .before .before .before .if2 .left)) (recorded .record-part .ensures) (c .before .ends-after .ensures) (c .if3 .left)
 
 pub meet-one-spec : {M : Type 1} → statement M
 meet-one-spec =
