@@ -2,7 +2,6 @@
 // is destroyed, by blocks or pieces that are created then. How many are is counted in the block's own row, in the column NEXT, which has no other use in
 // an open index; at the end it is zeros again.
 //
-//   seek             where the rows of a tick stand
 //   specs/Numbered   block and piece rows as blocks, pieces destroyed after all others
 //   specs/Handed     what each function does
 //   proofs/Numbered  a block by its number is what its row says
@@ -16,8 +15,6 @@ ghost use Rattle.handed_rows.specs.Handed.{Common, HandsOn, TalliedRows,
 use block_table::Row;
 use tables::block;
 use tables::piece;
-
-mod seek;
 
 // How many rows of a tick are passed over before the cell is sought among them, and again after that.
 const MANY: u64 = 64;
@@ -39,17 +36,17 @@ fn passed(blocks: &[u64], i: u64, n: u64, first: u64, tick: u64, left: u64) -> u
     ensures { λ r. ⌜ i ≤ r ⌝ }
 {
     if left == MANY {
-        return seek::seek(blocks, i, n, tick, first);
+        return row_seek::search(blocks, i, n, tick, tick, first, 0);
     }
     i
 }
 
 // Counts a stretch that is created at a tick, for the rows that are destroyed then and have cells in common with it. Where a row is full already, two
 // stretches have a cell in common, and no more is counted.
-fn hand_on(blocks: &mut [u64], n: u64, first: u64, length: u64, tick: u64)
+fn hand_on(blocks: &mut [u64], n: u64, marks: &[u64; 128], first: u64, length: u64, tick: u64)
     ensures { λ _. ⌜ HandsOn (now (blocks .entry)) (now (blocks .exit)) n first length tick ⌝ }
 {
-    let mut i = seek::seek(blocks, 0, n, tick, 0);
+    let mut i = row_seek::seek(blocks, n, marks, tick);
     let mut left = 2 * MANY;
     while i < n {
         i += 1;
@@ -74,14 +71,14 @@ fn hand_on(blocks: &mut [u64], n: u64, first: u64, length: u64, tick: u64)
 }
 
 // Counts the blocks 1 to n that have a life.
-fn tally_rows(blocks: &mut [u64], n: u64)
+fn tally_rows(blocks: &mut [u64], n: u64, marks: &[u64; 128])
     ensures { λ _. ⌜ TalliedRows (now (blocks .entry)) (now (blocks .exit)) n ⌝ }
 {
     let mut k = 0;
     while k < n {
         let row = block_table::read(blocks, k + 1);
         if row.created < row.destroyed {
-            hand_on(blocks, n, row.first, row.length, row.created);
+            hand_on(blocks, n, marks, row.first, row.length, row.created);
             k += 1;
         } else {
             k += 1;
@@ -90,7 +87,7 @@ fn tally_rows(blocks: &mut [u64], n: u64)
 }
 
 // Counts the pieces of the rows 1 to m, in whatever order they stand.
-fn tally_pieces(pieces: &[u64], m: u64, blocks: &mut [u64], n: u64)
+fn tally_pieces(pieces: &[u64], m: u64, blocks: &mut [u64], n: u64, marks: &[u64; 128])
     ensures { λ _. ⌜ TalliedPieces (now (pieces .entry)) m (now (blocks .entry)) (now (blocks .exit)) n ⌝ }
 {
     let mut k = 0;
@@ -98,7 +95,7 @@ fn tally_pieces(pieces: &[u64], m: u64, blocks: &mut [u64], n: u64)
         let first = tables::get(pieces, k + 1, piece::FIRST);
         let length = tables::get(pieces, k + 1, piece::LENGTH);
         let written = tables::get(pieces, k + 1, piece::WRITTEN);
-        hand_on(blocks, n, first, length, written);
+        hand_on(blocks, n, marks, first, length, written);
         k += 1;
     }
 }
@@ -136,8 +133,11 @@ pub fn handed_on(pieces: &[u64], blocks: &mut [u64], n: u64) -> bool
     if !ends_apart::ends_apart(blocks, n) {
         return false;
     }
-    tally_rows(blocks, n);
-    tally_pieces(pieces, tables::get(pieces, 0, piece::COUNT), blocks, n);
+    let mut marks = [0; 128];
+    row_seek::mark(blocks, n, &mut marks);
+    tally_rows(blocks, n, &marks);
+    let m = tables::get(pieces, 0, piece::COUNT);
+    tally_pieces(pieces, m, blocks, n, &marks);
     let all = all_taken(blocks, n);
     ordering::clear_order(blocks, n);
     all

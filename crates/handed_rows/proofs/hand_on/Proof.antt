@@ -6,10 +6,10 @@ use Rattle.handed_rows.proofs.hand_on.Statement.{statement}
 use Rattle.handed_rows.proofs.hand_on.Tie as tie
 
 abbrev Inv-loop : tie.InvT-loop
-Inv-loop blocks₀ n first length tick i₀ left₀ blocks i left = Along blocks₀ blocks n first length tick i
+Inv-loop blocks₀ n marks first length tick i₀ left₀ blocks i left = Along blocks₀ blocks n first length tick i
 
 abbrev μ-loop : tie.MeasureT-loop
-μ-loop blocks₀ n first length tick i₀ left₀ blocks i left = n - i
+μ-loop blocks₀ n marks first length tick i₀ left₀ blocks i left = n - i
 
 loop-again-2 : tie.Need-loop-again-2 Inv-loop μ-loop
 loop-again-2 c =

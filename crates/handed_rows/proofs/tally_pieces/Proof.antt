@@ -6,10 +6,10 @@ use Rattle.handed_rows.proofs.tally_pieces.Statement.{statement}
 use Rattle.handed_rows.proofs.tally_pieces.Tie as tie
 
 abbrev Inv-loop : tie.InvT-loop
-Inv-loop pieces m blocks₀ n k₀ blocks k = PiecesTo pieces m blocks₀ blocks n k
+Inv-loop pieces m blocks₀ n marks k₀ blocks k = PiecesTo pieces m blocks₀ blocks n k
 
 abbrev μ-loop : tie.MeasureT-loop
-μ-loop pieces m blocks₀ n k₀ blocks k = m - k
+μ-loop pieces m blocks₀ n marks k₀ blocks k = m - k
 
 loop-again : tie.Need-loop-again Inv-loop μ-loop
 loop-again c =

@@ -6,10 +6,10 @@ use Rattle.handed_rows.proofs.tally_rows.Statement.{statement}
 use Rattle.handed_rows.proofs.tally_rows.Tie as tie
 
 abbrev Inv-loop : tie.InvT-loop
-Inv-loop blocks₀ n k₀ blocks k = RowsTo blocks₀ blocks n k
+Inv-loop blocks₀ n marks k₀ blocks k = RowsTo blocks₀ blocks n k
 
 abbrev μ-loop : tie.MeasureT-loop
-μ-loop blocks₀ n k₀ blocks k = n - k
+μ-loop blocks₀ n marks k₀ blocks k = n - k
 
 loop-again : tie.Need-loop-again Inv-loop μ-loop
 loop-again c =

@@ -1,10 +1,10 @@
--- `handed_rows::seek::share` meets its contract: the product of two numbers below 2^32 fits. Assumes nothing.
+-- `row_seek::share` meets its contract: the product of two numbers below 2^32 fits. Assumes nothing.
 use Prim.Native.Nat.{ℕ, _*_, _^_, _≤_, _<_}
 use native.Mathlib.Omega.{arith}
 use native.Mathlib.Nat.{mul-le-mul}
 use borrow.Author.Needs.{needs}
-use Rattle.handed_rows.proofs.seek.share.Statement.{statement}
-use Rattle.handed_rows.proofs.seek.share.Tie as tie
+use Rattle.row_seek.proofs.share.Statement.{statement}
+use Rattle.row_seek.proofs.share.Tie as tie
 
 product : (a b : ℕ) → a < 2 ^ 32 → b < 2 ^ 32 → a * b < 2 ^ 64
 product a b p q =

@@ -1,8 +1,11 @@
 // Where the rows of a tick stand, along rows whose destroyed ticks rise. It is a hint: whatever it says, what is counted there is counted rightly, and
-// a wrong place only leaves rule 24 to be decided in another way.
-ghost use mathlib.Core.Path.{_≡_};
+// a wrong place only leaves rule 24 to be decided in another way. So the functions say nothing but that they end, and that a search goes on from where
+// it starts.
 ghost use Prim.Native.Nat.{_≤_, _<_};
 use block_table::Row;
+
+// How many rows are marked.
+const MARKS: usize = 64;
 
 // How often a place is guessed by the tick before ranges are halved.
 const GUESSES: u64 = 8;
@@ -51,27 +54,67 @@ fn comes_before(row: Row, tick: u64, cell: u64) -> bool {
     tables::plus(row.first, row.length) <= cell
 }
 
-// How many rows come before the tick and the cell, of those above `from` up to `to`, and `from` besides.
-pub fn seek(blocks: &[u64], from: u64, to: u64, tick: u64, cell: u64) -> u64
+// How many rows come before the tick and the cell, of those above `from` up to `to`, and `from` besides; `low` is the tick of row `from`.
+pub fn search(blocks: &[u64], from: u64, to: u64, low: u64, tick: u64, cell: u64, tries: u64) -> u64
     ensures { λ r. ⌜ from ≤ r ⌝ }
 {
     let last = block_table::read(blocks, to);
     let mut lo = from;
     let mut hi = to;
-    let mut low = 0;
-    let mut high = last.destroyed;
-    let mut guesses = GUESSES;
+    let mut under = low;
+    let mut over = last.destroyed;
+    let mut guesses = tries;
     while lo < hi {
-        let mid = between(lo, hi, low, high, tick, guesses);
+        let mid = between(lo, hi, under, over, tick, guesses);
         let row = block_table::read(blocks, mid + 1);
         guesses = tables::minus(guesses, 1);
         if comes_before(row, tick, cell) {
             lo = mid + 1;
-            low = row.destroyed;
+            under = row.destroyed;
         } else {
             hi = mid;
-            high = row.destroyed;
+            over = row.destroyed;
         }
     }
     lo
+}
+
+// Notes rows at equal distances, and behind them their destroyed ticks: a search that starts from these looks at few rows.
+pub fn mark(blocks: &[u64], n: u64, marks: &mut [u64; 128]) {
+    let mut place = 0;
+    let mut i = 1;
+    while i < MARKS {
+        place = tables::smaller(tables::plus(place, n / 64 + 1), n);
+        let row = block_table::read(blocks, place);
+        marks[i] = place;
+        marks[MARKS + i] = row.destroyed;
+        i += 1;
+    }
+}
+
+// The row before the first one that is destroyed at the tick.
+pub fn seek(blocks: &[u64], n: u64, marks: &[u64; 128], tick: u64) -> u64 {
+    let mut a = 0;
+    let mut b = MARKS;
+    while a + 1 < b {
+        let mid = (a + b) / 2;
+        if marks[MARKS + mid] < tick {
+            a = mid;
+        } else {
+            b = mid;
+        }
+    }
+    let mut to = n;
+    if b < MARKS {
+        to = marks[b];
+    }
+    search(
+        blocks,
+        marks[a],
+        tables::smaller(to, n),
+        marks[MARKS + a],
+        tick,
+        0,
+        GUESSES,
+    )
 }
