@@ -216,7 +216,7 @@ rising-add b c d zero lo hi T h =
 rising-add b c d (suc n) lo hi T h =
     elim (bool-cases (covers c d lo hi)) [
       | inl e ↦ rw (add-here (λ _. 0) b c d lo hi T (suc n) e) (rising-here (rising-made T h))
-      | inr e ↦ rw (add-below (λ _. 0) b c d lo hi T n e) 
+      | inr e ↦ rw (add-below (λ _. 0) b c d lo hi T n e)
           (below (halves lo hi && ltb c (mid lo hi)) (halves lo hi && ltb (mid lo hi) d) (rising-made T h) (rising-add b c d n lo (mid lo hi) (leftOf T)) (rising-add b c d n (mid lo hi) hi (rightOf T)))
     ]
   where

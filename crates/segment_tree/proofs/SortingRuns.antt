@@ -64,9 +64,9 @@ module _ (s es : List ℕ) (n : ℕ) where
           let begin : startAt s (suc j) ≡ entriesTo s j = (let z : suc j - 1 ≡ j = omega arith in ap (entriesTo s) z) in
           let many : countAt s (suc j) ≡ entriesTo s (suc j) - entriesTo s j = omega (arith, run-ends s (suc j) (omega arith), begin) in
           rw (begin, many) (
-            r .sorted
-            ∙ ap sortRows (rows-same es es₁ (entriesTo s j) (entriesTo s (suc j) - entriesTo s j)
-            (λ i c x y z. o .rest (entryHead + (entryWidth * i + c)) (inr (omega arith))))
+          r .sorted
+          ∙ ap sortRows (rows-same es es₁ (entriesTo s j) (entriesTo s (suc j) - entriesTo s j)
+          (λ i c x y z. o .rest (entryHead + (entryWidth * i + c)) (inr (omega arith))))
           )
 
   pub order-more : {es₁ es₂ : List ℕ} {j at to : ℕ} → length es < 2 ^ 64 → j < n → at ≡ upTo (entriesTo s j) → to ≡ upTo (entriesTo s (j + 1)) → OrderTo s es es₁ n j
