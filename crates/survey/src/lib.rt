@@ -1,4 +1,4 @@
-// The survey of an operation: what record asks before it changes anything. It reads only, and takes as many seeks as pieces are met.
+// The survey of an operation: what record asks before it changes anything. It reads only, and goes on from piece to piece, mostly without a new way down.
 //
 //   specs/Survey      what each function ensures
 //   proofs/Holding    which bytes the pieces hold for a cell
