@@ -53,7 +53,9 @@ writing-none = record { inside = omega arith; kept = refl; many = refl; left = r
 module _ {entries notes before : List ℕ} {count : ℕ} {answer : List ℕ} {k place : ℕ} (s : Writing entries notes before count answer k place) where
   module _ (some : k < count) where
     pub writing-room : Fitting entries notes count (length before) → Room entries (rowsIn notes k) answer place
-    writing-room f = record { stand = f .rows k some; fits = omega (arith, s .kept, s .many, noted-count entries notes k, noted-grows entries notes (k + 1) count (omega arith), f .fits) }
+    writing-room f =
+        let below = noted-grows entries notes (k + 1) count (omega arith) in
+        record { stand = f .rows k some; fits = omega (arith, s .kept, s .many, noted-count entries notes k, below, f .fits) }
 
     pub writing-more : {answer′ : List ℕ} → answer′ ≡ sets answer place (blocksIn entries (rowsIn notes k))
         → Writing entries notes before count answer′ (k + 1) (place + (rowsIn notes k .to - rowsIn notes k .from))

@@ -136,7 +136,10 @@ module _ {nodes entries before : List ℕ} {depth start stop places : ℕ} {note
               ∙ s .later i (omega arith) b;
           rows = λ i a.
               ⊎-elim (λ (h : i < count). subst (λ (r : Rows). InTable entries r) (sym (stored-before notes count (rows .from) (rows .to) all place i h)) (s .rows i h))
-              (λ (h : count ≤ i). let e : i ≡ count = omega arith in rw e (subst (λ (r : Rows). InTable entries r) (sym here) (record { order = w .order; room = w .room }))) (lt-or-le i count);
+              (λ (h : count ≤ i).
+              let e : i ≡ count = omega arith in
+              rw e (subst (λ (r : Rows). InTable entries r) (sym here) (record { order = w .order; room = w .room })))
+              (lt-or-le i count);
           used = omega (arith, long, s .used);
           rest = λ blocks way listed l on. rw now (more blocks way listed l on);
         }

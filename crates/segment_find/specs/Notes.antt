@@ -69,7 +69,7 @@ pub record Fitting (entries notes : List ℕ) (count places : ℕ) : Type 0 wher
   pub rows : (i : ℕ) → i < count → InTable entries (rowsIn notes i)
   pub fits : length (noted entries notes count) ≤ places
 
--- the notes have so many places, and links at the first of them
+-- the notes have their places, and no more links than fit in the first half
 pub record Places (notes : List ℕ) (depth : ℕ) : Type 0 where
   pub few : depth ≤ most
   pub all : length notes ≡ most + most

@@ -32,11 +32,11 @@ enum Noted {
 // More nodes than these are on no way down.
 const MOST: usize = 66;
 
-// A place for the link of each node, or the first row, and behind these one for the row after the last.
+// A place for each node's link, in its stead later for the first row, and behind these a place for each row after the last.
 const PLACES: usize = 132;
 
-// Goes down to the tick from a node and notes the links of the nodes met, from place `depth` on: the place after the last one. The call stands at the
-// end, and the node is passed by its numbers: what is done in the nodes is left to a loop. The node's width falls at each call.
+// Goes down to the tick from a node and notes the links of the nodes met, from place `depth` on; gives the place after the last one. It calls itself at
+// its end, with the node as three numbers, and leaves the rows to loops, so that a call is short. The node's width falls at each call.
 fn search(
     nodes: &[u64],
     link: u64,
@@ -66,7 +66,8 @@ fn search(
     )
 }
 
-// Notes the rows of the first `depth` nodes noted that are in [start, stop), of each node that has any, if the answer has places for them all.
+// Notes the rows in [start, stop) of the first `depth` nodes noted, of each that has any, over the links that it has read. It stops where so many
+// places do not hold them.
 fn windows(
     nodes: &[u64],
     entries: &[u64],
@@ -83,7 +84,7 @@ fn windows(
     let mut count = 0;
     let mut room = places;
     while k < depth {
-        let rows = rows::in_window(nodes, entries, notes[k], start, stop);
+        let rows = rows::in_small_window(nodes, entries, notes[k], start, stop);
         let many = rows.to - rows.from;
         if room < many {
             return Noted::TooSmall;

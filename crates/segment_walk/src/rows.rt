@@ -52,7 +52,7 @@ pub fn lower(entries: &[u64], rows: Rows, key: u64) -> usize
 const STEPS: usize = 8;
 
 // The same as `lower`, where the answer is likely to be one of the first rows: up to eight steps, then a binary search in the rest.
-pub fn lower_near(entries: &[u64], rows: Rows, key: u64) -> usize
+fn lower_near(entries: &[u64], rows: Rows, key: u64) -> usize
     ensures { λ r. ⌜ Lower (now (entries .entry)) rows key r ⌝ }
 {
     let from = rows.from;
@@ -70,13 +70,27 @@ pub fn lower_near(entries: &[u64], rows: Rows, key: u64) -> usize
     lower(entries, Rows { from: row, to }, key)
 }
 
-// The rows of a node whose key is in [start, stop). The second search begins where the first one ended; few rows are in a small window.
+// The rows of a node whose key is in [start, stop). The second search begins where the first one ended.
 pub fn in_window(nodes: &[u64], entries: &[u64], link: u64, start: u64, stop: u64) -> Rows
     ensures { λ r. ⌜ InWindow (now (nodes .entry)) (now (entries .entry)) link start stop r ⌝ }
 {
     let rows = rows_of(nodes, entries, link);
     let to = rows.to;
     let from = lower(entries, rows, start);
-    let past = lower_near(entries, Rows { from, to }, stop);
+    let past = lower(entries, Rows { from, to }, stop);
     Rows { from, to: past }
+}
+
+// The same for find, where few rows are in a window. It is long: with one caller alone the compiler still puts it in line.
+pub fn in_small_window(nodes: &[u64], entries: &[u64], link: u64, start: u64, stop: u64) -> Rows
+    ensures { λ r. ⌜ InWindow (now (nodes .entry)) (now (entries .entry)) link start stop r ⌝ }
+{
+    let rows = rows_of(nodes, entries, link);
+    let to = rows.to;
+    let first = lower(entries, rows, start);
+    let past = lower_near(entries, Rows { from: first, to }, stop);
+    Rows {
+        from: first,
+        to: past,
+    }
 }

@@ -17,6 +17,9 @@ windows-spec =
     tie.close
     (tie.spec Inv-loop μ-loop (λ c. search windowing) (λ c. search needs) (λ c. search needs) (λ c κs. search needs) (λ c. search needs)
     (λ c. search windowing) (λ c. search needs) (λ c. search needs)
-    (λ c. windows-empty (search needs) (search needs) (search needs) (c .before .before .before .in-window .ensures) (c .if2 .taken)) (λ c. search needs)
+    (λ c. windows-empty (search needs) (search needs) (search needs) (c .before .before .before .in-small-window .ensures) (c .if2 .taken)) (λ c. search needs)
     (λ c. search needs) (λ c. search needs) (λ c. search needs) (λ c. search needs) (λ c. search needs) (λ c. search needs) (λ c. search needs)
-    (λ c. windows-more (c .before .before .before .before .before .before .loop .inv) (search needs) (search needs) (c .before .before .before .in-window .ensures) (search needs)) (λ c. search windowing))
+    (λ c.
+    let call = c .before .before .before in
+    windows-more (call .before .before .before .loop .inv) (search needs) (search needs) (call .in-small-window .ensures) (search needs))
+    (λ c. search windowing))
