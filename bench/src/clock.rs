@@ -76,7 +76,7 @@ struct Turn<'a> {
 impl<'a> Turn<'a> {
     /// A run has as many calls as take LEAST. The first call is a run only if it takes more than LONG, else it warms up.
     fn new(mut call: Timed<'a>) -> Turn<'a> {
-        const LEAST: f64 = 5e6;
+        const LEAST: f64 = 2e6;
         const LONG: f64 = 1e9;
         let first = call(1);
         let calls = (LEAST / first.max(1.0)).ceil().clamp(1.0, 1e6) as usize;
@@ -86,8 +86,12 @@ impl<'a> Turn<'a> {
         Turn { call, calls, runs: runs(4.0 * first), taken }
     }
 
+    /// The others may have taken the cache, so many calls begin with some that are not timed.
     fn run(&mut self) {
         if self.taken.len() < self.runs {
+            if self.calls > MIXED {
+                (self.call)(MIXED);
+            }
             self.taken.push((self.call)(self.calls) / self.calls as f64);
         }
     }
