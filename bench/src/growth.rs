@@ -33,7 +33,7 @@ fn cell(board: &Board, before: Option<&Board>, call: &str, side: Side) -> String
     let by_before = now / a_block(before);
     let doublings = (board.blocks as f64 / before.blocks as f64).log2();
     // Over a shorter way the noise of the two counts more than the growth.
-    let twice = if doublings < 1.0 { "-".into() } else { ratio(2.0 * by_before.powf(1.0 / doublings)) };
+    let twice = if doublings < 0.8 { "-".into() } else { ratio(2.0 * by_before.powf(1.0 / doublings)) };
     format!("{now:.0} ns, {}, {twice}", ratio(by_before))
 }
 
