@@ -1,5 +1,5 @@
-// Rule 24 in one linear pass: the laws on which its decision rests, over plain lists and over history's tree. There is no code here: the functions below do
-// nothing, and their contracts make two of the laws part of the build.
+// Rule 24 in one linear pass: the laws on which its decision rests, over plain lists and over history's tree. There is no code here: the function below does
+// nothing, and its contract makes theorem H part of the build; the other laws are those that the crates above build on.
 //
 //   specs/Ticks        rule 24 tick by tick: what is destroyed at a tick, and what takes its cells over
 //   specs/Ruled        what a walk may rest on: a tree with rules 21 and 23
@@ -17,14 +17,9 @@
 //   proofs/Handing     what is destroyed at each mid is restored there, or left open
 //   proofs/RightFirst  the walk shows it
 //   proofs/Parting     blocks that are parted from those live before share nothing
-ghost use Rattle.apart_laws.specs.Law.{TheoremH, RightLaw};
+ghost use Rattle.apart_laws.specs.Law.{TheoremH};
 
 // H1 and H2 make rule 24.
 pub fn theorem_h()
     ensures { λ _. ⌜ TheoremH ⌝ }
-{}
-
-// A walk that takes the right half first shows rule 24, with what it leaves open decided block by block.
-pub fn right_law()
-    ensures { λ _. ⌜ RightLaw ⌝ }
 {}

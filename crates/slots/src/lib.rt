@@ -48,43 +48,14 @@ pub fn unused() -> Slots
     }
 }
 
-// The lower and the higher of two numbers.
-fn lower(a: u64, b: u64) -> u64
-    ensures { λ r. ⌜ (r ≤ a) × (r ≤ b) ⌝ }
-{
-    if a < b {
-        return a;
-    }
-    b
-}
-
-fn higher(a: u64, b: u64) -> u64
-    ensures { λ r. ⌜ (a ≤ r) × (b ≤ r) ⌝ }
-{
-    if a < b {
-        return b;
-    }
-    a
-}
-
-// A sum, or the highest number where it would pass that.
-fn plus_up_to(a: u64, b: u64) -> u64
-    ensures { λ r. ⌜ r ≤ a + b ⌝ }
-{
-    if u64::MAX - a < b {
-        return u64::MAX;
-    }
-    a + b
-}
-
 // The slot with [first, end) taken in.
 fn take_in(s: Slot, first: u64, end: u64) -> Slot
     requires { ⌜ first ≤ end ⌝ }
     ensures { λ r. ⌜ TookIn s first end r ⌝ }
 {
-    let lo = lower(s.lo, first);
-    let hi = higher(s.hi, end);
-    let sum = plus_up_to(s.sum, end - first);
+    let lo = tables::smaller(s.lo, first);
+    let hi = tables::larger(s.hi, end);
+    let sum = tables::plus(s.sum, end - first);
     Slot { lo, hi, sum }
 }
 
