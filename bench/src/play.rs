@@ -1,80 +1,146 @@
 //! A whole stream, by the public calls, by the inner ones and by the Rust.
-use crate::clock::{each, once};
+use crate::clock::{by_turns, once, runs, timed, Span};
+use crate::file::File;
+use crate::memory;
 use crate::port::{Rows, Tables};
 use crate::ported;
 use crate::stream::{Op, Stream};
 
-/// Times of a stream: filling the board, the operations, finish.
-pub struct Played {
-    pub fill: f64,
-    pub record: f64,
-    pub finish: f64,
+/// From so many operations on the public calls, each of which tests all rows, would take hours.
+const LARGE: usize = 250_000;
+
+/// On such a board so many operations, the last ones, are recorded by the public call, and only they.
+const SAMPLE: usize = 16;
+
+/// Times of a stream: an operation, one of the sample, finish, and all with the filling of the board.
+struct Played {
+    record: f64,
+    sample: Option<f64>,
+    finish: f64,
+    whole: f64,
 }
 
-impl Played {
-    pub fn whole(&self) -> f64 {
-        self.fill + self.record + self.finish
-    }
+type Record = fn(&mut Tables, u64, u64, &[u8]) -> u64;
 
-    /// The least of each.
-    pub fn least(self, other: Played) -> Played {
-        Played { fill: self.fill.min(other.fill), record: self.record.min(other.record), finish: self.finish.min(other.finish) }
-    }
+/// Records operations: how long each takes.
+fn recorded(tables: &mut Tables, ops: &[Op], record: Record) -> f64 {
+    let (taken, refused) = once(|| ops.iter().map(|op| record(tables, op.tick, op.first, &op.bytes)).fold(0, u64::wrapping_add));
+    assert_eq!(refused, 0, "record");
+    taken / ops.len() as f64
 }
 
-/// A stream is played so often; a long one once.
-pub fn runs(stream: &Stream) -> usize {
-    if stream.ops.len() > 10_000 { 1 } else { 3 }
-}
-
-/// Plays a stream by the public or the inner calls. Also the time of the test before finish.
-pub fn played(stream: &Stream, rows: Rows, inner: bool) -> (Played, f64, Tables) {
+/// Plays a stream by the public or the inner calls; of a large one the last operations by the public ones. `open` is given the tables before finish.
+fn played(stream: &Stream, rows: Rows, inner: bool, open: impl FnOnce(&Tables)) -> (Played, Tables) {
+    let Stream { fill, ops, .. } = stream;
     let mut tables = Tables::open(rows, stream.end);
     let record = if inner { Tables::record_inner } else { Tables::record };
-    let mut all = |ops: &[Op]| {
-        let (taken, refused) = once(|| ops.iter().map(|op| record(&mut tables, op.tick, op.first, &op.bytes)).fold(0, u64::wrapping_add));
-        assert_eq!(refused, 0, "record");
-        taken
-    };
-    let (fill, record) = (all(&stream.fill), all(&stream.ops));
-    let test = each(|_| tables.test());
+    let (most, last) = ops.split_at(if ops.len() < LARGE { ops.len() } else { ops.len() - SAMPLE });
+    let filled = recorded(&mut tables, fill, record) * fill.len() as f64;
+    let record = recorded(&mut tables, most, record);
+    let sample = (!last.is_empty()).then(|| recorded(&mut tables, last, Tables::record));
+    open(&tables);
     let finish = if inner { Tables::finish_inner } else { Tables::finish };
     let (finish, refused) = once(|| finish(&mut tables));
     assert_eq!(refused, 0, "finish");
-    (Played { fill, record, finish }, test, tables)
+    (Played { record, sample, finish, whole: filled + record * ops.len() as f64 + finish }, tables)
 }
 
-/// Plays a stream by the Rust: its times, and its file.
-pub fn played_by_rust(stream: &Stream) -> (Played, Vec<u8>) {
+/// Plays a stream by the Rust: its times, its file, and the bytes that it holds in the end.
+fn played_by_rust(stream: &Stream) -> (Played, Vec<u8>, u64) {
+    let before = memory::in_use();
     let (mut indexer, file) = ported::indexer(stream);
     let mut all = |ops: &[Op]| {
         let ops = ported::operations(ops);
         once(|| ops.into_iter().for_each(|op| indexer.record_op(op))).0
     };
-    let (fill, record) = (all(&stream.fill), all(&stream.ops));
+    let (fill, ops) = (all(&stream.fill), all(&stream.ops));
     let (finish, _) = once(|| indexer.finalize());
+    let held = memory::in_use().saturating_sub(before);
     indexer.save_indices().unwrap();
     drop(indexer);
-    (Played { fill, record, finish }, file.take())
+    (Played { record: ops / stream.ops.len() as f64, sample: None, finish, whole: fill + ops + finish }, file.take(), held)
 }
 
-/// How many nodes and entries a file has.
-pub fn nodes_and_entries(file: &[u8]) -> (u64, u64) {
-    let number = |at: usize| u64::from_le_bytes(file[at..at + 8].try_into().unwrap());
-    let mut at = 9;
-    for _ in 0..number(1) {
-        at += 33 + number(at + 9) as usize;
+/// Several runs of a stream, by one side.
+#[derive(Default)]
+pub struct Plays(Vec<Played>);
+
+impl Plays {
+    fn span(&self, part: impl Fn(&Played) -> Option<f64>) -> Option<Span> {
+        let runs: Vec<f64> = self.0.iter().filter_map(part).collect();
+        (!runs.is_empty()).then(|| Span::of(runs))
     }
-    let (mut nodes, mut entries) = (0, 0);
-    while at < file.len() {
-        if file[at] == 0 {
-            at += 1;
-            continue;
+
+    pub fn record(&self) -> Option<Span> {
+        self.span(|played| Some(played.record))
+    }
+
+    pub fn sample(&self) -> Option<Span> {
+        self.span(|played| played.sample)
+    }
+
+    pub fn finish(&self) -> Option<Span> {
+        self.span(|played| Some(played.finish))
+    }
+
+    pub fn whole(&self) -> Option<Span> {
+        self.span(|played| Some(played.whole))
+    }
+}
+
+/// What comes of a stream: its runs, the test before finish, the closed tables and their rows, the Rust's file and the bytes that the Rust holds.
+pub struct All<'a> {
+    stream: &'a Stream,
+    pub public: Plays,
+    pub inner: Plays,
+    pub rust: Plays,
+    /// How many runs by the public calls are still to come.
+    public_left: usize,
+    pub test_open: Option<Span>,
+    pub tables: Tables,
+    pub rows: Rows,
+    pub file: Vec<u8>,
+    pub held: u64,
+}
+
+impl<'a> All<'a> {
+    /// The first run of each side; of the public calls only where it is asked for and the board is not large.
+    pub fn new(stream: &'a Stream, blocks: u64, public_too: bool) -> All<'a> {
+        let (rust, file, held) = played_by_rust(stream);
+        let (nodes, entries) = File::read(&file).nodes_and_entries();
+        let rows = Rows { pieces: stream.most_pieces, blocks, bytes: stream.bytes, nodes, entries };
+        let mut test_open = None;
+        let (inner, tables) = played(stream, rows, true, |tables| [test_open] = by_turns([Some(timed(|_| tables.test(false)))]));
+        let (public, inner, rust) = (Plays::default(), Plays(vec![inner]), Plays(vec![rust]));
+        let mut all = All { stream, public, inner, rust, public_left: 0, test_open, tables, rows, file, held };
+        if public_too && stream.ops.len() < LARGE {
+            all.public_run();
+            all.public_left = runs(4.0 * all.public.0[0].whole) - 1;
         }
-        let count = number(at + 25);
-        at += 33 + 8 * count as usize;
-        nodes += 1;
-        entries += count;
+        all
     }
-    (nodes, entries)
+
+    fn public_run(&mut self) {
+        let (played, tables) = played(self.stream, self.rows, false, |_| ());
+        assert!(self.tables == tables, "public and inner calls leave the same tables");
+        self.public.0.push(played);
+    }
+
+    /// One more run of each side.
+    fn again(&mut self) {
+        self.rust.0.push(played_by_rust(self.stream).0);
+        self.inner.0.push(played(self.stream, self.rows, true, |_| ()).0);
+        if self.public_left > 0 {
+            self.public_left -= 1;
+            self.public_run();
+        }
+    }
+}
+
+/// Plays streams again, by turns.
+pub fn again(all: &mut [All]) {
+    let each = |all: &All| all.inner.0[0].whole + all.rust.0[0].whole;
+    for _ in 1..runs(all.iter().map(each).sum()) {
+        all.iter_mut().for_each(All::again);
+    }
 }

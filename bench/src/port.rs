@@ -1,56 +1,6 @@
 //! The proved calls, public and inner, on tables of their own.
+use crate::inner::*;
 use servercape::{raw, Kind};
-
-extern "C" {
-    fn servercape_inner_test(
-        pieces: *const u64, pieces_length: usize,
-        blocks: *const u64, blocks_length: usize,
-        store: *const u8, store_length: usize,
-        nodes: *const u64, nodes_length: usize,
-        entries: *const u64, entries_length: usize,
-    ) -> u64;
-
-    fn servercape_inner_record(
-        pieces: *mut u64, pieces_length: usize,
-        blocks: *mut u64, blocks_length: usize,
-        store: *mut u8, store_length: usize,
-        tick: u64, first: u64,
-        bytes: *const u8, bytes_length: usize,
-    ) -> u64;
-
-    fn servercape_inner_finish(
-        pieces: *mut u64, pieces_length: usize,
-        blocks: *mut u64, blocks_length: usize,
-        nodes: *mut u64, nodes_length: usize,
-        entries: *mut u64, entries_length: usize,
-    ) -> u64;
-
-    fn servercape_inner_write(
-        blocks: *const u64, blocks_length: usize,
-        store: *const u8, store_length: usize,
-        nodes: *const u64, nodes_length: usize,
-        entries: *const u64, entries_length: usize,
-        out: *mut u8, out_length: usize,
-    ) -> u64;
-
-    fn servercape_inner_block(blocks: *const u64, blocks_length: usize, number: u64, length: &mut u64, offset: &mut u64);
-
-    fn servercape_inner_find(
-        blocks: *const u64, blocks_length: usize,
-        nodes: *const u64, nodes_length: usize,
-        entries: *const u64, entries_length: usize,
-        tick: u64, start: u64, end: u64,
-        answer: *mut u64, answer_length: usize,
-    ) -> u64;
-
-    fn servercape_inner_touching(
-        blocks: *const u64, blocks_length: usize,
-        nodes: *const u64, nodes_length: usize,
-        entries: *const u64, entries_length: usize,
-        tick: u64, start: u64, end: u64,
-        answer: *mut u64, answer_length: usize,
-    ) -> u64;
-}
 
 /// How many rows each table has; of the store, how many bytes.
 #[derive(Clone, Copy)]
@@ -115,6 +65,19 @@ impl Tables {
         t
     }
 
+    /// What is lent: each table, with its bytes.
+    pub fn lent(&self) -> Vec<(&'static str, u64)> {
+        let bytes = |numbers: usize| 8 * numbers as u64;
+        vec![
+            ("pieces", bytes(self.pieces.len())),
+            ("blocks", bytes(self.blocks.len())),
+            ("store", self.store.len() as u64),
+            ("nodes", bytes(self.nodes.len())),
+            ("entries", bytes(self.entries.len())),
+            ("scratch", bytes(self.scratch.len())),
+        ]
+    }
+
     pub fn record(&mut self, tick: u64, first: u64, bytes: &[u8]) -> u64 {
         let (mut updated, mut cell) = (0, 0);
         unsafe {
@@ -165,9 +128,11 @@ impl Tables {
         }
     }
 
-    /// The test behind refusal 2: 1 open, 2 closed.
-    pub fn test(&self) -> u64 {
-        reads!(servercape_inner_test, self,)
+    /// The test behind refusal 2, of tables that are open or closed.
+    pub fn test(&self, closed: bool) -> u64 {
+        let state = reads!(servercape_inner_test, self,);
+        assert_eq!(state, if closed { 2 } else { 1 }, "well formed");
+        state
     }
 
     /// The bytes of a block, by its number.

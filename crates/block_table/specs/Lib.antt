@@ -1,3 +1,4 @@
 pub mod Blocks
+pub mod RowRead
 pub mod Appended
 pub mod Rows

@@ -2,6 +2,7 @@
 //
 //   rows    whether rows are sound, one by one
 //   specs/Blocks      what a row says, and the block of history that it stands for
+//   specs/RowRead     a row read at once
 //   specs/Appended    blocks appended behind those that the table has
 //   specs/Rows        what document 01 asks of a row
 //   proofs/Blocks     how many blocks the rows stand for, which, and what they depend on
@@ -12,6 +13,7 @@ ghost use lib.ListN.{set};
 ghost use Rattle.lists.specs.Tests.{Decides};
 ghost use Rattle.tables.specs.Columns.{blockColumn, headState, headEnd, headKind, headCount, headUsed, headLast, blockNext};
 ghost use Rattle.block_table.specs.Blocks.{headPlace, StartsBefore};
+ghost use Rattle.block_table.specs.RowRead.{Reads};
 ghost use Rattle.block_table.specs.Appended.{WroteRow, AppendedRow};
 
 pub mod rows;
@@ -112,6 +114,40 @@ pub fn set_first(blocks: &mut [u64], value: u64)
 }
 
 // ── rows ──
+
+// What is read of a row at once.
+pub struct Row {
+    pub first: u64,
+    pub length: u64,
+    pub created: u64,
+    pub destroyed: u64,
+    pub next: u64,
+}
+
+// Reads the row of a link, under one test where the table has it: for loops that go over many rows.
+pub fn read(blocks: &[u64], link: u64) -> Row
+    ensures { λ r. ⌜ Reads (now (blocks .entry)) link r ⌝ }
+{
+    let row = link as usize;
+    if block::HEAD <= blocks.len() {
+        if row <= (blocks.len() - block::HEAD) / tables::ROW {
+            return Row {
+                first: blocks[tables::ROW * row + (block::BASE + block::FIRST)],
+                length: blocks[tables::ROW * row + (block::BASE + block::LENGTH)],
+                created: blocks[tables::ROW * row + (block::BASE + block::CREATED)],
+                destroyed: blocks[tables::ROW * row + (block::BASE + block::DESTROYED)],
+                next: blocks[tables::ROW * row + (block::BASE + block::NEXT)],
+            };
+        }
+    }
+    Row {
+        first: block::get(blocks, link, block::FIRST),
+        length: block::get(blocks, link, block::LENGTH),
+        created: block::get(blocks, link, block::CREATED),
+        destroyed: block::get(blocks, link, block::DESTROYED),
+        next: block::get(blocks, link, block::NEXT),
+    }
+}
 
 // Whether the block of `one` starts before that of `other`. No other function compares the places of blocks.
 pub fn starts_before(blocks: &[u64], one: u64, other: u64) -> bool

@@ -17,7 +17,6 @@ use Rattle.history.specs.File.{File, treeFrom, endOf, rule20, rule21, rule22}
 use Rattle.history.proofs.FileRules.{Rule20, rule20-decides, rule21-decides, rule22-decides}
 use Rattle.tables.specs.Columns.{blockBase}
 use Rattle.segment_test.specs.Test.{lent}
-use Rattle.ordering.specs.Order.{Sorted}
 use Rattle.file_fill.specs.Fill.{ZerosFirst, FilledBlocks, FilledNodes}
 use Rattle.layout.specs.Tables.{tables, lengthsOf}
 use Rattle.layout.specs.Encodes.{closedState}
@@ -103,14 +102,14 @@ module _ (file : List ℕ) (kind n used start root : ℕ) {blocks store nodes en
           absurd (omega (arith, rule21-decides (f .nodes) .yes y .some-tick)))
           (λ y. verdict-21 f y) (bool-cases (rule21 (f .nodes)))
 
-  module _ (few : n < 2 ^ 64) (some-end : e ≡ 0 → ⊥) {b₂ b₃ : List ℕ}
+  module _ (some-end : e ≡ 0 → ⊥) {b₂ : List ℕ}
       (head : HeadPut b₁ b₂ e kind n used)
-      (sorted : Sorted b₂ b₃ n) {r : ℕ} (judged : Judged (lent b₃ nodes′ entries′) kind e n r) where
+      {r : ℕ} (judged : Judged (lent b₂ nodes′ entries′) kind e n r) where
     keeps-21 : (f : File) → PartsAt file kind n used start root f → rule21 (f .nodes) ≡ true
     keeps-21 f q = ⊎-elim (λ y. y) (λ y. absurd (some-end (filled-nodes .wrong (f .nodes) (q .nodes-end) (q .nodes) y))) (bool-cases (rule21 (f .nodes)))
 
     filled : (f : File) (pieces : List ℕ) → PartsAt file kind n used start root f → rule20 (lengthsOf (tables pieces blocks store nodes entries)) f ≡ true
-        → Filled f kind n used e blocks store nodes entries b₁ b₂ b₃ store′ nodes′ entries′
+        → Filled f kind n used e blocks store nodes entries b₁ b₂ store′ nodes′ entries′
     filled f pieces q room =
         let r20 : Rule20 (lengthsOf (tables pieces blocks store nodes entries)) f = rule20-decides (lengthsOf (tables pieces blocks store nodes entries)) f .yes room in
         record {
@@ -118,8 +117,6 @@ module _ (file : List ℕ) (kind n used start root : ℕ) {blocks store nodes en
           bytes-are = filled-blocks .bytes (f .blocks) root (q .blocks);
           tree-is = filled-nodes .right (f .nodes) (q .nodes-end) (q .nodes) (keeps-21 f q);
           head-is = head .is;
-          sorted = sorted;
-          few = few;
           count = q .count;
           bytes = q .bytes;
           own-kind = q .own-kind;
@@ -132,7 +129,7 @@ module _ (file : List ℕ) (kind n used start root : ℕ) {blocks store nodes en
         }
 
     -- 22 to 24, or none
-    pub build-judged : Built file kind n used start root blocks store nodes entries b₃ store′ nodes′ entries′ r
+    pub build-judged : Built file kind n used start root blocks store nodes entries b₂ store′ nodes′ entries′ r
     build-judged = record {
       answered = λ f pieces q room. elim (lt-or-le 0 n) [
         | inl some ↦ judged-is (filled f pieces q room) some judged ∙ sym (verdict-rest f (keeps-21 f q))

@@ -258,7 +258,7 @@ module _ (t : closed.Tables) (kind end n : ℕ) {live : Bool} (lives : TestedLiv
       rule-24 : (store : List ℕ) (tree : Tree) → Ready t kind end n store tree → apart (bs store) ≡ clear
       rule-24 store tree q =
           decides-same (apart (bs store)) clear (apart-decides (bs store))
-          (closed-decides t kind end n store apart-is (rows store) (tested (bs store) (rows store) .yes (not-false stands whole)) (bounded store (q .stored)) (q .stored) (q .order))
+          (closed-decides t kind end n store apart-is (rows store) (tested (bs store) (rows store) .yes (not-false stands whole)) (bounded store (q .stored)) (q .stored))
 
       pub judge-shared : not clear ≡ true → Judged t kind end n 24
       unfolding judgement

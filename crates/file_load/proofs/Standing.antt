@@ -20,14 +20,11 @@ use Rattle.history.proofs.TreeCounts.{entry-count-in}
 use Rattle.history.proofs.RulesLaws.{numbered-decides, rule23-decides}
 use Rattle.history.proofs.FileRules.{Rule21, Rule22, rule22-decides}
 use Rattle.history.proofs.FileContents.{Entered, rules-enter}
-use Rattle.tables.specs.Columns.{blockColumn, blockBase, blockFirst, blockNext, headState, headEnd, headKind, headCount, headUsed, headLast}
+use Rattle.tables.specs.Columns.{blockColumn, blockBase, blockFirst, headState, headEnd, headKind, headCount, headUsed, headLast}
 use Rattle.block_table.specs.Blocks.{Room, blocksOf, Stored}
 use Rattle.block_table.proofs.Blocks.{blocks-key}
 use Rattle.segment_table.specs.Closed.{firstCellIn, Closed}
 use Rattle.segment_test.specs.Test.{lent}
-use Rattle.ordering.specs.Order.{InOrder, ordered, Ordered, Sorted}
-use Rattle.ordering.proofs.Keeping.{order-column, stored-order, blocks-order}
-use Rattle.ordering.proofs.Explicit.{ordered-is}
 use Rattle.file_scan.specs.Counts.{bytesIn}
 use Rattle.layout.specs.Rows.{headNumbers, blocksNumbers, nodeHeadNumbers, nodeNumbers, treeNumbers, entryHeadNumbers, entryNumbers, runNumbers}
 use Rattle.file_fill.specs.Fill.{bytesOfAll, firstCellOf, NodesLeft}
@@ -66,15 +63,13 @@ entry-numbers-same key key′ (k ∷ ks) (all-cons e es) = ap₂ (λ (x : ℕ) (
 
 -- ── what was filled ──
 
--- Each table after its part of the second pass: the block rows, the head in front of them, their order; the bytes; nodes and entries. What was
+-- Each table after its part of the second pass: the block rows, the head in front of them; the bytes; nodes and entries. What was
 -- counted is the file's and has room, and rule 21 holds.
-pub record Filled (f : File) (kind n used e : ℕ) (blocks store nodes entries rows headed-rows in-order store′ nodes′ entries′ : List ℕ) : Type 0 where
+pub record Filled (f : File) (kind n used e : ℕ) (blocks store nodes entries rows headed-rows store′ nodes′ entries′ : List ℕ) : Type 0 where
   pub rows-are : rows ≡ sets blocks (rowWidth * 1 + blockBase) (blocksNumbers 0 (f .blocks))
   pub bytes-are : store′ ≡ sets store 0 (bytesOfAll (f .blocks))
   pub tree-is : NodesLeft rows kind (f .nodes) nodes entries nodes′ entries′ e
   pub head-is : headed-rows ≡ sets rows 0 (loadedHead e kind n used)
-  pub sorted : Sorted headed-rows in-order n
-  pub few : n < 2 ^ 64
   pub count : n ≡ length (f .blocks)
   pub bytes : used ≡ bytesIn (f .blocks)
   pub own-kind : kind ≡ f .kind
@@ -85,8 +80,8 @@ pub record Filled (f : File) (kind n used e : ℕ) (blocks store nodes entries r
   pub byte-room : bytesIn (f .blocks) ≤ length store
   pub rule-21 : Rule21 (f .nodes)
 
-module _ {f : File} {kind n used e : ℕ} {blocks store nodes entries b₁ b₂ b₃ store′ nodes′ entries′ : List ℕ}
-    (F : Filled f kind n used e blocks store nodes entries b₁ b₂ b₃ store′ nodes′ entries′) where
+module _ {f : File} {kind n used e : ℕ} {blocks store nodes entries b₁ b₂ store′ nodes′ entries′ : List ℕ}
+    (F : Filled f kind n used e blocks store nodes entries b₁ b₂ store′ nodes′ entries′) where
   abbrev bs : List Block
   bs = f .blocks
 
@@ -190,45 +185,34 @@ module _ {f : File} {kind n used e : ℕ} {blocks store nodes entries b₁ b₂ 
     rows-room : Room b₂ n
     rows-room = omega (arith, head-long, block-fits)
 
-    order : Ordered b₂ b₃ n
-    order = F .sorted .done rows-room
-
-    blocks-long : length b₃ ≡ length blocks
-    blocks-long = order .only .len ∙ head-long
-
-    -- the head's columns, but for the first in order
-    head-column : (c : ℕ) → c < rowWidth → (c ≡ blockNext → ⊥) → blockColumn b₃ 0 c ≡ getD headRow c 0
-    head-column c h ne =
-        let z : rowWidth * 0 + (blockBase + c) ≡ blockBase + c = omega arith in
-        order-column (order .only) 0 c h ne ∙ rw z (head-hold .says c h)
+    -- the head's columns
+    head-column : (c : ℕ) → c < rowWidth → blockColumn b₂ 0 c ≡ getD headRow c 0
+    head-column c h = let z : rowWidth * 0 + (blockBase + c) ≡ blockBase + c = omega arith in rw z (head-hold .says c h)
 
     row-list : HoldsAt b₂ (rowWidth * 1 + blockBase) (blocksNumbers 0 bs)
     row-list = holds-moved (omega (arith, head-list-long)) (holds-right (loadedHead e kind n used) (blocksNumbers 0 bs) rows-hold)
 
-    blocks-are : blocksOf store′ b₃ n ≡ bs
+    blocks-are : blocksOf store′ b₂ n ≡ bs
     blocks-are =
-        blocks-order store′ n (order .only)
-        ∙ ap (blocksOf store′ b₂) (F .count)
+        ap (blocksOf store′ b₂) (F .count)
         ∙ filled-blocks b₂ store′ bs row-list (omega (arith, store-long, F .byte-room)) store-holds
 
-    stored : Stored used b₃ n
+    stored : Stored used b₂ n
     stored =
         let s : Stored (bytesIn bs) b₂ (length bs) = filled-stored b₂ store′ bs row-list in
-        let at : Stored used b₂ n = rw (← (F .bytes), ← (F .count)) at s in
-        stored-order (order .only) at
+        rw (← (F .bytes), ← (F .count)) at s
 
-    -- entries carry the first cells of the ordered table
-    keys : (k : ℕ) → firstCellOf b₁ k ≡ firstCellIn b₃ k
+    -- entries carry the first cells of the table
+    keys : (k : ℕ) → firstCellOf b₁ k ≡ firstCellIn b₂ k
     keys k =
         let i = rowWidth * suc k + (blockBase + blockFirst) in
         sym
-        (order-column (order .only) (suc k) blockFirst (omega arith) (λ z. omega arith)
-        ∙ ap (λ (u : List ℕ). getD u i 0) (F .head-is)
+        (ap (λ (u : List ℕ). getD u i 0) (F .head-is)
         ∙ getD-sets-out (loadedHead e kind n used) b₁ 0 i (inr (omega (arith, head-list-long))))
 
-    closed : entryHead ≤ length entries → Closed (lent b₃ nodes′ entries′) kind (endOf (f .nodes)) T
+    closed : entryHead ≤ length entries → Closed (lent b₂ nodes′ entries′) kind (endOf (f .nodes)) T
     closed h =
-        tree-closed (lent b₃ nodes′ entries′) kind (endOf (f .nodes)) T (firstCellOf b₁) (F .known-kind) root-there (F .rule-21 .halves) keys nodes-hold (entries-hold h)
+        tree-closed (lent b₂ nodes′ entries′) kind (endOf (f .nodes)) T (firstCellOf b₁) (F .known-kind) root-there (F .rule-21 .halves) keys nodes-hold (entries-hold h)
         (omega (arith, nodes-long, node-fits)) (omega (arith, entries-long, entry-fits h))
 
     used-fits : used ≤ length store′
@@ -249,16 +233,15 @@ module _ {f : File} {kind n used e : ℕ} {blocks store nodes entries b₁ b₂ 
 
     -- ── ready to be judged ──
 
-    pub ready : Ready (lent b₃ nodes′ entries′) kind e n store′ T
+    pub ready : Ready (lent b₂ nodes′ entries′) kind e n store′ T
     ready = record {
-      room = omega (arith, blocks-long, block-fits);
-      order = order .order;
+      room = omega (arith, head-long, block-fits);
       stored = record { inside = λ link a b. omega (arith, stored .inside link a b, used-fits) };
       rooted = root-there;
       holds = λ h. rw (F .tree-is .ends) (closed (omega (arith, entries-long)));
       inside = λ h.
           let long : entryHead ≤ length entries = omega (arith, entries-long) in
-          let u = entries-used (lent b₃ nodes′ entries′) kind (endOf (f .nodes)) T (firstCellOf b₁) (F .known-kind) root-there (F .rule-21 .halves) keys nodes-hold (entries-hold long) (omega (arith, nodes-long, node-fits)) (omega (arith, entries-long, entry-fits long)) in
+          let u = entries-used (lent b₂ nodes′ entries′) kind (endOf (f .nodes)) T (firstCellOf b₁) (F .known-kind) root-there (F .rule-21 .halves) keys nodes-hold (entries-hold long) (omega (arith, nodes-long, node-fits)) (omega (arith, entries-long, entry-fits long)) in
           omega (arith, u, entries-long, entry-fits long);
       headless = λ h.
           rw (blocks-are, F .tree-is .ends)
@@ -267,7 +250,7 @@ module _ {f : File} {kind n used e : ℕ} {blocks store nodes entries b₁ b₂ 
     }
 
     -- so the judgement is the file's
-    pub judged-is : {r : ℕ} → Judged (lent b₃ nodes′ entries′) kind e n r → r ≡ judgement (endOf (f .nodes)) bs T
+    pub judged-is : {r : ℕ} → Judged (lent b₂ nodes′ entries′) kind e n r → r ≡ judgement (endOf (f .nodes)) bs T
     judged-is j = j .is store′ T ready ∙ ap₂ (λ (x : ℕ) (ys : List Block). judgement x ys T) (F .tree-is .ends) blocks-are
 
     -- ── the index ──
@@ -277,7 +260,7 @@ module _ {f : File} {kind n used e : ℕ} {blocks store nodes entries b₁ b₂ 
       t = tables pieces blocks store nodes entries
 
       abbrev t′ : Tables
-      t′ = tables (zeros pieces) b₃ store′ nodes′ entries′
+      t′ = tables (zeros pieces) b₂ store′ nodes′ entries′
 
       -- there is an entry, so the entry table has its head
       entries-headed : entryHead ≤ length entries
@@ -291,13 +274,13 @@ module _ {f : File} {kind n used e : ℕ} {blocks store nodes entries b₁ b₂ 
       pieces-long = omega (arith, length-replicate {A = ℕ} (max pieceHead (length (zeros pieces))) 0)
 
       used-is : headAt (headed t′) headUsed ≡ length (bytesOfAll bs)
-      used-is = head-column headUsed (omega arith) (λ z. omega arith) ∙ F .bytes ∙ sym (bytes-length bs)
+      used-is = head-column headUsed (omega arith) ∙ F .bytes ∙ sym (bytes-length bs)
 
       count-is : headAt (headed t′) headCount ≡ n
-      count-is = head-column headCount (omega arith) (λ z. omega arith)
+      count-is = head-column headCount (omega arith)
 
       used-same : headAt (headed t′) headUsed ≡ used
-      used-same = head-column headUsed (omega arith) (λ z. omega arith)
+      used-same = head-column headUsed (omega arith)
 
       encodes : Encodes (headed t′) (loadedLedger (lengthsOf (headed t′)) (loadedFrom f))
       encodes = record {
@@ -306,14 +289,14 @@ module _ {f : File} {kind n used e : ℕ} {blocks store nodes entries b₁ b₂ 
             fit-heads (lengthsOf (headed t′))
             (record {
               pieces = pieces-long;
-              blocks = omega (arith, blocks-long, block-fits);
+              blocks = omega (arith, head-long, block-fits);
               nodes = omega (arith, nodes-long, node-fits);
               entries = omega (arith, entries-long, entries-headed);
             });
-        state = head-column headState (omega arith) (λ z. omega arith);
-        end = head-column headEnd (omega arith) (λ z. omega arith) ∙ F .tree-is .ends;
-        kind = head-column headKind (omega arith) (λ z. omega arith) ∙ F .own-kind;
-        last = head-column headLast (omega arith) (λ z. omega arith);
+        state = head-column headState (omega arith);
+        end = head-column headEnd (omega arith) ∙ F .tree-is .ends;
+        kind = head-column headKind (omega arith) ∙ F .own-kind;
+        last = head-column headLast (omega arith);
         used = used-is;
         store = rw used-is (sym (holds-part store′ 0 (bytesOfAll bs) (omega (arith, bytes-length bs, store-long, F .byte-room)) store-holds));
         count = count-is ∙ F .count;
@@ -323,24 +306,24 @@ module _ {f : File} {kind n used e : ℕ} {blocks store nodes entries b₁ b₂ 
         linked = no-links (headed t′ .pieces) pieces-long (getD-zeros (max pieceHead (length (zeros pieces))));
         pieces = refl;
         pieces-stored = all-nil;
-        tree = (subst (InOrder b₃) (F .count) (order .order), subst (λ (k : ℕ). Closed (lent b₃ nodes′ entries′) k (endOf (f .nodes)) T) (F .own-kind) (closed entries-headed));
+        tree = subst (λ (k : ℕ). Closed (lent b₂ nodes′ entries′) k (endOf (f .nodes)) T) (F .own-kind) (closed entries-headed);
       }
 
       -- the keys are the first cells of the file's blocks: every entry is one of them
       keys-are : All (λ k. firstCellOf b₁ k ≡ keyIn bs k) (entriesIn T)
       keys-are =
-          all-map (λ k h. keys k ∙ sym (blocks-key store′ b₃ n k (omega (arith, F .count))) ∙ ap (λ (xs : List Block). keyIn xs k) blocks-are)
+          all-map (λ k h. keys k ∙ sym (blocks-key store′ b₂ n k (omega (arith, F .count))) ∙ ap (λ (xs : List Block). keyIn xs k) blocks-are)
           (numbered-decides (length bs) T .yes (rule23-decides (endOf (f .nodes)) bs T .yes entries-right .numbers))
 
       pub loaded : LoadedTables (loadedFrom f) t t′
       loaded = record {
         pieces = refl;
-        blocks = ordered-is order rows-room (F .few) ∙ ap₂ ordered loaded-rows (F .count);
+        blocks = loaded-rows;
         store = F .bytes-are;
         nodes = F .tree-is .node-rows ∙ ap (λ (k : ℕ). sets nodes 0 (treeNumbers k (endOf (f .nodes)) T)) (F .own-kind);
         entries =
             F .tree-is .entry-rows
             ∙ ap (λ (xs : List ℕ). sets entries 0 (entryHeadNumbers (entryCount T) ++ xs)) (entry-numbers-same (firstCellOf b₁) (keyIn bs) (entriesIn T) keys-are);
-        lengths = lent-same (lengthsOf t′) (lengthsOf t) (length-replicate (length pieces) 0) blocks-long store-long nodes-long entries-long;
+        lengths = lent-same (lengthsOf t′) (lengthsOf t) (length-replicate (length pieces) 0) head-long store-long nodes-long entries-long;
         stands = encodes;
       }

@@ -16,7 +16,6 @@ use Rattle.tables.specs.Columns.{blockColumn, blockFirst, blockLength, blockCre
 use Rattle.block_table.specs.Blocks.{Room, blocksOf, Stored}
 use Rattle.segment_table.specs.Closed as closed
 use Rattle.segment_table.specs.Closed.{Closed}
-use Rattle.ordering.specs.Order.{InOrder}
 use Rattle.file_scan.specs.Counts.{bytesIn}
 use Rattle.layout.specs.Tables.{Tables, tables, lengthsOf}
 use Rattle.layout.specs.Relations.{zeros}
@@ -57,11 +56,10 @@ pub record TestedLives (blocks : List ℕ) (n end : ℕ) (r : Bool) : Type 0 whe
 unfoldable pub judgement : (end : ℕ) → List Block → Tree → ℕ
 judgement e bs tree = cond (rule22 e bs) (cond (rule23 e bs tree) (cond (apart bs) 0 24) 23) 22
 
--- Tables that were filled: blocks in order, whose bytes are in a store, and a tree with a root. An entry table without a head goes with no entry at
+-- Tables that were filled: blocks whose bytes are in a store, and a tree with a root. An entry table without a head goes with no entry at
 -- all, which breaks rule 23.
 pub record Ready (t : closed.Tables) (kind end n : ℕ) (store : List ℕ) (tree : Tree) : Type 0 where
   pub room : Room (t .blocks) n
-  pub order : InOrder (t .blocks) n
   pub stored : Stored (length store) (t .blocks) n
   pub rooted : isHole tree ≡ false
   pub holds : entryHead ≤ length (t .entries) → Closed t kind end tree

@@ -2,9 +2,9 @@
 // and gives 17, 18 and 19; then 20. The second pass (`file_fill`) fills the tables, with 21 on the way down; 22, 23 and 24 are tested on the filled
 // tables. After 21 to 24 everything lent is zeros.
 //
-// A load takes O(B + P + n log n log E) steps: B bytes of the file are read, P numbers of the piece table become zeros, n blocks are sorted, and rule 24
-// looks for each block at no more than 64 nodes, by binary search (`segment_apart`). A refusal of 21 to 24 zeroes all that is lent. No count of the file
-// is taken on trust, and no call is deeper than 65 frames.
+// A load takes O(B + P) steps for whatever a list of calls left: B bytes of the file are read, P numbers of the piece table become zeros. For other files rule 24
+// may look for each of n blocks at no more than 64 nodes, by binary search (`segment_apart`): O(n log n log E). A refusal of 21 to 24 zeroes all that is lent.
+// No count of the file is taken on trust, and no call is deeper than 66 frames.
 //
 //   room              20
 //   judge             22 to 24, on filled tables
@@ -106,7 +106,6 @@ fn build(
         return HALVES;
     }
     put_head(blocks, end, kind, n, used);
-    ordering::sort(blocks, n);
     judge::judge(blocks, nodes, entries, kind, end, n)
 }
 

@@ -165,4 +165,4 @@ module _ (pieces blocks store nodes entries : List ℕ) (l : Ledger) (e : Encode
     where
       go : (x : Option Tree) → l .tree ≡ x → isSome x ≡ true → TreeIn (tables pieces blocks store nodes entries) l x → SoundTree l x → Agrees blocks store nodes entries l
       go none q d a b = absurd (false≢true d)
-      go (some tree) q d a b = agrees-tree tree q (a .1) b
+      go (some tree) q d a b = agrees-tree tree q a b

@@ -14,9 +14,7 @@ use Rattle.history.specs.Ledger.{Ledger}
 use Rattle.tables.specs.Columns.{blockFirst, blockLength, blockDestroyed}
 use Rattle.block_table.specs.Blocks.{firstCellAt, lengthAt, offsetAt, createdAt, destroyedAt, blockOfRow, blocksOf, Filled, Stored}
 use Rattle.block_table.proofs.Blocks.{blocks-at, blocks-length}
-use Rattle.ordering.specs.Order.{OnlyOrder}
 use Rattle.ordering.specs.Apart.{HoldsAt}
-use Rattle.ordering.proofs.Keeping.{order-column, filled-order, stored-order, blocks-order}
 use Rattle.ordering.proofs.Agreeing.{row-holds, holds-row, unshared-apart, apart-unshared}
 use Rattle.piece_table.specs.Piece.{PieceRow}
 use Rattle.segment_apart.specs.Apart.{AllBounded}
@@ -111,33 +109,14 @@ module _ (store : List ℕ) {b : List ℕ} {n : ℕ} (e : ℕ) {ps : List PieceR
 
 -- ── the ledger's ──
 
-module _ {t : Tables} {l : Ledger} {b : List ℕ} (s : StandsOpen t l) (o : OnlyOrder (t .blocks) b (length (l .now .blocks))) where
-  -- the order is nothing to the blocks
-  pub ordered-blocks : blocksOf (t .store) b (length (l .now .blocks)) ≡ l .now .blocks
-  ordered-blocks = blocks-order (t .store) (length (l .now .blocks)) o ∙ sym (are-blocks s)
-
-  pub all-blocks : allBlocks l ≡ blocksOf (t .store) b (length (l .now .blocks)) ++ map (settledRow (t .store) (l .opening .end)) (pieceRows s)
+module _ {t : Tables} {l : Ledger} (s : StandsOpen t l) where
+  pub all-blocks : allBlocks l ≡ blocksOf (t .store) (t .blocks) (length (l .now .blocks)) ++ map (settledRow (t .store) (l .opening .end)) (pieceRows s)
   all-blocks =
       settled-blocks (t .store) (pieceRows s) (l .now) (l .opening .end) (are-pieces s)
-      ∙ ap (λ (x : List Block). x ++ map (settledRow (t .store) (l .opening .end)) (pieceRows s)) (sym ordered-blocks)
+      ∙ ap (λ (x : List Block). x ++ map (settledRow (t .store) (l .opening .end)) (pieceRows s)) (are-blocks s)
 
-  pub ordered-stored : Stored (length (t .store)) b (length (l .now .blocks))
-  ordered-stored = stored-order o (stored s)
-
-  pub ordered-filled : Filled b (length (l .now .blocks))
-  ordered-filled = filled-order o (filled s)
-
-  ordered-end : (link : ℕ) → 0 < link → link ≤ length (l .now .blocks) → destroyedAt b link ≤ l .opening .end
-  ordered-end link p q = rw (order-column o link blockDestroyed (omega arith) (λ z. omega arith)) (by-end s link p q)
-
-  pub ordered-bounded : AllBounded b (l .opening .end) (length (l .now .blocks))
-  ordered-bounded = record {
-    rows = λ link p q. record {
-      some-cell = ordered-filled .filled link p q;
-      no-wrap = rw (order-column o link blockFirst (omega arith) (λ z. omega arith), order-column o link blockLength (omega arith) (λ z. omega arith)) (no-wrap s link p q);
-      by-end = ordered-end link p q;
-    };
-  }
+  pub bounded : AllBounded (t .blocks) (l .opening .end) (length (l .now .blocks))
+  bounded = record { rows = λ link p q. record { some-cell = filled s .filled link p q; no-wrap = no-wrap s link p q; by-end = by-end s link p q } }
 
   -- pieces ascend, so no two of them share a cell
   pieces-apart : Apart (map (settledRow (t .store) (l .opening .end)) (pieceRows s))
@@ -146,10 +125,10 @@ module _ {t : Tables} {l : Ledger} {b : List ℕ} (s : StandsOpen t l) (o : Only
       (pairs-of-map (blockOf (l .opening .end)) (pairs-map (λ p q h tick cell x y. omega (arith, x .has .below, y .has .from)) (s .sound .board .in-order)))
 
   -- the tests over rows decide rule 24 for finish
-  pub unshared-all : NoneShared b (length (l .now .blocks)) (pieceRows s) → Apart (allBlocks l)
+  pub unshared-all : NoneShared (t .blocks) (length (l .now .blocks)) (pieceRows s) → Apart (allBlocks l)
   unshared-all h =
-      subst Apart (sym all-blocks) (unshared-settled (t .store) (l .opening .end) ordered-stored ordered-filled ordered-end (pieces-stored s) (pieces-some s) pieces-apart h)
+      subst Apart (sym all-blocks) (unshared-settled (t .store) (l .opening .end) (stored s) (filled s) (by-end s) (pieces-stored s) (pieces-some s) pieces-apart h)
 
-  pub all-unshared : Apart (allBlocks l) → NoneShared b (length (l .now .blocks)) (pieceRows s)
+  pub all-unshared : Apart (allBlocks l) → NoneShared (t .blocks) (length (l .now .blocks)) (pieceRows s)
   all-unshared a =
-      settled-unshared (t .store) (l .opening .end) ordered-stored ordered-filled ordered-end (pieces-stored s) (pieces-some s) pieces-apart (subst Apart all-blocks a)
+      settled-unshared (t .store) (l .opening .end) (stored s) (filled s) (by-end s) (pieces-stored s) (pieces-some s) pieces-apart (subst Apart all-blocks a)

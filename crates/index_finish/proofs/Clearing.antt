@@ -18,8 +18,7 @@ use Rattle.piece_table.specs.Rep.{Rep}
 use Rattle.piece_table.specs.Calls.{Sought}
 use Rattle.piece_table.proofs.Order.{follow-filled, follow-right}
 use Rattle.piece_table.proofs.Seeing.{rep-follow, Seen, seen-none, seen-some}
-use Rattle.index_finish.specs.Trial.{Tryable, BlocksApart}
-use Rattle.index_finish.specs.Apart.{Meets, Crosses, Uncrossed, PiecesClear, BlockClear, BlocksClear, AllApart}
+use Rattle.index_finish.specs.Apart.{Meets, Crosses, Uncrossed, PiecesClear, BlockClear, BlocksClear}
 
 -- ── the returns of `pieces_clear` ──
 
@@ -164,21 +163,3 @@ pub clear-end : {t b : List ℕ} {n k : ℕ} → ClearTo t b k → n ≤ k → B
 clear-end a h = record { decides = λ ps r. confirm (record { clear = λ link l u. a .clear ps r .clear link l (omega arith) }) }
 
 pub ruleset passing = (clear-start, clear-turn, clear-fails, clear-end, not-true, not-false)
-
--- ── the returns of `all_apart` ──
-
-module _ {b nodes entries nodes′ entries′ : List ℕ} {kind e n : ℕ} {q : Bool} (d : BlocksApart b nodes entries kind e n nodes′ entries′ q) where
-  apart-kept : (store : List ℕ) → Tryable store b nodes entries kind e n → (nodes′ ≡ nodes) × (entries′ ≡ entries)
-  apart-kept store x = (d .done store x .nodes-same, d .done store x .entries-same)
-
-  pub apart-fails : {t : List ℕ} → q ≡ false → AllApart t b nodes entries kind e n nodes′ entries′ false
-  apart-fails f = record { kept = apart-kept; decides = λ ps r store x. refute (λ a. d .done store x .decides .not f (a .blocks-apart)) }
-
-  pub apart-rest : {t : List ℕ} {r : Bool} → q ≡ true → BlocksClear t b n r → AllApart t b nodes entries kind e n nodes′ entries′ r
-  apart-rest {r = r} f c = record {
-    kept = apart-kept;
-    decides = λ ps rep store x.
-        decides-iff r (λ u. record { blocks-apart = d .done store x .decides .yes f; pieces-apart = u }) (λ a. a .pieces-apart) (c .decides ps rep);
-  }
-
-pub ruleset parting = (apart-fails, apart-rest, not-true, not-false)

@@ -14,7 +14,6 @@ use Rattle.history.specs.Ledger.{Ledger, settled}
 use Rattle.history.specs.Results.{Result, done}
 use Rattle.history.specs.Refusals.{Answer, accepted, refused, firstOf, finishRefusals, finishAnswer}
 use Rattle.block_table.specs.Blocks.{blockOfRow, blocksOf}
-use Rattle.ordering.specs.Order.{OnlyOrder}
 use Rattle.piece_table.specs.Piece.{pieceAt}
 use Rattle.piece_table.specs.Shown.{shown}
 use Rattle.piece_table.proofs.Removing.{linked-valid}
@@ -24,8 +23,7 @@ use Rattle.layout.specs.Tables.{Tables}
 use Rattle.layout.specs.Formed.{Blank}
 use Rattle.index_finish.specs.Finish.{StandsOpen, allBlocks, wholeTree, numberOf, answerOf}
 use Rattle.index_finish.proofs.Lists.{counts-once}
-use Rattle.index_finish.proofs.Standing.{few-rows, piece-count, linked}
-use Rattle.index_finish.proofs.Agreeing.{ordered-blocks}
+use Rattle.index_finish.proofs.Standing.{few-rows, are-blocks, piece-count, linked}
 
 -- ── lives ──
 
@@ -33,7 +31,7 @@ pub row-lives : (store b : List ℕ) (n : ℕ) → map (blockLife b) (countFrom 
 unfolding blocksOf blockOfRow
 row-lives store b n = sym (map-map lifeOf (blockOfRow store b) (countFrom 1 n))
 
-module _ {t : Tables} {l : Ledger} {b : List ℕ} (s : StandsOpen t l) (o : OnlyOrder (t .blocks) b (length (l .now .blocks))) where
+module _ {t : Tables} {l : Ledger} (s : StandsOpen t l) where
   piece-lives : map (pieceLife (t .pieces) (l .opening .end)) (s .encodes .links) ≡ map lifeOf (map (blockOf (l .opening .end)) (l .now .pieces))
   piece-lives =
       let q : map lifeOf (map (blockOf (l .opening .end)) (l .now .pieces)) ≡ map (λ p. lifeOf (blockOf (l .opening .end) p)) (l .now .pieces)
@@ -42,7 +40,7 @@ module _ {t : Tables} {l : Ledger} {b : List ℕ} (s : StandsOpen t l) (o : Only
       ∙ map-map (λ p. lifeOf (blockOf (l .opening .end) p)) (λ link. shown (t .store) (pieceAt (t .pieces) link)) (s .encodes .links))
 
   pub countable : Blank t → length (t .pieces) < 2 ^ 64 → length (t .blocks) < 2 ^ 64
-      → Countable (rowsToCount b (length (l .now .blocks)) (t .pieces) (length (l .now .pieces)) (l .opening .end) (l .opening .kind)) (t .nodes) (l .now .blocks)
+      → Countable (rowsToCount (t .blocks) (length (l .now .blocks)) (t .pieces) (length (l .now .pieces)) (l .opening .end) (l .opening .kind)) (t .nodes) (l .now .blocks)
       (map (blockOf (l .opening .end)) (l .now .pieces)) (s .encodes .links)
   countable blank few-pieces few-blocks = record {
     zeros = blank .nodes;
@@ -50,7 +48,7 @@ module _ {t : Tables} {l : Ledger} {b : List ℕ} (s : StandsOpen t l) (o : Only
     small = s .sound .board .end-most;
     a-kind = omega (arith, s .sound .board .known-kind);
     few = few-rows s few-blocks;
-    blocks-are = row-lives (t .store) b (length (l .now .blocks)) ∙ ap (map lifeOf) (ordered-blocks s o);
+    blocks-are = row-lives (t .store) (t .blocks) (length (l .now .blocks)) ∙ ap (map lifeOf) (sym (are-blocks s));
     pieces-are = piece-lives;
     all-pieces =
         counts-once (length (l .now .pieces)) (s .encodes .links) (s .encodes .linked .once)

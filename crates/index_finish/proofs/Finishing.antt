@@ -7,24 +7,24 @@ use native.Mathlib.Omega.{arith}
 use lib.ListN.{length, replicate}
 use borrow.Author.Tests.{not-true, not-false}
 use Rattle.lists.specs.Tests.{Decides}
-use Rattle.lists.proofs.Numbers.{refute, decides-iff}
+use Rattle.lists.proofs.Numbers.{confirm, refute, decides-iff}
 use Rattle.history.specs.Words.{blockOf}
 use Rattle.history.specs.Rules.{Apart}
 use Rattle.history.specs.Ledger.{Ledger}
 use Rattle.history.specs.Results.{Result, done}
 use Rattle.history.specs.Refusals.{Answer, accepted, refused, finishAnswer}
 use Rattle.tables.specs.Columns.{column, blockColumn, piecesCount, headCount, headEnd, headKind}
-use Rattle.ordering.specs.Order.{Ordered, Sorted, cleared}
-use Rattle.ordering.proofs.Keeping.{order-column}
-use Rattle.ordering.proofs.Clearing.{cleared-back}
+use Rattle.handed_rows.specs.Handed.{SeenHanded}
 use Rattle.segment_tree.specs.Lives.{rowsToCount, CountedTree, CountedAs}
 use Rattle.layout.specs.Tables.{Tables, tables}
 use Rattle.layout.specs.Formed.{Blank}
 use Rattle.layout.specs.Relations.{FinishLeaves}
-use Rattle.index_finish.specs.Apart.{NoneShared, AllApart}
-use Rattle.index_finish.specs.Finish.{StandsOpen, allBlocks, wholeTree, numberOf, Finishable, Finishing, FinishedOpen, TestedBlank, Tallying, CountedAll, Accepted, Prepared, Finished, SettledTables}
-use Rattle.index_finish.proofs.Standing.{room, unordered, pieceRows, rep, piece-count}
+use Rattle.index_finish.specs.Apart.{BlocksClear}
+use Rattle.index_finish.specs.Trial.{Tried, BlocksApart}
+use Rattle.index_finish.specs.Finish.{StandsOpen, allBlocks, wholeTree, numberOf, Finishable, Finishing, FinishedOpen, TestedBlank, TriedAll, AllApart, Accepted, Preparing, Prepared, Finished, SettledTables}
+use Rattle.index_finish.proofs.Standing.{unordered, pieceRows, rep, piece-count}
 use Rattle.index_finish.proofs.Agreeing.{unshared-all, all-unshared}
+use Rattle.index_finish.proofs.Handed.{handed-apart}
 use Rattle.index_finish.proofs.Trying.{tryable}
 use Rattle.index_finish.proofs.Counting.{countable, counted-all, counted-answer, counted-accepted, accepted-space}
 
@@ -41,72 +41,61 @@ nodes-zero {q = q} {r = r} d f rest = record {
 
 pub ruleset blanking = (nodes-used, nodes-zero)
 
--- ── the returns of `count_all` ──
+-- ── the returns of `all_apart` ──
 
-module _ {pieces b nodes entries nodes₁ entries₁ : List ℕ} {n e kind : ℕ} {q : Bool} (few-pieces : length pieces < 2 ^ 64) (few-blocks : length b < 2 ^ 64)
-    (count : n ≡ blockColumn b 0 headCount) (ee : e ≡ blockColumn b 0 headEnd) (ek : kind ≡ blockColumn b 0 headKind)
-    (test : AllApart pieces b nodes entries kind e n nodes₁ entries₁ q) where
-  module _ {was store : List ℕ} {l : Ledger} (s : StandsOpen (tables pieces was store nodes entries) l) (blank : Blank (tables pieces was store nodes entries))
-      (o : Ordered was b (length (l .now .blocks))) where
-    n-is : n ≡ length (l .now .blocks)
-    n-is = count ∙ order-column (o .only) 0 headCount (omega arith) (λ z. omega arith) ∙ s .encodes .count
+-- what was seen along the rows
+seen : {pieces blocks b : List ℕ} {n : ℕ} {known : Bool} → SeenHanded pieces blocks n (column pieces 0 piecesCount) b known → (l : Ledger) → n ≡ length (l .now .blocks)
+    → SeenHanded pieces blocks (length (l .now .blocks)) (column pieces 0 piecesCount) b known
+seen handed l same = rw same at handed
 
-    e-is : e ≡ l .opening .end
-    e-is = ee ∙ order-column (o .only) 0 headEnd (omega arith) (λ z. omega arith) ∙ s .encodes .end
-
-    k-is : kind ≡ l .opening .kind
-    k-is = ek ∙ order-column (o .only) 0 headKind (omega arith) (λ z. omega arith) ∙ s .encodes .kind
-
-    tested : AllApart pieces b nodes entries (l .opening .kind) (l .opening .end) (length (l .now .blocks)) nodes₁ entries₁ q
-    tested = rw (← n-is, ← e-is, ← k-is) test
-
-    same : (nodes₁ ≡ nodes) × (entries₁ ≡ entries)
-    same = tested .kept store (tryable s blank o few-blocks)
-
-    rule-24 : Decides q (NoneShared b (length (l .now .blocks)) (pieceRows s))
-    rule-24 = tested .decides (pieceRows s) (rep s few-pieces) store (tryable s blank o few-blocks)
-
-  pub count-shared : not q ≡ true → CountedAll pieces b nodes entries nodes₁ entries₁ 2
-  count-shared f = record {
-    done = λ was store l s blank o.
-        let never : Apart (allBlocks l) → ⊥ = λ x. rule-24 s blank o .not (not-true q f) (all-unshared s (o .only) x) in
-        record {
-          formed = λ x. absurd (never x);
-          unformed = λ _. refl;
-          entries-same = same s blank o .1;
-          refused-same = λ _. same s blank o .0;
-          accepted-counted = λ z. absurd (omega arith);
-        };
+module _ {pieces blocks nodes entries : List ℕ} {kind e n : ℕ} (few-pieces : length pieces < 2 ^ 64) {b₀ : List ℕ} {known : Bool}
+    (handed : SeenHanded pieces blocks n (column pieces 0 piecesCount) b₀ known) where
+  pub apart-handed : known ≡ true → AllApart pieces blocks nodes entries kind e n b₀ nodes entries true
+  apart-handed y = record {
+    done = λ store l s blank ek ee en. record {
+      blocks-same = seen handed l en .kept (unordered s);
+      nodes-same = refl;
+      entries-same = refl;
+      decides = confirm (handed-apart s few-pieces (seen handed l en) y);
+    };
   }
 
-  pub count-told : {nodes′ : List ℕ} {m r : ℕ} → not q ≡ false → m ≡ column pieces 0 piecesCount → CountedTree (rowsToCount b n pieces m e kind) nodes₁ entries₁ nodes′ r
-      → CountedAll pieces b nodes entries nodes′ entries₁ r
-  count-told {nodes′} {m} {r} f em tree = record { done = go }
-    where
-      go : (was store : List ℕ) (l : Ledger) → StandsOpen (tables pieces was store nodes entries) l → Blank (tables pieces was store nodes entries)
-          → Ordered was b (length (l .now .blocks)) → Tallying l (tables pieces was store nodes entries) nodes′ entries₁ r
-      go was store l s blank o =
-          let apart : Apart (allBlocks l) = unshared-all s (o .only) (rule-24 s blank o .yes (not-false q f)) in
-          let m-is : m ≡ length (l .now .pieces) = em ∙ piece-count s in
-          let c : CountedTree (rowsToCount b (length (l .now .blocks)) pieces (length (l .now .pieces)) (l .opening .end) (l .opening .kind)) nodes entries nodes′ r
-          = rw (← n-is s blank o, ← m-is, ← e-is s blank o, ← k-is s blank o, ← same s blank o .0, ← same s blank o .1) tree in
-          let counted : CountedAs nodes entries nodes′ (l .opening .kind) (l .opening .end) (wholeTree l) r
-          = rw (counted-all l) at (c .done (l .now .blocks) (map (blockOf (l .opening .end)) (l .now .pieces)) (s .encodes .links)
-          (countable s (o .only) blank few-pieces (omega (arith, o .only .len)))) in
-          record {
-            formed = λ _. counted-answer s (counted .answer);
-            unformed = λ never. absurd (never apart);
-            entries-same = same s blank o .1;
-            refused-same = counted .refused;
-            accepted-counted = λ z. record {
-              answer = counted-accepted s (counted .answer) z;
-              apart = apart;
-              counted = counted .counted z;
-              space = accepted-space s (counted .answer) z;
-            };
-          }
+  module _ {b₁ nodes₁ entries₁ : List ℕ} {q : Bool} (few-blocks : length blocks < 2 ^ 64) (tried : BlocksApart b₀ nodes entries kind e n b₁ nodes₁ entries₁ q) where
+    trial : {store : List ℕ} {l : Ledger} → StandsOpen (tables pieces blocks store nodes entries) l → Blank (tables pieces blocks store nodes entries)
+        → kind ≡ l .opening .kind → e ≡ l .opening .end → n ≡ length (l .now .blocks)
+        → Tried blocks nodes entries (length (l .now .blocks)) b₁ nodes₁ entries₁ q
+    trial {store} {l} s blank ek ee en =
+        let here : BlocksApart blocks nodes entries (l .opening .kind) (l .opening .end) (length (l .now .blocks)) b₁ nodes₁ entries₁ q =
+        rw (← ek, ← ee, ← en, ← seen handed l en .kept (unordered s)) tried in
+        here .done store (tryable s blank few-blocks)
 
-pub ruleset counting = (count-shared, count-told, arith)
+    pub apart-fails : q ≡ false → AllApart pieces blocks nodes entries kind e n b₁ nodes₁ entries₁ false
+    apart-fails f = record {
+      done = λ store l s blank ek ee en.
+          let t = trial s blank ek ee en in
+          record {
+            blocks-same = t .blocks-same;
+            nodes-same = t .nodes-same;
+            entries-same = t .entries-same;
+            decides = refute (λ a. t .decides .not f (all-unshared s a .blocks-apart));
+          };
+    }
+
+    pub apart-rest : {r : Bool} → q ≡ true → BlocksClear pieces b₁ n r → AllApart pieces blocks nodes entries kind e n b₁ nodes₁ entries₁ r
+    apart-rest {r} f c = record {
+      done = λ store l s blank ek ee en.
+          let t = trial s blank ek ee en in
+          let clear : BlocksClear pieces blocks (length (l .now .blocks)) r = rw (← t .blocks-same, ← en) c in
+          record {
+            blocks-same = t .blocks-same;
+            nodes-same = t .nodes-same;
+            entries-same = t .entries-same;
+            decides = decides-iff r (λ u. unshared-all s (record { blocks-apart = t .decides .yes f; pieces-apart = u })) (λ a. all-unshared s a .pieces-apart)
+                (clear .decides (pieceRows s) (rep s few-pieces));
+          };
+    }
+
+pub ruleset parting = (apart-handed, apart-fails, apart-rest, not-true, not-false, arith)
 
 -- ── the returns of `prepare` ──
 
@@ -115,57 +104,79 @@ prepare-unformed {pieces} {blocks} {q = q} d f = record {
   done = λ store l s. record {
     formed = λ x. absurd (d .decides pieces blocks store .not (not-true q f) (x .blank));
     unformed = λ _. refl;
+    blocks-same = refl;
     entries-same = refl;
-    refused-same = λ _. (refl, refl);
+    refused-same = λ _. refl;
     accepted-counted = λ z. absurd (omega arith);
   };
 }
 
-module _ {pieces blocks nodes entries b nodes′ entries′ : List ℕ} {n r : ℕ} {q : Bool} (zeros : TestedBlank nodes entries q) (f : not q ≡ false)
-    (count : n ≡ blockColumn blocks 0 headCount) (sort : Sorted blocks b n) (counted : CountedAll pieces b nodes entries nodes′ entries′ r) where
+module _ {pieces blocks nodes entries b nodes₁ entries₁ : List ℕ} {n e kind : ℕ} {q p : Bool} (few-pieces : length pieces < 2 ^ 64) (few-blocks : length blocks < 2 ^ 64)
+    (zeros : TestedBlank nodes entries q) (f : not q ≡ false) (count : n ≡ blockColumn blocks 0 headCount) (ee : e ≡ blockColumn blocks 0 headEnd)
+    (ek : kind ≡ blockColumn blocks 0 headKind) (test : AllApart pieces blocks nodes entries kind e n b nodes₁ entries₁ p) where
   module _ {store : List ℕ} {l : Ledger} (s : StandsOpen (tables pieces blocks store nodes entries) l) where
-    same-count : n ≡ length (l .now .blocks)
-    same-count = count ∙ s .encodes .count
+    n-is : n ≡ length (l .now .blocks)
+    n-is = count ∙ s .encodes .count
 
-    ordered : Ordered blocks b (length (l .now .blocks))
-    ordered = subst (λ (k : ℕ). Ordered blocks b k) same-count (sort .done (omega (arith, same-count, room s)))
+    e-is : e ≡ l .opening .end
+    e-is = ee ∙ s .encodes .end
 
-    -- the order taken away again
-    back : cleared b n ≡ blocks
-    back = subst (λ (k : ℕ). cleared b k ≡ blocks) (sym same-count) (cleared-back blocks b (length (l .now .blocks)) (unordered s) (ordered .only))
+    k-is : kind ≡ l .opening .kind
+    k-is = ek ∙ s .encodes .kind
 
     still-blank : Blank (tables pieces blocks store nodes entries)
     still-blank = zeros .decides pieces blocks store .yes (not-false q f)
 
-    told : Tallying l (tables pieces blocks store nodes entries) nodes′ entries′ r
-    told = counted .done blocks store l s still-blank ordered
+    tried : TriedAll l (tables pieces blocks store nodes entries) b nodes₁ entries₁ p
+    tried = test .done store l s still-blank k-is e-is n-is
 
-    untold : (Finishable (tables pieces blocks store nodes entries) l → ⊥) → r ≡ 2
-    untold never = told .unformed (λ x. never (record { blank = still-blank; apart = x }))
-
-  pub prepare-refused : {b′ : List ℕ} → (r ≡ 0 → ⊥) → b′ ≡ cleared b n → Prepared pieces blocks nodes entries b′ nodes′ entries′ r
-  prepare-refused nz c = record {
+  pub prepare-shared : not p ≡ true → Prepared pieces blocks nodes entries b nodes₁ entries₁ 2
+  prepare-shared g = record {
     done = λ store l s. record {
-      formed = λ x. told s .formed (x .apart);
-      unformed = untold s;
-      entries-same = told s .entries-same;
-      refused-same = λ _. (c ∙ back s, told s .refused-same nz);
-      accepted-counted = λ z. absurd (nz z);
+      formed = λ x. absurd (tried s .decides .not (not-true p g) (x .apart));
+      unformed = λ _. refl;
+      blocks-same = tried s .blocks-same;
+      entries-same = tried s .entries-same;
+      refused-same = λ _. tried s .nodes-same;
+      accepted-counted = λ z. absurd (omega arith);
     };
   }
 
-  pub prepare-done : r ≡ 0 → length nodes′ ≡ length nodes → Prepared pieces blocks nodes entries b nodes′ entries′ 0
-  prepare-done z long = record {
-    done = λ store l s. record {
-      formed = λ x. sym z ∙ told s .formed (x .apart);
-      unformed = λ never. sym z ∙ untold s never;
-      entries-same = told s .entries-same;
-      refused-same = λ nz. absurd (nz refl);
-      accepted-counted = λ _. record { stands = s; ordered = ordered s; tallied = told s .accepted-counted z; nodes-long = long; entry-zeros = still-blank s .entries };
-    };
-  }
+  pub prepare-counted : {nodes′ : List ℕ} {m r : ℕ} → not p ≡ false → m ≡ column pieces 0 piecesCount → CountedTree (rowsToCount b n pieces m e kind) nodes₁ entries₁ nodes′ r
+      → length nodes′ ≡ length nodes → Prepared pieces blocks nodes entries b nodes′ entries₁ r
+  prepare-counted {nodes′} {m} {r} g em tree long = record { done = go }
+    where
+      go : (store : List ℕ) (l : Ledger) → StandsOpen (tables pieces blocks store nodes entries) l
+          → Preparing l (tables pieces blocks store nodes entries) b nodes′ entries₁ r
+      go store l s =
+          let t = tried s in
+          let apart : Apart (allBlocks l) = t .decides .yes (not-false p g) in
+          let m-is : m ≡ length (l .now .pieces) = em ∙ piece-count s in
+          let c : CountedTree (rowsToCount blocks (length (l .now .blocks)) pieces (length (l .now .pieces)) (l .opening .end) (l .opening .kind)) nodes entries nodes′ r
+          = rw (← n-is s, ← m-is, ← e-is s, ← k-is s, ← t .blocks-same, ← t .nodes-same, ← t .entries-same) tree in
+          let counted : CountedAs nodes entries nodes′ (l .opening .kind) (l .opening .end) (wholeTree l) r
+          = rw (counted-all l) at (c .done (l .now .blocks) (map (blockOf (l .opening .end)) (l .now .pieces)) (s .encodes .links)
+          (countable s (still-blank s) few-pieces few-blocks)) in
+          record {
+            formed = λ _. counted-answer s (counted .answer);
+            unformed = λ never. absurd (never (record { blank = still-blank s; apart = apart }));
+            blocks-same = t .blocks-same;
+            entries-same = t .entries-same;
+            refused-same = counted .refused;
+            accepted-counted = λ z. record {
+              stands = s;
+              tallied = record {
+                answer = counted-accepted s (counted .answer) z;
+                apart = apart;
+                counted = counted .counted z;
+                space = accepted-space s (counted .answer) z;
+              };
+              nodes-long = long;
+              entry-zeros = still-blank s .entries;
+            };
+          }
 
-pub ruleset preparing = (prepare-unformed, prepare-refused)
+pub ruleset preparing = (prepare-unformed, prepare-shared, prepare-counted, arith)
 
 -- ── a refusal, and an accepted finish ──
 
@@ -181,8 +192,8 @@ module _ {pieces blocks nodes entries b nodes₁ entries₁ : List ℕ} {r : ℕ
       go : (store : List ℕ) (l : Ledger) → StandsOpen (tables pieces blocks store nodes entries) l
           → Finishing l (tables pieces blocks store nodes entries) (tables pieces b store nodes₁ entries₁) r
       go store l s =
-          let kept = p .done store l s .refused-same nz in
-          let same : tables pieces b store nodes₁ entries₁ ≡ tables pieces blocks store nodes entries = rw (kept .0, kept .1, p .done store l s .entries-same) in
+          let told = p .done store l s in
+          let same : tables pieces b store nodes₁ entries₁ ≡ tables pieces blocks store nodes entries = rw (told .blocks-same, told .refused-same nz, told .entries-same) in
           record {
             formed = λ f.
                 let e : r ≡ numberOf (finishAnswer l) = p .done store l s .formed f in
@@ -197,9 +208,9 @@ module _ {pieces blocks nodes entries b nodes₁ entries₁ : List ℕ} {r : ℕ
       go : (store : List ℕ) (l : Ledger) → StandsOpen (tables pieces blocks store nodes entries) l
           → Finishing l (tables pieces blocks store nodes entries) (tables pieces′ b′ store nodes′ entries′) 0
       go store l s =
-          let a : Accepted (tables pieces blocks store nodes entries) b nodes₁ l = p .done store l s .accepted-counted z in
-          let here : SettledTables pieces b nodes₁ entries pieces′ b′ nodes′ entries′ = rw (p .done store l s .entries-same) at settle in
-          let d : Finished l (tables pieces blocks store nodes entries) (tables pieces′ b′ store nodes′ entries′) = here .done blocks nodes store l a in
+          let a : Accepted (tables pieces blocks store nodes entries) nodes₁ l = p .done store l s .accepted-counted z in
+          let here : SettledTables pieces blocks nodes₁ entries pieces′ b′ nodes′ entries′ = rw (p .done store l s .blocks-same, p .done store l s .entries-same) at settle in
+          let d : Finished l (tables pieces blocks store nodes entries) (tables pieces′ b′ store nodes′ entries′) = here .done nodes store l a in
           record {
             formed = λ f. rw (a .tallied .answer) (refl, (d .encodes, d .tables-are));
             unformed = λ never. absurd (let two : r ≡ 2 = p .done store l s .unformed never in omega arith);

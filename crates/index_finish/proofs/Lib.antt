@@ -2,6 +2,7 @@ pub mod Lists
 pub mod Clearing
 pub mod Standing
 pub mod Agreeing
+pub mod Handed
 pub mod Counting
 pub mod Settling
 pub mod Trying

@@ -6,29 +6,22 @@ use Prim.Native.Nat.{ℕ, suc, _+_, _-_, _*_, _≤_, _<_, _^_}
 use native.Mathlib.Omega.{arith}
 use lib.ListN.{length, getD, set, take, replicate, length-set, length-replicate}
 use lib.Seq.{getD-set-same, getD-set-other}
-use Rattle.lists.specs.Lists.{All, all-nil, all-cons, Pairs, pairs-nil, pairs-cons, Ascending, count}
-use Rattle.lists.proofs.Lists.{all-map, all-both, all-at, all-of-map}
+use Rattle.lists.specs.Lists.{All, all-nil}
+use Rattle.lists.proofs.Lists.{all-at, all-of-map}
 use Rattle.lists.proofs.Maps.{length-of-map, getD-of-map}
 use Rattle.lists.proofs.Numbers.{le-or-lt}
 use Rattle.history.specs.Lent.{rowWidth, blockHead, nodeHead, entryHead}
-use Rattle.history.specs.Words.{Block, size}
-use Rattle.history.specs.Tree.{treeOf, entryCount}
-use Rattle.history.specs.Rules.{Apart}
+use Rattle.history.specs.Words.{Block, firstCell}
+use Rattle.history.specs.Tree.{treeOf, noBlock, keyIn, entryCount}
 use Rattle.history.specs.Ledger.{Ledger, finishBy}
-use Rattle.history.proofs.Steps.{settled-sound}
 use Rattle.tables.specs.Columns.{blockColumn, blockBase, blockLength, blockOffset, blockNext, blockSpare, headState, headEnd, headKind, headCount, headUsed, headLast}
-use Rattle.block_table.specs.Blocks.{Room, lengthAt, offsetAt, blocksOf, SameRows, Stored, blockCount}
+use Rattle.block_table.specs.Blocks.{Room, lengthAt, offsetAt, blockOfRow, blocksOf, SameRows, Stored, blockCount}
 use Rattle.block_table.proofs.Keeping.{rows-set, rows-then, kept-column}
-use Rattle.block_table.proofs.Blocks.{blocks-length, blocks-kept}
+use Rattle.block_table.proofs.Blocks.{blocks-length, blocks-at, blocks-kept}
 use Rattle.block_table.specs.Appended.{blockRow}
 use Rattle.block_table.proofs.Appending.{appended-kept, appended-length, appended-other}
 use Rattle.segment_table.specs.Closed as closed
 use Rattle.segment_table.specs.Alone.{TreeAlone}
-use Rattle.ordering.specs.Order as order
-use Rattle.ordering.specs.Order.{nextAt, rankOf, Trail, InOrder, numbersOf, Ordered, SortedMore}
-use Rattle.ordering.proofs.Rank.{rank-first}
-use Rattle.ordering.proofs.Keeping.{order-column, order-kept, stored-order, blocks-order}
-use Rattle.ordering.proofs.Numbering.{order-counts, order-blocks}
 use Rattle.piece_table.specs.Piece.{PieceRow, pieceAt}
 use Rattle.piece_table.specs.Rep.{Links}
 use Rattle.piece_table.specs.Shown.{shown}
@@ -37,10 +30,10 @@ use Rattle.recording.specs.Calls.{ExtractedMembers}
 use Rattle.recording.specs.Recorded.{blockRowOf, recorded}
 use Rattle.recording.proofs.Recorded.{recorded-out, recorded-blocks, recorded-count, recorded-row}
 use Rattle.segment_tree.specs.Lives.{Counted, entryRowsIn}
-use Rattle.segment_tree.specs.Fill.{Met, met-end, met-next, lentTables, Closable, ClosedTree}
+use Rattle.segment_tree.specs.Fill.{lentTables, Closable, ClosedTree}
 use Rattle.layout.specs.Tables.{Tables, tables, lengthsOf, headAt}
 use Rattle.layout.specs.Encodes.{Encodes, closedState}
-use Rattle.layout.specs.Relations.{AppendedInOrder, SameBytes}
+use Rattle.layout.specs.Relations.{AppendedRows, SameBytes}
 use Rattle.layout.proofs.Lengths.{lent-same}
 use Rattle.layout.proofs.Unique.{links-one}
 use Rattle.layout.proofs.Opening.{getD-zeros, no-links}
@@ -110,43 +103,29 @@ module _ (e : ℕ) (rs : List PieceRow) (b : List ℕ) where
         behind : (link i : ℕ) → link ≡ suc (blockCount b) + i → i < length rs → offsetAt (grown e rs b) link + lengthAt (grown e rs b) link ≤ used
         behind link i at h = rw (at, grown-column i blockOffset h (omega arith), grown-column i blockLength h (omega arith)) (all-at noPiece new i h)
 
--- ── the order, as the closing of the tree asks for it ──
+-- ── the blocks, as the closing of the tree asks for them ──
 
-trail-met : {b : List ℕ} {lo hi low k : ℕ} {xs : List ℕ} → Trail b lo hi low k xs → Met b k (numbersOf xs)
-trail-met (order.end z) = met-end z
-trail-met {b} {k = k} (order.link {x = x} {xs = xs} e a u c r) =
-    met-next {link = k} {k = x - 1} (omega arith) (subst (λ (y : ℕ). Met b (nextAt b y) (numbersOf xs)) (sym e) (trail-met r))
-
-ranks-ascend : {key : ℕ → ℕ} {n : ℕ} {xs : List ℕ} → n ≤ 2 ^ 64 → All (λ k. k < n) xs → Ascending (λ k. rankOf (key k) k) xs → Pairs (λ x y. key x ≤ key y) xs
-ranks-ascend few all-nil pairs-nil = pairs-nil
-ranks-ascend {key} few (all-cons {x} h hs) (pairs-cons a p) =
-    pairs-cons {x = x} (all-both (λ y l r. rank-first (key x) x (key y) y r (omega arith)) hs a) (ranks-ascend few hs p)
-
-module _ (store : List ℕ) {b : List ℕ} {n : ℕ} {bs : List Block} (o : InOrder b n) (is : bs ≡ blocksOf store b n) where
+module _ (store b : List ℕ) {n : ℕ} {bs : List Block} (is : bs ≡ blocksOf store b n) where
   bs-length : length bs ≡ n
   bs-length = ap length is ∙ blocks-length store b n
 
-  pub closable : {nodes entries : List ℕ} {e kind : ℕ} → n ≤ 2 ^ 64 → 0 < e → e ≤ 2 ^ 63 → Counted nodes kind e (treeOf e bs) → nodeHead ≤ length nodes → entryHead ≤ length entries
-      → entryCount (treeOf e bs) ≤ entryRowsIn entries → Apart bs → All (λ (x : Block). 0 < size (x .stretch)) bs → Closable (lentTables b nodes entries) n e kind bs (numbersOf (o .links))
-  closable few some small counted nodes-headed entries-headed space apart filled = record {
-    some = some;
+  pub closable : {nodes entries : List ℕ} {e kind : ℕ} → e ≤ 2 ^ 63 → Counted nodes kind e (treeOf e bs) → nodeHead ≤ length nodes → entryHead ≤ length entries
+      → entryCount (treeOf e bs) ≤ entryRowsIn entries → Closable (lentTables b nodes entries) n e kind bs
+  unfolding blockOfRow
+  closable small counted nodes-headed entries-headed space = record {
     small = small;
     counted = counted;
     nodes-headed = nodes-headed;
     entries-headed = entries-headed;
     space = space;
+    many = sym bs-length;
     lives-are = rw (bs-length, is) (row-lives store b n);
-    apart = apart;
-    filled = filled;
-    met = trail-met (o .trail);
-    many = omega (arith, length-of-map (λ k. k - 1) (o .links), o .many);
-    once = λ k. rw bs-length (order-counts o k);
-    ascends = rw is (ranks-ascend few (order-blocks o store .below) (order-blocks o store .ascending));
+    cells-are = λ k h. sym (ap (λ (l : List Block). keyIn l k) is ∙ ap firstCell (blocks-at store b n k noBlock (omega (arith, bs-length))));
   }
 
 -- ── the finished tables ──
 
-module _ {pieces was store blank entries b nodes : List ℕ} {l : Ledger} (a : Accepted (tables pieces was store blank entries) b nodes l) where
+module _ {pieces was store blank entries nodes : List ℕ} {l : Ledger} (a : Accepted (tables pieces was store blank entries) nodes l) where
   abbrev t : Tables
   t = tables pieces was store blank entries
 
@@ -160,176 +139,136 @@ module _ {pieces was store blank entries b nodes : List ℕ} {l : Ledger} (a : A
   rs = pieceRows s
 
   abbrev n : ℕ
-  n = blockCount b
+  n = blockCount was
 
   abbrev g : List ℕ
-  g = grown e rs b
-
-  -- the order changes no other column of the head
-  head-is : (c : ℕ) → c < rowWidth → (c ≡ blockNext → ⊥) → blockColumn b 0 c ≡ headAt t c
-  head-is c h f = order-column (a .ordered .only) 0 c h f
+  g = grown e rs was
 
   count-is : n ≡ length (l .now .blocks)
-  count-is = head-is headCount (omega arith) (λ z. omega arith) ∙ s .encodes .count
+  count-is = s .encodes .count
 
   rows-many : length rs ≡ length (l .now .pieces)
   rows-many = sym (length-of-map (shown store) rs) ∙ ap length (sym (are-pieces s))
 
-  b-long : length b ≡ length was
-  b-long = a .ordered .only .len
+  headed : blockHead ≤ length was
+  headed = heads s .blocks
 
-  b-headed : blockHead ≤ length b
-  b-headed = omega (arith, b-long, heads s .blocks)
+  fits : Room was (n + length rs)
+  fits = omega (arith, room s, count-is, rows-many)
 
-  fits : Room b (n + length rs)
-  fits = omega (arith, b-long, room s, count-is, rows-many)
+  countable : length was < 2 ^ 64 → appending.Countable was (length rs)
+  countable few = record { head = headed; fits = omega (arith, few, fits) }
 
-  ordered : Ordered was b n
-  ordered = subst (λ (k : ℕ). Ordered was b k) (sym count-is) (a .ordered)
+  blocks-are : allBlocks l ≡ blocksOf store g (n + length rs)
+  blocks-are =
+      all-blocks s
+      ∙ ap (λ (k : ℕ). blocksOf store was k ++ map (settledRow store e) rs) (sym count-is)
+      ∙ sym (grown-blocks e rs was fits store)
 
-  g-order : InOrder g n
-  g-order = order-kept (grown-rows e rs b) (grown-other e rs b 0 blockNext (omega arith) (omega arith) (λ z w. omega arith) (λ z w. omega arith)) (ordered .order)
+  all-many : length (allBlocks l) ≡ n + length rs
+  all-many = ap length blocks-are ∙ blocks-length store g (n + length rs)
 
-  g-room : Room g (n + length rs)
-  g-room = omega (arith, fits, grown-length e rs b)
+  -- the head but for state and count
+  head-kept : (c : ℕ) → c < rowWidth → (c ≡ headCount → ⊥) → (c ≡ headState → ⊥) → blockColumn g 0 c ≡ headAt t c
+  head-kept c h f₁ f₂ = grown-other e rs was 0 c h (omega arith) (λ z. f₁) (λ z. f₂)
 
-  countable : length was < 2 ^ 64 → appending.Countable b (length rs)
-  countable few = record { head = b-headed; fits = omega (arith, few, b-long, fits) }
+  head-count : blockColumn g 0 headCount ≡ n + length rs
+  head-count = grown-count e rs was headed
 
-  module _ {b′ : List ℕ} (o : Ordered g b′ (n + length rs)) where
-    blocks-are : allBlocks l ≡ blocksOf store b′ (n + length rs)
-    blocks-are =
-        all-blocks s (a .ordered .only)
-        ∙ ap (λ (k : ℕ). blocksOf store b k ++ map (settledRow store e) rs) (sym count-is)
-        ∙ sym (grown-blocks e rs b fits store)
-        ∙ sym (blocks-order store (n + length rs) (o .only))
+  head-used : blockColumn g 0 headUsed ≡ headAt t headUsed
+  head-used = head-kept headUsed (omega arith) (λ z. omega arith) (λ z. omega arith)
 
-    all-many : length (allBlocks l) ≡ n + length rs
-    all-many = ap length blocks-are ∙ blocks-length store b′ (n + length rs)
+  all-stored : Stored (headAt t headUsed) g (n + length rs)
+  all-stored = grown-stored e rs was fits (headAt t headUsed) (s .encodes .blocks-stored) (all-of-map (pieceAt pieces) (s .encodes .pieces-stored))
 
-    b′-long : length b′ ≡ length was
-    b′-long = o .only .len ∙ grown-length e rs b ∙ b-long
+  same-bytes : (links : List ℕ) → Links pieces links → SameBytes pieces links g (length (l .now .blocks))
+  same-bytes links is = record {
+    offset = λ i h.
+        let one : links ≡ s .encodes .links = links-one pieces links (s .encodes .links) is (s .encodes .linked) in
+        let k : i < length (s .encodes .links) = rw (← one) h in
+        rw (← count-is, one)
+        (grown-column e rs was fits i blockOffset (rw (length-of-map (pieceAt pieces) (s .encodes .links)) k) (omega arith)
+        ∙ ap (λ (p : PieceRow). p .offset) (getD-of-map (pieceAt pieces) (s .encodes .links) i 0 noPiece k));
+  }
 
-    -- the head but for state, count and first in order
-    head-kept : (c : ℕ) → c < rowWidth → (c ≡ blockNext → ⊥) → (c ≡ headCount → ⊥) → (c ≡ headState → ⊥) → blockColumn b′ 0 c ≡ headAt t c
-    head-kept c h f f₁ f₂ = order-column (o .only) 0 c h f ∙ grown-other e rs b 0 c h (omega arith) (λ z. f₁) (λ z. f₂) ∙ head-is c h f
+  -- a column that is not used of a new row
+  new-zero : (link c : ℕ) → length (l .now .blocks) < link → link ≤ length (allBlocks l) → (c ≡ blockNext) ⊎ (c ≡ blockSpare) → blockColumn g link c ≡ 0
+  new-zero link c p q u =
+      let at : link ≡ suc n + (link - suc n) = omega (arith, count-is) in
+      let i : link - suc n < length rs = omega (arith, count-is, all-many) in
+      rw at (⊎-elim (λ (z : c ≡ blockNext). rw z (grown-column e rs was fits (link - suc n) blockNext i (omega arith)))
+      (λ (z : c ≡ blockSpare). rw z (grown-column e rs was fits (link - suc n) blockSpare i (omega arith))) u)
 
-    head-count : blockColumn b′ 0 headCount ≡ n + length rs
-    head-count = order-column (o .only) 0 headCount (omega arith) (λ z. omega arith) ∙ grown-count e rs b b-headed
+  -- the head but for what is set, the old rows, and what lies past all rows
+  appended-rows : AppendedRows was g (length (l .now .blocks)) (length (allBlocks l))
+  appended-rows = record {
+    len = grown-length e rs was;
+    head = λ i h f₁ f₂.
+        getD-set-other (recorded e rs was) statePlace i closedState 0 (λ q. f₁ (omega arith)) ∙ recorded-out e rs was i (λ q. f₂ (omega arith)) (inl (omega arith));
+    rows = λ k c p q h. grown-other e rs was k c h (omega (arith, count-is)) (λ z. absurd (omega arith)) (λ z. absurd (omega arith));
+    next = λ link p q. new-zero link blockNext p q (inl refl);
+    spare = λ link p q. new-zero link blockSpare p q (inr refl);
+    rest = λ i h. let z : length (allBlocks l) ≡ n + length rs = all-many in grown-rest e rs was i (omega arith);
+  }
 
-    head-state : blockColumn b′ 0 headState ≡ closedState
-    head-state = order-column (o .only) 0 headState (omega arith) (λ z. omega arith) ∙ grown-state e rs b b-headed
+  tree-closable : Closable (lentTables g nodes entries) (n + length rs) e (l .opening .kind) (allBlocks l)
+  tree-closable =
+      closable store g blocks-are (s .sound .board .end-most) (a .tallied .counted) (omega (arith, a .nodes-long, heads s .nodes)) (heads s .entries) (a .tallied .space)
 
-    head-used : blockColumn b′ 0 headUsed ≡ headAt t headUsed
-    head-used = head-kept headUsed (omega arith) (λ z. omega arith) (λ z. omega arith) (λ z. omega arith)
+  module _ {nodes′ entries′ : List ℕ} (nodes-long : length nodes′ ≡ length nodes) (entries-long : length entries′ ≡ length entries)
+      (tree : closed.Closed (lentTables g nodes′ entries′) (l .opening .kind) e (wholeTree l)) (alone : TreeAlone nodes′ entries′ (wholeTree l)) where
+    abbrev t′ : Tables
+    t′ = tables (replicate (length pieces) 0) g store nodes′ entries′
 
-    all-stored : Stored (headAt t headUsed) b′ (n + length rs)
-    all-stored =
-        stored-order (o .only) (grown-stored e rs b fits (headAt t headUsed)
-        (subst (λ (k : ℕ). Stored (headAt t headUsed) b k) (sym (head-is headCount (omega arith) (λ z. omega arith))) (stored-order (a .ordered .only) (s .encodes .blocks-stored)))
-        (all-of-map (pieceAt pieces) (s .encodes .pieces-stored)))
+    same-lengths : lengthsOf t ≡ lengthsOf t′
+    same-lengths =
+        lent-same (lengthsOf t) (lengthsOf t′) (sym (length-replicate (length pieces) 0)) (sym (grown-length e rs was)) refl (sym (nodes-long ∙ a .nodes-long)) (sym entries-long)
 
-    all-filled : All (λ (x : Block). 0 < size (x .stretch)) (allBlocks l)
-    all-filled = all-map (λ x h. h .stretch .some-cell) (settled-sound l (s .sound .board))
-
-    -- a column of a new row, but for the order
-    new-column : (i c : ℕ) → i < length rs → c < rowWidth → (c ≡ blockNext → ⊥) → blockColumn b′ (suc n + i) c ≡ getD (blockRow (blockRowOf e (getD rs i noPiece))) c 0
-    new-column i c h k f = order-column (o .only) (suc n + i) c k f ∙ grown-column e rs b fits i c h k
-
-    same-bytes : (links : List ℕ) → Links pieces links → SameBytes pieces links b′ (length (l .now .blocks))
-    same-bytes links is = record {
-      offset = λ i h.
-          let one : links ≡ s .encodes .links = links-one pieces links (s .encodes .links) is (s .encodes .linked) in
-          let k : i < length (s .encodes .links) = rw (← one) h in
-          rw (← count-is, one)
-          (new-column i blockOffset (rw (length-of-map (pieceAt pieces) (s .encodes .links)) k) (omega arith) (λ z. omega arith)
-          ∙ ap (λ (p : PieceRow). p .offset) (getD-of-map (pieceAt pieces) (s .encodes .links) i 0 noPiece k));
+    finished-encodes : Encodes t′ (finishBy l)
+    unfolding finishBy
+    finished-encodes = record {
+      lengths = s .encodes .lengths ∙ same-lengths;
+      heads = rw (← same-lengths) (s .encodes .heads);
+      state = grown-state e rs was headed;
+      end = head-kept headEnd (omega arith) (λ z. omega arith) (λ z. omega arith) ∙ s .encodes .end;
+      kind = head-kept headKind (omega arith) (λ z. omega arith) (λ z. omega arith) ∙ s .encodes .kind;
+      last = head-kept headLast (omega arith) (λ z. omega arith) (λ z. omega arith) ∙ s .encodes .last;
+      used = head-used ∙ s .encodes .used;
+      store = s .encodes .store ∙ ap (λ (k : ℕ). take k store) (sym head-used);
+      count = head-count ∙ sym all-many;
+      blocks = blocks-are ∙ ap (blocksOf store g) (sym head-count);
+      blocks-stored = rw (head-used, head-count) all-stored;
+      links = [];
+      linked = no-links (replicate (length pieces) 0) (omega (arith, length-replicate {A = ℕ} (length pieces) 0, heads s .pieces)) (getD-zeros (length pieces));
+      pieces = refl;
+      pieces-stored = all-nil;
+      tree = tree;
     }
 
-    -- the head and the old rows but for what is set and the order, and what lies past all rows
-    appended-in-order : AppendedInOrder was b′ (length (l .now .blocks)) (length (allBlocks l))
-    appended-in-order = record {
-      len = b′-long;
-      head = λ i h f₁ f₂ f₃.
-          o .only .same i (λ k p q. f₃ (omega arith))
-          ∙ getD-set-other (recorded e rs b) statePlace i closedState 0 (λ q. f₁ (omega arith))
-          ∙ recorded-out e rs b i (λ q. f₂ (omega arith)) (inl (omega arith))
-          ∙ a .ordered .only .same i (λ k p q. f₃ (omega arith));
-      rows = λ k c p q h f.
-          order-column (o .only) k c h f
-          ∙ grown-other e rs b k c h (omega (arith, count-is)) (λ z. absurd (omega arith)) (λ z. absurd (omega arith))
-          ∙ order-column (a .ordered .only) k c h f;
-      spare = λ link p q.
-          let at : link ≡ suc n + (link - suc n) = omega (arith, count-is) in
-          rw at (new-column (link - suc n) blockSpare (omega (arith, count-is, all-many)) (omega arith) (λ z. omega arith));
-      rest = λ i h.
-          let z : length (allBlocks l) ≡ n + length rs = all-many in
-          o .only .same i (λ k p q. omega arith)
-          ∙ grown-rest e rs b i (omega arith)
-          ∙ a .ordered .only .same i (λ k p q. omega (arith, count-is));
-    }
-
-    tree-closable : length was < 2 ^ 64 → Closable (lentTables b′ nodes entries) (n + length rs) e (l .opening .kind) (allBlocks l) (numbersOf (o .order .links))
-    tree-closable few =
-        closable store (o .order) blocks-are (omega (arith, few, b-long, fits)) (omega (arith, s .sound .board .some-tick)) (s .sound .board .end-most) (a .tallied .counted)
-        (omega (arith, a .nodes-long, heads s .nodes)) (heads s .entries) (a .tallied .space) (a .tallied .apart) all-filled
-
-    module _ {nodes′ entries′ : List ℕ} (nodes-long : length nodes′ ≡ length nodes) (entries-long : length entries′ ≡ length entries)
-        (tree : closed.Closed (lentTables b′ nodes′ entries′) (l .opening .kind) e (wholeTree l)) (alone : TreeAlone nodes′ entries′ (wholeTree l)) where
-      abbrev t′ : Tables
-      t′ = tables (replicate (length pieces) 0) b′ store nodes′ entries′
-
-      same-lengths : lengthsOf t ≡ lengthsOf t′
-      same-lengths =
-          lent-same (lengthsOf t) (lengthsOf t′) (sym (length-replicate (length pieces) 0)) (sym b′-long) refl (sym (nodes-long ∙ a .nodes-long)) (sym entries-long)
-
-      finished-encodes : Encodes t′ (finishBy l)
-      unfolding finishBy
-      finished-encodes = record {
-        lengths = s .encodes .lengths ∙ same-lengths;
-        heads = rw (← same-lengths) (s .encodes .heads);
-        state = head-state;
-        end = head-kept headEnd (omega arith) (λ z. omega arith) (λ z. omega arith) (λ z. omega arith) ∙ s .encodes .end;
-        kind = head-kept headKind (omega arith) (λ z. omega arith) (λ z. omega arith) (λ z. omega arith) ∙ s .encodes .kind;
-        last = head-kept headLast (omega arith) (λ z. omega arith) (λ z. omega arith) (λ z. omega arith) ∙ s .encodes .last;
-        used = head-used ∙ s .encodes .used;
-        store = s .encodes .store ∙ ap (λ (k : ℕ). take k store) (sym head-used);
-        count = head-count ∙ sym all-many;
-        blocks = blocks-are ∙ ap (blocksOf store b′) (sym head-count);
-        blocks-stored = rw (head-used, head-count) all-stored;
-        links = [];
-        linked = no-links (replicate (length pieces) 0) (omega (arith, length-replicate {A = ℕ} (length pieces) 0, heads s .pieces)) (getD-zeros (length pieces));
-        pieces = refl;
-        pieces-stored = all-nil;
-        tree = (subst (λ (k : ℕ). InOrder b′ k) (sym all-many) (o .order), tree);
-      }
-
-      finished-tables : Finished l t t′
-      unfolding finishBy
-      finished-tables = record { encodes = finished-encodes; tables-are = record { pieces = refl; store = refl; blocks = appended-in-order; bytes = same-bytes; tree = alone } }
+    finished-tables : Finished l t t′
+    unfolding finishBy
+    finished-tables = record { encodes = finished-encodes; tables-are = record { pieces = refl; store = refl; blocks = appended-rows; bytes = same-bytes; tree = alone } }
 
 -- ── the return of `settle` ──
 
-pub settle-done : {pieces b nodes entries b₁ b₂ b₃ nodes′ entries′ pieces′ : List ℕ} {end kind old all : ℕ} → length pieces < 2 ^ 64 → length b < 2 ^ 64
-    → length nodes′ ≡ length nodes → length entries′ ≡ length entries → end ≡ blockColumn b 0 headEnd → kind ≡ blockColumn b 0 headKind → old ≡ blockCount b
-    → ExtractedMembers pieces b b₁ end → b₂ ≡ set b₁ statePlace closedState → all ≡ blockCount b₂ → SortedMore b₂ b₃ old all
-    → ClosedTree (lentTables b₃ nodes entries) (lentTables b₃ nodes′ entries′) all end kind → pieces′ ≡ replicate (length pieces) 0 → SettledTables pieces b nodes entries pieces′ b₃ nodes′ entries′
-settle-done {pieces} {b} {nodes} {entries} {b₁} {b₂} {b₃} {nodes′} {entries′} {pieces′} {end} {kind} {old} {all} few-pieces few-blocks nodes-long entries-long
-    ee ek er ex put count sort close zeros = record { done = go }
+pub settle-done : {pieces b nodes entries b₁ b₂ nodes′ entries′ pieces′ : List ℕ} {end kind all : ℕ} → length pieces < 2 ^ 64 → length b < 2 ^ 64
+    → length nodes′ ≡ length nodes → length entries′ ≡ length entries → end ≡ blockColumn b 0 headEnd → kind ≡ blockColumn b 0 headKind
+    → ExtractedMembers pieces b b₁ end → b₂ ≡ set b₁ statePlace closedState → all ≡ blockCount b₂
+    → ClosedTree (lentTables b₂ nodes entries) (lentTables b₂ nodes′ entries′) all end kind → pieces′ ≡ replicate (length pieces) 0 → SettledTables pieces b nodes entries pieces′ b₂ nodes′ entries′
+settle-done {pieces} {b} {nodes} {entries} {b₁} {b₂} {nodes′} {entries′} {pieces′} {end} {kind} {all} few-pieces few-blocks nodes-long entries-long
+    ee ek ex put count close zeros = record { done = go }
   where
-    go : (was blank store : List ℕ) (l : Ledger) → Accepted (tables pieces was store blank entries) b nodes l
-        → Finished l (tables pieces was store blank entries) (tables pieces′ b₃ store nodes′ entries′)
-    go was blank store l a =
-        let few : length was < 2 ^ 64 = omega (arith, b-long a) in
-        let end-is : end ≡ l .opening .end = ee ∙ head-is a headEnd (omega arith) (λ z. omega arith) ∙ a .stands .encodes .end in
-        let kind-is : kind ≡ l .opening .kind = ek ∙ head-is a headKind (omega arith) (λ z. omega arith) ∙ a .stands .encodes .kind in
-        let b₁-is : b₁ ≡ recorded end (rs a) b = ex .done (rs a) (rep (a .stands) few-pieces) (countable a few) in
+    go : (blank store : List ℕ) (l : Ledger) → Accepted (tables pieces b store blank entries) nodes l
+        → Finished l (tables pieces b store blank entries) (tables pieces′ b₂ store nodes′ entries′)
+    go blank store l a =
+        let end-is : end ≡ l .opening .end = ee ∙ a .stands .encodes .end in
+        let kind-is : kind ≡ l .opening .kind = ek ∙ a .stands .encodes .kind in
+        let b₁-is : b₁ ≡ recorded end (rs a) b = ex .done (rs a) (rep (a .stands) few-pieces) (countable a few-blocks) in
         let b₂-is : b₂ ≡ g a = put ∙ ap (λ (x : List ℕ). set x statePlace closedState) (b₁-is ∙ ap (λ (k : ℕ). recorded k (rs a) b) end-is) in
-        let all-is : all ≡ n a + length (rs a) = count ∙ ap blockCount b₂-is ∙ grown-count (l .opening .end) (rs a) b (b-headed a) in
-        let sorted : SortedMore (g a) b₃ (n a) (n a + length (rs a)) = rw (← b₂-is, ← all-is, ← er) sort in
-        let o : Ordered (g a) b₃ (n a + length (rs a)) = sorted .done (g-order a) (omega arith) (g-room a) in
-        let made : ClosedTree (lentTables b₃ nodes entries) (lentTables b₃ nodes′ entries′) (n a + length (rs a)) (l .opening .end) (l .opening .kind) = rw (← all-is, ← end-is, ← kind-is) close in
-        let c = tree-closable a o few in
-        rw zeros
-        (finished-tables a o nodes-long entries-long (made .done (allBlocks l) (numbersOf (o .order .links)) c)
-        (made .alone (allBlocks l) (numbersOf (o .order .links)) c (a .entry-zeros)))
+        let all-is : all ≡ n a + length (rs a) = count ∙ ap blockCount b₂-is ∙ grown-count (l .opening .end) (rs a) b (headed a) in
+        let made : ClosedTree (lentTables (g a) nodes entries) (lentTables (g a) nodes′ entries′) (n a + length (rs a)) (l .opening .end) (l .opening .kind)
+        = rw (← b₂-is, ← all-is, ← end-is, ← kind-is) close in
+        let c = tree-closable a in
+        rw (zeros, b₂-is)
+        (finished-tables a nodes-long entries-long (made .done (allBlocks l) c)
+        (made .alone (allBlocks l) c (a .entry-zeros)))

@@ -10,7 +10,6 @@ use Rattle.block_table.specs.Blocks.{firstCellAt, lengthAt, createdAt, destroye
 use Rattle.piece_table.specs.Piece.{PieceRow, rowEnd}
 use Rattle.piece_table.specs.Rep.{Rep}
 use Rattle.ordering.specs.Apart.{Unshared}
-use Rattle.index_finish.specs.Trial.{Tryable}
 
 -- ── a block and a piece ──
 
@@ -47,8 +46,3 @@ pub record BlocksClear (pieces blocks : List ℕ) (n : ℕ) (r : Bool) : Type 0 
 pub record NoneShared (blocks : List ℕ) (n : ℕ) (ps : List PieceRow) : Type 0 where
   pub blocks-apart : Unshared blocks n
   pub pieces-apart : Uncrossed blocks n ps
-
--- `all_apart`: the tables that are tried in are as they were, and it is decided
-pub record AllApart (pieces blocks nodes entries : List ℕ) (kind end n : ℕ) (nodes′ entries′ : List ℕ) (r : Bool) : Type 0 where
-  pub kept : (store : List ℕ) → Tryable store blocks nodes entries kind end n → (nodes′ ≡ nodes) × (entries′ ≡ entries)
-  pub decides : (ps : List PieceRow) → Rep pieces ps → (store : List ℕ) → Tryable store blocks nodes entries kind end n → Decides r (NoneShared blocks n ps)

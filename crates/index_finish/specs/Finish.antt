@@ -13,7 +13,6 @@ use Rattle.history.specs.Ledger.{Ledger, finished, settled, finishBy}
 use Rattle.history.specs.Results.{Result, done}
 use Rattle.history.specs.Refusals.{Answer, accepted, refused, finishAnswer}
 use Rattle.history.specs.Sound.{Sound}
-use Rattle.ordering.specs.Order.{Ordered}
 use Rattle.segment_tree.specs.Lives.{Counted, entryRowsIn}
 use Rattle.layout.specs.Tables.{Tables, tables}
 use Rattle.layout.specs.Encodes.{Encodes}
@@ -78,23 +77,21 @@ pub record Tallied (t : Tables) (nodes : List ℕ) (l : Ledger) : Type 0 where
   pub counted : Counted nodes (l .opening .kind) (l .opening .end) (wholeTree l)
   pub space : entryCount (wholeTree l) ≤ entryRowsIn (t .entries)
 
--- the answer, and on a refusal the nodes as they were; the entries are zeros still
-pub record Tallying (l : Ledger) (t : Tables) (nodes entries : List ℕ) (r : ℕ) : Type 0 where
-  pub formed : Apart (allBlocks l) → r ≡ numberOf (finishAnswer l)
-  pub unformed : (Apart (allBlocks l) → ⊥) → r ≡ 2
+-- the tables are as they were, and rule 24 is decided, each piece counted as live up to the end
+pub record TriedAll (l : Ledger) (t : Tables) (blocks nodes entries : List ℕ) (r : Bool) : Type 0 where
+  pub blocks-same : blocks ≡ t .blocks
+  pub nodes-same : nodes ≡ t .nodes
   pub entries-same : entries ≡ t .entries
-  pub refused-same : (r ≡ 0 → ⊥) → nodes ≡ t .nodes
-  pub accepted-counted : r ≡ 0 → Tallied t nodes l
+  pub decides : Decides r (Apart (allBlocks l))
 
--- `count_all`: `blocks` is the block table in order, `was` what it was before
-pub record CountedAll (pieces blocks nodes entries nodes′ entries′ : List ℕ) (r : ℕ) : Type 0 where
-  pub done : (was store : List ℕ) (l : Ledger) → StandsOpen (tables pieces was store nodes entries) l → Blank (tables pieces was store nodes entries)
-      → Ordered was blocks (length (l .now .blocks)) → Tallying l (tables pieces was store nodes entries) nodes′ entries′ r
+-- `all_apart`
+pub record AllApart (pieces blocks nodes entries : List ℕ) (kind end n : ℕ) (blocks′ nodes′ entries′ : List ℕ) (r : Bool) : Type 0 where
+  pub done : (store : List ℕ) (l : Ledger) → StandsOpen (tables pieces blocks store nodes entries) l → Blank (tables pieces blocks store nodes entries)
+      → kind ≡ l .opening .kind → end ≡ l .opening .end → n ≡ length (l .now .blocks) → TriedAll l (tables pieces blocks store nodes entries) blocks′ nodes′ entries′ r
 
--- Nothing is changed yet but that the block rows stand in order and the tree is counted.
-pub record Accepted (t : Tables) (blocks nodes : List ℕ) (l : Ledger) : Type 0 where
+-- Nothing is changed yet but that the tree is counted.
+pub record Accepted (t : Tables) (nodes : List ℕ) (l : Ledger) : Type 0 where
   pub stands : StandsOpen t l
-  pub ordered : Ordered (t .blocks) blocks (length (l .now .blocks))
   pub tallied : Tallied t nodes l
   pub nodes-long : length nodes ≡ length (t .nodes)
   pub entry-zeros : t .entries ≡ replicate (length (t .entries)) 0
@@ -103,9 +100,10 @@ pub record Accepted (t : Tables) (blocks nodes : List ℕ) (l : Ledger) : Type 0
 pub record Preparing (l : Ledger) (t : Tables) (blocks nodes entries : List ℕ) (r : ℕ) : Type 0 where
   pub formed : Finishable t l → r ≡ numberOf (finishAnswer l)
   pub unformed : (Finishable t l → ⊥) → r ≡ 2
+  pub blocks-same : blocks ≡ t .blocks
   pub entries-same : entries ≡ t .entries
-  pub refused-same : (r ≡ 0 → ⊥) → (blocks ≡ t .blocks) × (nodes ≡ t .nodes)
-  pub accepted-counted : r ≡ 0 → Accepted t blocks nodes l
+  pub refused-same : (r ≡ 0 → ⊥) → nodes ≡ t .nodes
+  pub accepted-counted : r ≡ 0 → Accepted t nodes l
 
 -- `prepare`
 pub record Prepared (pieces blocks nodes entries blocks′ nodes′ entries′ : List ℕ) (r : ℕ) : Type 0 where
@@ -121,5 +119,5 @@ pub record Finished (l : Ledger) (t t′ : Tables) : Type 0 where
 
 -- `settle`
 pub record SettledTables (pieces blocks nodes entries pieces′ blocks′ nodes′ entries′ : List ℕ) : Type 0 where
-  pub done : (was blank store : List ℕ) (l : Ledger) → Accepted (tables pieces was store blank entries) blocks nodes l
-      → Finished l (tables pieces was store blank entries) (tables pieces′ blocks′ store nodes′ entries′)
+  pub done : (blank store : List ℕ) (l : Ledger) → Accepted (tables pieces blocks store blank entries) nodes l
+      → Finished l (tables pieces blocks store blank entries) (tables pieces′ blocks′ store nodes′ entries′)

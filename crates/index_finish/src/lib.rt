@@ -1,7 +1,7 @@
 // The work of finish on tables that stand for an open index. Ports `Indexer::finalize` of mod.rs and the building of spacetime_index.rs.
 //
 //   rule              rule 24, each piece counted as live up to the end
-//   trial             rule 24 of the blocks alone, by a tree where cells have many versions
+//   trial             rule 24 of the blocks alone, by a tree of theirs, where the rows do not show it
 //   specs/Apart       which blocks and pieces share a cell at a tick, and what the tests decide
 //   specs/Trial       the same of blocks alone
 //   specs/Finish      what finish answers and leaves
@@ -10,12 +10,13 @@
 //   proofs/Clearing   one step for each turn and each return of the tests
 //   proofs/Standing   what tables that stand for an open ledger have
 //   proofs/Agreeing   rule 24 over rows is history's over all blocks
+//   proofs/Handed     what is seen along the rows is rule 24
 //   proofs/Counting   the tree that is counted is that of all blocks, and the answer is the ledger's
 //   proofs/Settling   an accepted finish leaves the tables of the finished ledger
 //   proofs/Trying     one step for each return of the trial
 //   proofs/Finishing  one step for each return of the others
 //   proofs/Public     so finish does what layout's relation says: one step for each return of `finish_open`
-ghost use Rattle.index_finish.specs.Finish.{TestedBlank, CountedAll, Prepared, SettledTables};
+ghost use Rattle.index_finish.specs.Finish.{TestedBlank, Prepared, SettledTables};
 ghost use Rattle.index_finish.specs.Answers.{finishedOf, FinishesOpen};
 use tables::block;
 use tables::piece;
@@ -44,12 +45,14 @@ fn blank(nodes: &[u64], entries: &[u64]) -> bool
     tables::all_zero(entries)
 }
 
-// Tests rule 24 on blocks in order and on the pieces, and counts the tree of all of them; or tells the refusal, and leaves the nodes zeros. The
-// entries are zeros again.
-fn count_all(pieces: &[u64], blocks: &[u64], nodes: &mut [u64], entries: &mut [u64]) -> u64
-    ensures { λ r. ⌜ CountedAll (now (pieces .entry)) (now (blocks .entry)) (now (nodes .entry)) (now (entries .entry))
-        (now (nodes .exit)) (now (entries .exit)) r ⌝ }
+// Tests rule 24 and counts the tree of all blocks and pieces; or tells the refusal, and leaves everything as it was.
+fn prepare(pieces: &[u64], blocks: &mut [u64], nodes: &mut [u64], entries: &mut [u64]) -> u64
+    ensures { λ r. ⌜ Prepared (now (pieces .entry)) (now (blocks .entry)) (now (nodes .entry)) (now (entries .entry))
+        (now (blocks .exit)) (now (nodes .exit)) (now (entries .exit)) r ⌝ }
 {
+    if !blank(nodes, entries) {
+        return UNFORMED;
+    }
     let n = block_table::count(blocks);
     let end = block_table::end(blocks);
     let kind = block_table::kind(blocks);
@@ -60,36 +63,16 @@ fn count_all(pieces: &[u64], blocks: &[u64], nodes: &mut [u64], entries: &mut [u
     segment_tree::build::count_tree(nodes, entries, blocks, n, pieces, m, end, kind)
 }
 
-// Orders the blocks and counts the tree; or tells the refusal, and leaves everything as it was.
-fn prepare(pieces: &[u64], blocks: &mut [u64], nodes: &mut [u64], entries: &mut [u64]) -> u64
-    ensures { λ r. ⌜ Prepared (now (pieces .entry)) (now (blocks .entry)) (now (nodes .entry)) (now (entries .entry))
-        (now (blocks .exit)) (now (nodes .exit)) (now (entries .exit)) r ⌝ }
-{
-    if !blank(nodes, entries) {
-        return UNFORMED;
-    }
-    let n = block_table::count(blocks);
-    ordering::sort(blocks, n);
-    let told = count_all(pieces, blocks, nodes, entries);
-    if told != DONE {
-        ordering::clear_order(blocks, n);
-        return told;
-    }
-    DONE
-}
-
-// Turns the pieces into blocks, takes them into the order, and closes the tree that is counted already.
+// Turns the pieces into blocks, and closes the tree that is counted already.
 fn settle(pieces: &mut [u64], blocks: &mut [u64], nodes: &mut [u64], entries: &mut [u64])
     ensures { λ _. ⌜ SettledTables (now (pieces .entry)) (now (blocks .entry)) (now (nodes .entry)) (now (entries .entry))
         (now (pieces .exit)) (now (blocks .exit)) (now (nodes .exit)) (now (entries .exit)) ⌝ }
 {
     let end = block_table::end(blocks);
     let kind = block_table::kind(blocks);
-    let recorded = block_table::count(blocks);
     recording::extract_members(pieces, blocks, end);
     block_table::set_state(blocks, block::CLOSED);
     let all = block_table::count(blocks);
-    ordering::sort_more(blocks, recorded, all);
     segment_tree::close::close_tree(nodes, entries, blocks, all, end, kind);
     tables::zero(pieces);
 }

@@ -221,7 +221,7 @@ module _ {pieces blocks store bytes : List ℕ} {tick first n : ℕ}
             (space-same (tables pieces blocks store nodes entries) l (operation tick first bytes) e m r (tells nodes entries l e s) (space .finds) .number full);
       }
 
-      pub judge-update : {cell : ℕ} → m ≡ 0 → cell ≡ first + r .same → Judged pieces blocks store (operation tick first bytes) (Update cell)
+      pub judge-update : {cell near : ℕ} → m ≡ 0 → cell ≡ first + r .same → Judged pieces blocks store (operation tick first bytes) (Update cell near)
       judge-update {cell} free is = record {
         says = λ nodes entries l scratch long e s still. (
           answer-update l scratch (operation tick first bytes) (ap tooShort (e .lengths) ∙ e .heads) long still (passes nodes entries l e) (update nodes entries l e s)

@@ -47,7 +47,7 @@ module _ {p b s bytes : List ℕ} {tick first : ℕ} {v : Verdict} (judged : Jud
         (sym (says .0), leaves-read l scratch o t (tables p b′ s nodes entries) (says .0) (says .1) (subst (λ (x : Tables). Encodes x (recordBy l (operation tick first bytes))) (sym same) (read-encodes t l o e still (says .1))) same);
   }
 
-  pub open-update : {p′ b′ s′ : List ℕ} {cell : ℕ} → v ≡ Update cell → UpdateApplied p b s p′ b′ s′ (operation tick first bytes)
+  pub open-update : {p′ b′ s′ : List ℕ} {cell near : ℕ} → v ≡ Update cell near → UpdateApplied p b s p′ b′ s′ (operation tick first bytes)
       → RecordedOpen p b s p′ b′ s′ (operation tick first bytes) (IsUpdate cell)
   open-update {p′} {b′} {s′} {cell} is applied = record {
     formed = λ nodes entries l scratch long e sound still.

@@ -31,7 +31,7 @@ operation tick first bytes = record { tick = tick; first = first; bytes = bytes 
 abbrev pub Verdicts : Verdict → Ledger → (scratch : ℕ) → Operation → Type 0
 Verdicts (Refused n) l scratch o = recordAnswer l scratch o ≡ refused n
 Verdicts Read l scratch o = (recordAnswer l scratch o ≡ accepted read) × (isRead (l .now) o ≡ true)
-Verdicts (Update c) l scratch o = (recordAnswer l scratch o ≡ accepted (update c)) × (isRead (l .now) o ≡ false)
+Verdicts (Update c near) l scratch o = (recordAnswer l scratch o ≡ accepted (update c)) × (isRead (l .now) o ≡ false)
 
 -- `refusal`
 pub record Judged (pieces blocks store : List ℕ) (o : Operation) (v : Verdict) : Type 0 where

@@ -17,11 +17,12 @@ ghost use Rattle.index_record.specs.Calls.{operation, Judged, ReadApplie
 use tables::block;
 use tables::piece;
 
-// What becomes of an operation: the number of its refusal, or what it is; of an update the lowest cell that it changes.
+// What becomes of an operation: the number of its refusal, or what it is; of an update the lowest cell that it changes, and a guess for the link of the
+// lowest piece that it meets.
 pub enum Verdict {
     Refused(u64),
     Read,
-    Update(u64),
+    Update(u64, u64),
 }
 
 // The answer of record: a read, or an update with the lowest cell that was unknown or had another byte.
@@ -109,6 +110,7 @@ pub fn refusal(
     }
     let after = survey::survey(pieces, store, first, bytes);
     let same = after.same;
+    let near = after.near;
     if size <= same {
         return Verdict::Read;
     }
@@ -118,7 +120,7 @@ pub fn refusal(
     if full != 0 {
         return Verdict::Refused(full);
     }
-    Verdict::Update(first + same)
+    Verdict::Update(first + same, near)
 }
 
 // ── what an accepted operation does ──
@@ -130,7 +132,8 @@ pub fn enter_read(blocks: &mut [u64], tick: u64)
     block_table::set_last(blocks, tick);
 }
 
-// An update: its bytes enter the store behind the used part, pieces are cut and recorded as blocks, and the operation becomes a piece.
+// An update: its bytes enter the store behind the used part, pieces are cut and recorded as blocks, and the operation becomes a piece. `near` is
+// a guess for the link of the lowest piece that it meets.
 pub fn enter_update(
     pieces: &mut [u64],
     blocks: &mut [u64],
@@ -138,6 +141,7 @@ pub fn enter_update(
     tick: u64,
     first: u64,
     bytes: &[u8],
+    near: u64,
 )
     ensures { λ _. ⌜ UpdateApplied (now (pieces .entry)) (now (blocks .entry)) (now (store .entry)) (now (pieces .exit)) (now (blocks .exit)) (now (store .exit))
         (operation tick first (now (bytes .entry))) ⌝ }
@@ -149,7 +153,7 @@ pub fn enter_update(
         return;
     }
     tables::copy_in(store, used as usize, bytes);
-    recording::apply_update(pieces, blocks, tick, first, size, used, kind);
+    recording::apply_update(pieces, blocks, tick, first, size, used, kind, near);
     block_table::set_used(blocks, used + size);
     block_table::set_last(blocks, tick);
 }
@@ -173,8 +177,8 @@ pub fn record_open(
             enter_read(blocks, tick);
             Recorded::Read
         }
-        Verdict::Update(cell) => {
-            enter_update(pieces, blocks, store, tick, first, bytes);
+        Verdict::Update(cell, near) => {
+            enter_update(pieces, blocks, store, tick, first, bytes, near);
             Recorded::Update(cell)
         }
     }

@@ -21,7 +21,7 @@ use Rattle.block_table.specs.Blocks.{blocksOf, blockOfRow, Stored}
 use Rattle.block_table.proofs.Blocks.{blocks-length, blocks-at}
 use Rattle.piece_table.specs.Piece.{pieceAt}
 use Rattle.piece_table.specs.Shown.{shown}
-use Rattle.ordering.specs.Order.{InOrder, Unordered}
+use Rattle.ordering.specs.Order.{Unordered}
 use Rattle.segment_test.specs.Test.{BlockRows, ClosedTree}
 use Rattle.segment_apart.specs.Apart.{AllBounded, ClosedApart}
 use Rattle.segment_apart.proofs.Agreeing.{closed-decides}
@@ -58,14 +58,8 @@ rows-stored t b = record { inside = λ link p q. omega (arith, b .rows .rows lin
 pub closed-pieces : (t : Tables) (n : ℕ) → n ≡ column (t .pieces) 0 piecesCount → (n ≡ 0 → ⊥) → TestedClosed t false
 closed-pieces t n e ne = record { decides = λ b. refute (λ p. ne (e ∙ p .no-pieces)) }
 
-pub closed-order : (t : Tables) (n : ℕ) (r : Bool) → n ≡ headAt t headCount → not r ≡ true → Decides r (InOrder (t .blocks) n) → TestedClosed t false
-closed-order t n r e no-order d = record { decides = λ b. refute (λ p. d .not (not-true r no-order) (rw e (p .order))) }
-
-module _ (t : Tables) (n kind end : ℕ) (o r : Bool) (e : n ≡ headAt t headCount) (k : kind ≡ headAt t headKind) (f : end ≡ headAt t headEnd) (ordered : not o ≡ false)
-    (d : Decides o (InOrder (t .blocks) n)) (trees : (bs : List Block) → BlockRows (t .blocks) n bs → Decides r (ClosedTree (treeTables t) kind end bs)) where
-  in-order : InOrder (t .blocks) (headAt t headCount)
-  in-order = rw (← e) (d .yes (not-false o ordered))
-
+module _ (t : Tables) (n kind end : ℕ) (r : Bool) (e : n ≡ headAt t headCount) (k : kind ≡ headAt t headKind) (f : end ≡ headAt t headEnd)
+    (trees : (bs : List Block) → BlockRows (t .blocks) n bs → Decides r (ClosedTree (treeTables t) kind end bs)) where
   tree-tested : Decides r (ClosedTree (treeTables t) (headAt t headKind) (headAt t headEnd) (blocksOf (t .store) (t .blocks) (headAt t headCount)))
   tree-tested = rw (k, f) at (trees (blocksOf (t .store) (t .blocks) (headAt t headCount)) (rw e (block-rows t)))
 
@@ -78,11 +72,11 @@ module _ (t : Tables) (n kind end : ℕ) (o r : Bool) (e : n ≡ headAt t headCo
     decides = λ b.
         let tree = tree-tested .yes (not-false r stands) in
         let here : ClosedApart (treeTables t) (headAt t headKind) (headAt t headEnd) (headAt t headCount) a = rw (e, k, f) at test in
-        decides-iff a (λ x. record { no-pieces = sym p ∙ zero; order = in-order; apart = x; tree = tree }) (λ x. x .apart)
-        (closed-decides (treeTables t) (headAt t headKind) (headAt t headEnd) (headAt t headCount) (t .store) here (block-rows t) tree (rows-bounded t b) (rows-stored t b) in-order);
+        decides-iff a (λ x. record { no-pieces = sym p ∙ zero; apart = x; tree = tree }) (λ x. x .apart)
+        (closed-decides (treeTables t) (headAt t headKind) (headAt t headEnd) (headAt t headCount) (t .store) here (block-rows t) tree (rows-bounded t b) (rows-stored t b));
   }
 
-pub ruleset closing = (closed-pieces, closed-order, closed-tree, closed-apart)
+pub ruleset closing = (closed-pieces, closed-tree, closed-apart)
 
 -- ── all tables ──
 
@@ -145,8 +139,8 @@ module _ (t : Tables) (l : Ledger) (tree : Tree) (e : Encodes t l) (s : SoundBoa
   closed-in = record {
     tree = tree;
     block-room = omega (arith, ap (λ (n : Lent). n .blocks) (e .lengths), s .blocks-fit, ap (λ (bs : List Block). length bs) same-blocks, heads-fit (lengthsOf t) (e .heads) .blocks);
-    entry-room = omega (arith, ap (λ (n : Lent). n .entries) (e .lengths), c .entries-fit, in-tree .1 .all-entries, heads-fit (lengthsOf t) (e .heads) .entries);
-    closed = rw (e .kind, e .end) (in-tree .1);
+    entry-room = omega (arith, ap (λ (n : Lent). n .entries) (e .lengths), c .entries-fit, in-tree .all-entries, heads-fit (lengthsOf t) (e .heads) .entries);
+    closed = rw (e .kind, e .end) in-tree;
     rooted = c .rooted;
     rule-21 = rw (e .end) (c .rule-21);
     rule-23 = rw (e .end) (closed-rule-23 l tree s c);
@@ -155,7 +149,6 @@ module _ (t : Tables) (l : Ledger) (tree : Tree) (e : Encodes t l) (s : SoundBoa
   closed-part : ClosedPart t
   closed-part = record {
     no-pieces = no-more;
-    order = rw (e .count) (in-tree .0);
     apart = subst Apart same-blocks (c .rule-24);
     tree = subst (λ (bs : List Block). ClosedTree (treeTables t) (headAt t headKind) (headAt t headEnd) bs) same-blocks closed-in;
   }
@@ -200,7 +193,7 @@ closed-passes t c =
       ledger = ledgerOf t (boardLinks t (c .board)) (some (k .tree));
       encodes =
           board-encodes t (c .board) (some (k .tree)) (c .state)
-          (rw (blocks-length (t .store) (t .blocks) (headAt t headCount)) (c .part .order), k .closed);
+          (k .closed);
       sound = record {
         board = board-sound t (c .board) (some (k .tree));
         closed = record {

@@ -11,7 +11,7 @@ use Rattle.tables.specs.Columns.{column, piecesCount, headState, headEnd, headK
 use Rattle.block_table.specs.Blocks.{blocksOf}
 use Rattle.block_table.specs.Rows.{Bounds, RowsSound}
 use Rattle.piece_table.specs.Test as piece
-use Rattle.ordering.specs.Order.{InOrder, Unordered}
+use Rattle.ordering.specs.Order.{Unordered}
 use Rattle.segment_test.specs.Test.{ClosedTree}
 use Rattle.layout.specs.Tables.{Tables, lengthsOf, headAt, treeTables}
 use Rattle.layout.specs.Encodes.{openState, closedState}
@@ -49,7 +49,6 @@ pub record OpenFormed (t : Tables) : Type 0 where
 -- what a closed index has besides its board
 pub record ClosedPart (t : Tables) : Type 0 where
   pub no-pieces : column (t .pieces) 0 piecesCount ≡ 0
-  pub order : InOrder (t .blocks) (headAt t headCount)
   pub apart : Apart (blocksOf (t .store) (t .blocks) (headAt t headCount))
   pub tree : ClosedTree (treeTables t) (headAt t headKind) (headAt t headEnd) (blocksOf (t .store) (t .blocks) (headAt t headCount))
 

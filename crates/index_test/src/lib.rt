@@ -30,8 +30,8 @@ pub enum State {
     Closed,
 }
 
-// Whether the tables that pass as a board are those of a closed index. Linear in the rows in use, but for rule 24, which takes O(n log E log n) steps
-// where cells have many versions. It is tested last, as it goes by the tree.
+// Whether the tables that pass as a board are those of a closed index. Linear in the rows in use for whatever calls leave; rule 24 of other tables may take
+// O(n log E log n) steps. It is tested last, as it goes by the tree.
 fn test_closed(pieces: &[u64], blocks: &[u64], store: &[u8], nodes: &[u64], entries: &[u64]) -> bool
     ensures { λ r. ⌜ TestedClosed (tables (now (pieces .entry)) (now (blocks .entry)) (now (store .entry)) (now (nodes .entry)) (now (entries .entry))) r ⌝ }
 {
@@ -39,9 +39,6 @@ fn test_closed(pieces: &[u64], blocks: &[u64], store: &[u8], nodes: &[u64], entr
         return false;
     }
     let count = block_table::count(blocks);
-    if !ordering::in_order(blocks, count) {
-        return false;
-    }
     let kind = block_table::kind(blocks);
     let end = block_table::end(blocks);
     if !segment_test::test_tree(blocks, nodes, entries, kind, end, count) {

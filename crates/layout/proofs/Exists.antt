@@ -22,15 +22,13 @@ use Rattle.history.proofs.TreeCounts.{entry-count-in}
 use Rattle.history.proofs.ByKind.{closed-rule-23}
 use Rattle.tables.specs.Columns.{blockBase, blockFirst}
 use Rattle.block_table.specs.Blocks.{BlockRow, noRow}
-use Rattle.ordering.specs.Order.{InOrder}
 use Rattle.segment_table.specs.Closed.{firstCellIn, Closed}
 use Rattle.layout.specs.Tables.{Tables, treeTables}
 use Rattle.layout.specs.Encodes.{TreeIn, Encodes}
 use Rattle.layout.specs.Law.{Word, Lendable, Encoded, TablesExist}
 use Rattle.layout.proofs.Lengths.{Heads, heads-fit}
 use Rattle.layout.proofs.ExistsTable.{word-at}
-use Rattle.layout.proofs.ExistsBlocks.{blockTable, block-next, row-at}
-use Rattle.layout.proofs.ExistsOrder.{nextIn, linksBy, sorted-order, sorted-words}
+use Rattle.layout.proofs.ExistsBlocks.{blockTable, block-next}
 use Rattle.layout.proofs.ExistsTree.{nodeTable, node-table-length, entryTable, entry-table-length, tree-closed, node-table-words, entry-table-words}
 use Rattle.layout.proofs.ExistsBoard.{headOf, blockRowsOf, tablesBy, blocks-many, block-room, board-encodes, replicate-all, blocks-few, blocks-fit, board-fits}
 
@@ -43,17 +41,14 @@ open-exists l s f unfinished =
     record {
       tables = t;
       encodes =
-          board-encodes l s (f .heads) noNext nodes entries (length-replicate (l .opening .lent .nodes) 0) (length-replicate (l .opening .lent .entries) 0)
+          board-encodes l s (f .heads) nodes entries (length-replicate (l .opening .lent .nodes) 0) (length-replicate (l .opening .lent .entries) 0)
           (subst (TreeIn t l) (sym unfinished) unordered);
       fits =
-          board-fits l s f noNext nodes entries (λ k. omega arith) (replicate-all (l .opening .lent .nodes) (omega arith))
+          board-fits l s f nodes entries (replicate-all (l .opening .lent .nodes) (omega arith))
           (replicate-all (l .opening .lent .entries) (omega arith));
       blank = λ e. record { nodes = zeros (l .opening .lent .nodes); entries = zeros (l .opening .lent .entries) };
     }
   where
-    noNext : ℕ → ℕ
-    noNext k = 0
-
     nodes : List ℕ
     nodes = replicate (l .opening .lent .nodes) 0
 
@@ -61,13 +56,13 @@ open-exists l s f unfinished =
     entries = replicate (l .opening .lent .entries) 0
 
     t : Tables
-    t = tablesBy l s noNext nodes entries
+    t = tablesBy l s nodes entries
 
     unordered : TreeIn t l none
     unordered =
         record {
           none = λ k h.
-              block-next (l .opening .lent .blocks) (headOf l) noNext (blockRowsOf l s .rows) (block-room l s (f .heads)) k (omega (arith, blocks-many l s));
+              block-next (l .opening .lent .blocks) (headOf l) (blockRowsOf l s .rows) (block-room l s (f .heads)) k (omega (arith, blocks-many l s));
         }
 
     zeros : (n : ℕ) → replicate {A = ℕ} n 0 ≡ replicate (length (replicate {A = ℕ} n 0)) 0
@@ -80,39 +75,21 @@ numbered-blocks : (end : ℕ) (bs : List Block) (tree : segment.Tree) → rule23
 unfolding rule23
 numbered-blocks e bs tree h = numbered-decides (length bs) tree .yes (and-left (numbered (length bs) tree) _ h)
 
--- the key by which the blocks are ordered
-abbrev keyOf : (fs : List BlockRow) (k : ℕ) → ℕ
-keyOf fs k = getD fs k noRow .first
-
 module _ (l : Ledger) (s : SoundBoard l) (f : Lendable l) where
   -- the rows of the blocks
-  abbrev rowsOf : List BlockRow
-  rowsOf = blockRowsOf l s .rows
+  abbrev rowsAsBlocks : List ℕ
+  rowsAsBlocks = blockTable (l .opening .lent .blocks) (headOf l) (blockRowsOf l s .rows)
 
-  -- the next links in order
-  abbrev sortedNext : ℕ → ℕ
-  sortedNext = nextIn 0 (linksBy (keyOf rowsOf) (length rowsOf))
-
-  abbrev sortedBlocks : List ℕ
-  sortedBlocks = blockTable (l .opening .lent .blocks) (headOf l) sortedNext rowsOf
-
-  -- so they are in order
-  blocks-sorted : InOrder sortedBlocks (length rowsOf)
-  blocks-sorted =
-      sorted-order sortedBlocks (length rowsOf) (blocks-few l s f) (keyOf rowsOf)
-      (λ k h. ap (λ (b : BlockRow). b .first) (row-at (l .opening .lent .blocks) (headOf l) sortedNext rowsOf (block-room l s (f .heads)) k h))
-      (block-next (l .opening .lent .blocks) (headOf l) sortedNext rowsOf (block-room l s (f .heads)))
-
-  -- the order column is sorted, and the tree stands in nodes and entries
+  -- the tree stands in nodes and entries
   pub closed-exists : (tree : segment.Tree) → SoundClosed l tree → l .tree ≡ some tree → Encoded l
   unfolding tablesBy
   closed-exists tree c is =
       record {
         tables = t;
         encodes =
-            board-encodes l s (f .heads) sortedNext nodes entries (node-table-length (l .opening .lent .nodes) (l .opening .kind) (l .opening .end) tree)
-            (entry-table-length (l .opening .lent .entries) (firstCellIn sortedBlocks) (entriesIn tree)) (subst (TreeIn t l) (sym is) (order, closed));
-        fits = board-fits l s f sortedNext nodes entries next-words node-words entry-words;
+            board-encodes l s (f .heads) nodes entries (node-table-length (l .opening .lent .nodes) (l .opening .kind) (l .opening .end) tree)
+            (entry-table-length (l .opening .lent .entries) (firstCellIn rowsAsBlocks) (entriesIn tree)) (subst (TreeIn t l) (sym is) closed);
+        fits = board-fits l s f nodes entries node-words entry-words;
         blank = λ e. let no-tree : true ≡ false = sym (ap isSome is) ∙ e in absurd (true≢false no-tree);
       }
     where
@@ -120,24 +97,18 @@ module _ (l : Ledger) (s : SoundBoard l) (f : Lendable l) where
       nodes = nodeTable (l .opening .lent .nodes) (l .opening .kind) (l .opening .end) tree
 
       entries : List ℕ
-      entries = entryTable (l .opening .lent .entries) (firstCellIn sortedBlocks) (entriesIn tree)
+      entries = entryTable (l .opening .lent .entries) (firstCellIn rowsAsBlocks) (entriesIn tree)
 
       t : Tables
-      t = tablesBy l s sortedNext nodes entries
+      t = tablesBy l s nodes entries
 
       h : Heads (l .opening .lent)
       h = heads-fit (l .opening .lent) (f .heads)
 
-      order : InOrder sortedBlocks (length (l .now .blocks))
-      order = subst (InOrder sortedBlocks) (blocks-many l s) blocks-sorted
-
       closed : Closed (treeTables t) (l .opening .kind) (l .opening .end) tree
       closed =
-          tree-closed sortedBlocks (l .opening .lent .nodes) (l .opening .lent .entries) (l .opening .kind) (l .opening .end) tree
+          tree-closed rowsAsBlocks (l .opening .lent .nodes) (l .opening .lent .entries) (l .opening .kind) (l .opening .end) tree
           (omega (arith, s .known-kind)) (c .rule-21) (omega (arith, c .nodes-fit, h .nodes)) (omega (arith, c .entries-fit, h .entries))
-
-      next-words : (k : ℕ) → sortedNext k < 2 ^ 64
-      next-words = sorted-words (keyOf rowsOf) (length rowsOf) (blocks-few l s f)
 
       node-words : All Word nodes
       node-words =
@@ -150,9 +121,9 @@ module _ (l : Ledger) (s : SoundBoard l) (f : Lendable l) where
 
       entry-words : All Word entries
       entry-words =
-          entry-table-words (l .opening .lent .entries) (firstCellIn sortedBlocks) (entriesIn tree)
+          entry-table-words (l .opening .lent .entries) (firstCellIn rowsAsBlocks) (entriesIn tree)
           (omega (arith, entry-count-in tree, c .entries-fit, f .entries)) numbered-words
-          (λ k. word-at (blocks-fit l s f sortedNext next-words) (rowWidth * suc k + (blockBase + blockFirst)))
+          (λ k. word-at (blocks-fit l s f) (rowWidth * suc k + (blockBase + blockFirst)))
 
 -- ── every sound ledger ──
 

@@ -50,35 +50,35 @@ pub record Head : Type 0 where
   pub used : ℕ
   pub last : ℕ
 
--- the head, then a row for each block; the spare column is 0
-unfoldable pub blockRow : Head → (next : ℕ → ℕ) (fs : List BlockRow) (link : ℕ) → List ℕ
-blockRow h next fs zero = h .state ∷ h .end ∷ h .kind ∷ length fs ∷ h .used ∷ h .last ∷ next 0 ∷ []
-blockRow h next fs (suc k) =
+-- the head, then a row for each block; what is not used is 0
+unfoldable pub blockRow : Head → (fs : List BlockRow) (link : ℕ) → List ℕ
+blockRow h fs zero = h .state ∷ h .end ∷ h .kind ∷ length fs ∷ h .used ∷ h .last ∷ []
+blockRow h fs (suc k) =
     let f = getD fs k noRow in
-    f .first ∷ f .size ∷ f .created ∷ f .destroyed ∷ f .offset ∷ f .owner ∷ next (suc k) ∷ []
+    f .first ∷ f .size ∷ f .created ∷ f .destroyed ∷ f .offset ∷ f .owner ∷ []
 
 -- as long as it is lent
-unfoldable pub blockTable : (many : ℕ) → Head → (next : ℕ → ℕ) (fs : List BlockRow) → List ℕ
-blockTable many h next fs = tableBy blockBase many (blockRow h next fs)
+unfoldable pub blockTable : (many : ℕ) → Head → (fs : List BlockRow) → List ℕ
+blockTable many h fs = tableBy blockBase many (blockRow h fs)
 
-pub block-table-length : (many : ℕ) (h : Head) (next : ℕ → ℕ) (fs : List BlockRow) → length (blockTable many h next fs) ≡ many
+pub block-table-length : (many : ℕ) (h : Head) (fs : List BlockRow) → length (blockTable many h fs) ≡ many
 unfolding blockTable
-block-table-length many h next fs = table-by-length blockBase many (blockRow h next fs)
+block-table-length many h fs = table-by-length blockBase many (blockRow h fs)
 
-module _ (many : ℕ) (h : Head) (next : ℕ → ℕ) (fs : List BlockRow) (room : blockHead + rowWidth * length fs ≤ many) where
+module _ (many : ℕ) (h : Head) (fs : List BlockRow) (room : blockHead + rowWidth * length fs ≤ many) where
   -- a column in use reads as the row says
-  pub block-column : (link c : ℕ) → link ≤ length fs → c < rowWidth → blockColumn (blockTable many h next fs) link c ≡ getD (blockRow h next fs link) c 0
+  pub block-column : (link c : ℕ) → link ≤ length fs → c < rowWidth → blockColumn (blockTable many h fs) link c ≡ getD (blockRow h fs link) c 0
   unfolding blockTable
-  block-column link c p q = table-by-at blockBase many (blockRow h next fs) link c q (omega arith)
+  block-column link c p q = table-by-at blockBase many (blockRow h fs) link c q (omega arith)
 
-  -- the order column is as given
-  pub block-next : (link : ℕ) → link ≤ length fs → nextAt (blockTable many h next fs) link ≡ next link
+  -- there is no order
+  pub block-next : (link : ℕ) → link ≤ length fs → nextAt (blockTable many h fs) link ≡ 0
   unfolding blockRow
   block-next zero p = block-column 0 blockNext p (omega arith)
   block-next (suc k) p = block-column (suc k) blockNext p (omega arith)
 
   -- the row of a link is as given
-  pub row-at : (k : ℕ) → k < length fs → rowAt (blockTable many h next fs) (suc k) ≡ getD fs k noRow
+  pub row-at : (k : ℕ) → k < length fs → rowAt (blockTable many h fs) (suc k) ≡ getD fs k noRow
   unfolding blockRow
   row-at k p = λ i. record {
     owner = block-column (suc k) blockOwner p (omega arith) i;
@@ -90,18 +90,18 @@ module _ (many : ℕ) (h : Head) (next : ℕ → ℕ) (fs : List BlockRow) (room
   }
 
   -- all blocks are shown, and their bytes are inside the used part
-  pub blocks-shown : (store : List ℕ) → blocksOf store (blockTable many h next fs) (length fs) ≡ map (shownBlock store) fs
+  pub blocks-shown : (store : List ℕ) → blocksOf store (blockTable many h fs) (length fs) ≡ map (shownBlock store) fs
   unfolding blocksOf blockOfRow
   blocks-shown store =
-      map-from-at (shownBlock store) (rowAt (blockTable many h next fs)) noRow 1 fs
+      map-from-at (shownBlock store) (rowAt (blockTable many h fs)) noRow 1 fs
       (λ k p. let z : 1 + k ≡ suc k = omega arith in rw z (row-at k p))
 
-  pub blocks-inside : (used : ℕ) → All (λ (f : BlockRow). f .offset + f .size ≤ used) fs → Stored used (blockTable many h next fs) (length fs)
+  pub blocks-inside : (used : ℕ) → All (λ (f : BlockRow). f .offset + f .size ≤ used) fs → Stored used (blockTable many h fs) (length fs)
   unfolding blockRow
   blocks-inside used a = record { inside = inside }
     where
       inside : (link : ℕ) → 0 < link → link ≤ length fs
-          → blockColumn (blockTable many h next fs) link blockOffset + blockColumn (blockTable many h next fs) link blockLength ≤ used
+          → blockColumn (blockTable many h fs) link blockOffset + blockColumn (blockTable many h fs) link blockLength ≤ used
       inside zero p q = absurd (omega arith)
       inside (suc k) p q =
           let off = block-column (suc k) blockOffset q (omega arith) in
@@ -127,18 +127,18 @@ pub record HeadWords (h : Head) : Type 0 where
   pub last : h .last < 2 ^ 64
 
 -- and so are all numbers of the table
-pub block-table-words : (many : ℕ) (h : Head) (next : ℕ → ℕ) (fs : List BlockRow) → HeadWords h → ((k : ℕ) → next k < 2 ^ 64)
-    → length fs < 2 ^ 64 → All RowWords fs → All Word (blockTable many h next fs)
+pub block-table-words : (many : ℕ) (h : Head) (fs : List BlockRow) → HeadWords h
+    → length fs < 2 ^ 64 → All RowWords fs → All Word (blockTable many h fs)
 unfolding blockTable blockRow
-block-table-words many h next fs w n few a = table-by-words blockBase many (blockRow h next fs) words
+block-table-words many h fs w few a = table-by-words blockBase many (blockRow h fs) words
   where
     none : RowWords noRow
     none = record { owner = omega arith; first = omega arith; size = omega arith; created = omega arith; destroyed = omega arith; offset = omega arith }
 
-    words : (link : ℕ) → All Word (blockRow h next fs link)
+    words : (link : ℕ) → All Word (blockRow h fs link)
     words zero =
-        all-cons (w .state) (all-cons (w .end) (all-cons (w .kind) (all-cons few (all-cons (w .used) (all-cons (w .last) (all-cons (n 0) all-nil))))))
+        all-cons (w .state) (all-cons (w .end) (all-cons (w .kind) (all-cons few (all-cons (w .used) (all-cons (w .last) all-nil)))))
     words (suc k) =
         let f : RowWords (getD fs k noRow) = all-get noRow none a k in
         all-cons (f .first)
-        (all-cons (f .size) (all-cons (f .created) (all-cons (f .destroyed) (all-cons (f .offset) (all-cons (f .owner) (all-cons (n (suc k)) all-nil))))))
+        (all-cons (f .size) (all-cons (f .created) (all-cons (f .destroyed) (all-cons (f .offset) (all-cons (f .owner) all-nil)))))

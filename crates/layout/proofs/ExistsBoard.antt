@@ -44,9 +44,9 @@ module _ (l : Ledger) (s : SoundBoard l) where
   blockRowsOf = block-rows (l .opening .kind) (l .opening .end) (l .now .store) (unused l) (l .now .blocks) (s .blocks)
 
   -- the tables of the board, with any order column, nodes and entries
-  unfoldable pub tablesBy : (next : ℕ → ℕ) (nodes entries : List ℕ) → Tables
-  tablesBy next nodes entries =
-      tables (pieceTable (l .opening .lent .pieces) (pieceRowsOf .rows)) (blockTable (l .opening .lent .blocks) (headOf l) next (blockRowsOf .rows))
+  unfoldable pub tablesBy : (nodes entries : List ℕ) → Tables
+  tablesBy nodes entries =
+      tables (pieceTable (l .opening .lent .pieces) (pieceRowsOf .rows)) (blockTable (l .opening .lent .blocks) (headOf l) (blockRowsOf .rows))
       (l .now .store ++ unused l) nodes entries
 
   -- as many rows as pieces and blocks, and there is room for them
@@ -69,22 +69,22 @@ module _ (l : Ledger) (s : SoundBoard l) where
     pub block-room : blockHead + rowWidth * length (blockRowsOf .rows) ≤ l .opening .lent .blocks
     block-room = let h : Heads (l .opening .lent) = heads-fit (l .opening .lent) fits in omega (arith, blocks-many, s .blocks-fit, h .blocks)
 
-    module _ (next : ℕ → ℕ) (nodes entries : List ℕ) where
-      head-column : (c : ℕ) → c < rowWidth → headAt (tablesBy next nodes entries) c ≡ getD (blockRow (headOf l) next (blockRowsOf .rows) 0) c 0
+    module _ (nodes entries : List ℕ) where
+      head-column : (c : ℕ) → c < rowWidth → headAt (tablesBy nodes entries) c ≡ getD (blockRow (headOf l) (blockRowsOf .rows) 0) c 0
       unfolding tablesBy
-      head-column c h = block-column (l .opening .lent .blocks) (headOf l) next (blockRowsOf .rows) block-room 0 c (omega arith) h
+      head-column c h = block-column (l .opening .lent .blocks) (headOf l) (blockRowsOf .rows) block-room 0 c (omega arith) h
 
-      used-is : headAt (tablesBy next nodes entries) headUsed ≡ length (l .now .store)
+      used-is : headAt (tablesBy nodes entries) headUsed ≡ length (l .now .store)
       unfolding blockRow headOf
       used-is = head-column headUsed (omega arith)
 
-      count-is : headAt (tablesBy next nodes entries) headCount ≡ length (blockRowsOf .rows)
+      count-is : headAt (tablesBy nodes entries) headCount ≡ length (blockRowsOf .rows)
       unfolding blockRow headOf
       count-is = head-column headCount (omega arith)
 
       -- the board is as it should be, whatever tree there is
       pub board-encodes : length nodes ≡ l .opening .lent .nodes → length entries ≡ l .opening .lent .entries
-          → TreeIn (tablesBy next nodes entries) l (l .tree) → Encodes (tablesBy next nodes entries) l
+          → TreeIn (tablesBy nodes entries) l (l .tree) → Encodes (tablesBy nodes entries) l
       unfolding tablesBy blockRow headOf
       board-encodes n e tree =
           record {
@@ -99,10 +99,10 @@ module _ (l : Ledger) (s : SoundBoard l) where
             count = count-is ∙ blocks-many;
             blocks =
                 rw count-is
-                (sym (blocks-shown (l .opening .lent .blocks) (headOf l) next (blockRowsOf .rows) block-room (l .now .store ++ unused l) ∙ blockRowsOf .shows));
+                (sym (blocks-shown (l .opening .lent .blocks) (headOf l) (blockRowsOf .rows) block-room (l .now .store ++ unused l) ∙ blockRowsOf .shows));
             blocks-stored =
                 rw (used-is, count-is)
-                (blocks-inside (l .opening .lent .blocks) (headOf l) next (blockRowsOf .rows) block-room (length (l .now .store)) (blockRowsOf .inside));
+                (blocks-inside (l .opening .lent .blocks) (headOf l) (blockRowsOf .rows) block-room (length (l .now .store)) (blockRowsOf .inside));
             links = countFrom 1 (length (pieceRowsOf .rows));
             linked = piece-links (l .opening .lent .pieces) (pieceRowsOf .rows) piece-room;
             pieces = sym (pieces-shown (l .opening .lent .pieces) (pieceRowsOf .rows) piece-room (l .now .store ++ unused l) ∙ pieceRowsOf .shows);
@@ -111,10 +111,10 @@ module _ (l : Ledger) (s : SoundBoard l) where
             tree = tree;
           }
         where
-          long : l .opening .lent ≡ lengthsOf (tablesBy next nodes entries)
+          long : l .opening .lent ≡ lengthsOf (tablesBy nodes entries)
           long =
-              lent-same (l .opening .lent) (lengthsOf (tablesBy next nodes entries)) (sym (piece-table-length (l .opening .lent .pieces) (pieceRowsOf .rows)))
-              (sym (block-table-length (l .opening .lent .blocks) (headOf l) next (blockRowsOf .rows))) (sym store-long) (sym n) (sym e)
+              lent-same (l .opening .lent) (lengthsOf (tablesBy nodes entries)) (sym (piece-table-length (l .opening .lent .pieces) (pieceRowsOf .rows)))
+              (sym (block-table-length (l .opening .lent .blocks) (headOf l) (blockRowsOf .rows))) (sym store-long) (sym n) (sym e)
 
 -- ── numbers of 64 bits ──
 
@@ -180,16 +180,16 @@ module _ (l : Ledger) (s : SoundBoard l) (f : Lendable l) where
   pub blocks-few : length (blockRowsOf l s .rows) < 2 ^ 64
   blocks-few = omega (arith, block-room l s (f .heads), f .blocks)
 
-  pub blocks-fit : (next : ℕ → ℕ) → ((k : ℕ) → next k < 2 ^ 64) → All Word (blockTable (l .opening .lent .blocks) (headOf l) next (blockRowsOf l s .rows))
-  blocks-fit next n = block-table-words (l .opening .lent .blocks) (headOf l) next (blockRowsOf l s .rows) (head-words l s f) n blocks-few block-words
+  pub blocks-fit : All Word (blockTable (l .opening .lent .blocks) (headOf l) (blockRowsOf l s .rows))
+  blocks-fit = block-table-words (l .opening .lent .blocks) (headOf l) (blockRowsOf l s .rows) (head-words l s f) blocks-few block-words
 
-  pub board-fits : (next : ℕ → ℕ) (nodes entries : List ℕ) → ((k : ℕ) → next k < 2 ^ 64) → All Word nodes → All Word entries
-      → Fits (tablesBy l s next nodes entries)
+  pub board-fits : (nodes entries : List ℕ) → All Word nodes → All Word entries
+      → Fits (tablesBy l s nodes entries)
   unfolding tablesBy unused
-  board-fits next nodes entries n a b =
+  board-fits nodes entries a b =
       record {
         pieces = piece-table-words (l .opening .lent .pieces) (pieceRowsOf l s .rows) (omega (arith, piece-room l s (f .heads), f .pieces)) piece-words;
-        blocks = blocks-fit next n;
+        blocks = blocks-fit;
         store = all-append (f .bytes) (replicate-all (l .opening .lent .store - length (l .now .store)) (omega arith));
         nodes = a;
         entries = b;

@@ -7,7 +7,6 @@ pub mod Trees
 pub mod ExistsTable
 pub mod ExistsPieces
 pub mod ExistsBlocks
-pub mod ExistsOrder
 pub mod ExistsTree
 pub mod ExistsBoard
 pub mod Exists

@@ -58,4 +58,4 @@ module _ (t : Tables) (l : Ledger) (e : Encodes t l) (s : Sound l) where
     where
       go : (x : Option Tree) → l .tree ≡ x → isSome x ≡ true → TreeIn t l x → SoundTree l x → TreeKnown t l
       go none p q a b = absurd (false≢true q)
-      go (some tree) p q a b = known tree p (a .1) b
+      go (some tree) p q a b = known tree p a b

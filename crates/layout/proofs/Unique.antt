@@ -44,7 +44,7 @@ tree-same t l m none (some b) k e s h h′ = absurd (omega (arith, s))
 tree-same t l m (some a) none k e s h h′ = absurd (omega (arith, s))
 tree-same t l m (some a) (some b) k e s h h′ =
     ap some
-    (tree-one (treeTables t) (l .opening .kind) (column (t .nodes) 0 (l .opening .kind)) 0 (l .opening .end) a b (h .1 .stands) (rw (k, e) (h′ .1 .stands)))
+    (tree-one (treeTables t) (l .opening .kind) (column (t .nodes) 0 (l .opening .kind)) 0 (l .opening .end) a b (h .stands) (rw (k, e) (h′ .stands)))
 
 -- ── the whole ──
 

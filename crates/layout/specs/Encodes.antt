@@ -14,7 +14,7 @@ use Rattle.block_table.specs.Blocks.{blocksOf, Stored}
 use Rattle.piece_table.specs.Piece.{pieceAt}
 use Rattle.piece_table.specs.Rep.{Links}
 use Rattle.piece_table.specs.Shown.{shown}
-use Rattle.ordering.specs.Order.{InOrder, Unordered}
+use Rattle.ordering.specs.Order.{Unordered}
 use Rattle.segment_table.specs.Closed.{Closed}
 use Rattle.layout.specs.Tables.{Tables, lengthsOf, headAt, treeTables}
 
@@ -31,10 +31,10 @@ abbrev pub stateOf : Option segment.Tree → ℕ
 stateOf none = openState
 stateOf (some tree) = closedState
 
--- an open index has no order; a closed one has its order column, and its tree in the node and entry tables
+-- an open index has no order; a closed one has its tree in the node and entry tables
 abbrev pub TreeIn : Tables → Ledger → Option segment.Tree → Type 0
 TreeIn t l none = Unordered (t .blocks) (length (l .now .blocks))
-TreeIn t l (some tree) = InOrder (t .blocks) (length (l .now .blocks)) × Closed (treeTables t) (l .opening .kind) (l .opening .end) tree
+TreeIn t l (some tree) = Closed (treeTables t) (l .opening .kind) (l .opening .end) tree
 
 -- ── the whole ──
 

@@ -11,7 +11,6 @@ use Rattle.history.specs.Tree.{keyIn}
 use Rattle.history.specs.Refusals.{Answer, accepted, refused}
 use Rattle.history.specs.File.{Read, got, fault, Loaded, load, loadedLedger, writeAnswer}
 use Rattle.tables.specs.Columns.{blockBase}
-use Rattle.ordering.specs.Order.{ordered}
 use Rattle.layout.specs.Tables.{Tables, tables, lengthsOf}
 use Rattle.layout.specs.Encodes.{Encodes, closedState}
 use Rattle.layout.specs.Reads.{HandedInto, ReadBy}
@@ -45,7 +44,7 @@ loadedBytes x = flatMap (λ b. b .stretch .bytes) (x .blocks)
 unfoldable pub loadedHead : (end kind count used : ℕ) → List ℕ
 loadedHead e kind count used = replicate blockBase 0 ++ headNumbers closedState e kind count used 0
 
--- and behind it the rows of the blocks in file order, before they are ordered
+-- and behind it the rows of the blocks in file order
 unfoldable pub loadedRows : Loaded → List ℕ
 loadedRows x = loadedHead (x .end) (x .kind) (length (x .blocks)) (length (loadedBytes x)) ++ blocksNumbers 0 (x .blocks)
 
@@ -53,7 +52,7 @@ loadedRows x = loadedHead (x .end) (x .kind) (length (x .blocks)) (length (loade
 -- stand for the file's index.
 pub record LoadedTables (x : Loaded) (t t′ : Tables) : Type 0 where
   pub pieces : t′ .pieces ≡ zeros (t .pieces)
-  pub blocks : t′ .blocks ≡ ordered (sets (t .blocks) 0 (loadedRows x)) (length (x .blocks))
+  pub blocks : t′ .blocks ≡ sets (t .blocks) 0 (loadedRows x)
   pub store : t′ .store ≡ sets (t .store) 0 (loadedBytes x)
   pub nodes : t′ .nodes ≡ sets (t .nodes) 0 (treeNumbers (x .kind) (x .end) (x .tree))
   pub entries : t′ .entries ≡ sets (t .entries) 0 (runNumbers (keyIn (x .blocks)) (x .tree))

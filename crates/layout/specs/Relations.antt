@@ -77,13 +77,13 @@ pub record RecordedBy (scratch : ℕ) (o : Operation) (t t′ : Tables) (answer 
 
 -- ── finish ──
 
--- Rows appended behind the first n, up to m, and the order of all. The head but for state, count and first in order, every other number of the old
--- rows, and what lies past the rows, is as it was; the spare column of a new row is 0.
-pub record AppendedInOrder (blocks blocks′ : List ℕ) (n m : ℕ) : Type 0 where
+-- Rows appended behind the first n, up to m. The head but for state and count, the old rows, and what lies past the rows, is as it was; the unused columns of
+-- a new row are 0.
+pub record AppendedRows (blocks blocks′ : List ℕ) (n m : ℕ) : Type 0 where
   pub len : length blocks′ ≡ length blocks
-  pub head : (i : ℕ) → i < blockBase + rowWidth → (i ≡ headPlace headState → ⊥) → (i ≡ headPlace headCount → ⊥) → (i ≡ headPlace blockNext → ⊥)
-      → getD blocks′ i 0 ≡ getD blocks i 0
-  pub rows : (link c : ℕ) → 0 < link → link ≤ n → c < rowWidth → (c ≡ blockNext → ⊥) → blockColumn blocks′ link c ≡ blockColumn blocks link c
+  pub head : (i : ℕ) → i < blockBase + rowWidth → (i ≡ headPlace headState → ⊥) → (i ≡ headPlace headCount → ⊥) → getD blocks′ i 0 ≡ getD blocks i 0
+  pub rows : (link c : ℕ) → 0 < link → link ≤ n → c < rowWidth → blockColumn blocks′ link c ≡ blockColumn blocks link c
+  pub next : (link : ℕ) → n < link → link ≤ m → blockColumn blocks′ link blockNext ≡ 0
   pub spare : (link : ℕ) → n < link → link ≤ m → blockColumn blocks′ link blockSpare ≡ 0
   pub rest : (i : ℕ) → blockBase + rowWidth * suc m ≤ i → getD blocks′ i 0 ≡ getD blocks i 0
 
@@ -91,12 +91,12 @@ pub record AppendedInOrder (blocks blocks′ : List ℕ) (n m : ℕ) : Type 0 wh
 pub record SameBytes (pieces links blocks′ : List ℕ) (n : ℕ) : Type 0 where
   pub offset : (i : ℕ) → i < length links → blockColumn blocks′ (suc n + i) blockOffset ≡ column pieces (getD links i 0) pieceOffset
 
--- Pieces zeros; the store as it was; blocks appended, ordered and the head set; the tree of all blocks alone in nodes and entries. What this leaves
+-- Pieces zeros; the store as it was; blocks appended and the head set; the tree of all blocks alone in nodes and entries. What this leaves
 -- open of the block table and of the tree, `Encodes` says.
 pub record FinishedTables (l : Ledger) (t t′ : Tables) : Type 0 where
   pub pieces : t′ .pieces ≡ zeros (t .pieces)
   pub store : t′ .store ≡ t .store
-  pub blocks : AppendedInOrder (t .blocks) (t′ .blocks) (length (l .now .blocks)) (length (finishBy l .now .blocks))
+  pub blocks : AppendedRows (t .blocks) (t′ .blocks) (length (l .now .blocks)) (length (finishBy l .now .blocks))
   pub bytes : (links : List ℕ) → Links (t .pieces) links → SameBytes (t .pieces) links (t′ .blocks) (length (l .now .blocks))
   pub tree : TreeAlone (t′ .nodes) (t′ .entries) (treeOf (l .opening .end) (finishBy l .now .blocks))
 

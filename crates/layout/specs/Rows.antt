@@ -9,7 +9,7 @@ use Rattle.history.specs.Tree.{Tree, hole, node, mid, nodeCount, entryCount, en
 
 -- ── blocks ──
 
--- the last row of the head, before any order
+-- the last row of the head
 abbrev pub headNumbers : (state end kind count used last : ℕ) → List ℕ
 headNumbers state e kind count used last = state ∷ e ∷ kind ∷ count ∷ used ∷ last ∷ 0 ∷ 0 ∷ []
 

@@ -1,15 +1,17 @@
 -- A link that holds a piece stands where the piece does; so the contracts by links are contracts by pieces. Assumes nothing.
-use mathlib.Core.List.{List, [], _∷_, _++_, map}
+use mathlib.Core.List.{List, [], _∷_, _++_, map, append-nil}
 use mathlib.Core.Path.{_≡_, refl, sym, ap, ap₂, subst, _∙_}
 use Prim.Native.Nat.{ℕ, _≤_, _<_}
 use native.Mathlib.Omega.{arith}
 use Rattle.lists.proofs.Maps.{map-append}
-use Rattle.lists.specs.Lists.{here}
+use Rattle.lists.specs.Lists.{here, all-cons}
+use Rattle.lists.proofs.Lists.{all-head, all-right}
 use Rattle.tables.specs.Columns.{column, pieceFirst}
 use Rattle.merge_set.proofs.Links.{Put, put-at, mem-unput, found}
 use Rattle.piece_table.proofs.Order.{follow-above}
 use Rattle.piece_table.proofs.Removing.{linked-dense}
-use Rattle.piece_table.specs.Calls.{RemovedPiece, TrimmedBack, TrimmedFront, endAt}
+use Rattle.piece_table.specs.Calls.{Met, Sought, RemovedPiece, ReplacedPiece, TrimmedBack, TrimmedFront, endAt}
+use Rattle.piece_table.proofs.Parts.{Left}
 use Rattle.piece_table.specs.Piece.{PieceRow, rowEnd, pieceAt, part, Follow}
 use Rattle.piece_table.specs.Rep.{Linked, Rep, Holds, Becomes}
 
@@ -35,12 +37,12 @@ piece-once at x (u ∷ us) bs (q ∷ qs) rs low f e =
     (ap₂ _∷_ h (s .0), s .1)
 
 -- the links around one that holds a piece
-record Around (t : List ℕ) (link : ℕ) (qs rs : List PieceRow) : Type 0 where
-  xs : List ℕ
-  ys : List ℕ
-  linked : Linked t (xs ++ link ∷ ys)
-  front : map (pieceAt t) xs ≡ qs
-  back : map (pieceAt t) ys ≡ rs
+pub record Around (t : List ℕ) (link : ℕ) (qs rs : List PieceRow) : Type 0 where
+  pub xs : List ℕ
+  pub ys : List ℕ
+  pub linked : Linked t (xs ++ link ∷ ys)
+  pub front : map (pieceAt t) xs ≡ qs
+  pub back : map (pieceAt t) ys ≡ rs
 
 held : {t : List ℕ} {link : ℕ} {p : PieceRow} (qs rs : List PieceRow) → Rep t (qs ++ p ∷ rs) → Holds t link p → Around t link qs rs
 held {t} {link} {p} qs rs r h =
@@ -52,7 +54,41 @@ held {t} {link} {p} qs rs r h =
     let s : (map (pieceAt t) (put .1 .front) ≡ qs) × (map (pieceAt t) (put .1 .back) ≡ rs) = piece-once (pieceAt t) link (put .1 .front) (put .1 .back) qs rs 0 (l .order) m in
     record { xs = put .1 .front; ys = put .1 .back; linked = l; front = s .0; back = s .1 }
 
+-- the lowest piece that ends past a place is determined, and a search finds it
+past-once : (place : ℕ) (os qs : List PieceRow) (a p : PieceRow) (bs rs : List PieceRow) → Left place os → Left place qs → place < rowEnd a → place < rowEnd p → os ++ a ∷ bs ≡ qs ++ p ∷ rs
+    → (os ≡ qs) × (bs ≡ rs)
+past-once place [] [] a p bs rs l m h k e = (refl, cc)
+past-once place [] (q ∷ qs) a p bs rs l (all-cons n m) h k e = let z : a ≡ q = cc in absurd (omega (arith, ap rowEnd z))
+past-once place (o ∷ os) [] a p bs rs (all-cons n l) m h k e = let z : o ≡ p = cc in absurd (omega (arith, ap rowEnd z))
+past-once place (o ∷ os) (q ∷ qs) a p bs rs (all-cons _ l) (all-cons _ m) h k e =
+    let z : o ≡ q = cc in
+    let w : os ++ a ∷ bs ≡ qs ++ p ∷ rs = cc in
+    let s : (os ≡ qs) × (bs ≡ rs) = past-once place os qs a p bs rs l m h k w in
+    (ap₂ _∷_ z (s .0), s .1)
+
+pub sought-around : {t : List ℕ} {place link : ℕ} (qs : List PieceRow) (p : PieceRow) (rs : List PieceRow) → Sought t place link → Rep t (qs ++ p ∷ rs) → Left place qs → place < rowEnd p → Around t link qs rs
+sought-around {t} {place} {link} qs p rs s r l h = go (m .back) refl
+  where
+    m : Met t place link (r .links)
+    m = s .says (r .links) (r .linked)
+
+    go : (back : List ℕ) → m .back ≡ back → Around t link qs rs
+    go [] e =
+        let z : Left place (qs ++ p ∷ rs) = rw (← r .pieces, m .is, e, append-nil (m .front)) (m .left) in
+        absurd (omega (arith, all-head (all-right qs (p ∷ rs) z)))
+    go (x ∷ ys) e =
+        let k : (link ≡ x) × (place < endAt t x) = rw e at (m .head) in
+        let i : r .links ≡ m .front ++ link ∷ ys = subst (λ (z : ℕ). r .links ≡ m .front ++ z ∷ ys) (sym (k .0)) (rw e at (m .is)) in
+        let is : map (pieceAt t) (m .front) ++ pieceAt t link ∷ map (pieceAt t) ys ≡ qs ++ p ∷ rs = sym (map-append (pieceAt t) (m .front) (link ∷ ys)) ∙ ap (map (pieceAt t)) (sym i) ∙ r .pieces in
+        let o : (map (pieceAt t) (m .front) ≡ qs) × (map (pieceAt t) ys ≡ rs) = past-once place (map (pieceAt t) (m .front)) qs (pieceAt t link) p (map (pieceAt t) ys) rs (m .left) l (subst (λ (z : ℕ). place < endAt t z) (sym (k .0)) (k .1)) h is in
+        record { xs = m .front; ys = ys; linked = rw i at (r .linked); front = o .0; back = o .1 }
+
 -- ── the contracts by pieces ──
+
+pub replaced-around : {t t′ : List ℕ} {link : ℕ} {p : PieceRow} {qs rs : List PieceRow} → ReplacedPiece t t′ link p → Around t link qs rs → Follow 0 (qs ++ p ∷ rs) → Becomes t t′ (qs ++ p ∷ rs)
+replaced-around {t} {t′} {p = p} {qs} {rs} put a f =
+    let e : map (pieceAt t) (a .xs) ++ p ∷ map (pieceAt t) (a .ys) ≡ qs ++ p ∷ rs = ap₂ (λ (u v : List PieceRow). u ++ p ∷ v) (a .front) (a .back) in
+    subst (Becomes t t′) e (put .done (a .xs) (a .ys) (a .linked) (subst (Follow 0) (sym e) f))
 
 module _ {t t′ : List ℕ} {link : ℕ} {p : PieceRow} (qs rs : List PieceRow) (r : Rep t (qs ++ p ∷ rs)) (h : Holds t link p) where
   -- the pieces without the link's
@@ -60,6 +96,10 @@ module _ {t t′ : List ℕ} {link : ℕ} {p : PieceRow} (qs rs : List PieceRow)
   remove-piece-rep gone =
       let a : Around t link qs rs = held qs rs r h in
       subst (Becomes t t′) (map-append (pieceAt t) (a .xs) (a .ys) ∙ ap₂ (λ (u v : List PieceRow). u ++ v) (a .front) (a .back)) (gone .done (a .xs) (a .ys) (a .linked))
+
+  -- another piece in its place
+  pub replace-piece-rep : {q : PieceRow} → ReplacedPiece t t′ link q → Follow 0 (qs ++ q ∷ rs) → Becomes t t′ (qs ++ q ∷ rs)
+  replace-piece-rep put f = replaced-around put (held qs rs r h) f
 
   -- the link's piece clipped, below `end` or from `first` on
   pub trim-back-rep : {end : ℕ} → TrimmedBack t t′ link end → p .first < end → end ≤ rowEnd p → Becomes t t′ (qs ++ part (p .first) end p ∷ rs)

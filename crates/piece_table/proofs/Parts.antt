@@ -95,7 +95,7 @@ below-right : (x : ℕ) {ps : List PieceRow} → Right x ps → rowsBelow x ps �
 unfolding rowsBelow
 below-right x a = lose (clipRow 0 x) (all-map (λ p r. low-none x p r) a)
 
-above-right : (x : ℕ) {ps : List PieceRow} → Right x ps → All Filled ps → rowsAbove x ps ≡ ps
+pub above-right : (x : ℕ) {ps : List PieceRow} → Right x ps → All Filled ps → rowsAbove x ps ≡ ps
 unfolding rowsAbove
 above-right x a b = keep (λ p. clipRow x (rowEnd p) p) (all-both (λ p r n. high-whole x p r (n .some)) a b)
 
@@ -123,6 +123,20 @@ inside-right f e a = lose (clipRow f e) (all-map (λ p r. inside-none f e p (inr
 pub inside-skip : (f e : ℕ) (qs rs : List PieceRow) → Left f qs → rowsInside f e (qs ++ rs) ≡ rowsInside f e rs
 unfolding rowsInside
 inside-skip f e qs rs l = filterMap-append (clipRow f e) qs rs ∙ ap (λ (u : List PieceRow). u ++ filterMap (clipRow f e) rs) (inside-left f e l)
+
+-- where every piece starts at g or past it, the range may as well start there
+pub inside-from : (f g e : ℕ) {ps : List PieceRow} → f ≤ g → Right g ps → rowsInside f e ps ≡ rowsInside g e ps
+unfolding rowsInside clipRow
+inside-from f g e h r = filterMap-all (clipRow f e) (clipRow g e) (all-map (λ p l. let m : max f (p .first) ≡ p .first = omega arith in let n : max g (p .first) ≡ p .first = omega arith in rw (m, n)) r)
+
+-- what ends left of f and what starts right of it, below f; and above e
+pub below-front : (f : ℕ) (qs rs : List PieceRow) → Left f qs → All Filled qs → Right f rs → rowsBelow f (qs ++ rs) ≡ qs
+unfolding rowsBelow
+below-front f qs rs l m r = filterMap-append (clipRow 0 f) qs rs ∙ ap₂ (λ (u v : List PieceRow). u ++ v) (below-left f l m) (below-right f r) ∙ append-nil qs
+
+pub above-skip : (e : ℕ) (qs rs : List PieceRow) → Left e qs → rowsAbove e (qs ++ rs) ≡ rowsAbove e rs
+unfolding rowsAbove
+above-skip e qs rs l = filterMap-append (λ p. clipRow e (rowEnd p) p) qs rs ∙ ap (λ (u : List PieceRow). u ++ filterMap (λ p. clipRow e (rowEnd p) p) rs) (above-left e l)
 
 -- the lowest piece that meets it comes first
 pub inside-here : (f e : ℕ) (qs : List PieceRow) (p : PieceRow) (rs : List PieceRow) → Left f qs → f < e → 0 < p .size → p .first < e → f < rowEnd p

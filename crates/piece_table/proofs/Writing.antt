@@ -20,7 +20,7 @@ use Rattle.merge_set.specs.Table.{Good, Valid, Shape, Result, Inserted}
 use Rattle.merge_set.specs.Tree.{Tree, rows, inserted, inOrder}
 use Rattle.piece_table.proofs.Order.{ascending-same, follow-part, follow-from, follow-distinct}
 use Rattle.piece_table.proofs.Removing.{piece-same, linked-ascending, linked-depth, linked-valid}
-use Rattle.piece_table.specs.Calls.{HeadSet, WroteRow, InsertedPiece, TrimmedBack, TrimmedFront, endAt}
+use Rattle.piece_table.specs.Calls.{HeadSet, WroteRow, ReplacedPiece, InsertedPiece, TrimmedBack, TrimmedFront, endAt}
 use Rattle.piece_table.specs.Piece.{PieceRow, pieceAt, part, Filled, Follow, placed}
 use Rattle.piece_table.specs.Rep.{Linked, Rep, Becomes}
 
@@ -94,6 +94,9 @@ rewritten {t} {t′} {k} {q} xs ys r w f =
       pieces = pieces;
     } in
     record { rep = rep; len = w .len }
+
+pub replace-piece-done : {t t₁ : List ℕ} {k : ℕ} {p : PieceRow} → WroteRow t t₁ k p → ReplacedPiece t t₁ k p
+replace-piece-done w = record { done = λ xs ys r f. rewritten xs ys r w f }
 
 -- ── `trim_back`, `trim_front` ──
 
@@ -270,4 +273,4 @@ module _ {t t₁ t₂ t₃ : List ℕ} {root count top : ℕ} {p : PieceRow} (er
           record { rep = out; len = len₃ }
 
 -- the steps, for `search` at a return
-pub ruleset writing = (write-row-done, trim-back-none, trim-back-done, trim-front-low, trim-front-high, trim-front-far, trim-front-done, insert-piece-full, insert-piece-done)
+pub ruleset writing = (write-row-done, replace-piece-done, trim-back-none, trim-back-done, trim-front-low, trim-front-high, trim-front-far, trim-front-done, insert-piece-full, insert-piece-done)

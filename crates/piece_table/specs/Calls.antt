@@ -34,6 +34,10 @@ pub record WroteRow (t t′ : List ℕ) (link : ℕ) (p : PieceRow) : Type 0 whe
 abbrev pub endAt : (t : List ℕ) (link : ℕ) → ℕ
 endAt t link = firstAt t link + column t link pieceLength
 
+-- `ends_past`: so many cells from `first` on end past the place
+pub record EndsPast (first size place : ℕ) (answer : Bool) : Type 0 where
+  pub is : answer ≡ ltb place (first + size)
+
 -- `ends_after`
 pub record EndsAfter (t : List ℕ) (link place : ℕ) (answer : Bool) : Type 0 where
   pub is : answer ≡ ltb place (endAt t link)
@@ -68,11 +72,29 @@ pub record Met (t : List ℕ) (place out : ℕ) (links : List ℕ) : Type 0 wher
 pub record Sought (t : List ℕ) (place out : ℕ) : Type 0 where
   pub says : (links : List ℕ) → Linked t links → Met t place out links
 
+-- `has_cell`: the row is in use, and its piece has the cell
+pub record HasCell (t : List ℕ) (link cell : ℕ) : Type 0 where
+  pub some : 0 < link
+  pub within : link ≤ column t 0 piecesCount
+  pub from : firstAt t link ≤ cell
+  pub below : cell < endAt t link
+
+-- `has_ended`: the row is in use, and its piece ends at the place or before
+pub record HasEnded (t : List ℕ) (link place : ℕ) : Type 0 where
+  pub some : 0 < link
+  pub within : link ≤ column t 0 piecesCount
+  pub to : endAt t link ≤ place
+
 -- ── pieces ──
 
 -- `remove_piece`: the pieces without the link's, in a table that is dense again
 pub record RemovedPiece (t t′ : List ℕ) (link : ℕ) : Type 0 where
   pub done : (xs ys : List ℕ) → Linked t (xs ++ link ∷ ys) → Becomes t t′ (map (pieceAt t) (xs ++ ys))
+
+-- `replace_piece`: where it stands in order, another piece in the place of the link's
+pub record ReplacedPiece (t t′ : List ℕ) (link : ℕ) (p : PieceRow) : Type 0 where
+  pub done : (xs ys : List ℕ) → Linked t (xs ++ link ∷ ys) → Follow 0 (map (pieceAt t) xs ++ p ∷ map (pieceAt t) ys)
+      → Becomes t t′ (map (pieceAt t) xs ++ p ∷ map (pieceAt t) ys)
 
 -- `insert_piece`: where there is space for one more row, the piece in its place
 pub record InsertedPiece (t t′ : List ℕ) (p : PieceRow) : Type 0 where

@@ -12,7 +12,7 @@
 //   proofs/Testing  the test decides it
 //   proofs/Held     the contracts by links are contracts by pieces
 ghost use mathlib.Core.Path.{_≡_};
-ghost use Rattle.piece_table.specs.Calls.{HeadSet, WroteRow, EndsAfter, SoughtFrom, Sought, RemovedPiece, InsertedPiece, TrimmedBack, TrimmedFront};
+ghost use Rattle.piece_table.specs.Calls.{HeadSet, WroteRow, EndsPast, EndsAfter, SoughtFrom, Sought, HasCell, HasEnded, RemovedPiece, ReplacedPiece, InsertedPiece, TrimmedBack, TrimmedFront};
 ghost use Rattle.lists.specs.Tests.{Decides};
 ghost use Rattle.piece_table.specs.Test.{RowStands, RowFits, Walked, WellFormed};
 use tables::piece::COUNT;
@@ -56,42 +56,147 @@ pub fn remove_piece(table: &mut [u64], link: u64)
     set_head(table, moved, count - 1);
 }
 
-// Whether the piece of a link ends after `place`. It subtracts and does not add: in tables that nobody has tested the sum may pass 2^64.
-pub fn ends_after(table: &[u64], link: u64, place: u64) -> bool
-    ensures { λ b. ⌜ EndsAfter (now (table .entry)) link place b ⌝ }
+// Whether so many cells from `first` on end after `place`. It subtracts and does not add: in tables that nobody has tested the sum may pass 2^64.
+fn ends_past(first: u64, length: u64, place: u64) -> bool
+    ensures { λ b. ⌜ EndsPast first length place b ⌝ }
 {
-    let first = tables::get(table, link, FIRST);
-    let length = tables::get(table, link, LENGTH);
     if place < first {
         return true;
     }
     place - first < length
 }
 
-// The link of the lowest piece of the tree at `link`, at most `fuel` deep, that ends after `place`; `best` if there is none.
-fn seek_from(table: &[u64], link: u64, place: u64, best: u64, fuel: u64) -> u64
-    ensures { λ o. ⌜ SoughtFrom (now (table .entry)) link place best fuel o ⌝ }
+// Whether the piece of a link ends after `place`.
+pub fn ends_after(table: &[u64], link: u64, place: u64) -> bool
+    ensures { λ b. ⌜ EndsAfter (now (table .entry)) link place b ⌝ }
 {
-    if link == 0 {
-        return best;
+    let first = tables::get(table, link, FIRST);
+    let length = tables::get(table, link, LENGTH);
+    ends_past(first, length, place)
+}
+
+// What a search finds: the link of the lowest piece that ends after a place, 0 if there is none. `after` is a guess for `seek_next`: the next piece's, where
+// the found one has none right below it; any number.
+pub struct Found {
+    pub link: u64,
+    pub after: u64,
+}
+
+// The link of the lowest piece of the tree at `link`, at most `fuel` deep, that ends after `place`; 0 if there is none. One test a row: this is where
+// record spends most of its time.
+fn seek_from(table: &[u64], link: u64, place: u64, fuel: u64) -> Found
+    ensures { λ o. ⌜ SoughtFrom (now (table .entry)) link place 0 fuel (o .link) ⌝ }
+{
+    let rows = table.len() / tables::ROW;
+    let mut at = link;
+    let mut found: u64 = 0;
+    let mut after: u64 = 0;
+    let mut left = fuel;
+    while left > 0 {
+        let row = at as usize;
+        if row == 0 {
+            return Found {
+                link: found,
+                after: after,
+            };
+        }
+        if rows <= row {
+            return Found {
+                link: found,
+                after: after,
+            };
+        }
+        let first = table[tables::ROW * row + FIRST];
+        let length = table[tables::ROW * row + LENGTH];
+        let below = table[tables::ROW * row + LEFT];
+        let above = table[tables::ROW * row + RIGHT];
+        left -= 1;
+        if ends_past(first, length, place) {
+            after = found;
+            found = at;
+            at = below;
+        } else {
+            at = above;
+        }
     }
-    if fuel == 0 {
-        return best;
+    Found {
+        link: found,
+        after: after,
     }
-    if ends_after(table, link, place) {
-        let l = tables::get(table, link, LEFT);
-        return seek_from(table, l, place, link, fuel - 1);
-    }
-    let r = tables::get(table, link, RIGHT);
-    seek_from(table, r, place, best, fuel - 1)
+}
+
+// Searches the lowest piece that ends after `place`.
+pub fn search(table: &[u64], place: u64) -> Found
+    ensures { λ o. ⌜ Sought (now (table .entry)) place (o .link) ⌝ }
+{
+    let root = tables::get(table, 0, ROOT);
+    seek_from(table, root, place, DEEPEST)
 }
 
 // The link of the lowest piece that ends after `place`; 0 if there is none.
 pub fn seek(table: &[u64], place: u64) -> u64
     ensures { λ o. ⌜ Sought (now (table .entry)) place o ⌝ }
 {
-    let root = tables::get(table, 0, ROOT);
-    seek_from(table, root, place, 0, DEEPEST)
+    let found = search(table, place);
+    found.link
+}
+
+// Whether the row of a link is in use, and its piece has the cell.
+fn has_cell(table: &[u64], link: u64, cell: u64) -> bool
+    ensures { λ b. ⌜ Decides b (HasCell (now (table .entry)) link cell) ⌝ }
+{
+    if link == 0 {
+        return false;
+    }
+    if tables::get(table, 0, COUNT) < link {
+        return false;
+    }
+    if cell < tables::get(table, link, FIRST) {
+        return false;
+    }
+    ends_after(table, link, cell)
+}
+
+// Whether the row of a link is in use, and its piece ends at `place` or before.
+fn has_ended(table: &[u64], link: u64, place: u64) -> bool
+    ensures { λ b. ⌜ Decides b (HasEnded (now (table .entry)) link place) ⌝ }
+{
+    if link == 0 {
+        return false;
+    }
+    if tables::get(table, 0, COUNT) < link {
+        return false;
+    }
+    !ends_after(table, link, place)
+}
+
+// The same as `search`, by guesses that may be any numbers: where `near` or `after` is the link of the piece that has the place, or the piece stands
+// right below that of `near`, which ends before it, no way down from the root is needed.
+pub fn search_next(table: &[u64], place: u64, near: u64, after: u64) -> Found
+    ensures { λ o. ⌜ Sought (now (table .entry)) place (o .link) ⌝ }
+{
+    if has_cell(table, after, place) {
+        return Found {
+            link: after,
+            after: 0,
+        };
+    }
+    if has_ended(table, near, place) {
+        let found = seek_from(table, tables::get(table, near, RIGHT), place, DEEPEST);
+        let link = found.link;
+        if link != 0 {
+            return found;
+        }
+    }
+    search(table, place)
+}
+
+// The same as `seek`, where the link of the piece that has the place, or of the one before it, may be known: `near` is any number.
+pub fn seek_near(table: &[u64], place: u64, near: u64) -> u64
+    ensures { λ o. ⌜ Sought (now (table .entry)) place o ⌝ }
+{
+    let found = search_next(table, place, near, near);
+    found.link
 }
 
 // Writes a piece to the row of a link, and leaves its place in the tree.
@@ -112,6 +217,22 @@ fn write_row(
     tables::put(table, link, WRITTEN, written);
     tables::put(table, link, OFFSET, offset);
     tables::put(table, link, OWNER, owner);
+}
+
+// Puts another piece in the place of a link's: in its row, so that the tree stays as it is.
+pub fn replace_piece(
+    table: &mut [u64],
+    link: u64,
+    first: u64,
+    length: u64,
+    written: u64,
+    offset: u64,
+    owner: u64,
+)
+    ensures { λ _. ⌜ ReplacedPiece (now (table .entry)) (now (table .exit)) link
+        (record { first = first; size = length; written = written; offset = offset; owner = owner }) ⌝ }
+{
+    write_row(table, link, first, length, written, offset, owner);
 }
 
 // Inserts a piece that meets no other, where there is a row for it.

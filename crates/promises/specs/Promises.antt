@@ -2,6 +2,7 @@
 use Rattle.history.specs.Law.{ValueAt, LawOfChange, LawOfCalls, LawOfFind, LawOfTouching, LawOfNeighbours}
 use Rattle.history.specs.Boards.{MarkedBoards}
 use Rattle.history.specs.Requested.{RequestedBoards}
+use Rattle.apart_laws.specs.Law.{TheoremH}
 use Rattle.layout.specs.Law.{OneLedger, TablesExist, ShallowTrees}
 use Rattle.index_test.specs.Law.{TestDecides}
 use Rattle.demand.specs.Theorem.{Demand3}
@@ -40,6 +41,7 @@ pub record OfHistory : Type 0 where
   pub law-of-neighbours : LawOfNeighbours
   pub marked-boards : MarkedBoards
   pub requested-boards : RequestedBoards
+  pub theorem-h : TheoremH
 
 -- of write and load together
 pub record OfFiles : Type 0 where

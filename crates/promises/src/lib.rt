@@ -58,6 +58,7 @@ pub fn of_history()
     history::law_of_neighbours();
     history::marked_boards();
     history::requested_boards();
+    apart_laws::theorem_h();
 }
 
 // Files, there and back.

@@ -1,4 +1,4 @@
--- `record_part`, `clear_one` and `clear`: one step for each return. Assumes nothing.
+-- `record_part`, `meet_one`, `clear_one` and `clear`: one step for each return. Assumes nothing.
 use mathlib.Core.Path.{_≡_, refl, sym, ap, ap₂, subst, _∙_}
 use mathlib.Core.Logic.{inl, inr}
 use mathlib.Core.Bool.{Bool, true, false, true≢false, false≢true}
@@ -21,7 +21,7 @@ use Rattle.piece_table.proofs.Parts.{Left, Right, apart, covered-below, covered
 use Rattle.piece_table.proofs.Seeing.{rep-follow, rep-count, Seen, seen-none, seen-some, becomes-same, becomes-eq, becomes-then, left-alone}
 use Rattle.piece_table.proofs.Writing.{piece-eq}
 use Rattle.recording.specs.Recorded.{recorded}
-use Rattle.recording.specs.Calls.{innerPart, RecordedPart, Uncrossed, Clearing, Clear, Given, ClearedOne, Cleared}
+use Rattle.recording.specs.Calls.{innerPart, RecordedPart, Uncrossed, Clearing, Clear, Given, Covered, MetOne, ClearedOne, Cleared}
 use Rattle.recording.proofs.Recorded.{recorded-append, recorded-more}
 
 -- ── `record_part` ──
@@ -54,14 +54,14 @@ module _ {t b : List ℕ} {link tick first end was size offset from : ℕ} (ew :
         o : offset + (from - was) ≡ column t link pieceOffset + (max first (firstAt t link) - firstAt t link)
         o = rw (eo, ef, ew)
 
--- ── `clear_one` ──
+-- ── `meet_one` ──
 
 -- where nothing lies inside nothing is recorded
 pub nothing-inside : {b : List ℕ} (tick : ℕ) {qs : List PieceRow} → qs ≡ [] → b ≡ recorded tick qs b
 nothing-inside {b} tick e = sym (ap (λ (l : List PieceRow). recorded tick l b) e ∙ appended-none b)
 
-stops : {t t′ b b′ : List ℕ} {tick f e : ℕ} → ((ps : List PieceRow) → Given t b f e ps → Uncrossed f ps → Clear t t′ b b′ tick f e ps) → ClearedOne t t′ b b′ tick f e false
-stops g = record { step = λ z. absurd (false≢true z); stop = λ _. g }
+stops : {t t′ b b′ : List ℕ} {tick f e : ℕ} → ((ps : List PieceRow) → Given t b f e ps → Uncrossed f ps → Clear t t′ b b′ tick f e ps) → MetOne t t′ b b′ tick f e 0
+stops g = record { covers = λ nz. absurd (nz refl); stop = λ _. g }
 
 -- the link's piece does not start before the first cell
 uncrossed-here : {t : List ℕ} {f link : ℕ} {ps : List PieceRow} → Seen t f link ps → Uncrossed f ps → f ≤ firstAt t link
@@ -76,14 +76,14 @@ pub inside-seen : {t : List ℕ} {f link : ℕ} {ps : List PieceRow} (e : ℕ) (
     → rowsInside f e ps ≡ innerPart t link f e ∷ rowsInside f e (map (pieceAt t) (v .ys))
 inside-seen {t} {f} {link} e v h lt = ap (rowsInside f e) (v .is) ∙ inside-here f e (map (pieceAt t) (v .xs)) (pieceAt t link) (map (pieceAt t) (v .ys)) (v .left) h (v .whole .some) lt (v .past)
 
-pub clear-one-none : {t b : List ℕ} {tick f e link : ℕ} → Sought t f link → link ≡ 0 → ClearedOne t t b b tick f e false
-clear-one-none {t} {b} {tick} {f} {e} {link} s z =
+pub meet-one-none : {t b : List ℕ} {tick f e link : ℕ} → Sought t f link → link ≡ 0 → MetOne t t b b tick f e 0
+meet-one-none {t} {b} {tick} {f} {e} {link} s z =
     stops (λ ps g u.
     let l : Left f ps = seen-none s (g .rep) z in
     record { becomes = becomes-same (g .rep) (left-alone f e (g .some) l (rep-follow (g .rep))); blocks = nothing-inside tick (inside-left f e l) })
 
 module _ {t b : List ℕ} {tick f e link was : ℕ} (s : Sought t f link) (nz : link ≡ 0 → ⊥) (ew : was ≡ firstAt t link) where
-  right-of : e ≤ was → ClearedOne t t b b tick f e false
+  right-of : e ≤ was → MetOne t t b b tick f e 0
   right-of le =
       stops (λ ps g u.
       let v : Seen t f link ps = seen-some s (g .rep) nz in
@@ -104,8 +104,8 @@ module _ {t b : List ℕ} {tick f e link was : ℕ} (s : Sought t f link) (nz : 
       let v : Seen t f link _ = seen-some s (g .rep) nz in
       rec .done (v .whole) (g .some) lt (v .past) (countable-less (omega (arith, ap length (inside-seen e v (g .some) lt))) (g .space))
 
-  module _ {q : Bool} {t₁ b₁ : List ℕ} (lt : was < e) (rec : RecordedPart t b b₁ link tick f e) (eq : EndsAfter t link e q) where
-    front-met : q ≡ true → TrimmedFront t t₁ link e → ClearedOne t t₁ b b₁ tick f e false
+  module _ {q : Bool} {b₁ : List ℕ} (lt : was < e) (rec : RecordedPart t b b₁ link tick f e) (eq : EndsAfter t link e q) where
+    front-met : {t₁ : List ℕ} → q ≡ true → TrimmedFront t t₁ link e → MetOne t t₁ b b₁ tick f e 0
     front-met y trim =
         stops (λ ps g u.
         let v : Seen t f link ps = seen-some s (g .rep) nz in
@@ -122,40 +122,61 @@ module _ {t b : List ℕ} {tick f e link was : ℕ} (s : Sought t f link) (nz : 
           blocks = recorded-seen rec g (omega arith) ∙ ap (λ (l : List PieceRow). recorded tick l b) (sym (inside-seen e v (g .some) (omega arith) ∙ ap (λ (l : List PieceRow). innerPart t link f e ∷ l) none));
         })
 
-    whole-met : q ≡ false → RemovedPiece t t₁ link → ClearedOne t t₁ b b₁ tick f e true
-    whole-met n gone = record { step = λ _. go; stop = λ z. absurd (true≢false z) }
-      where
-        go : (ps : List PieceRow) → Given t b f e ps → Uncrossed f ps → Clearing t t₁ b b₁ tick f e (length ps - 1) ps
-        go ps g u =
-            let v : Seen t f link ps = seen-some s (g .rep) nz in
-            let p : PieceRow = pieceAt t link in
-            let A : List PieceRow = map (pieceAt t) (v .xs) in
-            let B : List PieceRow = map (pieceAt t) (v .ys) in
-            let under : endAt t link ≤ e = ltb-false e (endAt t link) (sym (eq .is) ∙ n) in
-            let u′ : Uncrossed f (A ++ p ∷ B) = subst (Uncrossed f) (v .is) u in
-            record {
-              now = A ++ B;
-              gone = innerPart t link f e ∷ [];
-              becomes = becomes-eq (gone .done (v .xs) (v .ys) (v .linked)) (sym (map-append (pieceAt t) (v .xs) (v .ys)));
-              blocks = recorded-seen rec g (omega arith);
-              inside = inside-seen e v (g .some) (omega arith) ∙ ap (λ (l : List PieceRow). innerPart t link f e ∷ l) (sym (inside-skip f e A B (v .left)));
-              same-below = covered-below f e (g .some) A p B (uncrossed-here v u) ∙ ap (rowsBelow f) (sym (v .is));
-              same-above = covered-above f e (g .some) A p B under ∙ ap (rowsAbove e) (sym (v .is));
-              uncrossed = all-append (all-left A (p ∷ B) u′) (all-tail (all-right A (p ∷ B) u′));
-              few = omega (arith, ap length (v .is), length-append A B, length-append A (p ∷ B));
-            }
+    whole-met : q ≡ false → MetOne t t b b₁ tick f e link
+    whole-met n =
+        record {
+          covers = λ _ ps g u.
+              record {
+                same = refl;
+                sought = s;
+                from = uncrossed-here (seen-some s (g .rep) nz) u;
+                to = ltb-false e (endAt t link) (sym (eq .is) ∙ n);
+                blocks = recorded-seen rec g (omega arith);
+              };
+          stop = λ z. absurd (nz z);
+        }
 
 -- by the test whether the piece starts before the end
 module _ {t b : List ℕ} {tick f e link : ℕ} {starts : Bool} (s : Sought t f link) (nz : link ≡ 0 → ⊥) (tested : StartsBelow t link e starts) where
-  pub clear-one-right : starts ≡ false → ClearedOne t t b b tick f e false
-  clear-one-right h = right-of s nz refl (ltb-false (firstAt t link) e (sym (tested .is) ∙ h))
+  pub meet-one-right : starts ≡ false → MetOne t t b b tick f e 0
+  meet-one-right h = right-of s nz refl (ltb-false (firstAt t link) e (sym (tested .is) ∙ h))
 
-  module _ {q : Bool} {t₁ b₁ : List ℕ} (h : starts ≡ true) (rec : RecordedPart t b b₁ link tick f e) (eq : EndsAfter t link e q) where
-    pub clear-one-front : q ≡ true → TrimmedFront t t₁ link e → ClearedOne t t₁ b b₁ tick f e false
-    clear-one-front = front-met s nz refl (ltb-true (firstAt t link) e (sym (tested .is) ∙ h)) rec eq
+  module _ {q : Bool} {b₁ : List ℕ} (h : starts ≡ true) (rec : RecordedPart t b b₁ link tick f e) (eq : EndsAfter t link e q) where
+    pub meet-one-front : {t₁ : List ℕ} → q ≡ true → TrimmedFront t t₁ link e → MetOne t t₁ b b₁ tick f e 0
+    meet-one-front = front-met s nz refl (ltb-true (firstAt t link) e (sym (tested .is) ∙ h)) rec eq
 
-    pub clear-one-more : q ≡ false → RemovedPiece t t₁ link → ClearedOne t t₁ b b₁ tick f e true
-    clear-one-more = whole-met s nz refl (ltb-true (firstAt t link) e (sym (tested .is) ∙ h)) rec eq
+    pub meet-one-whole : q ≡ false → MetOne t t b b₁ tick f e link
+    meet-one-whole = whole-met s nz refl (ltb-true (firstAt t link) e (sym (tested .is) ∙ h)) rec eq
+
+-- ── `clear_one` ──
+
+module _ {t t₁ b b₁ : List ℕ} {tick f e link : ℕ} (met : MetOne t t₁ b b₁ tick f e link) where
+  pub clear-one-stop : link ≡ 0 → ClearedOne t t₁ b b₁ tick f e false
+  clear-one-stop z = record { step = λ y. absurd (false≢true y); stop = λ _. met .stop z }
+
+  pub clear-one-more : {t₂ : List ℕ} → (link ≡ 0 → ⊥) → RemovedPiece t₁ t₂ link → ClearedOne t t₂ b b₁ tick f e true
+  clear-one-more {t₂} nz gone = record { step = λ _. go; stop = λ z. absurd (true≢false z) }
+    where
+      go : (ps : List PieceRow) → Given t b f e ps → Uncrossed f ps → Clearing t t₂ b b₁ tick f e (length ps - 1) ps
+      go ps g u =
+          let k : Covered t t₁ b b₁ tick f e link = met .covers nz ps g u in
+          let v : Seen t f link ps = seen-some (k .sought) (g .rep) nz in
+          let p : PieceRow = pieceAt t link in
+          let A : List PieceRow = map (pieceAt t) (v .xs) in
+          let B : List PieceRow = map (pieceAt t) (v .ys) in
+          let u′ : Uncrossed f (A ++ p ∷ B) = subst (Uncrossed f) (v .is) u in
+          let gone′ : RemovedPiece t t₂ link = rw (k .same) at gone in
+          record {
+            now = A ++ B;
+            gone = innerPart t link f e ∷ [];
+            becomes = becomes-eq (gone′ .done (v .xs) (v .ys) (v .linked)) (sym (map-append (pieceAt t) (v .xs) (v .ys)));
+            blocks = k .blocks;
+            inside = inside-seen e v (g .some) (omega (arith, v .whole .some, k .to)) ∙ ap (λ (l : List PieceRow). innerPart t link f e ∷ l) (sym (inside-skip f e A B (v .left)));
+            same-below = covered-below f e (g .some) A p B (k .from) ∙ ap (rowsBelow f) (sym (v .is));
+            same-above = covered-above f e (g .some) A p B (k .to) ∙ ap (rowsAbove e) (sym (v .is));
+            uncrossed = all-append (all-left A (p ∷ B) u′) (all-tail (all-right A (p ∷ B) u′));
+            few = omega (arith, ap length (v .is), length-append A B, length-append A (p ∷ B));
+          }
 
 -- ── `clear` ──
 
@@ -165,27 +186,26 @@ pub record Round (t t′ b b′ : List ℕ) (tick f e left : ℕ) : Type 0 where
   pub len-blocks : length b′ ≡ length b
   pub done : (ps : List PieceRow) → Given t b f e ps → Uncrossed f ps → Clearing t t′ b b′ tick f e left ps
 
-pub clear-start : {t b : List ℕ} {tick f e left : ℕ} → left ≡ column t 0 piecesCount → Round t t b b tick f e left
-clear-start {t} {b} {tick} el =
+-- before the first of them
+pub clearing-same : {t b : List ℕ} {tick f e left : ℕ} {ps : List PieceRow} → Given t b f e ps → Uncrossed f ps → length ps ≤ left → Clearing t t b b tick f e left ps
+clearing-same {b = b} {ps = ps} g u n =
     record {
-      len = refl;
-      len-blocks = refl;
-      done = λ ps g u.
-          record {
-            now = ps;
-            gone = [];
-            becomes = record { rep = g .rep; len = refl };
-            blocks = sym (appended-none b);
-            inside = refl;
-            same-below = refl;
-            same-above = refl;
-            uncrossed = u;
-            few = omega (arith, rep-count (g .rep));
-          };
+      now = ps;
+      gone = [];
+      becomes = record { rep = g .rep; len = refl };
+      blocks = sym (appended-none b);
+      inside = refl;
+      same-below = refl;
+      same-above = refl;
+      uncrossed = u;
+      few = n;
     }
 
+pub clear-start : {t b : List ℕ} {tick f e left : ℕ} → left ≡ column t 0 piecesCount → Round t t b b tick f e left
+clear-start el = record { len = refl; len-blocks = refl; done = λ ps g u. clearing-same g u (omega (arith, rep-count (g .rep))) }
+
 -- what the next step may assume
-given-next : {t t₁ b b₁ : List ℕ} {tick f e left : ℕ} {ps : List PieceRow} → Given t b f e ps → (k : Clearing t t₁ b b₁ tick f e left ps) → Given t₁ b₁ f e (k .now)
+pub given-next : {t t₁ b b₁ : List ℕ} {tick f e left : ℕ} {ps : List PieceRow} → Given t b f e ps → (k : Clearing t t₁ b b₁ tick f e left ps) → Given t₁ b₁ f e (k .now)
 given-next {tick = tick} {f} {e} g k =
     record {
       rep = k .becomes .rep;
@@ -242,4 +262,4 @@ clear-end {t} {t′} {b} {b′} {tick} {f} {e} {left} c z = record { done = go }
         }
 
 -- the steps, for `search` at a return
-pub ruleset clearing = (not-true, not-false, record-part-far, record-part-none, record-part-wide, record-part-done, clear-one-none, clear-one-right, clear-one-front, clear-one-more, clear-start, clear-more, clear-stop, clear-end)
+pub ruleset clearing = (not-true, not-false, record-part-far, record-part-none, record-part-wide, record-part-done, meet-one-none, meet-one-right, meet-one-front, meet-one-whole, clear-one-stop, clear-one-more, clear-start, clear-more, clear-stop, clear-end)

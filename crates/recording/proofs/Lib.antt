@@ -1,5 +1,6 @@
 pub mod Recorded
 pub mod Clearing
+pub mod Placing
 pub mod Updating
 pub mod Extracting
 pub mod Telling

@@ -1,7 +1,7 @@
--- `split`, `remove_overlapping` and `apply_update`: one step for each return. Assumes nothing.
+-- `split`, `cut_first` and `apply_update`: one step for each return. Assumes nothing.
 use mathlib.Core.Path.{_≡_, refl, sym, ap, ap₂, subst, _∙_}
 use mathlib.Core.Logic.{inl, inr}
-use mathlib.Core.Bool.{Bool, true, false}
+use mathlib.Core.Bool.{Bool, true, false, true≢false, false≢true}
 use mathlib.Core.List.{List, [], _∷_, _++_, map, append-assoc}
 use Prim.Native.Nat.{ℕ, suc, _+_, _-_, _*_, _≤_, _<_}
 use native.Mathlib.Omega.{arith}
@@ -21,9 +21,10 @@ use Rattle.piece_table.proofs.Order.{follow-filled, follow-right, follow-from, 
 use Rattle.piece_table.proofs.Parts.{Left, Right, below-within, above-within, back-below, back-above, middle-cut, inside-left, inside-right, inside-skip}
 use Rattle.piece_table.proofs.Seeing.{rep-follow, Seen, seen-none, seen-some, becomes-same, becomes-eq, becomes-then, left-alone}
 use Rattle.recording.specs.Recorded.{recorded}
-use Rattle.recording.specs.Calls.{innerPart, RecordedPart, Uncrossed, Clear, Given, Cleared, SplitPiece, RemovedOverlapping, Updated, AppliedUpdate}
-use Rattle.recording.proofs.Recorded.{recorded-append, recorded-more}
-use Rattle.recording.proofs.Clearing.{nothing-inside, inside-seen, recorded-seen}
+use Rattle.recording.specs.Calls.{innerPart, RecordedPart, Uncrossed, Clearing, Clear, Given, SplitPiece, CutFirst, Updated, TookPlace, AppliedUpdate}
+use Rattle.recording.proofs.Recorded.{recorded-append}
+use Rattle.recording.proofs.Clearing.{nothing-inside, inside-seen, recorded-seen, clearing-same, given-next}
+use Rattle.recording.proofs.Placing.{inserted-clear}
 
 -- ── `split` ──
 
@@ -80,32 +81,35 @@ module _ {t : List ℕ} {link f e was size written offset owner : ℕ} (ew : was
               first-past [] p B low e f h = omega (arith, f .0)
               first-past (q ∷ A) p B low e f h = let r : rowEnd q ≤ e = first-past A p B (rowEnd q) e (f .2) h in omega (arith, f .0)
 
--- ── `remove_overlapping` ──
+-- ── `cut_first` ──
 
-pub remove-overlapping-none : {t b : List ℕ} {tick f e link : ℕ} → Sought t f link → link ≡ 0 → RemovedOverlapping t t b b tick f e
-remove-overlapping-none {t} {b} {tick} {f} {e} {link} s z = record { done = go }
-  where
-    go : (ps : List PieceRow) → Given t b f e ps → rowWidth * length (rowsBelow f ps ++ rowsAbove e ps) + rowWidth ≤ length t → Clear t t b b tick f e ps
-    go ps g space =
-        let l : Left f ps = seen-none s (g .rep) z in
-        record { becomes = becomes-same (g .rep) (left-alone f e (g .some) l (rep-follow (g .rep))); blocks = nothing-inside tick (inside-left f e l) }
+stops : {t t′ b b′ : List ℕ} {tick f e : ℕ} → ((ps : List PieceRow) → Given t b f e ps → rowWidth * length (rowsBelow f ps ++ rowsAbove e ps) + rowWidth ≤ length t → Clear t t′ b b′ tick f e ps)
+    → CutFirst t t′ b b′ tick f e false
+stops g = record { step = λ z. absurd (false≢true z); stop = λ _. g }
+
+goes-on : {t t′ b b′ : List ℕ} {tick f e : ℕ} → ((ps : List PieceRow) → Given t b f e ps → Clearing t t′ b b′ tick f e (length ps) ps) → CutFirst t t′ b b′ tick f e true
+goes-on g = record { step = λ _. g; stop = λ z. absurd (true≢false z) }
+
+pub cut-first-none : {t b : List ℕ} {tick f e link : ℕ} → Sought t f link → link ≡ 0 → CutFirst t t b b tick f e false
+cut-first-none {t} {b} {tick} {f} {e} s z =
+    stops (λ ps g space.
+    let l : Left f ps = seen-none s (g .rep) z in
+    record { becomes = becomes-same (g .rep) (left-alone f e (g .some) l (rep-follow (g .rep))); blocks = nothing-inside tick (inside-left f e l) })
 
 module _ {t b : List ℕ} {tick f e link was : ℕ} (s : Sought t f link) (nz : link ≡ 0 → ⊥) (ew : was ≡ firstAt t link) where
-  uncut-first : {t₁ b₁ : List ℕ} → f ≤ was → Cleared t t₁ b b₁ tick f e → RemovedOverlapping t t₁ b b₁ tick f e
-  uncut-first {t₁} {b₁} le clear = record { done = go }
-    where
-      go : (ps : List PieceRow) → Given t b f e ps → rowWidth * length (rowsBelow f ps ++ rowsAbove e ps) + rowWidth ≤ length t → Clear t t₁ b b₁ tick f e ps
-      go ps g space =
-          let v : Seen t f link ps = seen-some s (g .rep) nz in
-          let p : PieceRow = pieceAt t link in
-          let B : List PieceRow = map (pieceAt t) (v .ys) in
-          let u : Uncrossed f (map (pieceAt t) (v .xs) ++ p ∷ B)
-          = all-append (all-map (λ q l. inl l) (v .left)) (all-cons {x = p} (inr (omega arith)) (all-map (λ q l. inr l) (follow-right f (rowEnd p) B (omega (arith, v .past)) (v .after)))) in
-          clear .done ps g (subst (Uncrossed f) (sym (v .is)) u)
+  uncut : f ≤ was → CutFirst t t b b tick f e true
+  uncut le =
+      goes-on (λ ps g.
+      let v : Seen t f link ps = seen-some s (g .rep) nz in
+      let p : PieceRow = pieceAt t link in
+      let B : List PieceRow = map (pieceAt t) (v .ys) in
+      let u : Uncrossed f (map (pieceAt t) (v .xs) ++ p ∷ B)
+      = all-append (all-map (λ q l. inl l) (v .left)) (all-cons {x = p} (inr (omega arith)) (all-map (λ q l. inr l) (follow-right f (rowEnd p) B (omega (arith, v .past)) (v .after)))) in
+      clearing-same g (subst (Uncrossed f) (sym (v .is)) u) (omega arith))
 
   module _ {q : Bool} {t₁ b₁ : List ℕ} (lt : was < f) (rec : RecordedPart t b b₁ link tick f e) (eq : EndsAfter t link e q) where
-    cut-middle : q ≡ true → SplitPiece t t₁ link f e → RemovedOverlapping t t₁ b b₁ tick f e
-    cut-middle y cut = record { done = go }
+    cut-middle : q ≡ true → SplitPiece t t₁ link f e → CutFirst t t₁ b b₁ tick f e false
+    cut-middle y cut = stops go
       where
         go : (ps : List PieceRow) → Given t b f e ps → rowWidth * length (rowsBelow f ps ++ rowsAbove e ps) + rowWidth ≤ length t → Clear t t₁ b b₁ tick f e ps
         go ps g space =
@@ -128,11 +132,11 @@ module _ {t b : List ℕ} {tick f e link was : ℕ} (s : Sought t f link) (nz : 
               blocks = recorded-seen s nz ew rec g (omega arith) ∙ ap (λ (l : List PieceRow). recorded tick l b) (sym (inside-seen e v h (omega arith) ∙ ap (λ (l : List PieceRow). innerPart t link f e ∷ l) none));
             }
 
-    cut-back : {t₂ b₂ : List ℕ} → q ≡ false → TrimmedBack t t₁ link f → Cleared t₁ t₂ b₁ b₂ tick f e → RemovedOverlapping t t₂ b b₂ tick f e
-    cut-back {t₂} {b₂} n trim clear = record { done = go }
+    cut-back : q ≡ false → TrimmedBack t t₁ link f → CutFirst t t₁ b b₁ tick f e true
+    cut-back n trim = goes-on go
       where
-        go : (ps : List PieceRow) → Given t b f e ps → rowWidth * length (rowsBelow f ps ++ rowsAbove e ps) + rowWidth ≤ length t → Clear t t₂ b b₂ tick f e ps
-        go ps g space =
+        go : (ps : List PieceRow) → Given t b f e ps → Clearing t t₁ b b₁ tick f e (length ps) ps
+        go ps g =
             let v : Seen t f link ps = seen-some s (g .rep) nz in
             let h : f < e = g .some in
             let p : PieceRow = pieceAt t link in
@@ -141,55 +145,60 @@ module _ {t b : List ℕ} {tick f e link was : ℕ} (s : Sought t f link) (nz : 
             let p₁ : PieceRow = part (firstAt t link) f p in
             let under : endAt t link ≤ e = ltb-false e (endAt t link) (sym (eq .is) ∙ n) in
             let past : f < endAt t link = v .past in
-            let one : Becomes t t₁ (A ++ p₁ ∷ B) = trim .done (v .xs) (v .ys) (v .linked) (omega arith) (omega arith) in
             let left : Left f (A ++ p₁ ∷ []) = all-append (v .left) (all-cons {x = p₁} (omega arith) all-nil) in
-            let u : Uncrossed f (A ++ p₁ ∷ B) = all-append (all-map (λ q l. inl l) (v .left)) (all-cons {x = p₁} (inl (omega arith)) (all-map (λ q l. inr l) (follow-right f (rowEnd p) B (omega arith) (v .after)))) in
             let rest : rowsInside f e (A ++ p₁ ∷ B) ≡ rowsInside f e B = ap (rowsInside f e) (sym (append-assoc A (p₁ ∷ []) B)) ∙ inside-skip f e (A ++ p₁ ∷ []) B left in
-            let whole : rowsInside f e ps ≡ (innerPart t link f e ∷ []) ++ rowsInside f e B = inside-seen e v h (omega arith) in
-            let rec₁ : b₁ ≡ recorded tick (innerPart t link f e ∷ []) b = recorded-seen s nz ew rec g (omega arith) in
-            let g₁ : Given t₁ b₁ f e (A ++ p₁ ∷ B) = record {
-              rep = one .rep;
-              some = h;
-              space = rw (rec₁, rest) (recorded-more tick (innerPart t link f e ∷ []) (rowsInside f e B) b (rw whole at (g .space)));
-            } in
-            let two : Clear t₁ t₂ b₁ b₂ tick f e (A ++ p₁ ∷ B) = clear .done (A ++ p₁ ∷ B) g₁ u in
             record {
-              becomes = becomes-then one (becomes-eq (two .becomes)
-                  (ap₂ (λ (x y : List PieceRow). x ++ y) (ap (rowsBelow f) (v .is) ∙ sym (back-below f e h A p B (omega arith) (omega arith))) (ap (rowsAbove e) (v .is) ∙ sym (back-above f e h A p B (omega arith) under))));
-              blocks = two .blocks ∙ ap₂ (recorded tick) rest rec₁ ∙ recorded-append tick (innerPart t link f e ∷ []) (rowsInside f e B) b (g .space .head) ∙ ap (λ (l : List PieceRow). recorded tick l b) (sym whole);
+              now = A ++ p₁ ∷ B;
+              gone = innerPart t link f e ∷ [];
+              becomes = trim .done (v .xs) (v .ys) (v .linked) (omega arith) (omega arith);
+              blocks = recorded-seen s nz ew rec g (omega arith);
+              inside = inside-seen e v h (omega arith) ∙ ap (λ (l : List PieceRow). innerPart t link f e ∷ l) (sym rest);
+              same-below = back-below f e h A p B (omega arith) (omega arith) ∙ ap (rowsBelow f) (sym (v .is));
+              same-above = back-above f e h A p B (omega arith) under ∙ ap (rowsAbove e) (sym (v .is));
+              uncrossed = all-append (all-map (λ q l. inl l) (v .left)) (all-cons {x = p₁} (inl (omega arith)) (all-map (λ q l. inr l) (follow-right f (rowEnd p) B (omega arith) (v .after))));
+              few = omega (arith, ap length (v .is), length-append A (p₁ ∷ B), length-append A (p ∷ B));
             }
 
 -- by the test whether the piece starts before the first cell
 module _ {t b : List ℕ} {tick f e link : ℕ} {starts : Bool} (s : Sought t f link) (nz : link ≡ 0 → ⊥) (tested : StartsBelow t link f starts) where
-  pub remove-overlapping-clear : {t₁ b₁ : List ℕ} → starts ≡ false → Cleared t t₁ b b₁ tick f e → RemovedOverlapping t t₁ b b₁ tick f e
-  remove-overlapping-clear h = uncut-first s nz refl (ltb-false (firstAt t link) f (sym (tested .is) ∙ h))
+  pub cut-first-uncut : starts ≡ false → CutFirst t t b b tick f e true
+  cut-first-uncut h = uncut s nz refl (ltb-false (firstAt t link) f (sym (tested .is) ∙ h))
 
   module _ {q : Bool} {t₁ b₁ : List ℕ} (h : starts ≡ true) (rec : RecordedPart t b b₁ link tick f e) (eq : EndsAfter t link e q) where
-    pub remove-overlapping-middle : q ≡ true → SplitPiece t t₁ link f e → RemovedOverlapping t t₁ b b₁ tick f e
-    remove-overlapping-middle = cut-middle s nz refl (ltb-true (firstAt t link) f (sym (tested .is) ∙ h)) rec eq
+    pub cut-first-middle : q ≡ true → SplitPiece t t₁ link f e → CutFirst t t₁ b b₁ tick f e false
+    cut-first-middle = cut-middle s nz refl (ltb-true (firstAt t link) f (sym (tested .is) ∙ h)) rec eq
 
-    pub remove-overlapping-back : {t₂ b₂ : List ℕ} → q ≡ false → TrimmedBack t t₁ link f → Cleared t₁ t₂ b₁ b₂ tick f e → RemovedOverlapping t t₂ b b₂ tick f e
-    remove-overlapping-back = cut-back s nz refl (ltb-true (firstAt t link) f (sym (tested .is) ∙ h)) rec eq
+    pub cut-first-back : q ≡ false → TrimmedBack t t₁ link f → CutFirst t t₁ b b₁ tick f e true
+    cut-first-back = cut-back s nz refl (ltb-true (firstAt t link) f (sym (tested .is) ∙ h)) rec eq
 
 -- ── `apply_update` ──
 
 pub apply-update-far : {t b : List ℕ} (p : PieceRow) → 18446744073709551615 - p .first < p .size → AppliedUpdate t t b b p
 apply-update-far p h = record { done = λ ps r k c space. absurd (omega (arith, k .near)) }
 
-pub apply-update-done : {t t₁ t₂ b b₁ : List ℕ} (p : PieceRow) → RemovedOverlapping t t₁ b b₁ (p .written) (p .first) (p .first + p .size) → InsertedPiece t₁ t₂ p → AppliedUpdate t t₂ b b₁ p
-apply-update-done {t} {t₁} {t₂} {b} {b₁} p gone ins = record { done = go }
-  where
-    go : (ps : List PieceRow) → Rep t ps → Filled p → Countable b (length (rowsInside (p .first) (rowEnd p) ps))
-        → rowWidth * length (rowsBelow (p .first) ps ++ p ∷ rowsAbove (rowEnd p) ps) + rowWidth ≤ length t → Updated t t₂ b b₁ p ps
-    go ps r k c space =
-        let A : List PieceRow = rowsBelow (p .first) ps in
-        let B : List PieceRow = rowsAbove (rowEnd p) ps in
-        let n : length (A ++ p ∷ B) ≡ suc (length (A ++ B)) = omega (arith, length-append A (p ∷ B), length-append A B) in
-        let z : Clear t t₁ b b₁ (p .written) (p .first) (rowEnd p) ps = gone .done ps (record { rep = r; some = omega (arith, k .some); space = c }) (omega (arith, n, space)) in
-        let one : Becomes t t₁ (A ++ B) = z .becomes in
-        let order : placed p (A ++ B) ≡ A ++ p ∷ B = placed-between A p B k (below-within (p .first) ps) (above-within (rowEnd p) ps) in
-        let f : Follow 0 (A ++ p ∷ B) = follow-between 0 A p B (omega arith) k (below-within (p .first) ps) (above-within (rowEnd p) ps) (rep-follow (one .rep)) in
-        record { becomes = becomes-then one (becomes-eq (ins .done (A ++ B) (one .rep) (omega (arith, n, space, one .len)) (rw order f)) (sym order)); blocks = z .blocks }
+module _ {t t₁ t₂ b b₁ : List ℕ} {q : Bool} (p : PieceRow) (cut : CutFirst t t₁ b b₁ (p .written) (p .first) (p .first + p .size) q) where
+  pub apply-update-done : q ≡ false → InsertedPiece t₁ t₂ p → AppliedUpdate t t₂ b b₁ p
+  apply-update-done n ins = record { done = λ ps r k c space. inserted-clear p ins (cut .stop n ps (record { rep = r; some = omega (arith, k .some); space = c }) (fewer (rowsBelow (p .first) ps) (rowsAbove (rowEnd p) ps) space)) k space }
+    where
+      fewer : (A B : List PieceRow) → rowWidth * length (A ++ p ∷ B) + rowWidth ≤ length t → rowWidth * length (A ++ B) + rowWidth ≤ length t
+      fewer A B h = omega (arith, h, length-append A (p ∷ B), length-append A B)
+
+  pub apply-update-more : {b₂ : List ℕ} → q ≡ true → TookPlace t₁ t₂ b₁ b₂ p → AppliedUpdate t t₂ b b₂ p
+  apply-update-more {b₂} y took = record { done = go }
+    where
+      go : (ps : List PieceRow) → Rep t ps → Filled p → Countable b (length (rowsInside (p .first) (rowEnd p) ps))
+          → rowWidth * length (rowsBelow (p .first) ps ++ p ∷ rowsAbove (rowEnd p) ps) + rowWidth ≤ length t → Updated t t₂ b b₂ p ps
+      go ps r k c space =
+          let g : Given t b (p .first) (rowEnd p) ps = record { rep = r; some = omega (arith, k .some); space = c } in
+          let z : Clearing t t₁ b b₁ (p .written) (p .first) (rowEnd p) (length ps) ps = cut .step y ps g in
+          let same : rowsBelow (p .first) (z .now) ++ p ∷ rowsAbove (rowEnd p) (z .now) ≡ rowsBelow (p .first) ps ++ p ∷ rowsAbove (rowEnd p) ps
+          = ap₂ (λ (x y : List PieceRow). x ++ p ∷ y) (z .same-below) (z .same-above) in
+          let o : Updated t₁ t₂ b₁ b₂ p (z .now) = took .done (z .now) (given-next g z) (z .uncrossed) k (rw same (omega (arith, space, z .becomes .len))) in
+          record {
+            becomes = becomes-then (z .becomes) (becomes-eq (o .becomes) (sym same));
+            blocks = o .blocks ∙ ap (recorded (p .written) (rowsInside (p .first) (rowEnd p) (z .now))) (z .blocks)
+                ∙ recorded-append (p .written) (z .gone) (rowsInside (p .first) (rowEnd p) (z .now)) b (c .head) ∙ ap (λ (l : List PieceRow). recorded (p .written) l b) (sym (z .inside));
+          }
 
 -- the steps, for `search` at a return
-pub ruleset updating = (not-true, not-false, split-low, split-high, split-far, split-done, remove-overlapping-none, remove-overlapping-clear, remove-overlapping-middle, remove-overlapping-back, apply-update-far, apply-update-done)
+pub ruleset updating = (not-true, not-false, split-low, split-high, split-far, split-done, cut-first-none, cut-first-uncut, cut-first-middle, cut-first-back, apply-update-far, apply-update-done, apply-update-more)

@@ -13,7 +13,7 @@ use Rattle.merge_set.specs.Table.{firstAt, Shape}
 use Rattle.block_table.specs.Appended.{Countable}
 use Rattle.piece_table.specs.Piece.{PieceRow, rowEnd, pieceAt, part, rowsBelow, rowsInside, rowsAbove, Filled}
 use Rattle.piece_table.specs.Rep.{Linked, Rep, Becomes}
-use Rattle.piece_table.specs.Calls.{endAt}
+use Rattle.piece_table.specs.Calls.{endAt, Sought}
 use Rattle.recording.specs.Recorded.{recorded}
 
 -- ── blocks ──
@@ -65,6 +65,19 @@ pub record Given (t b : List ℕ) (first end : ℕ) (ps : List PieceRow) : Type 
   pub some : first < end
   pub space : Countable b (length (rowsInside first end ps))
 
+-- the link's piece is the lowest in [first, end) and lies in there wholly; it is recorded
+pub record Covered (t t′ b b′ : List ℕ) (tick first end link : ℕ) : Type 0 where
+  pub same : t′ ≡ t
+  pub sought : Sought t first link
+  pub from : first ≤ firstAt t link
+  pub to : endAt t link ≤ end
+  pub blocks : b′ ≡ recorded tick (innerPart t link first end ∷ []) b
+
+-- `meet_one`: a covered piece is recorded, or none is left in [first, end)
+pub record MetOne (t t′ b b′ : List ℕ) (tick first end link : ℕ) : Type 0 where
+  pub covers : (link ≡ 0 → ⊥) → (ps : List PieceRow) → Given t b first end ps → Uncrossed first ps → Covered t t′ b b′ tick first end link
+  pub stop : link ≡ 0 → (ps : List PieceRow) → Given t b first end ps → Uncrossed first ps → Clear t t′ b b′ tick first end ps
+
 -- `clear_one`: one covered piece is gone, or none is left in [first, end)
 pub record ClearedOne (t t′ b b′ : List ℕ) (tick first end : ℕ) (more : Bool) : Type 0 where
   pub step : more ≡ true → (ps : List PieceRow) → Given t b first end ps → Uncrossed first ps → Clearing t t′ b b′ tick first end (length ps - 1) ps
@@ -80,16 +93,32 @@ pub record SplitPiece (t t′ : List ℕ) (link first end : ℕ) : Type 0 where
       → rowWidth * length (xs ++ link ∷ ys) + (rowWidth + rowWidth) ≤ length t
       → Becomes t t′ (map (pieceAt t) xs ++ part (firstAt t link) first (pieceAt t link) ∷ part end (endAt t link) (pieceAt t link) ∷ map (pieceAt t) ys)
 
--- `remove_overlapping`: where there is space for what is left of the pieces
-pub record RemovedOverlapping (t t′ b b′ : List ℕ) (tick first end : ℕ) : Type 0 where
-  pub done : (ps : List PieceRow) → Given t b first end ps → rowWidth * length (rowsBelow first ps ++ rowsAbove end ps) + rowWidth ≤ length t
+-- `clear_after`: of the pieces behind the link's, what lies below `end` is recorded and gone
+pub record After (t t′ b b′ : List ℕ) (tick link end : ℕ) (xs ys : List ℕ) : Type 0 where
+  pub becomes : Becomes t t′ (map (pieceAt t) xs ++ pieceAt t link ∷ rowsAbove end (map (pieceAt t) ys))
+  pub blocks : b′ ≡ recorded tick (rowsInside (endAt t link) end (map (pieceAt t) ys)) b
+
+pub record ClearedAfter (t t′ b b′ : List ℕ) (tick link end : ℕ) : Type 0 where
+  pub done : (xs ys : List ℕ) → Linked t (xs ++ link ∷ ys) → endAt t link ≤ end → Countable b (length (rowsInside (endAt t link) end (map (pieceAt t) ys)))
+      → After t t′ b b′ tick link end xs ys
+
+-- `cut_first`: no piece reaches over the first cell any more; or, where there is space for what is left of the pieces, none is left in [first, end)
+pub record CutFirst (t t′ b b′ : List ℕ) (tick first end : ℕ) (more : Bool) : Type 0 where
+  pub step : more ≡ true → (ps : List PieceRow) → Given t b first end ps → Clearing t t′ b b′ tick first end (length ps) ps
+  pub stop : more ≡ false → (ps : List PieceRow) → Given t b first end ps → rowWidth * length (rowsBelow first ps ++ rowsAbove end ps) + rowWidth ≤ length t
       → Clear t t′ b b′ tick first end ps
 
--- `apply_update`: where there is space, the ledger's update: the operation's piece between what is below and above it, and a block for what it covers
+-- where there is space, the ledger's update: the operation's piece between what is below and above it, and a block for what it covers
 pub record Updated (t t′ b b′ : List ℕ) (p : PieceRow) (ps : List PieceRow) : Type 0 where
   pub becomes : Becomes t t′ (rowsBelow (p .first) ps ++ p ∷ rowsAbove (rowEnd p) ps)
   pub blocks : b′ ≡ recorded (p .written) (rowsInside (p .first) (rowEnd p) ps) b
 
+-- `take_place`: where no piece reaches over the first cell
+pub record TookPlace (t t′ b b′ : List ℕ) (p : PieceRow) : Type 0 where
+  pub done : (ps : List PieceRow) → Given t b (p .first) (rowEnd p) ps → Uncrossed (p .first) ps → Filled p
+      → rowWidth * length (rowsBelow (p .first) ps ++ p ∷ rowsAbove (rowEnd p) ps) + rowWidth ≤ length t → Updated t t′ b b′ p ps
+
+-- `apply_update`
 pub record AppliedUpdate (t t′ b b′ : List ℕ) (p : PieceRow) : Type 0 where
   pub done : (ps : List PieceRow) → Rep t ps → Filled p → Countable b (length (rowsInside (p .first) (rowEnd p) ps))
       → rowWidth * length (rowsBelow (p .first) ps ++ p ∷ rowsAbove (rowEnd p) ps) + rowWidth ≤ length t → Updated t t′ b b′ p ps

@@ -3,11 +3,13 @@
 //   specs/Recorded     the blocks that pieces become
 //   specs/Calls        what each function ensures
 //   proofs/Recorded    laws of recording them
-//   proofs/Clearing    one step for each return: of `record_part`, `clear_one`, `clear`
-//   proofs/Updating    of `split`, `remove_overlapping`, `apply_update`
+//   proofs/Clearing    one step for each return: of `record_part`, `meet_one`, `clear_one`, `clear`
+//   proofs/Placing     of `clear_after`, `take_place`
+//   proofs/Updating    of `split`, `cut_first`, `apply_update`
 //   proofs/Extracting  of `extract_members`
 //   proofs/Telling     what the tables then stand for is the ledger's update
-ghost use Rattle.recording.specs.Calls.{RecordedPart, Extracted, ExtractedMembers, ClearedOne, Cleared, SplitPiece, RemovedOverlapping, AppliedUpdate};
+ghost use Prim.Native.Nat.{_+_, _<_, _^_};
+ghost use Rattle.recording.specs.Calls.{RecordedPart, Extracted, ExtractedMembers, MetOne, ClearedOne, Cleared, ClearedAfter, SplitPiece, CutFirst, TookPlace, AppliedUpdate};
 use tables::piece;
 
 // Records the part of a link's piece in [first, end), which it meets, as a block destroyed at `tick`.
@@ -64,22 +66,47 @@ fn split(pieces: &mut [u64], link: u64, from: u64, to: u64)
     piece_table::insert_piece(pieces, to, length - cut, written, offset + cut, owner);
 }
 
-// Records what the lowest piece in [first, end) has there, and takes the piece out, or cuts it at the end and stops; stops if there is none. Tells
-// whether to go on.
-fn clear_one(pieces: &mut [u64], blocks: &mut [u64], tick: u64, first: u64, end: u64) -> bool
-    ensures { λ more. ⌜ ClearedOne (now (pieces .entry)) (now (pieces .exit)) (now (blocks .entry)) (now (blocks .exit)) tick first end more ⌝ }
+// Records what the lowest piece in [first, end) has there, and gives its link, if it lies in there wholly; cuts it at the end and gives 0, if it
+// reaches on; 0 if there is none. `near` is a guess, here and below: the link of a piece that has the first cell or ends there, or any number.
+fn meet_one(
+    pieces: &mut [u64],
+    blocks: &mut [u64],
+    tick: u64,
+    first: u64,
+    end: u64,
+    near: u64,
+) -> u64
+    ensures { λ link. ⌜ MetOne (now (pieces .entry)) (now (pieces .exit)) (now (blocks .entry)) (now (blocks .exit)) tick first end link ⌝ }
 {
-    let link = piece_table::seek(pieces, first);
+    let link = piece_table::seek_near(pieces, first, near);
     if link == 0 {
-        return false;
+        return 0;
     }
     if !merge_set::starts_below(pieces, link, end) {
-        return false;
+        return 0;
     }
     record_part(pieces, blocks, link, tick, first, end);
     let reaches_on = piece_table::ends_after(pieces, link, end);
     if reaches_on {
         piece_table::trim_front(pieces, link, end);
+        return 0;
+    }
+    link
+}
+
+// Takes the lowest piece in [first, end) out, and records it; or cuts it at the end and stops; stops if there is none. Tells whether to go on.
+fn clear_one(
+    pieces: &mut [u64],
+    blocks: &mut [u64],
+    tick: u64,
+    first: u64,
+    end: u64,
+    near: u64,
+) -> bool
+    ensures { λ more. ⌜ ClearedOne (now (pieces .entry)) (now (pieces .exit)) (now (blocks .entry)) (now (blocks .exit)) tick first end more ⌝ }
+{
+    let link = meet_one(pieces, blocks, tick, first, end, near);
+    if link == 0 {
         return false;
     }
     piece_table::remove_piece(pieces, link);
@@ -87,40 +114,86 @@ fn clear_one(pieces: &mut [u64], blocks: &mut [u64], tick: u64, first: u64, end:
 }
 
 // Takes out and records all that the pieces have in [first, end), where none reaches over the first cell.
-fn clear(pieces: &mut [u64], blocks: &mut [u64], tick: u64, first: u64, end: u64)
+fn clear(pieces: &mut [u64], blocks: &mut [u64], tick: u64, first: u64, end: u64, near: u64)
     ensures { λ _. ⌜ Cleared (now (pieces .entry)) (now (pieces .exit)) (now (blocks .entry)) (now (blocks .exit)) tick first end ⌝ }
 {
     let mut left = tables::get(pieces, 0, piece::COUNT);
     while left > 0 {
-        if !clear_one(pieces, blocks, tick, first, end) {
+        if !clear_one(pieces, blocks, tick, first, end, near) {
             return;
         }
         left -= 1;
     }
 }
 
-// Takes all that the pieces have in [first, end) out of them, and records it, ascending, as blocks destroyed at `tick`.
-pub fn remove_overlapping(pieces: &mut [u64], blocks: &mut [u64], tick: u64, first: u64, end: u64)
-    ensures { λ _. ⌜ RemovedOverlapping (now (pieces .entry)) (now (pieces .exit)) (now (blocks .entry)) (now (blocks .exit)) tick first end ⌝ }
+// Takes out and records all that the pieces behind a link's have below `end`.
+fn clear_after(pieces: &mut [u64], blocks: &mut [u64], tick: u64, link: u64, end: u64)
+    ensures { λ _. ⌜ ClearedAfter (now (pieces .entry)) (now (pieces .exit)) (now (blocks .entry)) (now (blocks .exit)) tick link end ⌝ }
 {
-    let link = piece_table::seek(pieces, first);
-    if link == 0 {
+    let first = tables::get(pieces, link, piece::FIRST);
+    let next = tables::plus(first, tables::get(pieces, link, piece::LENGTH));
+    if end <= next {
         return;
     }
+    clear(pieces, blocks, tick, next, end, link);
+}
+
+// Cuts what lies in [first, end) off a piece that reaches over the first cell, and records it. Tells whether there may be more in there.
+fn cut_first(
+    pieces: &mut [u64],
+    blocks: &mut [u64],
+    tick: u64,
+    first: u64,
+    end: u64,
+    near: u64,
+) -> bool
+    ensures { λ more. ⌜ CutFirst (now (pieces .entry)) (now (pieces .exit)) (now (blocks .entry)) (now (blocks .exit)) tick first end more ⌝ }
+{
+    let link = piece_table::seek_near(pieces, first, near);
+    if link == 0 {
+        return false;
+    }
     if !merge_set::starts_below(pieces, link, first) {
-        clear(pieces, blocks, tick, first, end);
-        return;
+        return true;
     }
     record_part(pieces, blocks, link, tick, first, end);
     if piece_table::ends_after(pieces, link, end) {
         split(pieces, link, first, end);
-        return;
+        return false;
     }
     piece_table::trim_back(pieces, link, first);
-    clear(pieces, blocks, tick, first, end);
+    true
 }
 
-// What an update at `tick` does to the pieces and the blocks; its bytes stand in the store at `offset`.
+// Puts the piece of an update where no piece reaches over its first cell. It takes the row of the lowest piece that it covers; all else in its cells
+// is taken out. What is taken out is recorded, ascending, as blocks destroyed at `tick`.
+fn take_place(
+    pieces: &mut [u64],
+    blocks: &mut [u64],
+    tick: u64,
+    first: u64,
+    length: u64,
+    offset: u64,
+    owner: u64,
+    near: u64,
+)
+    requires { ⌜ first + length < 2 ^ 64 ⌝ }
+    ensures { λ _. ⌜ TookPlace (now (pieces .entry)) (now (pieces .exit)) (now (blocks .entry)) (now (blocks .exit))
+        (record { first = first; size = length; written = tick; offset = offset; owner = owner }) ⌝ }
+{
+    let link = meet_one(pieces, blocks, tick, first, first + length, near);
+    if link == 0 {
+        piece_table::insert_piece(pieces, first, length, tick, offset, owner);
+        return;
+    }
+    let was = tables::get(pieces, link, piece::FIRST);
+    clear_after(pieces, blocks, tick, link, first + length);
+    let row = piece_table::seek_near(pieces, was, link);
+    piece_table::replace_piece(pieces, row, first, length, tick, offset, owner);
+}
+
+// What an update at `tick` does to the pieces and the blocks; its bytes stand in the store at `offset`. `near` is a guess for the piece that has the
+// first cell.
 pub fn apply_update(
     pieces: &mut [u64],
     blocks: &mut [u64],
@@ -129,6 +202,7 @@ pub fn apply_update(
     length: u64,
     offset: u64,
     owner: u64,
+    near: u64,
 )
     ensures { λ _. ⌜ AppliedUpdate (now (pieces .entry)) (now (pieces .exit)) (now (blocks .entry)) (now (blocks .exit))
         (record { first = first; size = length; written = tick; offset = offset; owner = owner }) ⌝ }
@@ -136,7 +210,10 @@ pub fn apply_update(
     if u64::MAX - first < length {
         return;
     }
-    remove_overlapping(pieces, blocks, tick, first, first + length);
+    if cut_first(pieces, blocks, tick, first, first + length, near) {
+        take_place(pieces, blocks, tick, first, length, offset, owner, near);
+        return;
+    }
     piece_table::insert_piece(pieces, first, length, tick, offset, owner);
 }
 

@@ -24,8 +24,10 @@ use Rattle.segment_table.specs.Closed.{Tables, firstCellIn}
 use Rattle.segment_test.specs.Test.{lent, createdIn, destroyedIn, BlockRows, ClosedTree}
 use Rattle.segment_walk.specs.Walking.{Rooted}
 use Rattle.segment_walk.proofs.Agreeing.{sorted-agree}
-use Rattle.segment_apart.specs.Clear.{endIn, Reached, Clears, BirthClear}
-use Rattle.segment_apart.specs.Apart.{AllBounded, SeenApart, ApartByTree, ClosedApart}
+use Rattle.segment_clear.specs.Clear.{endIn, Reached, Clears}
+use Rattle.segment_handed.specs.Handed.{SoundRows, HandedOn}
+use Rattle.segment_apart.specs.Birth.{BirthClear}
+use Rattle.segment_apart.specs.Apart.{AllBounded, ClosedApart}
 use Rattle.segment_apart.proofs.Creation.{Alive, Born, born-apart}
 
 -- the first k blocks are clear of those live when they are created
@@ -161,12 +163,12 @@ module _ {blocks nodes entries : List ℕ} {kind e : ℕ} where
         ⊎-elim (λ (a : j < k). p .each j a) (λ (a : k ≤ j). let same : j ≡ k = omega arith in rw same (rw (not-false r h) at b)) (lt-or-le j k);
   }
 
-  pub clear-not : {n k : ℕ} {r : Bool} → k < n → BirthClear blocks nodes entries kind e k r → not r ≡ true → ApartByTree (lent blocks nodes entries) kind e n false
+  pub clear-not : {n k : ℕ} {r : Bool} → k < n → BirthClear blocks nodes entries kind e k r → not r ≡ true → ClosedApart (lent blocks nodes entries) kind e n false
   clear-not {n} {k} {r} l b h = record {
     decides = λ bs rows index bounded. refute (shared (lent blocks nodes entries) kind e n bs rows index bounded k l (rw (not-true r h) at b));
   }
 
-  pub clear-all : {n k : ℕ} → k ≤ n → n ≤ k → Passed blocks nodes entries kind e k → ApartByTree (lent blocks nodes entries) kind e n true
+  pub clear-all : {n k : ℕ} → k ≤ n → n ≤ k → Passed blocks nodes entries kind e k → ClosedApart (lent blocks nodes entries) kind e n true
   clear-all {n} {k} l h p =
       let same : k ≡ n = omega arith in
       record { decides = λ bs rows index bounded. confirm (unshared (lent blocks nodes entries) kind e n bs rows index bounded (rw same at p)) }
@@ -175,13 +177,15 @@ pub ruleset passing = (pass-none, pass-more, clear-not, clear-all, arith)
 
 -- ── the returns of `apart` ──
 
-module _ {blocks nodes entries : List ℕ} {kind e n : ℕ} where
-  pub apart-seen : {r : Bool} → SeenApart blocks n r → r ≡ true → ClosedApart (lent blocks nodes entries) kind e n true
-  apart-seen seen y = record {
-    decides = λ bs rows index bounded order. confirm (seen .shown y order (record { filled = λ link p q. bounded .rows link p q .some-cell }));
-  }
+pub apart-handed : {blocks nodes entries : List ℕ} {kind e n : ℕ} {r : Bool} → HandedOn (lent blocks nodes entries) kind e r → r ≡ true
+    → ClosedApart (lent blocks nodes entries) kind e n true
+apart-handed {blocks} {e = e} {n} handed y = record { decides = λ bs rows index bounded. confirm (handed .shown y n bs rows index (sound bounded)) }
+  where
+    sound : AllBounded blocks e n → SoundRows blocks e n
+    sound bounded = record {
+      filled = record { filled = λ link p q. bounded .rows link p q .some-cell };
+      fits = record { each = λ k h. bounded .rows (suc k) (omega arith) (omega arith) .no-wrap };
+      by-end = λ k h. bounded .rows (suc k) (omega arith) (omega arith) .by-end;
+    }
 
-  pub apart-tree : {r : Bool} → ApartByTree (lent blocks nodes entries) kind e n r → ClosedApart (lent blocks nodes entries) kind e n r
-  apart-tree d = record { decides = λ bs rows index bounded order. d .decides bs rows index bounded }
-
-pub ruleset testing = (apart-seen, apart-tree)
+pub ruleset testing = (apart-handed)

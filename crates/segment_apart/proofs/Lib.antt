@@ -1,5 +1,4 @@
-pub mod Seeing
 pub mod Creation
-pub mod Clearing
+pub mod Bearing
 pub mod Deciding
 pub mod Agreeing

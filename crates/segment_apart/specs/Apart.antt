@@ -6,7 +6,6 @@ use Prim.Native.Nat.{ℕ, _+_, _-_, _^_, _≤_, _<_}
 use Rattle.lists.specs.Tests.{Decides}
 use Rattle.history.specs.Words.{Block}
 use Rattle.block_table.specs.Blocks.{firstCellAt, lengthAt, destroyedAt, Filled}
-use Rattle.ordering.specs.Order.{InOrder}
 use Rattle.ordering.specs.Apart.{Unshared}
 use Rattle.segment_table.specs.Closed.{Tables}
 use Rattle.segment_test.specs.Test.{BlockRows, ClosedTree}
@@ -21,16 +20,7 @@ pub record Bounded (blocks : List ℕ) (end link : ℕ) : Type 0 where
 pub record AllBounded (blocks : List ℕ) (end n : ℕ) : Type 0 where
   pub rows : (link : ℕ) → 0 < link → link ≤ n → Bounded blocks end link
 
--- yes is said only of blocks in order, none of them empty, of which no two share a cell at a tick
-pub record SeenApart (blocks : List ℕ) (n : ℕ) (r : Bool) : Type 0 where
-  pub shown : r ≡ true → InOrder blocks n → Filled blocks n → Unshared blocks n
-
--- Of the tables of a closed index with bounded rows the tree decides rule 24: no two blocks share a cell at a tick. `Unshared` is history's `Apart`
+-- Of the tables of a closed index with bounded rows it is decided whether rule 24 holds: no two blocks share a cell at a tick. `Unshared` is history's `Apart`
 -- (ordering, `unshared-apart`).
-pub record ApartByTree (t : Tables) (kind end n : ℕ) (r : Bool) : Type 0 where
-  pub decides : (bs : List Block) → BlockRows (t .blocks) n bs → ClosedTree t kind end bs → AllBounded (t .blocks) end n → Decides r (Unshared (t .blocks) n)
-
--- and so does the whole test, where they stand in order
 pub record ClosedApart (t : Tables) (kind end n : ℕ) (r : Bool) : Type 0 where
-  pub decides : (bs : List Block) → BlockRows (t .blocks) n bs → ClosedTree t kind end bs → AllBounded (t .blocks) end n → InOrder (t .blocks) n
-      → Decides r (Unshared (t .blocks) n)
+  pub decides : (bs : List Block) → BlockRows (t .blocks) n bs → ClosedTree t kind end bs → AllBounded (t .blocks) end n → Decides r (Unshared (t .blocks) n)

@@ -1,3 +1,2 @@
-pub mod Along
-pub mod Clear
+pub mod Birth
 pub mod Apart

@@ -1,119 +1,21 @@
-// Each block against those that are live at its created tick. They stand on the way down to it, and in each node's run only the last one that
-// starts before the block's end is looked at, by a binary search: if a longer one begins before that one and reaches over it, these two share a cell,
-// and it is found where the later one of them is created.
-ghost use mathlib.Core.Path.{_≡_};
-ghost use Prim.Native.Nat.{suc, _<_};
-ghost use Rattle.lists.specs.Tests.{Decides};
-ghost use Rattle.history.specs.Lent.{rowWidth};
-ghost use Rattle.tables.specs.Columns.{blockColumn};
+// Each block against those that are live at its created tick. They stand on the way down to it (segment_clear); if a longer one reaches over the one
+// that is looked at, these two share a cell, and it is found where the later one of them is created.
 ghost use Rattle.segment_test.specs.Test.{lent};
-ghost use Rattle.segment_apart.specs.Clear.{EndsBy, Owns, RunClear, WayClear, BirthClear};
-ghost use Rattle.segment_apart.specs.Apart.{ApartByTree};
-use segment_walk::rows;
-use segment_walk::rows::Rows;
+ghost use Rattle.segment_apart.specs.Birth.{BirthClear};
+ghost use Rattle.segment_apart.specs.Apart.{ClosedApart};
 use segment_walk::walk;
-use segment_walk::walk::Node;
-use tables::block;
-use tables::entry;
-
-// A block that others are held against: its number, first cell and end.
-pub struct Own {
-    pub number: u64,
-    pub first: u64,
-    pub end: u64,
-}
-
-// Column `col` of block k, whose link is k + 1.
-fn column(blocks: &[u64], k: u64, col: usize) -> u64
-    requires { ⌜ col < rowWidth ⌝ }
-    ensures { λ r. ⌜ r ≡ blockColumn (now (blocks .entry)) (suc k) col ⌝ }
-{
-    tables::get(blocks, k, block::HEAD + col)
-}
-
-// Block k. An end that passes 2^64, which no sound table has, is cut.
-fn own_of(blocks: &[u64], k: u64) -> Own
-    ensures { λ r. ⌜ Owns (now (blocks .entry)) k r ⌝ }
-{
-    let first = column(blocks, k, block::FIRST);
-    let length = column(blocks, k, block::LENGTH);
-    if u64::MAX - first < length {
-        return Own {
-            number: k,
-            first,
-            end: u64::MAX,
-        };
-    }
-    Own {
-        number: k,
-        first,
-        end: first + length,
-    }
-}
-
-// Whether block k ends at the place or before it. It subtracts and does not add: in tables that nobody has tested an end may pass 2^64.
-fn ends_by(blocks: &[u64], k: u64, place: u64) -> bool
-    ensures { λ r. ⌜ Decides r (EndsBy (now (blocks .entry)) k place) ⌝ }
-{
-    let first = column(blocks, k, block::FIRST);
-    if place < first {
-        return false;
-    }
-    column(blocks, k, block::LENGTH) <= place - first
-}
-
-// Whether the last other block in the rows of a node that starts before the block's end, ends where the block starts or before. A binary search.
-fn run_clear(blocks: &[u64], entries: &[u64], rows: Rows, own: Own) -> bool
-    ensures { λ r. ⌜ RunClear (now (blocks .entry)) (now (entries .entry)) rows own r ⌝ }
-{
-    let row = rows::lower(entries, rows, own.end);
-    if row <= rows.from {
-        return true;
-    }
-    let last = entry::get(entries, (row - 1) as u64, entry::BLOCK);
-    if last != own.number {
-        return ends_by(blocks, last, own.first);
-    }
-    if row - 1 <= rows.from {
-        return true;
-    }
-    let other = entry::get(entries, (row - 2) as u64, entry::BLOCK);
-    ends_by(blocks, other, own.first)
-}
-
-// Whether it is so in each node on the way down to the tick. The node's width is halved at each turn: at most 66 turns on any table.
-fn way_clear(
-    blocks: &[u64],
-    nodes: &[u64],
-    entries: &[u64],
-    root: Node,
-    tick: u64,
-    own: Own,
-) -> bool
-    ensures { λ r. ⌜ WayClear (now (blocks .entry)) (now (nodes .entry)) (now (entries .entry)) root tick own r ⌝ }
-{
-    let mut node = root;
-    while !walk::absent(node) {
-        let rows = rows::rows_of(nodes, entries, node.link);
-        if !run_clear(blocks, entries, rows, own) {
-            return false;
-        }
-        node = walk::half(nodes, node, tick);
-    }
-    true
-}
 
 // Whether block k is clear of those that are live when it is created.
 fn birth_clear(blocks: &[u64], nodes: &[u64], entries: &[u64], kind: u64, end: u64, k: u64) -> bool
     ensures { λ r. ⌜ BirthClear (now (blocks .entry)) (now (nodes .entry)) (now (entries .entry)) kind end k r ⌝ }
 {
-    let created = column(blocks, k, block::CREATED);
-    if column(blocks, k, block::DESTROYED) <= created {
+    let row = segment_clear::row_of(blocks, k);
+    if row.destroyed <= row.created {
         return true;
     }
     let root = walk::root(nodes, kind, end);
-    let own = own_of(blocks, k);
-    way_clear(blocks, nodes, entries, root, created, own)
+    let own = segment_clear::own_of(k, row);
+    segment_clear::way_clear(blocks, nodes, entries, root, row.created, own)
 }
 
 // Whether each of the n blocks is clear of those that are live when it is created: then no two share a cell at any tick. For each block at most 64
@@ -126,7 +28,7 @@ pub fn all_clear(
     end: u64,
     n: u64,
 ) -> bool
-    ensures { λ r. ⌜ ApartByTree (lent (now (blocks .entry)) (now (nodes .entry)) (now (entries .entry))) kind end n r ⌝ }
+    ensures { λ r. ⌜ ClosedApart (lent (now (blocks .entry)) (now (nodes .entry)) (now (entries .entry))) kind end n r ⌝ }
 {
     let mut k = 0;
     while k < n {

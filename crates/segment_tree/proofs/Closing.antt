@@ -1,5 +1,5 @@
--- Steps of `close::close_tree`: the blocks in order fill the bare nodes to the tree of all blocks, and with the runs given out again the tables are
--- those of a closed index. Assumes nothing.
+-- Steps of `close::close_tree`: the blocks fill the bare nodes, the sorted runs are those of the tree of all blocks, and with the runs given out again
+-- the tables are those of a closed index. Assumes nothing.
 use mathlib.Core.Path.{_≡_, refl, ap, sym, _∙_}
 use mathlib.Core.Logic.{inl, inr}
 use mathlib.Core.List.{List, [], _∷_, map}
@@ -7,28 +7,30 @@ use Prim.Native.Nat.{ℕ, suc, _+_, _-_, _*_, _/_, _%_, _^_, _≤_, _<_}
 use native.Mathlib.Omega.{arith}
 use lib.ListN.{length, getD, set, replicate, length-set}
 use lib.Seq.{getD-set-same, getD-set-other}
-use Rattle.lists.specs.Lists.{All, all-cons, here, countFrom}
-use Rattle.lists.proofs.Numbers.{eq-or-ne, lt-or-le}
-use Rattle.lists.proofs.Lists.{all-any, all-mem, all-of-mem, count-from-length, count-from-at}
-use Rattle.lists.proofs.Counting.{mem-count, count-from-out}
+use Rattle.lists.specs.Lists.{All, all-cons, countFrom}
+use Rattle.lists.proofs.Numbers.{eq-or-ne}
+use Rattle.lists.proofs.Lists.{all-map, all-both, count-from-length, count-from-at}
+use Rattle.lists.proofs.Counting.{count-from-below}
 use Rattle.lists.proofs.Maps.{getD-of-map}
 use Rattle.history.specs.Lent.{rowWidth, entryWidth, entryHead}
 use Rattle.history.specs.Words.{Block}
 use Rattle.history.specs.Tree.{Tree, hole, node, mid, addLocation, noBlock, blockAt, keyIn, treeOf, entryCount}
 use Rattle.history.proofs.TreeCounts.{newNodes}
-use Rattle.history.proofs.TreeOrder.{addEach, treeOf-order}
-use Rattle.tables.specs.Columns.{column, blockColumn, entryColumn, blockNext, nodeMin, nodeMax, nodeLeft, nodeRight, nodeFirst, nodeEntries, nodeKind, nodesCount, entryBlock, entryKey, entriesCount}
+use Rattle.history.proofs.TreeOrder.{addEach, treeOf-each}
+use Rattle.tables.specs.Columns.{column, entryColumn, nodeMin, nodeMax, nodeLeft, nodeRight, nodeFirst, nodeEntries, nodeKind, nodesCount, entryBlock, entryKey, entriesCount}
 use Rattle.segment_table.specs.Closed.{nodesUsed, leftAt, rightAt, firstAt, countAt, firstCellIn, run, Keyed, TreeAt, Closed}
 use Rattle.segment_table.specs.Alone.{TreeAlone}
 use Rattle.segment_tree.specs.Count.{entriesTo, allEntries, CountRow, CountAt, Life, aLife}
 use Rattle.segment_tree.specs.Runs.{upTo, LikeButRuns, AssignedRuns}
 use Rattle.segment_tree.specs.Lives.{lifeOf, blockLife}
-use Rattle.segment_tree.specs.Fill.{startAt, Fillable, FillAt, Roomy, appendBlock, appendEach, FindsNodes, Filled, WrittenAll, lentTables, Closable, ClosedTree}
+use Rattle.segment_tree.specs.Fill.{startAt, Fillable, FillAt, Roomy, appendBlock, appendEach, FindsNodes, Filled, WrittenAll, RunsSorted, ClosedRuns, lentTables, Closable, ClosedTree}
 use Rattle.segment_tree.proofs.NodeRows.{entries-same, entries-most}
 use Rattle.segment_tree.proofs.Running.{runs-length, runs-outside, runs-like, runs-first}
 use Rattle.segment_tree.proofs.Counting.{zeros-read}
-use Rattle.segment_tree.proofs.Presence.{new-none-count, NodesOf, each-present, bare, new-bare, each-bare, in-hole, each-end}
+use Rattle.segment_tree.proofs.Presence.{new-none-count, NodesOf, each-present, bare, new-bare, each-bare}
+use Rattle.segment_tree.proofs.Sorted.{sortTree, sorted-length, bare-sort, sort-each, Rising, no-node, rising-each}
 use Rattle.segment_tree.proofs.Writing.{run-ends, run-fits, run-same, like-self, like-trans}
+use Rattle.segment_tree.proofs.SortingRuns.{runs-like-sorted, fill-sorted}
 
 -- ── the model ──
 
@@ -91,11 +93,11 @@ fill-start blocks s es kind link lo hi (node xs l r) begins g =
       fill-start blocks s es kind (rightAt s link) (mid lo hi) hi r begins (g .2),
     )
 
-roomy-counted : (s : List ℕ) (kind link lo hi : ℕ) (T : Tree) → CountAt s kind link lo hi T → Roomy s link T
-unfolding CountAt Roomy
-roomy-counted s kind link lo hi hole g = tt
-roomy-counted s kind link lo hi (node xs l r) g =
-    (omega (arith, g .0 .counted), roomy-counted s kind (leftAt s link) lo (mid lo hi) l (g .1), roomy-counted s kind (rightAt s link) (mid lo hi) hi r (g .2))
+roomy-counted : (key : ℕ → ℕ) (s : List ℕ) (kind link lo hi : ℕ) (T : Tree) → CountAt s kind link lo hi (sortTree key T) → Roomy s link T
+unfolding CountAt Roomy sortTree
+roomy-counted key s kind link lo hi hole g = tt
+roomy-counted key s kind link lo hi (node xs l r) g =
+    (omega (arith, g .0 .counted, sorted-length key xs), roomy-counted key s kind (leftAt s link) lo (mid lo hi) l (g .1), roomy-counted key s kind (rightAt s link) (mid lo hi) hi r (g .2))
 
 module _ (blocks s t es t′ es′ : List ℕ) (kind : ℕ) (like : LikeButRuns s t′) (long : length es′ ≡ length es) (rows : (i : ℕ) → entryHead ≤ i → getD es′ i 0 ≡ getD es i 0)
     (starts : (k : ℕ) → k < nodesUsed s → firstAt t′ (suc k) ≡ entriesTo s k) (space : entryHead + entryWidth * allEntries s ≤ length es) where
@@ -138,12 +140,20 @@ module _ (blocks s t es t′ es′ : List ℕ) (kind : ℕ) (like : LikeButRuns 
 
 -- ── the whole step ──
 
-module _ (blocks s es : List ℕ) (n e kind : ℕ) (bs : List Block) (numbers : List ℕ) (c : Closable (lentTables blocks s es) n e kind bs numbers) (lent : length es < 2 ^ 64) where
+module _ (blocks s es : List ℕ) (n e kind : ℕ) (bs : List Block) (c : Closable (lentTables blocks s es) n e kind bs) (lent : length es < 2 ^ 64) where
   abbrev whole : Tree
   whole = treeOf e bs
 
   abbrev root : ℕ
   root = column s 0 kind
+
+  -- the blocks, in recorded order
+  abbrev numbers : List ℕ
+  numbers = countFrom 0 (length bs)
+
+  -- and the tree with each of them at the end of its runs
+  abbrev recorded : Tree
+  recorded = addEach (blockAt bs) (λ _. 0) e numbers hole
 
   counted-here : CountAt s kind root 0 e whole
   counted-here = c .counted .stands .here
@@ -155,40 +165,43 @@ module _ (blocks s es : List ℕ) (n e kind : ℕ) (bs : List Block) (numbers : 
   space = omega (arith, total-is, c .space, c .entries-headed)
 
   all-below : All (λ k. k < length bs) numbers
-  all-below = all-of-mem numbers (λ k m. elim (lt-or-le k (length bs)) [
-    | inl h ↦ h
-    | inr h ↦ absurd (omega (arith, mem-count m, c .once k, count-from-out k 0 (length bs) (inr (omega arith))))
-  ])
+  all-below = all-map (λ k h. omega (arith, h .1)) (count-from-below 0 (length bs))
 
   same-lives : (k : ℕ) → k < length bs → blockLife blocks (suc k) ≡ lifeOf (blockAt bs k)
   same-lives = lives-at blocks bs (c .lives-are)
 
-  -- the tree of finish, as blocks in the order of first cells make it at the ends
-  whole-is : whole ≡ addEach (blockAt bs) (λ _. 0) e numbers hole
-  whole-is =
-      treeOf-order e bs (c .some) (c .apart) (c .filled) numbers (c .once)
-      ∙ each-end (blockAt bs) (keyIn bs) e numbers hole (c .ascends) (all-any numbers (λ k. in-hole))
+  -- the tree of finish has the same nodes, and every run sorted
+  whole-is : whole ≡ sortTree (keyIn bs) recorded
+  unfolding sortTree
+  whole-is = treeOf-each e bs ∙ sym (sort-each (keyIn bs) (blockAt bs) e numbers hole)
 
-  fills : appendEach blocks e numbers (bare whole) ≡ whole
-  fills = append-is blocks bs e same-lives numbers (bare whole) all-below ∙ each-bare (blockAt bs) (λ _. 0) e numbers whole whole-is
+  same-bare : bare whole ≡ bare recorded
+  same-bare = ap bare whole-is ∙ bare-sort (keyIn bs) recorded
+
+  rises : Rising (length bs) recorded
+  rises = let z : 0 + length bs ≡ length bs = omega arith in rw z at (rising-each (blockAt bs) e 0 (length bs) hole no-node)
+
+  fills : appendEach blocks e numbers (bare whole) ≡ recorded
+  fills = ap (appendEach blocks e numbers) same-bare ∙ append-is blocks bs e same-lives numbers (bare recorded) all-below ∙ each-bare (blockAt bs) (λ _. 0) e numbers recorded refl
 
   there-are : All (λ k. FindsNodes 63 k (blockLife blocks (suc k)) 0 e (bare whole)) numbers
   there-are =
-      let present : All (NodesOf (blockAt bs) e whole) numbers = rw whole-is (each-present (blockAt bs) (λ _. 0) e numbers hole) in
-      all-of-mem numbers (λ k m. nodes-are blocks bs e same-lives (bare whole) k (all-mem all-below m)
-      (new-bare 63 (blockAt bs k .created) (blockAt bs k .destroyed) 0 e whole ∙ all-mem present m))
+      all-both (λ k h present. nodes-are blocks bs e same-lives (bare whole) k h
+      (rw same-bare (new-bare 63 (blockAt bs k .created) (blockAt bs k .destroyed) 0 e recorded ∙ present))) all-below (each-present (blockAt bs) (λ _. 0) e numbers hole)
 
-  module _ (t₁ es₁ : List ℕ) (w : WrittenAll blocks s es t₁ es₁ root e (blockColumn blocks 0 blockNext) n) where
+  module _ (t₁ es₁ : List ℕ) (w : WrittenAll blocks s es t₁ es₁ root e 0 n) where
     fillable : Fillable s s es
     fillable = record { like = like-self s; long = refl; inside = c .counted .stands .inside; space = space; few = omega (arith, space) }
 
-    filled-all : Filled blocks s s es t₁ es₁ kind root 0 e (bare whole) whole
+    filled-all : Filled blocks s s es t₁ es₁ kind root 0 e (bare whole) recorded
     filled-all =
-        let roomy : Roomy s root (appendEach blocks e numbers (bare whole)) = rw fills (roomy-counted s kind root 0 e whole counted-here) in
-        rw fills at (w .done s kind numbers (bare whole) (c .small) fillable (c .met) (c .many)
-        (fill-start blocks s es kind root 0 e whole (c .counted .runs) counted-here) there-are roomy)
+        let roomy : Roomy s root (appendEach blocks e numbers (bare whole)) = rw fills (roomy-counted (keyIn bs) s kind root 0 e recorded (rw whole-is at counted-here)) in
+        rw fills at ((rw (c .many) at w) .done s kind (bare whole) (c .small) fillable (fill-start blocks s es kind root 0 e whole (c .counted .runs) counted-here) there-are roomy)
 
-    module _ (used total : ℕ) (t₂ es₂ : List ℕ) (read : used ≡ nodesUsed t₁) (runs : AssignedRuns t₁ t₂ used total) (head : es₂ ≡ set es₁ (rowWidth * 0 + entriesCount) total) where
+    module _ (used total : ℕ) (t₂ es₂ es₃ : List ℕ) (read : used ≡ nodesUsed t₁) (closes : ClosedRuns t₁ es₁ t₂ es₂ used total) (head : es₃ ≡ set es₂ (rowWidth * 0 + entriesCount) total) where
+      runs : AssignedRuns t₁ t₂ used total
+      runs = closes .assigned
+
       used-same : nodesUsed t₁ ≡ nodesUsed s
       used-same = w .like .same 0 nodesCount (omega arith) (inl refl)
 
@@ -201,8 +214,23 @@ module _ (blocks s es : List ℕ) (n e kind : ℕ) (bs : List Block) (numbers : 
       long-nodes : length t₂ ≡ length s
       long-nodes = ap length (runs .runs) ∙ runs-length t₁ used ∙ w .nodes-long
 
-      long-entries : length es₂ ≡ length es
-      long-entries = ap length head ∙ length-set es₁ (rowWidth * 0 + entriesCount) total ∙ w .entries-long
+      sorted-long : length es₂ ≡ length es
+      sorted-long = closes .entries-long ∙ w .entries-long
+
+      long-entries : length es₃ ≡ length es
+      long-entries = ap length head ∙ length-set es₂ (rowWidth * 0 + entriesCount) total ∙ sorted-long
+
+      -- the sorted runs, by the counts that there were
+      in-order : RunsSorted s es₁ es₂ (nodesUsed s)
+      in-order =
+          let u : used ≡ nodesUsed s = read ∙ used-same in
+          let o : RunsSorted t₁ es₁ es₂ used = closes .in-order (rw (u, sums-same (nodesUsed s), w .entries-long) space) in
+          runs-like-sorted s t₁ es₁ es₂ (nodesUsed s) sums-same (λ k. w .like .same k nodeEntries (omega arith) (inr (omega arith))) (rw u at o)
+
+      filled-whole : FillAt blocks s t₁ es₂ kind root 0 e whole
+      filled-whole =
+          rw whole-is
+          (fill-sorted blocks s t₁ es₁ es₂ kind (keyIn bs) (length bs) (c .cells-are) in-order root 0 e recorded (rw whole-is at counted-here) rises (filled-all .here))
 
       few-all : (k : ℕ) → k ≤ nodesUsed s → upTo (entriesTo s k) ≡ entriesTo s k
       few-all k h = omega (arith, entries-most s k (nodesUsed s) h, space)
@@ -218,21 +246,21 @@ module _ (blocks s es : List ℕ) (n e kind : ℕ) (bs : List Block) (numbers : 
           let u : used ≡ nodesUsed s = read ∙ used-same in
           runs .sum ∙ ap upTo (ap (entriesTo t₁) u ∙ sums-same (nodesUsed s)) ∙ few-all (nodesUsed s) (omega arith) ∙ total-is
 
-      entry-rows : (i : ℕ) → entryHead ≤ i → getD es₂ i 0 ≡ getD es₁ i 0
-      entry-rows i h = rw head (getD-set-other es₁ (rowWidth * 0 + entriesCount) i total 0 (omega arith))
+      entry-rows : (i : ℕ) → entryHead ≤ i → getD es₃ i 0 ≡ getD es₂ i 0
+      entry-rows i h = rw head (getD-set-other es₂ (rowWidth * 0 + entriesCount) i total 0 (omega arith))
 
-      all-closed : Closed (lentTables blocks t₂ es₂) kind e (treeOf e bs)
+      all-closed : Closed (lentTables blocks t₂ es₃) kind e (treeOf e bs)
       unfolding entriesTo
       all-closed =
           let root-same : column t₂ 0 kind ≡ root = like-all .same 0 kind (omega (arith, c .counted .stands .at-root refl)) (inl refl) in
           let used-all : nodesUsed t₂ ≡ nodesUsed s = like-all .same 0 nodesCount (omega arith) (inl refl) in
           record {
             stands = rw root-same
-                (tree-closed blocks s t₁ es₁ t₂ es₂ kind like-all (long-entries ∙ sym (w .entries-long)) entry-rows starts (rw (w .entries-long) space) root 0 e whole counted-here (filled-all .here));
+                (tree-closed blocks s t₁ es₂ t₂ es₃ kind like-all (long-entries ∙ sym sorted-long) entry-rows starts (rw sorted-long space) root 0 e whole counted-here filled-whole);
             other-kinds = λ k h apart. like-all .same 0 k (omega arith) (inl refl) ∙ c .counted .other-kinds k h apart;
             all-rows = used-all ∙ c .counted .rows;
             room = omega (arith, used-all, long-nodes, c .counted .stands .inside, c .nodes-headed);
-            all-entries = rw head (getD-set-same es₁ (rowWidth * 0 + entriesCount) total 0 (omega (arith, w .entries-long, c .entries-headed)) ∙ total-all);
+            all-entries = rw head (getD-set-same es₂ (rowWidth * 0 + entriesCount) total 0 (omega (arith, sorted-long, c .entries-headed)) ∙ total-all);
             consecutive = record {
               begins = λ h. starts 0 (omega (arith, used-all));
               follows = λ link a h.
@@ -252,7 +280,7 @@ module _ (blocks s es : List ℕ) (n e kind : ℕ) (bs : List Block) (numbers : 
           let written-same : column t₁ k j ≡ column s k j = elim (eq-or-ne j nodeFirst) [ inl q ↦ rw q (filled-all .beyond .next k past) | inr q ↦ w .like .same k j h (inr q) ] in
           runs-same ∙ written-same ∙ c .counted .stands .clean .zeros k j past h
 
-      all-alone : es ≡ replicate (length es) 0 → TreeAlone t₂ es₂ (treeOf e bs)
+      all-alone : es ≡ replicate (length es) 0 → TreeAlone t₂ es₃ (treeOf e bs)
       all-alone zeros =
           let zero-at : (i : ℕ) → getD es i 0 ≡ 0 = λ i. ap (λ (l : List ℕ). getD l i 0) zeros ∙ zeros-read (length es) i in
           record {
@@ -262,16 +290,22 @@ module _ (blocks s es : List ℕ) (n e kind : ℕ) (bs : List Block) (numbers : 
                 let at : rowWidth * (i / rowWidth) + i % rowWidth ≡ i = omega arith in
                 rw at at (row-alone (i / rowWidth) (i % rowWidth) (omega (arith, c .counted .rows)) (omega arith));
             entry-head = λ i a h.
-                ap (λ (l : List ℕ). getD l i 0) head ∙ getD-set-other es₁ (rowWidth * 0 + entriesCount) i total 0 (omega arith) ∙ filled-all .beyond .outside i (inl h) ∙ zero-at i;
-            entries-rest = λ i h. entry-rows i (omega arith) ∙ filled-all .beyond .outside i (inr (omega (arith, total-is))) ∙ zero-at i;
+                ap (λ (l : List ℕ). getD l i 0) head
+                ∙ getD-set-other es₂ (rowWidth * 0 + entriesCount) i total 0 (omega arith)
+                ∙ in-order .rest i (inl h)
+                ∙ filled-all .beyond .outside i (inl h)
+                ∙ zero-at i;
+            entries-rest = λ i h.
+                let past : entryHead + entryWidth * allEntries s ≤ i = omega (arith, total-is) in
+                entry-rows i (omega arith) ∙ in-order .rest i (inr past) ∙ filled-all .beyond .outside i (inr past) ∙ zero-at i;
           }
 
 -- ── the return ──
 
-pub closed-tree : {blocks s es t₁ es₁ t₂ es₂ : List ℕ} {n e kind root used total : ℕ} → length es < 2 ^ 64 → root ≡ column s 0 kind
-    → WrittenAll blocks s es t₁ es₁ root e (blockColumn blocks 0 blockNext) n → used ≡ nodesUsed t₁ → AssignedRuns t₁ t₂ used total
-    → es₂ ≡ set es₁ (rowWidth * 0 + entriesCount) total → ClosedTree (lentTables blocks s es) (lentTables blocks t₂ es₂) n e kind
-closed-tree {blocks} {s} {es} {t₁} {es₁} {t₂} {es₂} {n} {e} {kind} {root} {used} {total} lent found w read runs head = record {
-  done = λ bs numbers c. all-closed blocks s es n e kind bs numbers c lent t₁ es₁ (rw found at w) used total t₂ es₂ read runs head;
-  alone = λ bs numbers c zeros. all-alone blocks s es n e kind bs numbers c lent t₁ es₁ (rw found at w) used total t₂ es₂ read runs head zeros;
+pub closed-tree : {blocks s es t₁ es₁ t₂ es₂ es₃ : List ℕ} {n e kind root used total : ℕ} → length es < 2 ^ 64 → root ≡ column s 0 kind
+    → WrittenAll blocks s es t₁ es₁ root e 0 n → used ≡ nodesUsed t₁ → ClosedRuns t₁ es₁ t₂ es₂ used total
+    → es₃ ≡ set es₂ (rowWidth * 0 + entriesCount) total → ClosedTree (lentTables blocks s es) (lentTables blocks t₂ es₃) n e kind
+closed-tree {blocks} {s} {es} {t₁} {es₁} {t₂} {es₂} {es₃} {n} {e} {kind} {root} {used} {total} lent found w read closes head = record {
+  done = λ bs c. all-closed blocks s es n e kind bs c lent t₁ es₁ (rw found at w) used total t₂ es₂ es₃ read closes head;
+  alone = λ bs c zeros. all-alone blocks s es n e kind bs c lent t₁ es₁ (rw found at w) used total t₂ es₂ es₃ read closes head zeros;
 }

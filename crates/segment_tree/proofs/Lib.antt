@@ -7,7 +7,9 @@ pub mod Running
 pub mod Shapes
 pub mod Counting
 pub mod Presence
+pub mod Sorted
 pub mod Writing
 pub mod WritingDown
 pub mod WritingAll
+pub mod SortingRuns
 pub mod Closing

@@ -10,7 +10,6 @@ use lib.Seq.{getD-set-same, getD-set-other}
 use Rattle.lists.proofs.Numbers.{eq-or-ne, le-or-lt, lt-or-le}
 use Rattle.history.specs.Lent.{entryWidth, entryHead}
 use Rattle.history.specs.Tree.{Tree, hole, node, mid, insert}
-use Rattle.history.proofs.TreeInserting.{insert-nil, insert-on}
 use Rattle.history.proofs.TreeAdding.{listed}
 use Rattle.tables.specs.Columns.{entryColumn, nodeFirst, entryBlock, entryKey}
 use Rattle.tables.specs.Sums.{plusUpTo}
@@ -21,6 +20,7 @@ use Rattle.segment_tree.specs.Runs.{LikeButRuns}
 use Rattle.segment_tree.specs.Fill.{startAt, Fillable, FillRow, FillAt, Untouched, Beyond, Filled, WroteEntry}
 use Rattle.segment_tree.proofs.NodeRows.{column-same, column-other, row-inside, entries-more, entries-most}
 use Rattle.segment_tree.proofs.Growing.{outside-part, not-outside}
+use Rattle.segment_tree.proofs.Sorted.{insert-last}
 
 -- ── runs ──
 
@@ -111,10 +111,6 @@ fillable-like s t es t′ es′ f like a b = record {
 }
 
 -- ── one entry ──
-
-insert-last : (b : ℕ) (xs : List ℕ) → insert (λ _. 0) b xs ≡ xs ++ b ∷ []
-insert-last b [] = insert-nil (λ _. 0) b
-insert-last b (x ∷ xs) = insert-on (λ _. 0) b x xs (omega arith) ∙ ap (λ (l : List ℕ). x ∷ l) (insert-last b xs)
 
 module _ (t es t′ es′ : List ℕ) (link b cell : ℕ) (some : link ≡ 0 → ⊥) (w : WroteEntry t es t′ es′ link b cell) where
   pub wrote-like : LikeButRuns t t′

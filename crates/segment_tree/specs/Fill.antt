@@ -1,21 +1,22 @@
--- Filling the runs: the nodes are made and counted, and the blocks go down once more, in the order of their first cells, each taking the next free
--- place of every node that lists it. The start of a run is its next free place meanwhile. Definitions alone.
+-- Filling the runs: the nodes are made and counted, and the blocks go down once more, in recorded order, each taking the next free place of every node
+-- that lists it. The start of a run is its next free place meanwhile. Then every run is sorted. Definitions alone.
 use mathlib.Core.Path.{_≡_}
 use mathlib.Core.Logic.{_⊎_}
 use mathlib.Core.List.{List, [], _∷_, map}
 use Prim.Native.Nat.{ℕ, suc, _+_, _-_, _*_, _^_, _≤_, _<_}
 use lib.ListN.{length, getD, set, replicate}
-use Rattle.lists.specs.Lists.{All, Pairs, count, countFrom}
+use Rattle.lists.specs.Lists.{All, countFrom}
 use Rattle.history.specs.Lent.{rowWidth, entryWidth, nodeHead, entryHead}
-use Rattle.history.specs.Words.{Block, size}
+use Rattle.history.specs.Words.{Block}
 use Rattle.history.specs.Tree.{Tree, hole, node, mid, addLocation, keyIn, nodeCount, entryCount, treeOf}
-use Rattle.history.specs.Rules.{Apart}
-use Rattle.tables.specs.Columns.{blockColumn, entryColumn, nodeFirst, blockNext, entryBlock, entryKey}
+use Rattle.tables.specs.Columns.{entryColumn, nodeFirst, entryBlock, entryKey}
 use Rattle.tables.specs.Sums.{most, plusUpTo}
 use Rattle.segment_table.specs.Closed.{Tables, Closed, nodesUsed, leftAt, rightAt, firstAt, countAt, firstCellIn, run, Keyed}
 use Rattle.segment_table.specs.Alone.{TreeAlone}
+use Rattle.entry_sort.specs.Rows.{sortRows}
+use Rattle.entry_sort.specs.Contracts.{entryRows}
 use Rattle.segment_tree.specs.Count.{rowsIn, entriesTo, allEntries, CountRow, Life, spot, Outside}
-use Rattle.segment_tree.specs.Runs.{LikeButRuns}
+use Rattle.segment_tree.specs.Runs.{LikeButRuns, AssignedRuns}
 use Rattle.segment_tree.specs.Lives.{lifeOf, blockLife, Counted, entryRowsIn}
 
 -- ── the tables while they are filled ──
@@ -102,11 +103,6 @@ pub record WroteEntry (nodes entries nodes′ entries′ : List ℕ) (link b cel
 
 -- ── all blocks ──
 
--- The block numbers met along the order column from a link on. A link is a number plus one; 0 is the end.
-pub data Met (blocks : List ℕ) : (link : ℕ) → List ℕ → Type 0 where
-  met-end : {link : ℕ} → link ≡ 0 → Met blocks link []
-  met-next : {link k : ℕ} {ks : List ℕ} → link ≡ suc k → Met blocks (blockColumn blocks link blockNext) ks → Met blocks link (k ∷ ks)
-
 -- block k at the ends of its nodes
 abbrev pub appendBlock : (blocks : List ℕ) (end k : ℕ) → Tree → Tree
 appendBlock blocks e k T = addLocation (λ _. 0) 63 k (blockLife blocks (suc k) .created) (blockLife blocks (suc k) .destroyed) 0 e T
@@ -116,39 +112,47 @@ unfoldable pub appendEach : (blocks : List ℕ) (end : ℕ) (numbers : List ℕ)
 appendEach blocks e [] T = T
 appendEach blocks e (k ∷ ks) T = appendEach blocks e ks (appendBlock blocks e k T)
 
--- the blocks met from a link on, at most `fuel` of them, fill the tree at the root
-pub record WrittenAll (blocks nodes entries nodes′ entries′ : List ℕ) (root e link fuel : ℕ) : Type 0 where
+-- the blocks of the numbers from `first` on, so many, fill the tree at the root
+pub record WrittenAll (blocks nodes entries nodes′ entries′ : List ℕ) (root e first many : ℕ) : Type 0 where
   pub like : LikeButRuns nodes nodes′
   pub nodes-long : length nodes′ ≡ length nodes
   pub entries-long : length entries′ ≡ length entries
-  pub done : (s : List ℕ) (kind : ℕ) (numbers : List ℕ) (T : Tree) → e ≤ 2 ^ 63 → Fillable s nodes entries → Met blocks link numbers → length numbers ≤ fuel
-      → FillAt blocks s nodes entries kind root 0 e T → All (λ k. FindsNodes 63 k (blockLife blocks (suc k)) 0 e T) numbers → Roomy s root (appendEach blocks e numbers T)
-      → Filled blocks s nodes entries nodes′ entries′ kind root 0 e T (appendEach blocks e numbers T)
+  pub done : (s : List ℕ) (kind : ℕ) (T : Tree) → e ≤ 2 ^ 63 → Fillable s nodes entries → FillAt blocks s nodes entries kind root 0 e T
+      → All (λ k. FindsNodes 63 k (blockLife blocks (suc k)) 0 e T) (countFrom first many) → Roomy s root (appendEach blocks e (countFrom first many) T)
+      → Filled blocks s nodes entries nodes′ entries′ kind root 0 e T (appendEach blocks e (countFrom first many) T)
+
+-- ── runs in order ──
+
+-- The runs of rows 1 to n are sorted, each by itself, and nothing else of the entry table changes.
+pub record RunsSorted (nodes entries entries′ : List ℕ) (n : ℕ) : Type 0 where
+  pub long : length entries′ ≡ length entries
+  pub sorted : (k : ℕ) → 0 < k → k ≤ n → entryRows entries′ (startAt nodes k) (countAt nodes k) ≡ sortRows (entryRows entries (startAt nodes k) (countAt nodes k))
+  pub rest : (i : ℕ) → (i < entryHead) ⊎ (entryHead + entryWidth * entriesTo nodes n ≤ i) → getD entries′ i 0 ≡ getD entries i 0
+
+-- The runs of rows 1 to n are given out again, and are sorted where the entry table holds them.
+pub record ClosedRuns (nodes entries nodes′ entries′ : List ℕ) (n total : ℕ) : Type 0 where
+  pub assigned : AssignedRuns nodes nodes′ n total
+  pub entries-long : length entries′ ≡ length entries
+  pub in-order : entryHead + entryWidth * entriesTo nodes n ≤ length entries → RunsSorted nodes entries entries′ n
 
 -- ── the closed tree ──
 
 abbrev pub lentTables : (blocks nodes entries : List ℕ) → Tables
 lentTables blocks nodes entries = record { blocks = blocks; nodes = nodes; entries = entries }
 
--- What finish closes: the tree of the blocks bs is counted, the entry table has room for it, the rows of the block table live as these blocks,
--- of which no two share a cell at a tick (rule 24), and the order column meets each of them once, in the order of first cells.
-pub record Closable (t : Tables) (n e kind : ℕ) (bs : List Block) (numbers : List ℕ) : Type 0 where
-  pub some : 0 < e
+-- What finish closes: the tree of the blocks bs is counted, the entry table has room for it, and the rows of the block table have the lives and the first
+-- cells of these blocks. Nothing is asked of their order.
+pub record Closable (t : Tables) (n e kind : ℕ) (bs : List Block) : Type 0 where
   pub small : e ≤ 2 ^ 63
   pub counted : Counted (t .nodes) kind e (treeOf e bs)
   pub nodes-headed : nodeHead ≤ length (t .nodes)
   pub entries-headed : entryHead ≤ length (t .entries)
   pub space : entryCount (treeOf e bs) ≤ entryRowsIn (t .entries)
+  pub many : n ≡ length bs
   pub lives-are : map (blockLife (t .blocks)) (countFrom 1 (length bs)) ≡ map lifeOf bs
-  pub apart : Apart bs
-  pub filled : All (λ (b : Block). 0 < size (b .stretch)) bs
-  pub met : Met (t .blocks) (blockColumn (t .blocks) 0 blockNext) numbers
-  pub many : length numbers ≤ n
-  pub once : (k : ℕ) → count k numbers ≡ count k (countFrom 0 (length bs))
-  pub ascends : Pairs (λ x y. keyIn bs x ≤ keyIn bs y) numbers
+  pub cells-are : (k : ℕ) → k < length bs → firstCellIn (t .blocks) k ≡ keyIn bs k
 
 -- the tree stands there, and alone where the entry table was zeros
 pub record ClosedTree (t t′ : Tables) (n e kind : ℕ) : Type 0 where
-  pub done : (bs : List Block) (numbers : List ℕ) → Closable t n e kind bs numbers → Closed t′ kind e (treeOf e bs)
-  pub alone : (bs : List Block) (numbers : List ℕ) → Closable t n e kind bs numbers → t .entries ≡ replicate (length (t .entries)) 0
-      → TreeAlone (t′ .nodes) (t′ .entries) (treeOf e bs)
+  pub done : (bs : List Block) → Closable t n e kind bs → Closed t′ kind e (treeOf e bs)
+  pub alone : (bs : List Block) → Closable t n e kind bs → t .entries ≡ replicate (length (t .entries)) 0 → TreeAlone (t′ .nodes) (t′ .entries) (treeOf e bs)

@@ -1,11 +1,10 @@
-// Closing the counted tree: each node gets its run of the entry table, and the blocks fill the runs in order.
+// Closing the counted tree: each node gets its run of the entry table, the blocks fill the runs in recorded order, and each run is sorted.
 use tables::block;
 use tables::entry;
 use tables::node;
-ghost use Rattle.tables.specs.Columns.{blockColumn, blockNext};
 ghost use Rattle.segment_tree.specs.Count.{aLife};
 ghost use Rattle.segment_tree.specs.Runs.{AssignedRuns};
-ghost use Rattle.segment_tree.specs.Fill.{WroteEntry, Written, WrittenAll, lentTables, ClosedTree};
+ghost use Rattle.segment_tree.specs.Fill.{WroteEntry, Written, WrittenAll, ClosedRuns, lentTables, ClosedTree};
 
 // Gives each of the rows 1 to n its run, in row order, and returns how many entries they have. The counts stay, so that runs can be given out
 // again when they are filled.
@@ -77,36 +76,41 @@ fn write_location(
     write_location(nodes, entries, right, mid, max, created, destroyed, b, cell);
 }
 
-// Writes the blocks that the order column links from its head on, at most n of them, into the tree at `root`.
+// Writes the blocks 1 to n into the tree at `root`, in recorded order: blocks that follow one another live at about the same ticks, so that they meet
+// the same nodes.
 fn write_blocks(nodes: &mut [u64], entries: &mut [u64], blocks: &[u64], n: u64, root: u64, end: u64)
-    ensures { λ _. ⌜ WrittenAll (now (blocks .entry)) (now (nodes .entry)) (now (entries .entry)) (now (nodes .exit)) (now (entries .exit)) root end (blockColumn (now (blocks .entry)) 0 blockNext) n ⌝ }
+    ensures { λ _. ⌜ WrittenAll (now (blocks .entry)) (now (nodes .entry)) (now (entries .entry)) (now (nodes .exit)) (now (entries .exit)) root end 0 n ⌝ }
 {
-    let mut link = block_table::first(blocks);
     let mut j = 0;
     while j < n {
-        if link == 0 {
-            return;
-        }
+        let link = j + 1;
         let cell = block::get(blocks, link, block::FIRST);
         let created = block::get(blocks, link, block::CREATED);
         let destroyed = block::get(blocks, link, block::DESTROYED);
-        write_location(
-            nodes,
-            entries,
-            root,
-            0,
-            end,
-            created,
-            destroyed,
-            link - 1,
-            cell,
-        );
-        link = block::get(blocks, link, block::NEXT);
+        write_location(nodes, entries, root, 0, end, created, destroyed, j, cell);
         j += 1;
     }
 }
 
-// Closes the counted tree of a kind: its n blocks fill the runs in the order of the order column, and the runs begin where they began.
+// Gives each of the rows 1 to n its run again, sorts the runs, and returns how many entries they have.
+fn close_runs(nodes: &mut [u64], entries: &mut [u64], n: u64) -> u64
+    ensures { λ r. ⌜ ClosedRuns (now (nodes .entry)) (now (entries .entry)) (now (nodes .exit)) (now (entries .exit)) n r ⌝ }
+{
+    let mut at = 0;
+    let mut j = 0;
+    while j < n {
+        let link = j + 1;
+        let count = tables::get(nodes, link, node::ENTRIES);
+        tables::put(nodes, link, node::FIRST, at);
+        let to = tables::plus(at, count);
+        entry_sort::sort_rows(entries, at, to);
+        at = to;
+        j += 1;
+    }
+    at
+}
+
+// Closes the counted tree of a kind: its n blocks fill the runs, which begin where they began, and each run is sorted by first cell.
 pub fn close_tree(
     nodes: &mut [u64],
     entries: &mut [u64],
@@ -120,6 +124,6 @@ pub fn close_tree(
     let root = tables::get(nodes, 0, kind as usize);
     write_blocks(nodes, entries, blocks, n, root, end);
     let used = tables::get(nodes, 0, node::COUNT);
-    let total = assign_runs(nodes, used);
+    let total = close_runs(nodes, entries, used);
     tables::put(entries, 0, entry::COUNT, total);
 }

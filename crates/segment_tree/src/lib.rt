@@ -1,7 +1,7 @@
 // The segment tree of blocks in the lent node and entry tables. Ports segment_tree.rs: building here, finding in crates above.
 //
 //   build          lives go down, nodes are made, entries are counted; too little room is told
-//   close          each node gets its run of the entry table, and the blocks fill the runs in order
+//   close          each node gets its run of the entry table, the blocks fill the runs, and each run is sorted
 //   specs/Count    the node table while it is counted, and what adding a life leaves
 //   specs/Lives    the lives in the block and piece tables, and the whole count
 //   specs/Runs     the runs of entries

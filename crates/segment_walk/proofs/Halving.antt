@@ -3,7 +3,7 @@ use mathlib.Core.Path.{_≡_, refl, sym}
 use mathlib.Core.Logic.{_⊎_, ⊎-elim}
 use mathlib.Core.Bool.{Bool, true, false}
 use mathlib.Core.List.{List, _++_}
-use Prim.Native.Nat.{ℕ, suc, _+_, _-_, _/_, _≤_, _<_}
+use Prim.Native.Nat.{ℕ, suc, _+_, _-_, _*_, _/_, _≤_, _<_}
 use native.Mathlib.Omega.{arith}
 use lib.Dec.{leb}
 use borrow.Author.Tests.{lt-ltb, le-ltb, leb-true, leb-false}
@@ -94,6 +94,16 @@ module _ (nodes : List ℕ) (t : ℕ) (n : Node) where
   pub half-falls : (h : Node) → Present n → h ≡ halfAt nodes t n → h .max - h .min < n .max - n .min
   half-falls h there e =
       let w : n .min < n .max = there .wide in
+      ⊎-elim (λ (s : n .max ≤ n .min + 1). rw (e, narrow s) (omega arith))
+      (λ (s : n .min + 1 < n .max).
+      ⊎-elim (λ (l : t < mid (n .min) (n .max)). rw (e, goes-left s l) (omega arith))
+      (λ (r : mid (n .min) (n .max) ≤ t). rw (e, goes-right s r) (omega arith))
+      (lt-or-le t (mid (n .min) (n .max))))
+      (le-or-lt (n .max) (n .min + 1))
+
+  -- and is halved, rounded up
+  pub half-halves : (h : Node) → h ≡ halfAt nodes t n → 2 * (h .max - h .min) ≤ n .max - n .min + 1
+  half-halves h e =
       ⊎-elim (λ (s : n .max ≤ n .min + 1). rw (e, narrow s) (omega arith))
       (λ (s : n .min + 1 < n .max).
       ⊎-elim (λ (l : t < mid (n .min) (n .max)). rw (e, goes-left s l) (omega arith))

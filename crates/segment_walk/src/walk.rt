@@ -1,6 +1,9 @@
 // The way down to a tick: from the root, at each node to the half that has the tick.
 ghost use mathlib.Core.Path.{_≡_};
+ghost use Prim.Native.Nat.{_<_};
 ghost use Rattle.lists.specs.Tests.{Decides};
+ghost use Rattle.history.specs.Lent.{rowWidth};
+ghost use Rattle.tables.specs.Columns.{column};
 ghost use Rattle.segment_walk.specs.Walking.{rootAt, Absent, halfAt};
 
 // A node of the tree, [min, max), by the link of its row; link 0 is no node.
@@ -15,6 +18,18 @@ pub struct Query {
     pub tick: u64,
     pub start: u64,
     pub stop: u64,
+}
+
+// Column `col` of a node's row: one test where the whole row stands in the table, and `tables::get` where it does not.
+pub fn in_row(nodes: &[u64], link: u64, col: usize) -> u64
+    requires { ⌜ col < rowWidth ⌝ }
+    ensures { λ r. ⌜ r ≡ column (now (nodes .entry)) link col ⌝ }
+{
+    let row = link as usize;
+    if row < nodes.len() / tables::ROW {
+        return nodes[tables::ROW * row + col];
+    }
+    tables::get(nodes, link, col)
 }
 
 // The root of a kind.
@@ -49,14 +64,14 @@ pub fn half(nodes: &[u64], node: Node, tick: u64) -> Node
         if 1 < max - min {
             let mid = min + (max - min) / 2;
             if tick < mid {
-                let left = tables::get(nodes, node.link, tables::node::LEFT);
+                let left = in_row(nodes, node.link, tables::node::LEFT);
                 return Node {
                     link: left,
                     min,
                     max: mid,
                 };
             }
-            let right = tables::get(nodes, node.link, tables::node::RIGHT);
+            let right = in_row(nodes, node.link, tables::node::RIGHT);
             return Node {
                 link: right,
                 min: mid,

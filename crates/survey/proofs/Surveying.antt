@@ -53,11 +53,11 @@ module _ {was next first end : ℕ} where
   pub rests-of-none : first ≤ was → next ≤ end → RestsOf was next first end 0
   rests-of-none h k = record { is = λ l m. omega (arith, crosses-before was next first h, crosses-after was next end k) }
 
-pub made-few : {count met rests same : ℕ} → count < met → Made count met rests same (record { same = same; pieces = 0; blocks = met })
+pub made-few : {count met rests same near : ℕ} → count < met → Made count met rests same (record { same = same; pieces = 0; blocks = met; near = near })
 made-few h = record { is-same = refl; is-blocks = refl; is-pieces = λ k l. absurd (omega arith) }
 
-pub made-all : {count met rests same a b : ℕ} → met ≤ count → Plus (count - met) rests a → Plus a 1 b → Made count met rests same (record { same = same; pieces = b; blocks = met })
-made-all {count} {met} {rests} {same} {a} {b} h p q = record { is-same = refl; is-blocks = refl; is-pieces = go }
+pub made-all : {count met rests same near a b : ℕ} → met ≤ count → Plus (count - met) rests a → Plus a 1 b → Made count met rests same (record { same = same; pieces = b; blocks = met; near = near })
+made-all {count} {met} {rests} {same} {near} {a} {b} h p q = record { is-same = refl; is-blocks = refl; is-pieces = go }
   where
     go : met ≤ count → count + rests + 1 < 2 ^ 64 → b + met ≡ count + rests + 1
     go k l = let e : a ≡ count - met + rests = p .is (omega arith) in omega (arith, q .is (omega arith))

@@ -1,4 +1,4 @@
-// The survey of an operation: what record asks before it changes anything. It reads only, and takes as many seeks as pieces are met.
+// The survey of an operation: what record asks before it changes anything. It reads only, and goes on from piece to piece, mostly without a new way down.
 //
 //   specs/Survey      what each function ensures
 //   proofs/Holding    which bytes the pieces hold for a cell
@@ -12,11 +12,12 @@ use comparison::Difference;
 use tables::piece;
 
 // What an operation meets: how many of its leading cells the pieces hold with its bytes, how many pieces there would be after an update, and how many
-// blocks it records.
+// blocks it records. `near` is a guess for the update: the link of the lowest piece that is met.
 pub struct Report {
     pub same: u64,
     pub pieces: u64,
     pub blocks: u64,
+    pub near: u64,
 }
 
 // How many leading cells are held with their bytes, where those below `place` are: the piece of `link`, which ends at `next`, is the lowest that ends
@@ -81,7 +82,7 @@ fn rests_of(was: u64, next: u64, first: u64, end: u64) -> u64
 }
 
 // The numbers of a survey: `met` of `count` pieces are met, and leave so many rests.
-fn made(count: u64, met: u64, rests: u64, same: u64) -> Report
+fn made(count: u64, met: u64, rests: u64, same: u64, near: u64) -> Report
     ensures { λ s. ⌜ Made count met rests same s ⌝ }
 {
     if count < met {
@@ -89,16 +90,27 @@ fn made(count: u64, met: u64, rests: u64, same: u64) -> Report
             same: same,
             pieces: 0,
             blocks: met,
+            near: near,
         };
     }
     Report {
         same: same,
         pieces: tables::plus(tables::plus(count - met, rests), 1),
         blocks: met,
+        near: near,
     }
 }
 
-// Surveys an operation. Each turn looks at the lowest piece that ends after `place`.
+// The link of the lowest piece that is met: `link`, where none was met before it.
+fn lowest(met: u64, link: u64, before: u64) -> u64 {
+    if met == 0 {
+        return link;
+    }
+    before
+}
+
+// Surveys an operation. Each turn looks at the lowest piece that ends after `place`, mostly without a way down from the root: the search before it has
+// left guesses. The place rises, so that it ends on any table.
 pub fn survey(pieces: &[u64], store: &[u8], first: u64, bytes: &[u8]) -> Report
     ensures { λ s. ⌜ Surveyed (now (pieces .entry)) (now (store .entry)) first (now (bytes .entry)) s ⌝ }
 {
@@ -108,23 +120,30 @@ pub fn survey(pieces: &[u64], store: &[u8], first: u64, bytes: &[u8]) -> Report
     let mut met: u64 = 0;
     let mut rests: u64 = 0;
     let mut same: u64 = 0;
+    let mut low: u64 = 0;
+    let mut near: u64 = 0;
+    let mut after: u64 = 0;
     while place < end {
-        let link = piece_table::seek(pieces, place);
+        let found = piece_table::search_next(pieces, place, near, after);
+        let link = found.link;
         if link == 0 {
-            return made(count, met, rests, same);
+            return made(count, met, rests, same, low);
         }
         let was = tables::get(pieces, link, piece::FIRST);
         let next = tables::plus(was, tables::get(pieces, link, piece::LENGTH));
         if !merge_set::starts_below(pieces, link, end) {
-            return made(count, met, rests, same);
+            return made(count, met, rests, same, low);
         }
         if next <= place {
-            return made(count, met, rests, same);
+            return made(count, met, rests, same, low);
         }
         same = held_bytes(pieces, store, bytes, link, first, place, next, same);
         rests = tables::plus(rests, rests_of(was, next, first, end));
+        low = lowest(met, link, low);
         met = tables::plus(met, 1);
+        near = link;
+        after = found.after;
         place = next;
     }
-    made(count, met, rests, same)
+    made(count, met, rests, same, low)
 }

@@ -8,5 +8,5 @@ use Rattle.index_test.proofs.test_closed.Tie as tie
 pub test-closed-spec : {M : Type 1} → statement M
 test-closed-spec =
     tie.close
-    (tie.spec (λ c κs. search needs) (λ c. search (closing, arith)) (λ c κs. search needs) (λ c κs. search needs) (λ c. search (closing, arith)) (λ c κs. search needs)
-    (λ c κs. search needs) (λ c κs. search needs) (λ c. search (closing, arith)) (λ c κs. search needs) (λ c. search (closing, arith)))
+    (tie.spec (λ c κs. search needs) (λ c. search (closing, arith)) (λ c κs. search needs) (λ c κs. search needs) (λ c κs. search needs) (λ c κs. search needs)
+    (λ c. search (closing, arith)) (λ c κs. search needs) (λ c. search (closing, arith)))

@@ -6,4 +6,4 @@ use Rattle.recording.proofs.apply_update.Tie as tie
 
 pub apply-update-spec : {M : Type 1} → statement M
 apply-update-spec =
-    tie.close (tie.spec (λ c. search needs) (λ c. search updating) (λ c. search needs) (λ c κs. search needs) (λ c κs. search needs) (λ c. search needs) (λ c. search needs) (λ c. search updating))
+    tie.close (tie.spec (λ c. search needs) (λ c. search updating) (λ c. search needs) (λ c κs. search needs) (λ c κs. search needs) (λ c. search needs) (λ c. search needs) (λ c. search updating) (λ c κs. search needs) (λ c. search needs) (λ c. search needs) (λ c. search updating))

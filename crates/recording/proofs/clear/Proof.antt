@@ -5,10 +5,10 @@ use Rattle.recording.proofs.clear.Statement.{statement}
 use Rattle.recording.proofs.clear.Tie as tie
 
 abbrev Inv-loop : tie.InvT-loop
-Inv-loop pieces₀ blocks₀ tick first end left₀ pieces blocks left = Round pieces₀ pieces blocks₀ blocks tick first end left
+Inv-loop pieces₀ blocks₀ tick first end near left₀ pieces blocks left = Round pieces₀ pieces blocks₀ blocks tick first end left
 
 abbrev μ-loop : tie.MeasureT-loop
-μ-loop pieces₀ blocks₀ tick first end left₀ pieces blocks left = left
+μ-loop pieces₀ blocks₀ tick first end near left₀ pieces blocks left = left
 
 pub clear-spec : {M : Type 1} → statement M
 clear-spec =

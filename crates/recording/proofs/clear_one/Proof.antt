@@ -6,4 +6,4 @@ use Rattle.recording.proofs.clear_one.Tie as tie
 
 pub clear-one-spec : {M : Type 1} → statement M
 clear-one-spec =
-    tie.close (tie.spec (λ c κs. search needs) (λ c. search needs) (λ c. search clearing) (λ c κs. search needs) (λ c. search needs) (λ c. search clearing) (λ c κs. search needs) (λ c κs. search needs) (λ c κs. search needs) (λ c. search needs) (λ c. search needs) (λ c. search clearing) (λ c κs. search needs) (λ c. search needs) (λ c. search needs) (λ c. search clearing))
+    tie.close (tie.spec (λ c κs. search needs) (λ c. search needs) (λ c. search needs) (λ c. search clearing) (λ c κs. search needs) (λ c. search needs) (λ c. search needs) (λ c. search clearing))

@@ -4,18 +4,16 @@ use Prim.Native.Nat.{_≤_, _-_}
 use native.Mathlib.Omega.{arith}
 use lib.ListN.{length}
 use borrow.Author.Needs.{needs}
-use Rattle.tables.specs.Columns.{blockColumn, blockNext}
-use Rattle.segment_tree.proofs.WritingAll.{OnwardFrom, onward-start, onward-met, onward-more, onward-spent}
+use Rattle.segment_tree.proofs.WritingAll.{OnwardFrom, onward-start, onward-more, onward-spent}
 use Rattle.segment_tree.proofs.close.write_blocks.Statement.{statement}
 use Rattle.segment_tree.proofs.close.write_blocks.Tie as tie
 
 abbrev Inv-loop : tie.InvT-loop
-Inv-loop nodes₀ entries₀ blocks n root end link₀ j₀ nodes entries link j =
-    (j ≤ n) × (length nodes ≡ length nodes₀) × (length entries ≡ length entries₀)
-    × OnwardFrom blocks nodes₀ entries₀ nodes entries root end (blockColumn blocks 0 blockNext) link n j
+Inv-loop nodes₀ entries₀ blocks n root end j₀ nodes entries j =
+    (j ≤ n) × (length nodes ≡ length nodes₀) × (length entries ≡ length entries₀) × OnwardFrom blocks nodes₀ entries₀ nodes entries root end n j
 
 abbrev μ-loop : tie.MeasureT-loop
-μ-loop nodes₀ entries₀ blocks n root end link₀ j₀ nodes entries link j = n - j
+μ-loop nodes₀ entries₀ blocks n root end j₀ nodes entries j = n - j
 
 pub write-blocks-spec : {M : Type 1} → statement M
 write-blocks-spec =
@@ -23,24 +21,19 @@ write-blocks-spec =
     (tie.spec
     Inv-loop
     μ-loop
-    (λ c κs. search needs)
-    (λ c. (omega arith, refl, refl, onward-start (c .first .ensures)))
+    (λ c. (omega arith, refl, refl, onward-start))
     (λ c. search needs)
-    (λ c. search needs)
-    (λ c. search (onward-met, needs))
     (λ c κs. search needs)
     (λ c κs. search needs)
-    (λ c κs. search needs)
-    (λ c. search needs)
     (λ c κs. search needs)
     (λ c κs. search needs)
     (λ c. search needs)
     (λ c. search needs)
-    (λ c. (
+    (λ c. let turn = c .before .before .before .before .before .before .before .before .before .before .before .loop in let wrote = c .before .before .before .before .write-location in (
       omega arith,
-      c .before .before .before .before .before .write-location .kept .0 ∙ c .before .before .before .before .before .before .before .before .before .before .before .before .before .loop .inv .1,
-      c .before .before .before .before .before .write-location .kept .1 .0 ∙ c .before .before .before .before .before .before .before .before .before .before .before .before .before .loop .inv .2,
-      onward-more (c .before .before .before .before .before .before .before .before .before .before .before .before .before .loop .inv .3) (omega arith) (c .before .before .before .before .before .before .before .before .before .before .before .if1 .left) (c .before .before .before .before .before .before .before .before .before .before .get .ensures) (c .before .before .before .before .before .before .before .before .before .get2 .ensures) (c .before .before .before .before .before .before .before .before .get3 .ensures) (c .before .before .before .before .before .write-location .ensures) (c .get4 .ensures),
+      wrote .kept .0 ∙ turn .inv .1,
+      wrote .kept .1 .0 ∙ turn .inv .2,
+      onward-more (turn .inv .3) (omega arith) (c .before .before .before .before .before .before .before .before .before .get .ensures) (c .before .before .before .before .before .before .before .before .get2 .ensures) (c .before .before .before .before .before .before .before .get3 .ensures) (wrote .ensures),
     ))
     (λ c. search needs)
     (λ c. search needs)

@@ -1,0 +1,9 @@
+pub mod Downward
+pub mod Covering
+pub mod Numbers
+pub mod Slots
+pub mod Tallying
+pub mod Ways
+pub mod Handing
+pub mod RightFirst
+pub mod Parting

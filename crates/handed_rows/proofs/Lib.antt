@@ -1,0 +1,4 @@
+pub mod Numbered
+pub mod Along
+pub mod Tallying
+pub mod Handing

@@ -1,8 +1,0 @@
--- `segment_apart::birth::ends_by` meets its contract: each return is a step of `ending`. Assumes nothing.
-use borrow.Author.Needs.{needs}
-use Rattle.segment_apart.proofs.Clearing.{ending}
-use Rattle.segment_apart.proofs.birth.ends_by.Statement.{statement}
-use Rattle.segment_apart.proofs.birth.ends_by.Tie as tie
-
-pub ends-by-spec : {M : Type 1} → statement M
-ends-by-spec = tie.close (tie.spec (λ c κs. search needs) (λ c. search ending) (λ c κs. search needs) (λ c. search ending))
