@@ -112,7 +112,7 @@ fn try_block(
     let cell = block::get(blocks, link, block::FIRST);
     let created = block::get(blocks, link, block::CREATED);
     let destroyed = block::get(blocks, link, block::DESTROYED);
-    let last = plain::less(destroyed, 1);
+    let last = tables::minus(destroyed, 1);
     try_tick(tally, blocks, nodes, entries, answer, index, created, cell);
     try_tick(tally, blocks, nodes, entries, answer, index, last, cell);
     try_tick(

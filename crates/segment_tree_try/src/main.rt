@@ -34,7 +34,6 @@ pub struct Index {
 fn try_sort(tally: &mut [u64], blocks: &mut [u64], end: u64) {
     blocks::fill(blocks, end);
     ordering::sort(blocks, blocks::BLOCKS);
-    tally::compare(tally, ordering::in_order(blocks, blocks::BLOCKS));
     tally::compare(tally, ordering::apart(blocks, blocks::BLOCKS));
 }
 

@@ -37,7 +37,7 @@ fn wrong(nodes: &[u64], index: Index, link: u64, col: usize, way: u64) -> u64 {
         return tables::get(nodes, link, col ^ 1);
     }
     if way == 5 {
-        return tables::get(nodes, plain::less(link, 1), col);
+        return tables::get(nodes, tables::minus(link, 1), col);
     }
     u64::MAX
 }
@@ -117,7 +117,7 @@ fn wrong_number(entries: &[u64], row: u64, way: u64) -> u64 {
         return blocks::BLOCKS;
     }
     if way == 2 {
-        return entry::get(entries, plain::less(row, 1), entry::BLOCK);
+        return entry::get(entries, tables::minus(row, 1), entry::BLOCK);
     }
     number
 }
@@ -126,7 +126,7 @@ fn wrong_number(entries: &[u64], row: u64, way: u64) -> u64 {
 fn wrong_key(entries: &[u64], row: u64, way: u64) -> u64 {
     let key = entry::get(entries, row, entry::KEY);
     if way == 2 {
-        return entry::get(entries, plain::less(row, 1), entry::KEY);
+        return entry::get(entries, tables::minus(row, 1), entry::KEY);
     }
     if way == 3 {
         return tables::plus(key, 1);
