@@ -30,6 +30,9 @@ longer-lengths more t =
     (sym (zeros-length (more .blocks) (t .blocks))) (sym (zeros-length (more .store) (t .store))) (sym (zeros-length (more .nodes) (t .nodes)))
     (sym (zeros-length (more .entries) (t .entries)))
 
+head-kept : (more : Lent) (t : Tables) (c : ℕ) → headAt (longer more t) c ≡ headAt t c
+head-kept more t c = zeros-extend (more .blocks) (t .blocks) .same _
+
 module _ (more : Lent) (t : Tables) (l : Ledger) (e : Encodes t l) where
   abbrev pieces-longer : Extends (t .pieces) (longer more t .pieces)
   pieces-longer = zeros-extend (more .pieces) (t .pieces)
@@ -37,8 +40,8 @@ module _ (more : Lent) (t : Tables) (l : Ledger) (e : Encodes t l) where
   abbrev blocks-longer : Extends (t .blocks) (longer more t .blocks)
   blocks-longer = zeros-extend (more .blocks) (t .blocks)
 
-  head-kept : (c : ℕ) → headAt (longer more t) c ≡ headAt t c
-  head-kept c = blocks-longer .same _
+  abbrev same : (c : ℕ) → headAt (longer more t) c ≡ headAt t c
+  same = head-kept more t
 
   store-kept : take (headAt t headUsed) (longer more t .store) ≡ take (headAt t headUsed) (t .store)
   store-kept = take-append-le (headAt t headUsed) (t .store) _ (used-fits t l e)
@@ -52,19 +55,19 @@ module _ (more : Lent) (t : Tables) (l : Ledger) (e : Encodes t l) where
       record {
         lengths = ap (lengthened more) (e .lengths) ∙ longer-lengths more t;
         heads = rw (← longer-lengths more t) (longer-heads more (lengthsOf t) (e .heads));
-        state = head-kept headState ∙ e .state;
-        end = head-kept headEnd ∙ e .end;
-        kind = head-kept headKind ∙ e .kind;
-        last = head-kept headLast ∙ e .last;
-        used = head-kept headUsed ∙ e .used;
-        store = rw (head-kept headUsed) (e .store ∙ sym store-kept);
-        count = head-kept headCount ∙ e .count;
-        blocks = rw (head-kept headCount) (e .blocks ∙ sym (blocks-kept blocks-longer (t .store) _ _ _ (e .blocks-stored) store-kept));
-        blocks-stored = rw (head-kept headCount, head-kept headUsed) (stored-kept blocks-longer (e .blocks-stored));
+        state = same headState ∙ e .state;
+        end = same headEnd ∙ e .end;
+        kind = same headKind ∙ e .kind;
+        last = same headLast ∙ e .last;
+        used = same headUsed ∙ e .used;
+        store = rw (same headUsed) (e .store ∙ sym store-kept);
+        count = same headCount ∙ e .count;
+        blocks = rw (same headCount) (e .blocks ∙ sym (blocks-kept blocks-longer (t .store) _ _ _ (e .blocks-stored) store-kept));
+        blocks-stored = rw (same headCount, same headUsed) (stored-kept blocks-longer (e .blocks-stored));
         links = e .links;
         linked = links-kept pieces-longer (e .linked);
         pieces = e .pieces ∙ sym (pieces-kept pieces-longer (t .store) _ _ store-kept (e .pieces-stored));
-        pieces-stored = rw (head-kept headUsed) (inside-kept pieces-longer _ (e .pieces-stored));
+        pieces-stored = rw (same headUsed) (inside-kept pieces-longer _ (e .pieces-stored));
         tree = tree-kept (l .tree) (e .tree);
       }
 
@@ -118,6 +121,7 @@ blank-more more t b = record { nodes = zeros-zeros (more .nodes) (t .nodes) (b .
 pub longer-tables : LongerTables
 longer-tables = record {
   stand = longer-stand;
+  head = head-kept;
   sound = sound-more;
   sound-for-finish = sound-for-finish-more;
   formed = λ more t w. record {

@@ -11,7 +11,7 @@ use Rattle.history.specs.Results.{Result}
 use Rattle.history.specs.Refusals.{accepted, recordAnswer, finishAnswer, findAnswer, touchingAnswer, nextAnswer, lastAnswer, cellsAnswer, blockAnswer}
 use Rattle.history.specs.File.{writeAnswer}
 use Rattle.history.specs.Sound.{Sound, SoundForFinish}
-use Rattle.layout.specs.Tables.{Tables, tables}
+use Rattle.layout.specs.Tables.{Tables, tables, headAt}
 use Rattle.layout.specs.Encodes.{Encodes}
 use Rattle.layout.specs.Formed.{WellFormed, WellFormedForFinish}
 
@@ -70,7 +70,9 @@ pub record TakesAlike (more : Lent) (l : Ledger) : Type 0 where
 pub record LongerTables : Type 0 where
   -- Longer tables stand for the same ledger, which is lent more;
   pub stand : (more : Lent) (t : Tables) (l : Ledger) → Encodes t l → Encodes (longer more t) (lentMore more l)
-  -- it is sound again, for finish too;
+  -- their head reads alike, the state too;
+  pub head : (more : Lent) (t : Tables) (c : ℕ) → headAt (longer more t) c ≡ headAt t c
+  -- the ledger is sound again, for finish too;
   pub sound : (more : Lent) (l : Ledger) → Sound l → Sound (lentMore more l)
   pub sound-for-finish : (more : Lent) (l : Ledger) → SoundForFinish l → SoundForFinish (lentMore more l)
   -- so they are well formed again, for finish too;
