@@ -2,15 +2,14 @@
 use mathlib.Core.Path.{_≡_, refl, ap, sym, _∙_, subst}
 use mathlib.Core.Bool.{true}
 use mathlib.Core.List.{List, [], _∷_}
-use Prim.Native.Nat.{ℕ, _+_}
+use Prim.Native.Nat.{ℕ}
 use native.Mathlib.Omega.{arith}
 use Rattle.lists.specs.Lists.{All, all-nil, all-cons}
 use Rattle.history.specs.Lent.{Lent}
-use Rattle.history.specs.Ledger.{Opening, Ledger, openingFor, opened}
+use Rattle.history.specs.Ledger.{Ledger, openingFor, opened}
 use Rattle.history.specs.Results.{Result}
-use Rattle.history.specs.Refusals.{Answer, accepted, refused, openRefusals, openAnswer, recordAnswer, finishAnswer}
-use Rattle.history.specs.Calls.{Call, recordCall, finishCall, answerTo, acceptedBy, leaves, after, answers, afterAll, history}
-use Rattle.history.specs.Law.{LedgerLaw}
+use Rattle.history.specs.Refusals.{Answer, accepted, refused, openRefusals}
+use Rattle.history.specs.Calls.{Call, recordCall, finishCall, answerTo, acceptedBy, leaves, after, answers, afterAll}
 use Rattle.history.proofs.EveryList.{the-law}
 use Rattle.layout.proofs.Lengths.{lent-same}
 use Rattle.growth.specs.Longer.{lengthened, lentMore}
