@@ -10,6 +10,7 @@
 //!
 //! Every call tests its tables first and so takes time linear in the rows in use.
 
+mod grow;
 pub mod raw;
 mod refusal;
 

@@ -3,7 +3,10 @@ use Rattle.history.specs.Law.{ValueAt, LawOfChange, LawOfCalls, LawOfFind, LawO
 use Rattle.history.specs.Boards.{MarkedBoards}
 use Rattle.history.specs.Requested.{RequestedBoards}
 use Rattle.apart_laws.specs.Law.{TheoremH}
+use Rattle.tree_room.specs.Room.{LawOfRoom}
 use Rattle.layout.specs.Law.{OneLedger, TablesExist, ShallowTrees}
+use Rattle.growth.specs.Longer.{LongerTables}
+use Rattle.growth.specs.Steps.{GrownBoards}
 use Rattle.index_test.specs.Law.{TestDecides}
 use Rattle.demand.specs.Theorem.{Demand3}
 use Rattle.demand.specs.Cells.{CellsShown}
@@ -30,6 +33,8 @@ pub record OfTables : Type 0 where
   pub tables-exist : TablesExist
   pub test-decides : TestDecides
   pub shallow-trees : ShallowTrees
+  pub longer-tables : LongerTables
+  pub grown-boards : GrownBoards
 
 -- of the definitions, over plain lists
 pub record OfHistory : Type 0 where
@@ -42,6 +47,7 @@ pub record OfHistory : Type 0 where
   pub marked-boards : MarkedBoards
   pub requested-boards : RequestedBoards
   pub theorem-h : TheoremH
+  pub law-of-room : LawOfRoom
 
 -- of write and load together
 pub record OfFiles : Type 0 where

@@ -44,6 +44,8 @@ pub fn of_tables()
     layout::tables_exist();
     index_test::test_decides();
     layout::shallow_trees();
+    growth::longer_tables();
+    growth::grown_boards();
 }
 
 // The definitions, over plain lists.
@@ -59,6 +61,7 @@ pub fn of_history()
     history::marked_boards();
     history::requested_boards();
     apart_laws::theorem_h();
+    tree_room::law_of_room();
 }
 
 // Files, there and back.
