@@ -10,6 +10,7 @@ use Rattle.demand.specs.Cells.{CellsShown}
 use Rattle.demand.specs.Touching.{TouchingShown}
 use Rattle.index_tested.specs.Law.{TestKeeps, FinishCloses}
 use Rattle.sessions.specs.Law.{Sessions}
+use Rattle.sessions.specs.States.{StatesFollow}
 use Rattle.spacetime_file.specs.Law.{SavedAndLoaded, LoadedAndWritten, TakenAndNotRefused, EmptyFiles}
 use Rattle.board_input.specs.Walk.{LawOfInput}
 use Rattle.board_text.specs.Line.{LawOfLines}
@@ -50,6 +51,7 @@ pub record OfHistory : Type 0 where
 pub record OfTested : Type 0 where
   pub test-keeps : TestKeeps
   pub finish-closes : FinishCloses
+  pub states-follow : StatesFollow
   pub sessions-hold : Sessions
   pub tested-calls : ExportedTested
 

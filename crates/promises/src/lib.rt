@@ -73,6 +73,7 @@ pub fn of_tested()
 {
     index_tested::test_keeps();
     index_tested::finish_closes();
+    sessions::states_follow();
     sessions::sessions_hold();
     tested_calls();
 }
