@@ -8,6 +8,7 @@ use Rattle.index_test.specs.Law.{TestDecides}
 use Rattle.demand.specs.Theorem.{Demand3}
 use Rattle.demand.specs.Cells.{CellsShown}
 use Rattle.demand.specs.Touching.{TouchingShown}
+use Rattle.record_all.specs.Law.{WrittenOut}
 use Rattle.index_tested.specs.Law.{TestKeeps, FinishCloses}
 use Rattle.sessions.specs.Law.{Sessions}
 use Rattle.sessions.specs.States.{StatesFollow}
@@ -25,6 +26,7 @@ pub record OfCalls : Type 0 where
   pub demand-3 : Demand3
   pub shows-history : CellsShown
   pub touching-shows-history : TouchingShown
+  pub records-written-out : WrittenOut
   pub contracts-are-relations : Contracts
   pub answers-told : Meanings
 

@@ -38,6 +38,7 @@ pub fn of_calls()
     demand::demand_3();
     demand::shows_history();
     demand::touching_shows_history();
+    record_all::records_written_out();
     contracts_are_relations();
     answers_told();
 }
