@@ -136,8 +136,8 @@ macro_rules! call {
 
 /// A read after the test: the state, the tables that it is lent, then what comes after them.
 macro_rules! tested {
-    ($call:ident, $index:expr, $($table:ident)* $(; $($rest:expr),*)?) => {
-        tested::$call($index.state, $($index.$table.as_ptr(), $index.$table.len(),)* $($($rest),*)?)
+    ($call:ident, $index:expr, $($table:ident)*; $($rest:expr),*) => {
+        tested::$call($index.state, $($index.$table.as_ptr(), $index.$table.len(),)* $($rest),*)
     };
 }
 
@@ -279,21 +279,6 @@ impl Index {
         Ok(Found { numbers, visited })
     }
 
-    /// What a call lists, in a slice that grows where it is refused 16: a block is listed once at most.
-    fn listed(&self, mut list: impl FnMut(&mut [u64]) -> Result<usize, Refusal>) -> Result<Vec<u64>, Refusal> {
-        let most = self.room.blocks as usize;
-        let mut numbers = vec![0; most.min(FEW)];
-        loop {
-            match list(&mut numbers) {
-                Err(refusal) if refusal.number() == 16 && numbers.len() < most => numbers.resize(most.min(8 * numbers.len()), 0),
-                answer => {
-                    numbers.truncate(answer?);
-                    return Ok(numbers);
-                }
-            }
-        }
-    }
-
     /// The same into a slice: how many it lists there, and how many nodes were visited. Refusals 4, 14 to 16.
     pub fn find_into(&self, tick: u64, window: Range<u64>, answer: &mut [u64]) -> Result<(usize, u64), Refusal> {
         let (mut count, mut visited) = (0, 0);
@@ -318,6 +303,21 @@ impl Index {
                 tick, window.start, window.end, answer.as_mut_ptr(), answer.len(), &mut count)
         })?;
         Ok(count as usize)
+    }
+
+    /// What a call lists, in a slice that grows where it is refused 16: a block is listed once at most.
+    fn listed(&self, mut list: impl FnMut(&mut [u64]) -> Result<usize, Refusal>) -> Result<Vec<u64>, Refusal> {
+        let most = self.room.blocks as usize;
+        let mut numbers = vec![0; most.min(FEW)];
+        loop {
+            match list(&mut numbers) {
+                Err(refusal) if refusal.number() == 16 && numbers.len() < most => numbers.resize(most.min(8 * numbers.len()), 0),
+                answer => {
+                    numbers.truncate(answer?);
+                    return Ok(numbers);
+                }
+            }
+        }
     }
 
     /// The first block live at a tick that starts at or after the cell. Refusals 4, 14.
