@@ -1,13 +1,17 @@
 /* The board's history, for C. Link target/staticlib/libservercape.a, which `rt staticlib servercape` writes.
 
    Every call is proved to give its answer for all slices of any length and content. It returns 0, or the number of the refusal; then nothing
-   has changed, the values handed out included (but see servercape_load).
+   has changed, the values handed out included (but see servercape_load; servercape_record_all and servercape_find_all have an answer for each call).
+
+   Every call but open and load tests the tables first, so it takes time that grows with the rows in use. A caller with many calls on one index may test them
+   once: servercape_tested.h.
 
    A slice is a pointer and how many elements it has. The proof takes for granted what it takes of every caller in Rust: a pointer is not null and
    aligned, even where the length is 0; the elements are there; what a call may write to overlaps nothing else that it is lent.
 
    An index is five tables: pieces, blocks, store, nodes, entries. docs/LAYOUT.md says what stands in them; a caller need not know. Lend the same five
-   to every call on the index, and change nothing in between. */
+   to every call on the index, and change nothing in between, but that any of them may be made longer by zeros: longer tables stand for the same index. So
+   after a refusal for want of room, 9 to 13, lengthen what it names (with realloc, say, and zeros behind) and call again. */
 #ifndef SERVERCAPE_H
 #define SERVERCAPE_H
 
@@ -29,7 +33,8 @@ enum servercape_table {
 };
 
 /* How many numbers (of the store: bytes) to lend for so many rows. 0 where that is no 64-bit number, and for any other table. Of the scratch one row is
-   enough: 8 numbers. */
+   enough: 8 numbers. Of nodes and entries finish needs rows by the end tick E: where E is at most 2^n and n at least 1, 1 + 2 * n * t nodes are enough for t
+   different ticks at which operations were recorded, and 2 * n - 1 entries for each row of the block table. */
 uint64_t servercape_length(uint64_t table, uint64_t rows);
 
 /* The largest end tick. */
@@ -59,6 +64,22 @@ uint64_t servercape_record(
     uint64_t tick, uint64_t first,
     const uint8_t *bytes, size_t bytes_length,
     uint64_t *updated, uint64_t *cell);
+
+/* Records many operations with one test of the tables. They stand in a row: tick, first cell and length, 8 little-endian bytes each, then the bytes of the
+   cells. Of operation i the answers have at 3 * i what servercape_record returns for it, and then `updated` and `cell`, which are 0 where it is refused: a
+   refused operation changes nothing, and the next one is played. It ends where the next operation is cut short or no three places for answers are left.
+   Returns how many were played, which is no refusal; `next` is the position behind them.
+   Of each operation refusals 2, 3, 5 to 11. */
+uint64_t servercape_record_all(
+    uint64_t *pieces, size_t pieces_length,
+    uint64_t *blocks, size_t blocks_length,
+    uint8_t *store, size_t store_length,
+    const uint64_t *nodes, size_t nodes_length,
+    const uint64_t *entries, size_t entries_length,
+    const uint64_t *scratch, size_t scratch_length,
+    const uint8_t *operations, size_t operations_length,
+    uint64_t *answers, size_t answers_length,
+    uint64_t *next);
 
 /* Finishes an index: its blocks can be read, and it takes no more operations.
    Refusals 2, 3, 12, 13. */
@@ -93,6 +114,21 @@ uint64_t servercape_find(
     uint64_t tick, uint64_t start, uint64_t end,
     uint64_t *answer, size_t answer_length,
     uint64_t *count, uint64_t *visited);
+
+/* Asks many finds with one test of the tables. A query is three numbers: tick, start, end. Of query i the answers have at 3 * i what servercape_find returns for
+   it, and then `count` and `visited`, which are 0 where it is refused. The block numbers of all go one behind the other into `numbers`; a query is lent what is
+   left there, and refused 16 where that does not hold its own. It ends where no three numbers of a query or no three places for its answer are left.
+   Returns how many were asked, which is no refusal.
+   Of each query refusals 2, 4, 14 to 16. */
+uint64_t servercape_find_all(
+    const uint64_t *pieces, size_t pieces_length,
+    const uint64_t *blocks, size_t blocks_length,
+    const uint8_t *store, size_t store_length,
+    const uint64_t *nodes, size_t nodes_length,
+    const uint64_t *entries, size_t entries_length,
+    const uint64_t *queries, size_t queries_length,
+    uint64_t *answers, size_t answers_length,
+    uint64_t *numbers, size_t numbers_length);
 
 /* For each cell of [start, end) at a tick: its byte, and 1 where a live block holds it; 0 and 0 where none does.
    Refusals 2, 4, 14 to 16. */

@@ -1,72 +1,6 @@
 /* Calls each function of servercape.h: the board of document 01's listing, lengths, refusals, and values that stay on a refusal.
    Prints how many checks it made, and every one that failed. */
-#include "../servercape.h"
-
-#include <stdio.h>
-#include <stdlib.h>
-#include <string.h>
-
-static int checks, wrong;
-
-static void same(const char *what, uint64_t got, uint64_t want)
-{
-    checks++;
-    if (got != want) {
-        wrong++;
-        printf("%s: %llu, and not %llu\n", what, (unsigned long long)got, (unsigned long long)want);
-    }
-}
-
-/* ── an index with its tables ── */
-
-struct lent {
-    uint64_t *pieces, *blocks, *nodes, *entries, *scratch;
-    uint8_t *store;
-    size_t pieces_length, blocks_length, store_length, nodes_length, entries_length, scratch_length;
-};
-
-/* Garbage: what stood in a table before must not matter. */
-static void *filled(size_t bytes)
-{
-    void *p = malloc(bytes + 1);
-    if (!p)
-        exit(2);
-    memset(p, 0xA5, bytes + 1);
-    return p;
-}
-
-static struct lent lend(uint64_t pieces, uint64_t blocks, uint64_t store, uint64_t nodes, uint64_t entries)
-{
-    struct lent x;
-    x.pieces_length = servercape_length(SERVERCAPE_PIECES, pieces);
-    x.blocks_length = servercape_length(SERVERCAPE_BLOCKS, blocks);
-    x.store_length = servercape_length(SERVERCAPE_STORE, store);
-    x.nodes_length = servercape_length(SERVERCAPE_NODES, nodes);
-    x.entries_length = servercape_length(SERVERCAPE_ENTRIES, entries);
-    x.scratch_length = servercape_length(SERVERCAPE_SCRATCH, 1);
-    x.pieces = filled(8 * x.pieces_length);
-    x.blocks = filled(8 * x.blocks_length);
-    x.store = filled(x.store_length);
-    x.nodes = filled(8 * x.nodes_length);
-    x.entries = filled(8 * x.entries_length);
-    x.scratch = filled(8 * x.scratch_length);
-    return x;
-}
-
-static void give_back(struct lent x)
-{
-    free(x.pieces);
-    free(x.blocks);
-    free(x.store);
-    free(x.nodes);
-    free(x.entries);
-    free(x.scratch);
-}
-
-/* The five slices, in the order that every call has. */
-#define TABLES(x)                                                                                                                                    \
-    (x).pieces, (x).pieces_length, (x).blocks, (x).blocks_length, (x).store, (x).store_length, (x).nodes, (x).nodes_length, (x).entries,             \
-        (x).entries_length
+#include "lent.h"
 
 /* What record must give: its number and the two values, which stand at 77 before the call. */
 struct told {
@@ -239,7 +173,7 @@ static void write_and_load(struct lent x)
     same("bytes end", servercape_load(TABLES(y), file, written + 2, 3, &next), 17);
     same("past the end", servercape_load(TABLES(y), file, sizeof file, sizeof file, &next), 17);
     same("kept position", next, 77);
-    same("untouched", y.blocks[0], UINT64_C(0xA5A5A5A5A5A5A5A5));
+    same("as they were", y.blocks[0], UINT64_C(0xA5A5A5A5A5A5A5A5));
     same("load", servercape_load(TABLES(y), file, sizeof file, 3, &next), 0);
     same("next", next, 3 + written);
     read_blocks(y);
@@ -366,6 +300,80 @@ static void scratch(void)
     give_back(x);
 }
 
+/* ── many records ── */
+
+/* An operation behind others in a list: where the next one begins. */
+static size_t put_operation(uint8_t *list, size_t at, uint64_t tick, uint64_t first, const uint8_t *bytes, size_t length)
+{
+    const uint64_t head[3] = {tick, first, length};
+    for (int k = 0; k < 3; k++)
+        for (int i = 0; i < 8; i++)
+            list[at++] = (uint8_t)(head[k] >> 8 * i);
+    memcpy(list + at, bytes, length);
+    return at + length;
+}
+
+/* The listing by one call, with two refused operations in it and a last one that is cut short. */
+static void record_all(void)
+{
+    struct lent x = lend(8, 16, 64, 16, 32), y = lend(8, 16, 64, 16, 32);
+    uint8_t list[256];
+    uint64_t answers[20], next = 77;
+    size_t end = put_operation(list, 0, 1, 100, (const uint8_t[]){7, 7, 7}, 3);
+    size_t second = end;
+    end = put_operation(list, end, 3, 102, (const uint8_t[]){9, 9, 9}, 3);
+    end = put_operation(list, end, 5, 100, (const uint8_t[]){7, 7}, 2);
+    end = put_operation(list, end, 8, 103, (const uint8_t[]){4}, 1);
+    end = put_operation(list, end, 5, 103, (const uint8_t[]){4}, 0);
+    end = put_operation(list, end, 6, 103, (const uint8_t[]){4}, 1);
+    size_t cut = put_operation(list, end, 7, 200, (const uint8_t[]){1, 1}, 2) - 1;
+    memset(answers, 77, sizeof answers);
+
+    same("open", servercape_open(TABLES(x), 8, 1), 0);
+    same("record all", servercape_record_all(TABLES(x), x.scratch, 8, list, cut, answers, 20, &next), 6);
+    same("behind the last whole one", next, end);
+    const uint64_t want[18] = {0, 1, 100, 0, 1, 102, 0, 0, 0, 7, 0, 0, 5, 0, 0, 0, 1, 103};
+    same("its answers", memcmp(answers, want, sizeof want) == 0, 1);
+    same("no more", answers[18] == answers[19] && answers[18] == UINT64_C(0x4D4D4D4D4D4D4D4D), 1);
+    same("finish", servercape_finish(TABLES(x)), 0);
+    read_blocks(x);
+
+    same("open", servercape_open(TABLES(y), 8, 1), 0);
+    same("one place", servercape_record_all(TABLES(y), y.scratch, 8, list, cut, answers, 5, &next), 1);
+    same("behind the first", next, second);
+    same("no place", servercape_record_all(TABLES(y), y.scratch, 8, list + next, cut - next, answers, 2, &next), 0);
+    same("still there", next, 0);
+    same("no list", servercape_record_all(TABLES(y), y.scratch, 8, list, 23, answers, 20, &next), 0);
+    same("a short scratch", servercape_record_all(TABLES(y), y.scratch, 7, list, second, answers, 20, &next), 1);
+    same("each is refused 2", answers[0], 2);
+    same("the rest", servercape_record_all(TABLES(y), y.scratch, 8, list + second, cut - second, answers, 20, &next), 5);
+    same("finish", servercape_finish(TABLES(y)), 0);
+    read_blocks(y);
+    same("finished", servercape_record_all(TABLES(y), y.scratch, 8, list, end, answers, 20, &next), 6);
+    same("each is refused 3", answers[0] + answers[3] + answers[15], 9);
+    give_back(x);
+    give_back(y);
+}
+
+/* The finds of the listing by one call: accepted, refused 14, 15 and 16, and one that is cut short. */
+static void find_all(struct lent x)
+{
+    static const uint64_t queries[] = {6, 100, 104, 8, 0, 1, 6, 104, 100, 6, 0, UINT64_MAX, 1, 100, 101, 6, 0};
+    uint64_t answers[17], numbers[6], answer[4] = {77, 77, 77, 77}, count = 77, visited = 77;
+    memset(answers, 77, sizeof answers);
+    memset(numbers, 77, sizeof numbers);
+    same("find all", servercape_find_all(TABLES(x), queries, 17, answers, 17, numbers, 6), 5);
+    same("find", servercape_find(TABLES(x), 6, 100, 104, answer, 4, &count, &visited), 0);
+    same("the first", answers[0] == 0 && answers[1] == count && answers[2] == visited && memcmp(numbers, answer, 8 * count) == 0, 1);
+    const uint64_t refused[9] = {14, 0, 0, 15, 0, 0, 16, 0, 0};
+    same("refused ones", memcmp(answers + 3, refused, sizeof refused) == 0, 1);
+    same("find", servercape_find(TABLES(x), 1, 100, 101, answer, 4, &count, &visited), 0);
+    same("the last", answers[12] == 0 && answers[13] == count && answers[14] == visited && count == 1 && numbers[3] == answer[0], 1);
+    same("no more", numbers[4] == UINT64_C(0x4D4D4D4D4D4D4D4D) && answers[15] == UINT64_C(0x4D4D4D4D4D4D4D4D), 1);
+    same("two places", servercape_find_all(TABLES(x), queries, 17, answers, 8, numbers, 6), 2);
+    same("no query", servercape_find_all(TABLES(x), queries, 2, answers, 17, numbers, 6), 0);
+}
+
 static void without_blocks(struct lent x)
 {
     uint64_t count = 77;
@@ -423,6 +431,7 @@ int main(void)
     record("record, finished", x, 7, 0, (const uint8_t[]){1}, 1, refusal(3));
     read_blocks(x);
     read_finds(x);
+    find_all(x);
     read_touching(x);
     read_neighbours(x);
     read_all_cells(x);
@@ -431,6 +440,7 @@ int main(void)
     same_tick(x);
     changes(x);
     scratch();
+    record_all();
     without_blocks(x);
     same("clock", servercape_clock((UINT64_C(7) << 32) + 3 * 1440 + 605), 1005);
     give_back(x);

@@ -3,15 +3,15 @@
 -- A block with a life that is destroyed at t, below the end, is live at t − 1: it stands in a node on the way to t − 1. Its life covers that node, so the
 -- node ends at t or before, and its max is t. So it stands on the right spine of the left half of the node with mid t, which is the way to t − 1 there.
 -- What is created at t and restores it stands on the left spine of the right half, which is the way to t there; no block stands twice on it.
-use mathlib.Core.Path.{_≡_}
+use mathlib.Core.Path.{_≡_, refl}
 use mathlib.Core.Logic.{_⊎_, inl, inr, ⊎-elim}
 use mathlib.Core.Bool.{Bool, true, false}
-use mathlib.Core.List.{List, [], _++_}
+use mathlib.Core.List.{List, [], _∷_, _++_}
 use Prim.Native.Nat.{ℕ, _+_, _-_, _<_}
 use native.Mathlib.Omega.{arith}
-use Rattle.lists.specs.Lists.{Mem}
+use Rattle.lists.specs.Lists.{Mem, here, there, Pairs, pairs-nil, pairs-cons}
 use Rattle.lists.proofs.Numbers.{lt-or-le, eq-or-ne}
-use Rattle.lists.proofs.Lists.{mem-split, mem-right, count-append}
+use Rattle.lists.proofs.Lists.{mem-split, all-of-mem, pairs-append, count-append}
 use Rattle.lists.proofs.Counting.{mem-count, not-mem-nil}
 use Rattle.history.specs.Words.{Block}
 use Rattle.history.specs.Tree.{Tree, hole, node, mid, blockAt}
@@ -20,24 +20,29 @@ use Rattle.history.specs.Rules.{placed}
 use Rattle.history.proofs.RulesLaws.{coversNode, placed-covers, placed-left, placed-right, rule23-decides}
 use Rattle.history.proofs.TreeAdding.{covers-inside}
 use Rattle.history.proofs.TreePath.{path-node, pathBelow, path-below-left, path-below-right}
-use Rattle.apart_laws.specs.Ticks.{ApartAt, ClearOf}
+use Rattle.apart_laws.specs.Ticks.{Disjoint, ApartAt, ClearOf}
 use Rattle.apart_laws.specs.Ruled.{Ruled}
-use Rattle.apart_laws.specs.Slots.{Restored, RestoredBy}
-use Rattle.apart_laws.specs.Parted.{PartedIn}
+use Rattle.apart_laws.specs.Slots.{stretchAt, Restored, RestoredBy}
 use Rattle.apart_laws.proofs.Downward.{handed-clear}
 use Rattle.apart_laws.proofs.Slots.{counts-more, restored-handed}
 use Rattle.apart_laws.proofs.Ways.{way-once}
 
+-- no two of the numbers that are destroyed at t share a cell
+abbrev pub EndsIn : (bs : List Block) (t : ℕ) (xs : List ℕ) → Type 0
+EndsIn bs t xs = Pairs (λ j k. (j ≡ k → ⊥) → blockAt bs j .destroyed ≡ t → blockAt bs k .destroyed ≡ t → Disjoint (stretchAt bs j) (stretchAt bs k)) xs
+
+-- where none is destroyed then
+pairs-none : (bs : List Block) (t : ℕ) (es : List ℕ) → ((k : ℕ) → Mem k es → blockAt bs k .destroyed ≡ t → ⊥) → EndsIn bs t es
+pairs-none bs t [] none = pairs-nil
+pairs-none bs t (k ∷ ks) none = pairs-cons (all-of-mem ks (λ j m ne d. absurd (none k (here refl) d))) (pairs-none bs t ks (λ j m. none j (there m)))
+
 module _ (bs : List Block) (Open : (t k : ℕ) → Type 0) where
   -- ── at a node ──
 
-  -- What is destroyed at t of the numbers xs is restored by those of ys, or left open. All of it stands on a spine among xs, and is parted from the others there.
+  -- What is destroyed at t of the numbers xs is restored by those of ys, or left open, and shares no cell with one another.
   pub record Handed (t : ℕ) (xs ys : List ℕ) : Type 0 where
     pub over : (k : ℕ) → Mem k xs → blockAt bs k .destroyed ≡ t → RestoredBy bs t ys k ⊎ Open t k
-    pub spine : List ℕ
-    pub among : (k : ℕ) → Mem k spine → Mem k xs
-    pub has : (k : ℕ) → Mem k xs → blockAt bs k .destroyed ≡ t → Mem k spine
-    pub parted : (k : ℕ) → Mem k spine → blockAt bs k .destroyed ≡ t → PartedIn bs spine k
+    pub ends : EndsIn bs t xs
 
   -- at every node what is destroyed at mid, in the left half, is restored in the right half, or left open
   pub data HandedIn : (lo hi : ℕ) → Tree → Type 0 where
@@ -47,22 +52,13 @@ module _ (bs : List Block) (Open : (t k : ℕ) → Type 0) where
 
   -- nothing is destroyed
   pub handed-none : (t : ℕ) (ys : List ℕ) → Handed t [] ys
-  handed-none t ys = record {
-    over = λ k m. absurd (not-mem-nil m);
-    spine = [];
-    among = λ k m. m;
-    has = λ k m e. m;
-    parted = λ k m. absurd (not-mem-nil m);
-  }
+  handed-none t ys = record { over = λ k m. absurd (not-mem-nil m); ends = pairs-nil }
 
   -- entries that are not destroyed at the tick change nothing
   handed-under : (t : ℕ) (es xs ys : List ℕ) → ((k : ℕ) → Mem k es → blockAt bs k .destroyed ≡ t → ⊥) → Handed t xs ys → Handed t (es ++ xs) (es ++ ys)
   handed-under t es xs ys none h = record {
     over = λ k m e. ⊎-elim (λ f. inl (λ cell c. more (f cell c))) (λ o. inr o) (h .over k (later k m e) e);
-    spine = h .spine;
-    among = λ k m. mem-right es xs (h .among k m);
-    has = λ k m e. h .has k (later k m e) e;
-    parted = h .parted;
+    ends = pairs-append (pairs-none bs t es none) (h .ends) (all-of-mem es (λ j m. all-of-mem xs (λ k o ne d. absurd (none j m d))));
   }
     where
       later : (k : ℕ) → Mem k (es ++ xs) → blockAt bs k .destroyed ≡ t → Mem k xs

@@ -2,11 +2,10 @@
 --
 -- Say that k is destroyed at t and shares a cell with j, which lives on. Then j starts before k's end, so one of the list lies between: it starts in j, and
 -- ends where k starts or before. It is no j, which reaches into k. If it lives on, it shares a cell with j at t, against rule 24 at t. If it is destroyed
--- at t, it shares a cell with j and starts before k: so the first one that does has none before it. It is the same where j is destroyed at t too and starts
--- where k does or before: the one between shares a cell with j.
+-- at t, it shares a cell with j and starts before k: so the first one that does has none before it.
 use mathlib.Core.Path.{_≡_, subst, sym, ap, _∙_}
 use mathlib.Core.Logic.{_⊎_, inl, inr}
-use mathlib.Core.List.{List}
+use mathlib.Core.List.{List, []}
 use Prim.Native.Nat.{ℕ, zero, suc, _-_, _≤_, _<_}
 use native.Mathlib.Omega.{arith}
 use Rattle.lists.specs.Lists.{Mem}
@@ -22,11 +21,11 @@ use Rattle.apart_laws.specs.Slots.{stretchAt, Slot}
 use Rattle.apart_laws.specs.Parted.{PartedBy, PartedIn}
 use Rattle.apart_laws.specs.RightFirst.{RightFirst}
 use Rattle.apart_laws.specs.Law.{RightLaw}
-use Rattle.apart_laws.proofs.Downward.{apart-stepwise}
+use Rattle.apart_laws.proofs.Downward.{pairs-mem, apart-stepwise}
 use Rattle.apart_laws.proofs.Numbers.{number-below, by-number, apart-numbers}
 use Rattle.apart_laws.proofs.Ways.{way-has, way-live}
-use Rattle.apart_laws.proofs.Handing.{handed-at, clear-or-open}
-use Rattle.apart_laws.proofs.RightFirst.{right-handed, right-lies}
+use Rattle.apart_laws.proofs.Handing.{EndsIn, handed-at, clear-or-open}
+use Rattle.apart_laws.proofs.RightFirst.{right-ends, right-handed}
 
 -- the list has the blocks that are live at the tick before t, and no others
 pub record LiveBefore (bs : List Block) (t : ℕ) (list : List ℕ) : Type 0 where
@@ -76,56 +75,6 @@ module _ (bs : List Block) (t : ℕ) (list : List ℕ) (filled : NoneEmpty bs) (
       (λ k h lives dies. by-number (λ (b : Block). b .created < t → t < b .destroyed → Disjoint (stretchAt bs k) (b .stretch)) bs
       (λ j g born stays. unshared (suc (keyIn bs k)) k (omega arith) (before .has k (omega arith) (omega arith)) dies j (before .has j born (omega arith)) stays))
 
--- ── those that are destroyed then ──
-
-module _ (bs : List Block) (t : ℕ) (spine : List ℕ) (filled : NoneEmpty bs) (lives : (k : ℕ) → Mem k spine → (blockAt bs k .created < t) × (t ≤ blockAt bs k .destroyed))
-    (parted : (k : ℕ) → Mem k spine → blockAt bs k .destroyed ≡ t → PartedIn bs spine k) (clear : ClearAt t bs) where
-  -- j, which starts where k does or before, shares no cell with k; `most` bounds where k starts
-  ends-unshared : (most j k : ℕ) → keyIn bs j ≤ keyIn bs k → keyIn bs k < most → Mem j spine → Mem k spine → blockAt bs j .destroyed ≡ t → blockAt bs k .destroyed ≡ t
-      → (j ≡ k → ⊥) → Disjoint (stretchAt bs j) (stretchAt bs k)
-  ends-unshared zero j k low bound m n dies dies-too ne cell p q = omega arith
-  ends-unshared (suc most) j k low bound m n dies dies-too ne cell p q =
-      between (λ i f b o d. ends-unshared most j i f b m o dies d) (all-mem (parted k n dies-too) m ne (omega (arith, q .below)))
-    where
-      between : ((i : ℕ) → keyIn bs j ≤ keyIn bs i → keyIn bs i < most → Mem i spine → blockAt bs i .destroyed ≡ t → (j ≡ i → ⊥) → Disjoint (stretchAt bs j) (stretchAt bs i))
-          → PartedBy bs spine k j → ⊥
-      between earlier w =
-          elim (eq-or-ne (w .by) j) [
-            | inl e ↦ (let to : ends (stretchAt bs j) ≤ keyIn bs k = subst (λ x. ends (stretchAt bs x) ≤ keyIn bs k) e (w .to) in omega (arith, p .below, q .from))
-            | inr other ↦ elim (lt-or-le t (blockAt bs (w .by) .destroyed)) [
-              | inl on ↦
-                  clear (blockAt bs j) (mem-at noBlock bs j (number-below bs (blockAt bs j .created) j (omega (arith, lives j m)))) (omega (arith, lives j m)) dies
-                  (blockAt bs (w .by)) (mem-at noBlock bs (w .by) (number-below bs t (w .by) on)) (lives-by .0) on (keyIn bs (w .by)) has-j has-by
-              | inr dies-by ↦
-                  earlier (w .by) (w .from) (omega (arith, some, w .to)) (w .listed) (omega (arith, lives-by .1)) (λ e. other (sym e)) (keyIn bs (w .by)) has-j has-by
-            ]
-          ]
-        where
-          lives-by : (blockAt bs (w .by) .created < t) × (t ≤ blockAt bs (w .by) .destroyed)
-          lives-by = lives (w .by) (w .listed)
-
-          some : 0 < size (stretchAt bs (w .by))
-          some = all-at noBlock filled (w .by) (number-below bs (blockAt bs (w .by) .created) (w .by) (omega (arith, lives-by)))
-
-          has-by : HasCell (stretchAt bs (w .by)) (keyIn bs (w .by))
-          has-by = record { from = omega arith; below = omega (arith, some) }
-
-          has-j : HasCell (stretchAt bs j) (keyIn bs (w .by))
-          has-j = record { from = w .from; below = omega (arith, some, w .to, p .below, q .from) }
-
-  either-way : (j k : ℕ) → Mem j spine → Mem k spine → blockAt bs j .destroyed ≡ t → blockAt bs k .destroyed ≡ t → (j ≡ k → ⊥) → Disjoint (stretchAt bs j) (stretchAt bs k)
-  either-way j k m n dies dies-too ne cell p q =
-      elim (le-or-lt (keyIn bs j) (keyIn bs k)) [
-        | inl low ↦ ends-unshared (suc (keyIn bs k)) j k low (omega arith) m n dies dies-too ne cell p q
-        | inr low ↦ ends-unshared (suc (keyIn bs j)) k j (omega arith) (omega arith) n m dies-too dies (λ e. ne (sym e)) cell q p
-      ]
-
-  -- so it is of all, where the spine has them
-  pub parted-ends : ((k : ℕ) → Lives (blockAt bs k) → blockAt bs k .destroyed ≡ t → Mem k spine) → EndsApartAt t bs
-  parted-ends has =
-      pairs-of-at noBlock bs
-      (λ j k h l p q d e. either-way j k (has j p d) (has k q e) d e (λ same. omega arith))
-
 -- ── in a tree ──
 
 module _ (end : ℕ) (bs : List Block) (tree : Tree) (ruled : Ruled end bs tree) (filled : NoneEmpty bs) where
@@ -140,37 +89,35 @@ module _ (end : ℕ) (bs : List Block) (tree : Tree) (ruled : Ruled end bs tree)
   abbrev PartedOn : (t k : ℕ) → Type 0
   PartedOn t k = PartedIn bs (path (t - 1) 0 end tree) k
 
-  module _ (after born born′ : List Slot) (walked : RightFirst bs end PartedOn 0 end tree (path (end - 1) 0 end tree) after born born′) where
-    -- a tick below the end
-    settle-below : (t : ℕ) → 0 < t → t < end → ApartAt t bs → Settled end t bs
-    settle-below t p q apart =
-        let handed = right-handed bs end PartedOn (omega arith) walked in
-        let h = handed-at bs PartedOn end tree ruled handed t p q in
-        let before = way-before t p (omega arith) in
-        let clear : ClearAt t bs = parted-clear bs t (path (t - 1) 0 end tree) filled before (clear-or-open bs PartedOn end tree ruled handed t p q apart) apart in
-        record {
-          ends = parted-ends bs t (h .spine) filled (λ k m. before .lives k (h .among k m)) (h .parted) clear (λ k l d. h .has k (before .has k (omega arith) (omega arith)) d);
-          clear = λ _. clear;
-        }
+  -- those that are destroyed at t all stand on the way to the tick before
+  way-ends : (t : ℕ) → 0 < t → t ≤ end → EndsIn bs t (path (t - 1) 0 end tree) → EndsApartAt t bs
+  way-ends t p q ends =
+      let before = way-before t p q in
+      pairs-of-at noBlock bs
+      (λ j k h l lives lives-too d e.
+      pairs-mem (λ a b f ne x y cell m n. f (λ same. ne (sym same)) y x cell n m) ends (before .has j (omega arith) (omega arith)) (before .has k (omega arith) (omega arith)) (λ same. omega arith)
+      (λ same. omega arith) d e)
 
-    -- at the end nothing lives on
-    settle-end : (t : ℕ) → 0 < t → t ≡ end → Settled end t bs
-    settle-end t p e =
-        let before = way-before t p (omega arith) in
-        let lies = right-lies bs end PartedOn walked in
-        let none : ClearAt t bs = λ a m l d b n born stays. absurd (omega (arith, all-mem (ruled .by-end) n)) in
-        record {
-          ends = parted-ends bs t (path (t - 1) 0 end tree) filled (before .lives) (λ k m d. at-end k m d) none (λ k l d. before .has k (omega arith) (omega arith));
-          clear = λ h. absurd (omega arith);
-        }
-      where
-        at-end : (k : ℕ) → Mem k (path (t - 1) 0 end tree) → blockAt bs k .destroyed ≡ t → PartedIn bs (path (t - 1) 0 end tree) k
-        at-end k m d = rw e (all-mem (right-lies bs end PartedOn walked) (rw e at m) .parted (d ∙ e))
+  module _ (after born born′ : List Slot) (walked : RightFirst bs end PartedOn 0 end tree [] after born born′) where
+    settle : (t : ℕ) → 0 < t → t ≤ end → ApartAt t bs → Settled end t bs
+    settle t p q apart =
+        elim (lt-or-le t end) [
+          | inl below ↦
+              (let handed = right-handed bs end PartedOn (omega arith) walked in
+              record {
+                ends = way-ends t p q (handed-at bs PartedOn end tree ruled handed t p below .ends);
+                clear = λ _. parted-clear bs t (path (t - 1) 0 end tree) filled (way-before t p q) (clear-or-open bs PartedOn end tree ruled handed t p below apart) apart;
+              })
+          | inr last ↦
+              (let same : t ≡ end = omega arith in
+              record {
+                ends = way-ends t p q (rw same (right-ends bs end PartedOn walked));
+                clear = λ h. absurd (omega arith);
+              })
+        ]
 
     pub right-apart : Apart bs
-    right-apart =
-        apart-stepwise end bs (ruled .by-end)
-        (λ t p q apart. elim (lt-or-le t end) [ inl h ↦ settle-below t p h apart | inr h ↦ settle-end t p (omega arith) ])
+    right-apart = apart-stepwise end bs (ruled .by-end) settle
 
 pub right-law : RightLaw
 right-law = record { apart = λ end bs tree ruled filled after born born′ walked. right-apart end bs tree ruled filled after born born′ walked }

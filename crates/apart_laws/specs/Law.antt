@@ -60,4 +60,4 @@ pub record SlotSteps : Type 0 where
 -- tick before. What was kept before it and after it is free: nothing is owed for tick 0 and for the end tick.
 pub record RightLaw : Type 0 where
   pub apart : (end : ℕ) (bs : List Block) (tree : Tree) → Ruled end bs tree → NoneEmpty bs → (after born born′ : List Slot)
-      → RightFirst bs end (λ t k. PartedIn bs (path (t - 1) 0 end tree) k) 0 end tree (path (end - 1) 0 end tree) after born born′ → Apart bs
+      → RightFirst bs end (λ t k. PartedIn bs (path (t - 1) 0 end tree) k) 0 end tree [] after born born′ → Apart bs

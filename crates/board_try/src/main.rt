@@ -37,13 +37,13 @@ fn number_at(data: &[u8], at: usize) -> usize
 
 // The text whose length stands at a position; the empty one where the data is cut.
 fn text_at<'a>(data: &'a [u8], at: usize) -> &'a [u8] {
-    let start = plain::skip(data, at, NUMBER as u64);
+    let start = tally::skip(data, at, NUMBER as u64);
     tables::part(data, start as u64, number_at(data, at) as u64)
 }
 
 // The position behind that text, or the end of the data.
 fn behind(data: &[u8], at: usize) -> usize {
-    plain::skip(data, at, (NUMBER + number_at(data, at)) as u64)
+    tally::skip(data, at, (NUMBER + number_at(data, at)) as u64)
 }
 
 // Whether the board of an input is printed as it must be.

@@ -6,6 +6,7 @@ use Prim.Native.Nat.{ℕ, _+_, _*_, _-_, _/_, _≤_, _<_}
 use native.Mathlib.Omega.{arith}
 use lib.ListN.{length}
 use Rattle.lists.proofs.Parts.{part-sets}
+use Rattle.lists.proofs.Stores.{sets-past}
 use Rattle.lists.specs.Lists.{All, has}
 use Rattle.lists.proofs.Lists.{all-mem}
 use Rattle.lists.proofs.Maps.{length-of-map, map-append}
@@ -105,6 +106,13 @@ node-parts : (f : ℕ → ℕ) (lo hi : ℕ) (xs : List ℕ) (l r : Tree)
 unfolding nodeBytes nodesOf mapTree flatten
 node-parts f lo hi xs l r = rw (length-of-map f xs) (simp (append-assoc, append-nil))
 
+-- into a full slice nothing is put
+pub tree-full : (nodes entries : List ℕ) (link min max listed : ℕ) (out : List ℕ) (at : ℕ) → length out ≤ at → PutTree nodes entries link min max listed out at out at
+tree-full nodes entries link min max listed out at h = record { put = λ ks blocks kind tree n t all. put-full out at (nodeBytes (nodesOf min max (mapTree (placeIn ks) tree))) h }
+  where
+    put-full : (out : List ℕ) (at : ℕ) (xs : List ℕ) → length out ≤ at → Put out at xs out at
+    put-full out at xs h = record { stands = sym (sets-past xs out at h); ends = omega arith }
+
 pub tree-none : (nodes entries : List ℕ) (link min max listed : ℕ) (out o : List ℕ) (at next : ℕ) → link ≡ 0 → Put out at (bytesOf 1 0) o next
     → PutTree nodes entries link min max listed out at o next
 unfolding TreeAt nodeBytes nodesOf mapTree
@@ -170,4 +178,4 @@ module _ (nodes entries : List ℕ) (link min max listed : ℕ) (out o : List �
       let a = first′ .put ks blocks kind l behind (t .1) (entries-left xs l r all) in
       put-append a (second′ .put ks blocks kind r (numbering-kept a behind) (t .2) (entries-right xs l r all))
 
-pub ruleset noding = (node-put, tree-none, tree-narrow, tree-halves, arith)
+pub ruleset noding = (node-put, tree-full, tree-none, tree-narrow, tree-halves, arith)

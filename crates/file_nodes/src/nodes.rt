@@ -72,7 +72,7 @@ fn put_no_halves(out: &mut [u8], at: usize) -> usize
     put::byte(out, next, ABSENT)
 }
 
-// The tree at a link. Its width falls at each call.
+// The tree at a link. Its width falls at each call, and a full slice ends it: where the table holds no tree, the calls are no more than the bytes.
 pub fn put_tree(
     nodes: &[u64],
     entries: &[u64],
@@ -86,6 +86,9 @@ pub fn put_tree(
     requires { ⌜ min ≤ max ⌝ }
     ensures { λ r. ⌜ PutTree (now (nodes .entry)) (now (entries .entry)) link min max listed (now (out .entry)) at (now (out .exit)) r ⌝ }
 {
+    if out.len() <= at {
+        return at;
+    }
     if link == 0 {
         return put::byte(out, at, ABSENT);
     }

@@ -1,22 +1,19 @@
 -- Rule 24 over the rows of a table is rule 24 of history over the blocks that they stand for. Assumes nothing.
 use mathlib.Core.Path.{_≡_}
 use mathlib.Core.Logic.{_⊎_, ⊎-elim}
-use mathlib.Core.Bool.{Bool}
 use mathlib.Core.List.{List}
 use Prim.Native.Nat.{ℕ, zero, suc, _+_, _-_, _≤_, _<_}
 use native.Mathlib.Omega.{arith}
 use lib.ListN.{length, getD}
-use Rattle.lists.specs.Tests.{Decides}
 use Rattle.lists.proofs.Lists.{pairs-at, pairs-of-at}
-use Rattle.lists.proofs.Numbers.{lt-or-le, decides-iff, decides-same}
+use Rattle.lists.proofs.Numbers.{lt-or-le}
 use Rattle.history.specs.Words.{Holds}
 use Rattle.history.specs.Tree.{noBlock}
-use Rattle.history.specs.Rules.{apart, Apart}
-use Rattle.history.proofs.RulesLaws.{apart-decides}
+use Rattle.history.specs.Rules.{Apart}
 use Rattle.block_table.specs.Blocks.{lengthAt, offsetAt, blockOfRow, blocksOf, Filled, Stored}
 use Rattle.block_table.proofs.Blocks.{bytes-length, blocks-length, blocks-at}
 use Rattle.ordering.specs.Order.{InOrder}
-use Rattle.ordering.specs.Apart.{HoldsAt, Clash, Unshared, TestedApart}
+use Rattle.ordering.specs.Apart.{HoldsAt, Clash, Unshared}
 use Rattle.ordering.proofs.Parting.{clash-turned}
 
 -- ── a row and its block ──
@@ -80,11 +77,3 @@ module _ (store : List ℕ) {t : List ℕ} {n : ℕ} (stored : Stored (length st
         where
           less : k ≤ j → k < j
           less h = omega arith
-
-  -- rule 24 by order decides rule 24 of history
-  pub tested-decides : {r : Bool} → TestedApart t n r → InOrder t n → Filled t n → Decides r (Apart (blocksOf store t n))
-  tested-decides {r} d o f = decides-iff r unshared-apart apart-unshared (d .decides o f)
-
-  -- so its answer is history's test by pairs
-  pub tested-is : {r : Bool} → TestedApart t n r → InOrder t n → Filled t n → r ≡ apart (blocksOf store t n)
-  tested-is {r} d o f = decides-same r (apart (blocksOf store t n)) (tested-decides d o f) (apart-decides (blocksOf store t n))

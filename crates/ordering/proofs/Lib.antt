@@ -2,12 +2,8 @@ pub mod Rank
 pub mod Trail
 pub mod Merging
 pub mod Sorting
-pub mod Testing
 pub mod Dense
 pub mod Parting
 pub mod Clearing
 pub mod Keeping
 pub mod Agreeing
-pub mod Unique
-pub mod Numbering
-pub mod Explicit

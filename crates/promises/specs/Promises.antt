@@ -3,17 +3,26 @@ use Rattle.history.specs.Law.{ValueAt, LawOfChange, LawOfCalls, LawOfFind, LawO
 use Rattle.history.specs.Boards.{MarkedBoards}
 use Rattle.history.specs.Requested.{RequestedBoards}
 use Rattle.apart_laws.specs.Law.{TheoremH}
+use Rattle.tree_room.specs.Room.{LawOfRoom}
 use Rattle.layout.specs.Law.{OneLedger, TablesExist, ShallowTrees}
+use Rattle.growth.specs.Longer.{LongerTables}
+use Rattle.growth.specs.Steps.{GrownBoards}
 use Rattle.index_test.specs.Law.{TestDecides}
 use Rattle.demand.specs.Theorem.{Demand3}
 use Rattle.demand.specs.Cells.{CellsShown}
 use Rattle.demand.specs.Touching.{TouchingShown}
+use Rattle.record_all.specs.Law.{WrittenOut}
+use Rattle.index_tested.specs.Law.{TestKeeps, FinishCloses}
+use Rattle.sessions.specs.Law.{Sessions}
+use Rattle.sessions.specs.States.{StatesFollow}
+use Rattle.sessions.specs.Growth.{GrowthKeeps}
 use Rattle.spacetime_file.specs.Law.{SavedAndLoaded, LoadedAndWritten, TakenAndNotRefused, EmptyFiles}
 use Rattle.board_input.specs.Walk.{LawOfInput}
 use Rattle.board_text.specs.Line.{LawOfLines}
 use Rattle.lengths.specs.Lengths.{LengthsHold}
 use Rattle.promises.specs.Contracts.{Contracts}
 use Rattle.promises.specs.Exported.{Exported}
+use Rattle.promises.specs.ExportedTested.{ExportedTested}
 use Rattle.promises.specs.Meanings.{Meanings}
 
 -- over every list of calls, by the contracts of the public calls
@@ -21,6 +30,7 @@ pub record OfCalls : Type 0 where
   pub demand-3 : Demand3
   pub shows-history : CellsShown
   pub touching-shows-history : TouchingShown
+  pub records-written-out : WrittenOut
   pub contracts-are-relations : Contracts
   pub answers-told : Meanings
 
@@ -30,6 +40,8 @@ pub record OfTables : Type 0 where
   pub tables-exist : TablesExist
   pub test-decides : TestDecides
   pub shallow-trees : ShallowTrees
+  pub longer-tables : LongerTables
+  pub grown-boards : GrownBoards
 
 -- of the definitions, over plain lists
 pub record OfHistory : Type 0 where
@@ -42,6 +54,16 @@ pub record OfHistory : Type 0 where
   pub marked-boards : MarkedBoards
   pub requested-boards : RequestedBoards
   pub theorem-h : TheoremH
+  pub law-of-room : LawOfRoom
+
+-- of the calls after one test
+pub record OfTested : Type 0 where
+  pub test-keeps : TestKeeps
+  pub finish-closes : FinishCloses
+  pub states-follow : StatesFollow
+  pub growth-keeps : GrowthKeeps
+  pub sessions-hold : Sessions
+  pub tested-calls : ExportedTested
 
 -- of write and load together
 pub record OfFiles : Type 0 where

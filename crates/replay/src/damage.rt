@@ -41,7 +41,7 @@ fn is_written(
     let written = spacetime_file::serialize_to(pieces, blocks, store, nodes, entries, &mut out);
     match written {
         Written::Bytes(many) => {
-            if plain::skip(file, at, many) != next {
+            if tally::skip(file, at, many) != next {
                 return false;
             }
             alike::is_filled(&out, tables::part(file, at as u64, many))
@@ -155,7 +155,7 @@ pub fn play(
     let whole = tables::part(pool, rows::get(row, START), rows::get(row, LENGTH));
     tables::copy_in(&mut file, 0, whole);
     let mut place = rows::get(row, FROM) as usize;
-    let end = plain::skip(whole, place, rows::get(row, MANY));
+    let end = tally::skip(whole, place, rows::get(row, MANY));
     while place < end {
         let number = load_damaged(pieces, blocks, store, nodes, entries, &mut file, row, place);
         counts::count_answer(

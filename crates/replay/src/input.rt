@@ -39,7 +39,7 @@ fn long_at(data: &[u8], at: usize, width: u64) -> Number {
     let mut left = width;
     while 0 < left {
         value = value % UPPER * BASE + byte_at(data, next);
-        next = plain::skip(data, next, 1);
+        next = tally::skip(data, next, 1);
         left -= 1;
     }
     Number { value, next }
@@ -47,7 +47,7 @@ fn long_at(data: &[u8], at: usize, width: u64) -> Number {
 
 pub fn number_at(data: &[u8], at: usize) -> Number {
     let lead = byte_at(data, at);
-    let next = plain::skip(data, at, 1);
+    let next = tally::skip(data, at, 1);
     if lead < LONG {
         return Number { value: lead, next };
     }

@@ -219,7 +219,7 @@ pub fn play(
     let many = head.value;
     let start = head.next;
     let pool = tables::part(data, start as u64, many);
-    let mut at = plain::skip(data, start, many);
+    let mut at = tally::skip(data, start, many);
     let mut row = [0; rows::COLUMNS];
     let mut left = ROWS;
     while 0 < left {

@@ -1,7 +1,12 @@
 // Where the rows of a tick stand, along rows whose destroyed ticks rise. It is a hint: whatever it says, what is counted there is counted rightly, and
-// a wrong place only leaves rule 24 to be decided in another way. So the functions say nothing but that they end, and that a search goes on from where
-// it starts.
-ghost use Prim.Native.Nat.{_≤_, _<_};
+// a wrong place only leaves rule 24 to be decided in another way. So the functions promise no more than that they stay among the rows, that a search
+// goes on from where it starts, and that marks are what stands in the table.
+//
+//   specs/Marks     what is marked
+//   proofs/Marking  one step for each turn and the return of the loop
+ghost use Prim.Native.Nat.{_≤_, _<_, max};
+ghost use lib.ListN.{length};
+ghost use Rattle.row_seek.specs.Marks.{Marked};
 use block_table::Row;
 
 // How many rows are marked.
@@ -56,7 +61,7 @@ fn comes_before(row: Row, tick: u64, cell: u64) -> bool {
 
 // How many rows come before the tick and the cell, of those above `from` up to `to`, and `from` besides; `low` is the tick of row `from`.
 pub fn search(blocks: &[u64], from: u64, to: u64, low: u64, tick: u64, cell: u64, tries: u64) -> u64
-    ensures { λ r. ⌜ from ≤ r ⌝ }
+    ensures { λ r. ⌜ (from ≤ r) × (r ≤ max from to) ⌝ }
 {
     let last = block_table::read(blocks, to);
     let mut lo = from;
@@ -79,8 +84,14 @@ pub fn search(blocks: &[u64], from: u64, to: u64, low: u64, tick: u64, cell: u64
     lo
 }
 
-// Notes rows at equal distances, and behind them their destroyed ticks: a search that starts from these looks at few rows.
-pub fn mark(blocks: &[u64], n: u64, marks: &mut [u64; 128]) {
+// Notes rows at equal distances, and behind them their destroyed ticks: a search that starts from these looks at few rows. Of marks that are too short
+// nothing is made.
+pub fn mark(blocks: &[u64], n: u64, marks: &mut [u64])
+    ensures { λ _. ⌜ (128 ≤ length (now (marks .entry)) → Marked (now (blocks .entry)) n (now (marks .exit)) 64) ⌝ }
+{
+    if marks.len() < 2 * MARKS {
+        return;
+    }
     let mut place = 0;
     let mut i = 1;
     while i < MARKS {
@@ -92,8 +103,20 @@ pub fn mark(blocks: &[u64], n: u64, marks: &mut [u64; 128]) {
     }
 }
 
+// The row of a mark, at most n, and n behind the last one.
+fn row_of(marks: &[u64; 128], mark: usize, n: u64) -> u64
+    ensures { λ r. ⌜ r ≤ n ⌝ }
+{
+    if mark < MARKS {
+        return tables::smaller(marks[mark], n);
+    }
+    n
+}
+
 // The row before the first one that is destroyed at the tick.
-pub fn seek(blocks: &[u64], n: u64, marks: &[u64; 128], tick: u64) -> u64 {
+pub fn seek(blocks: &[u64], n: u64, marks: &[u64; 128], tick: u64) -> u64
+    ensures { λ r. ⌜ r ≤ n ⌝ }
+{
     let mut a = 0;
     let mut b = MARKS;
     while a + 1 < b {
@@ -104,17 +127,7 @@ pub fn seek(blocks: &[u64], n: u64, marks: &[u64; 128], tick: u64) -> u64 {
             b = mid;
         }
     }
-    let mut to = n;
-    if b < MARKS {
-        to = marks[b];
-    }
-    search(
-        blocks,
-        marks[a],
-        tables::smaller(to, n),
-        marks[MARKS + a],
-        tick,
-        0,
-        GUESSES,
-    )
+    let to = row_of(marks, b, n);
+    let from = tables::smaller(marks[a], to);
+    search(blocks, from, to, marks[MARKS + a], tick, 0, GUESSES)
 }

@@ -2,7 +2,8 @@
 // block's end is looked at, by a binary search. If a longer one begins before that one and reaches over it, those two share a cell.
 //
 //   specs/Clear       a block among others of a list, in a run and on a way
-//   proofs/Clearing   one step for each return and turn
+//   specs/Above       the nodes above one on a way, of which no two blocks of one share a cell
+//   proofs/Clearing   one step for each return and turn; Rising: of `above_clear`
 ghost use mathlib.Core.Path.{_≡_};
 ghost use Prim.Native.Nat.{suc, _<_};
 ghost use Rattle.lists.specs.Tests.{Decides};
@@ -10,6 +11,7 @@ ghost use Rattle.history.specs.Lent.{rowWidth};
 ghost use Rattle.tables.specs.Columns.{blockColumn};
 ghost use Rattle.block_table.specs.RowRead.{Reads};
 ghost use Rattle.segment_clear.specs.Clear.{EndsBy, Owned, RunClear, WayClear};
+ghost use Rattle.segment_clear.specs.Above.{AboveClear};
 use block_table::Row;
 use segment_walk::rows;
 use segment_walk::rows::Rows;
@@ -112,6 +114,33 @@ pub fn way_clear(
 {
     let mut node = root;
     while !walk::absent(node) {
+        let rows = rows::rows_of(nodes, entries, node.link);
+        if !run_clear(blocks, entries, rows, own) {
+            return false;
+        }
+        node = walk::half(nodes, node, tick);
+    }
+    true
+}
+
+// Whether a block shares no cell with another one of the nodes above `min` on the way to the tick, from the top on, where no two of a node's blocks share one. The
+// node's width is halved at each turn.
+pub fn above_clear(
+    blocks: &[u64],
+    nodes: &[u64],
+    entries: &[u64],
+    top: Node,
+    min: u64,
+    tick: u64,
+    own: Own,
+) -> bool
+    ensures { λ r. ⌜ AboveClear (now (blocks .entry)) (now (nodes .entry)) (now (entries .entry)) top min tick own r ⌝ }
+{
+    let mut node = top;
+    while node.min < min {
+        if walk::absent(node) {
+            return false;
+        }
         let rows = rows::rows_of(nodes, entries, node.link);
         if !run_clear(blocks, entries, rows, own) {
             return false;

@@ -2,14 +2,14 @@
 use mathlib.Core.Path.{_≡_, refl, sym, _∙_}
 use mathlib.Core.Logic.{⊎-elim}
 use mathlib.Core.Bool.{true, false}
-use mathlib.Core.List.{List}
+use mathlib.Core.List.{List, []}
 use Prim.Native.Nat.{ℕ, suc, _-_, _≤_, _<_}
 use native.Mathlib.Omega.{arith}
 use lib.ListN.{length}
 use Rattle.lists.specs.Lists.{Mem, count}
 use Rattle.lists.proofs.Numbers.{lt-or-le}
 use Rattle.lists.proofs.Lists.{all-map, all-of-at}
-use Rattle.lists.proofs.Counting.{mem-count}
+use Rattle.lists.proofs.Counting.{mem-count, not-mem-nil}
 use Rattle.history.specs.Words.{Block}
 use Rattle.history.specs.Tree.{Tree, noBlock, keyIn}
 use Rattle.history.specs.Find.{path}
@@ -33,6 +33,7 @@ use Rattle.segment_test.specs.Test.{lent, BlockRows, ClosedTree}
 use Rattle.segment_test.specs.Parts.{TreeStands}
 use Rattle.segment_test.proofs.Ruling.{ruled-stands}
 use Rattle.segment_test.proofs.Testing.{tables-closed, closed-tables}
+use Rattle.segment_clear.specs.Above.{above-none}
 use Rattle.segment_handed.specs.declared.Seen.{Seen}
 use Rattle.segment_handed.specs.Rows.{zeros, rowBlocks}
 use Rattle.segment_handed.specs.Tree.{Standing, TreeHeld}
@@ -116,7 +117,7 @@ module _ (blocks nodes entries : List ℕ) (kind e n : ℕ) (bs : List Block) (r
     own-apart some =
         right-law .apart e own tree (record { rule-21 = own-index .rule-21; rule-23 = own-index .rule-23; by-end = by-end }) none-empty
         (slotsOf born) (slotsOf born) (slotsOf (seen .slots))
-        (held .shown all n kind tree tree tree (record { all = whole some; part = whole some; inside = omega arith; wide = some; ends = refl }) (omega arith) (whole some)
+        (held .shown all n kind tree tree [] (record { all = whole some; inside = omega arith; nodes-above = above-none; known = λ j m. absurd (not-mem-nil m) }) (whole some)
         (record { from = 0; to = 0; stood = stood; wide = λ _. some }))
 
     own-unshared : 0 < e → Unshared blocks n

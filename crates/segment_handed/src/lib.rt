@@ -1,7 +1,8 @@
 // Rule 24 of a closed index by theorem H (apart_laws): blocks share no cell if those that are destroyed at one tick share none, and the cells of each are
 // created anew then. A walk over the tree takes the right half first, so that what is created at a node's max is counted when the node is looked at; a block
-// that no slot holds is held against all that are live at the tick before. Those that are destroyed at one tick stand on one spine of the tree, from its top
-// on, and each is held against the others there. Each entry is looked at once, in whatever order the blocks were recorded.
+// that no slot holds is held against all that are live at the tick before. Those that are destroyed at one tick stand in nodes that end then, one below the
+// other: each is held against the blocks of the nodes above its own, of which there are few. Each entry is looked at once, in whatever order the blocks were
+// recorded.
 //
 //   specs/Rows      the rows as blocks
 //   specs/Tree      what the walk says of a block, of a node's run and of a tree
@@ -28,26 +29,27 @@ pub struct Seen {
     pub slots: Slots,
 }
 
-// Whether nothing is owed at `max` for a block: it is not destroyed then; or it is clear of the others on the spine that ends then, from its top on, and lies in
-// a full slot, or is clear of all that are live at the tick before. At the end tick the spine has all of these.
+// Whether nothing is owed at `max` for a block of the node [min, max): it is not destroyed then; or it is clear of the nodes above, from the top on, that end then
+// too, and lies in a full slot, or is clear of all that are live at the tick before. Nothing more is owed at the end tick.
 fn owes_none(
     blocks: &[u64],
     nodes: &[u64],
     entries: &[u64],
     root: Node,
     top: Node,
+    min: u64,
     max: u64,
     destroyed: u64,
     own: Own,
     after: Slots,
 ) -> bool
     requires { ⌜ 0 < max ⌝ }
-    ensures { λ r. ⌜ Owed (now (blocks .entry)) (now (nodes .entry)) (now (entries .entry)) root top max destroyed own after r ⌝ }
+    ensures { λ r. ⌜ Owed (now (blocks .entry)) (now (nodes .entry)) (now (entries .entry)) root top min max destroyed own after r ⌝ }
 {
     if destroyed != max {
         return true;
     }
-    if !segment_clear::way_clear(blocks, nodes, entries, top, max - 1, own) {
+    if !segment_clear::above_clear(blocks, nodes, entries, top, min, max - 1, own) {
         return false;
     }
     if root.max <= max {
@@ -93,6 +95,7 @@ fn hold_block(
         entries,
         root,
         top,
+        min,
         max,
         row.destroyed,
         own,
@@ -102,7 +105,7 @@ fn hold_block(
     Seen { all, slots }
 }
 
-// The blocks in the rows of a node, one after the other.
+// The blocks in the rows of a node, one after the other: each starts where the one before it ends, or behind.
 fn hold_run(
     blocks: &[u64],
     nodes: &[u64],
@@ -120,6 +123,7 @@ fn hold_run(
 {
     let to = rows.to;
     let mut row = rows.from;
+    let mut place = 0;
     let mut seen = Seen {
         all: true,
         slots: born,
@@ -128,6 +132,11 @@ fn hold_run(
         let next = row + 1;
         let k = entry::get(entries, row as u64, entry::BLOCK);
         let read = segment_clear::row_of(blocks, k);
+        if read.first < place {
+            let slots = seen.slots;
+            return Seen { all: false, slots };
+        }
+        place = tables::plus(read.first, read.length);
         if passes(read, min, max) {
             row = next;
         } else {

@@ -1,11 +1,11 @@
-// What the programs that try the crates count, in the columns of one slice, and the line that they print.
+// What the programs that try the crates have in common: what they count, in the columns of one slice, the line that they print, and a place in their data.
 //
 //   specs/Counts   what a tally holds after each thing that is counted
 //   specs/Lines    what is printed of it
 ghost use mathlib.Core.Path.{_≡_};
 ghost use mathlib.Core.Bool.{true};
-ghost use lib.ListN.{getD};
-ghost use Rattle.lists.specs.Puts.{Put};
+ghost use lib.ListN.{length, getD};
+ghost use Rattle.lists.specs.Puts.{Put, behind};
 ghost use Rattle.tally.specs.Counts.{raised, Counted, Compared, Answered};
 ghost use Rattle.tally.specs.Lines.{countText, tallyLine};
 use libc::STDOUT_FILENO;
@@ -105,4 +105,17 @@ pub fn print(line: &mut [u8], tally: &[u64], column: usize, words: &[u8]) -> usi
     let many = put_line(line, tally, column, words);
     io::write_all(STDOUT_FILENO, &line[..many]);
     many
+}
+
+// The place so many bytes further on, no further than the end.
+pub fn skip(bytes: &[u8], at: usize, many: u64) -> usize
+    ensures { λ r. ⌜ r ≡ behind (length (now (bytes .entry))) at many ⌝ }
+{
+    if bytes.len() <= at {
+        return at;
+    }
+    if bytes.len() - at < many as usize {
+        return bytes.len();
+    }
+    at + many as usize
 }

@@ -9,12 +9,12 @@ returns-2 c =
     let taken = c .before .before .before .before in
     let pieces = taken .before .before .before .before in
     let rows = pieces .before .before .before .before .before .before in
-    let asked = rows .before .before .before .before .before .before in
+    let asked = rows .before .before .before .before .before .before .before in
     handed-told (asked .before .ends-apart .ensures) (asked .if1 .left) (rows .tally-rows .ensures) (pieces .before .before .before .get .ensures) (pieces .tally-pieces .ensures)
     (taken .all-taken .ensures) (c .before .before .clear-order .ensures)
 
 pub handed-on-spec : {M : Type 1} → statement M
 handed-on-spec =
     tie.close
-    (tie.spec (λ c κs. search needs) (λ c. search needs) (λ c. search handed-not) (λ c κs. search needs) (λ c κs. search needs) (λ c κs. search needs) (λ c κs. search needs)
+    (tie.spec (λ c κs. search needs) (λ c. search needs) (λ c. search handed-not) (λ c. search needs) (λ c κs. search needs) (λ c κs. search needs) (λ c κs. search needs) (λ c κs. search needs)
     (λ c κs. search needs) (λ c κs. search needs) (λ c. search needs) returns-2)

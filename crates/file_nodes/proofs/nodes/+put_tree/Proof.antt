@@ -41,6 +41,7 @@ pub +put-tree-spec : {M : Type 1} → statement M
     )
     (put-tree-at t)
     put-tree.Post
+    (λ c. search noding)
     (λ c κs. search needs)
     (λ c. search needs)
     (λ c. search noding)

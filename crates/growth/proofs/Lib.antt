@@ -1,0 +1,4 @@
+pub mod Extending
+pub mod Answering
+pub mod Longer
+pub mod Steps

@@ -1,0 +1,4 @@
+pub mod Keeping
+pub mod Recording
+pub mod Reading
+pub mod Closing
