@@ -1,23 +1,11 @@
-//! Lets main.rs link two libraries: `libservercape_inner.a`, which `rt staticlib servercape_inner` writes, and the Rust that the calls are ported from,
-//! which is built here. It is looked for in the folder that ORACLE names, or else beside the repository, in ../shared/oracle. Its own profile tests for
+//! Lets main.rs link the Rust that the calls are ported from, which is built here. It is looked for in the folder that ORACLE names, or else beside the repository, in ../shared/oracle. Its own profile tests for
 //! overflow; here it is built without, and at the same level as this crate.
 use std::path::{Path, PathBuf};
 use std::{env, process::Command};
 
 fn main() {
     let here = PathBuf::from(env::var("CARGO_MANIFEST_DIR").unwrap());
-    inner(&here);
     ported(&here);
-}
-
-fn inner(here: &Path) {
-    println!("cargo:rerun-if-env-changed=SERVERCAPE_LIB");
-    let folder = env::var("SERVERCAPE_LIB").map(PathBuf::from).unwrap_or_else(|_| here.join("../target/staticlib"));
-    let library = folder.join("libservercape_inner.a");
-    println!("cargo:rerun-if-changed={}", library.display());
-    assert!(library.exists(), "{}: not there; write it by `rt staticlib servercape_inner`", library.display());
-    println!("cargo:rustc-link-search=native={}", folder.display());
-    println!("cargo:rustc-link-lib=static=servercape_inner");
 }
 
 fn ported(here: &Path) {

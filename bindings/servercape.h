@@ -1,7 +1,10 @@
 /* The board's history, for C. Link target/staticlib/libservercape.a, which `rt staticlib servercape` writes.
 
    Every call is proved to give its answer for all slices of any length and content. It returns 0, or the number of the refusal; then nothing
-   has changed, the values handed out included (but see servercape_load).
+   has changed, the values handed out included (but see servercape_load; servercape_record_all has an answer for each operation).
+
+   Every call but open and load tests the tables first, so it takes time that grows with the rows in use. A caller with many calls on one index may test them
+   once: servercape_tested.h.
 
    A slice is a pointer and how many elements it has. The proof takes for granted what it takes of every caller in Rust: a pointer is not null and
    aligned, even where the length is 0; the elements are there; what a call may write to overlaps nothing else that it is lent.
@@ -59,6 +62,22 @@ uint64_t servercape_record(
     uint64_t tick, uint64_t first,
     const uint8_t *bytes, size_t bytes_length,
     uint64_t *updated, uint64_t *cell);
+
+/* Records many operations with one test of the tables. They stand in a row: tick, first cell and length, 8 little-endian bytes each, then the bytes of the
+   cells. Of operation i the answers have at 3 * i what servercape_record returns for it, and then `updated` and `cell`, which are 0 where it is refused: a
+   refused operation changes nothing, and the next one is played. It ends where the next operation is cut short or no three places for answers are left.
+   Returns how many were played, which is no refusal; `next` is the position behind them.
+   Of each operation refusals 2, 3, 5 to 11. */
+uint64_t servercape_record_all(
+    uint64_t *pieces, size_t pieces_length,
+    uint64_t *blocks, size_t blocks_length,
+    uint8_t *store, size_t store_length,
+    const uint64_t *nodes, size_t nodes_length,
+    const uint64_t *entries, size_t entries_length,
+    const uint64_t *scratch, size_t scratch_length,
+    const uint8_t *operations, size_t operations_length,
+    uint64_t *answers, size_t answers_length,
+    uint64_t *next);
 
 /* Finishes an index: its blocks can be read, and it takes no more operations.
    Refusals 2, 3, 12, 13. */

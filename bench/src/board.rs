@@ -34,12 +34,13 @@ impl Board {
 
 /// A stream's times.
 fn streamed(all: &All) -> Vec<Times> {
-    let All { public, inner, rust, .. } = all;
-    vec![
-        Times::of("record", [public.record().or(inner.sample()), inner.record(), rust.record()]),
-        Times::of(times::FINISH, [public.finish(), inner.finish(), rust.finish()]).for_all_blocks(),
-        Times::of(times::WHOLE, [public.whole(), inner.whole(), rust.whole()]).for_all_blocks(),
-    ]
+    let All { public, tested, rust, .. } = all;
+    let mut times = vec![Times::of("record", [public.record().or(tested.sample()), tested.record(), rust.record()])];
+    times.extend(all.lists.iter().map(|&(call, each)| Times::of(call, [each, None, rust.record()])));
+    // there is one finish: it goes over all rows anyway
+    times.push(Times::of(times::FINISH, [tested.finish(), None, rust.finish()]).for_all_blocks());
+    times.push(Times::of(times::WHOLE, [public.whole(), tested.whole(), rust.whole()]).for_all_blocks());
+    times
 }
 
 /// The tests of both boards, open and closed.
@@ -54,14 +55,14 @@ fn tested(all: &[All; 2]) -> [[Times; 2]; 2] {
 /// The tables hold the Rust's blocks: some of them are looked at here, all that have a life in the file.
 fn same_blocks(tables: &Tables, blocks: &[SpacetimeBlock]) {
     for (number, block) in blocks.iter().enumerate().step_by(1 + blocks.len() / 64) {
-        assert_eq!(tables.block_bytes_inner(number as u64), block.data, "block {number}");
+        assert_eq!(tables.block_bytes_tested(number as u64), block.data, "block {number}");
     }
 }
 
 /// The port's file, which is the Rust's but for the order of its blocks.
 fn written(tables: &Tables, file: &[u8]) -> Vec<u8> {
     let mut out = vec![7; file.len()];
-    assert_eq!(tables.write_inner(&mut out), out.len() as u64, "as many bytes as the Rust writes");
+    assert_eq!(tables.write_tested(&mut out), out.len() as u64, "as many bytes as the Rust writes");
     assert!(File::read(&out).same(&File::read(file)), "the Rust's file, renumbered");
     out
 }
@@ -79,15 +80,15 @@ fn read(stream: &Stream, all: &All, blocks: &[SpacetimeBlock], public: bool, mov
         reads.touching("touching, the whole board", |_| (0, u64::MAX)),
     ];
     if !moves {
-        times.push(reads.neighbour("next", Tables::next, ported::next));
-        times.push(reads.neighbour("last", Tables::last, ported::last));
+        times.push(reads.neighbour("next", [Tables::next, Tables::next_tested], ported::next));
+        times.push(reads.neighbour("last", [Tables::last, Tables::last_tested], ported::last));
         times.extend([reads.block_bytes(), reads.cells()]);
     }
     times.push(reads.write(&mut out));
     (times, out)
 }
 
-/// A public read takes the test and what the inner one takes; where the test alone takes more than this, it is not timed.
+/// A public read takes the test and what the one after it takes; where the test alone takes more than this, it is not timed.
 const LONG_TEST: f64 = 2e9;
 
 /// Everything on a board of about so many pieces and with so many operations, and on one of moves.

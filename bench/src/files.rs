@@ -31,7 +31,7 @@ impl<'a> Loading<'a> {
     /// What was loaded is written as it was read.
     fn same(&self) {
         let mut out = vec![7; self.file.len()];
-        assert_eq!(self.tables.write_inner(&mut out), out.len() as u64, "as many bytes as were read");
+        assert_eq!(self.tables.write_tested(&mut out), out.len() as u64, "as many bytes as were read");
         assert!(out == self.file, "written as read");
     }
 }

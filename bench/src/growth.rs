@@ -52,7 +52,7 @@ fn print_size(name: &str, boards: &[&Board]) {
 
 /// All sizes of which there are at least two boards.
 pub fn print(name: &str, boards: &[Board], sizes: &[u64]) {
-    println!("\nNanoseconds a block, least of the runs, without the test of refusal 2; by those of the board before; how many times as long twice as many blocks take.\n");
+    println!("\nNanoseconds a block, least of the runs, by the calls after one test; by those of the board before; how many times as long twice as many blocks take.\n");
     for &size in sizes {
         let mut of_size: Vec<&Board> = boards.iter().filter(|board| board.size == size).collect();
         of_size.sort_by_key(|board| board.ops);

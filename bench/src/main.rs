@@ -11,7 +11,6 @@ mod clock;
 mod file;
 mod files;
 mod growth;
-mod inner;
 mod memory;
 mod play;
 mod port;

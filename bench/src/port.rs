@@ -1,5 +1,5 @@
-//! The proved calls, public and inner, on tables of their own.
-use crate::inner::*;
+//! The proved calls, public and after one test, on tables of their own.
+use servercape::tested::{self, SERVERCAPE_CLOSED, SERVERCAPE_OPEN};
 use servercape::{raw, Kind};
 
 /// How many rows each table has; of the store, how many bytes.
@@ -36,6 +36,13 @@ macro_rules! reads {
                 $($rest),*
             )
         }
+    };
+}
+
+/// A read of a closed index after one test: the tables that it is lent, and what comes after them.
+macro_rules! tested {
+    ($call:path, $t:expr, $($table:ident)*; $($rest:expr),* $(,)?) => {
+        unsafe { $call(SERVERCAPE_CLOSED, $($t.$table.as_ptr(), $t.$table.len(),)* $($rest),*) }
     };
 }
 
@@ -94,13 +101,33 @@ impl Tables {
         }
     }
 
-    pub fn record_inner(&mut self, tick: u64, first: u64, bytes: &[u8]) -> u64 {
+    pub fn record_tested(&mut self, tick: u64, first: u64, bytes: &[u8]) -> u64 {
+        let (mut updated, mut cell) = (0, 0);
         unsafe {
-            servercape_inner_record(
+            tested::servercape_record_tested(
+                SERVERCAPE_OPEN,
                 self.pieces.as_mut_ptr(), self.pieces.len(),
                 self.blocks.as_mut_ptr(), self.blocks.len(),
                 self.store.as_mut_ptr(), self.store.len(),
+                self.scratch.as_ptr(), self.scratch.len(),
                 tick, first, bytes.as_ptr(), bytes.len(),
+                &mut updated, &mut cell,
+            )
+        }
+    }
+
+    /// Records the operations of a list: how many were played.
+    pub fn record_all(&mut self, operations: &[u8], answers: &mut [u64]) -> u64 {
+        let mut next = 0;
+        unsafe {
+            raw::servercape_record_all(
+                self.pieces.as_mut_ptr(), self.pieces.len(),
+                self.blocks.as_mut_ptr(), self.blocks.len(),
+                self.store.as_mut_ptr(), self.store.len(),
+                self.nodes.as_ptr(), self.nodes.len(),
+                self.entries.as_ptr(), self.entries.len(),
+                self.scratch.as_ptr(), self.scratch.len(),
+                operations.as_ptr(), operations.len(), answers.as_mut_ptr(), answers.len(), &mut next,
             )
         }
     }
@@ -117,20 +144,9 @@ impl Tables {
         }
     }
 
-    pub fn finish_inner(&mut self) -> u64 {
-        unsafe {
-            servercape_inner_finish(
-                self.pieces.as_mut_ptr(), self.pieces.len(),
-                self.blocks.as_mut_ptr(), self.blocks.len(),
-                self.nodes.as_mut_ptr(), self.nodes.len(),
-                self.entries.as_mut_ptr(), self.entries.len(),
-            )
-        }
-    }
-
     /// The test behind refusal 2, of tables that are open or closed.
     pub fn test(&self, closed: bool) -> u64 {
-        let state = reads!(servercape_inner_test, self,);
+        let state = reads!(tested::servercape_state, self);
         assert_eq!(state, if closed { 2 } else { 1 }, "well formed");
         state
     }
@@ -144,9 +160,11 @@ impl Tables {
         &self.store[offset as usize..(offset + length) as usize]
     }
 
-    pub fn block_bytes_inner(&self, number: u64) -> &[u8] {
-        let (mut length, mut offset) = (0, 0);
-        unsafe { servercape_inner_block(self.blocks.as_ptr(), self.blocks.len(), number, &mut length, &mut offset) };
+    pub fn block_bytes_tested(&self, number: u64) -> &[u8] {
+        let [mut kind, mut first, mut length, mut created, mut destroyed, mut offset] = [0; 6];
+        let refusal = tested!(tested::servercape_block_tested, self, blocks store;
+            number, &mut kind, &mut first, &mut length, &mut created, &mut destroyed, &mut offset);
+        assert_eq!(refusal, 0, "block");
         &self.store[offset as usize..(offset + length) as usize]
     }
 
@@ -158,15 +176,12 @@ impl Tables {
         count
     }
 
-    pub fn find_inner(&self, tick: u64, start: u64, end: u64, answer: &mut [u64]) -> u64 {
-        unsafe {
-            servercape_inner_find(
-                self.blocks.as_ptr(), self.blocks.len(),
-                self.nodes.as_ptr(), self.nodes.len(),
-                self.entries.as_ptr(), self.entries.len(),
-                tick, start, end, answer.as_mut_ptr(), answer.len(),
-            )
-        }
+    pub fn find_tested(&self, tick: u64, start: u64, end: u64, answer: &mut [u64]) -> u64 {
+        let (mut count, mut visited) = (0, 0);
+        let refusal = tested!(tested::servercape_find_tested, self, blocks nodes entries;
+            tick, start, end, answer.as_mut_ptr(), answer.len(), &mut count, &mut visited);
+        assert_eq!(refusal, 0, "find");
+        count
     }
 
     pub fn touching(&self, tick: u64, start: u64, end: u64, answer: &mut [u64]) -> u64 {
@@ -176,20 +191,24 @@ impl Tables {
         count
     }
 
-    pub fn touching_inner(&self, tick: u64, start: u64, end: u64, answer: &mut [u64]) -> u64 {
-        unsafe {
-            servercape_inner_touching(
-                self.blocks.as_ptr(), self.blocks.len(),
-                self.nodes.as_ptr(), self.nodes.len(),
-                self.entries.as_ptr(), self.entries.len(),
-                tick, start, end, answer.as_mut_ptr(), answer.len(),
-            )
-        }
+    pub fn touching_tested(&self, tick: u64, start: u64, end: u64, answer: &mut [u64]) -> u64 {
+        let mut count = 0;
+        let refusal = tested!(tested::servercape_touching_tested, self, blocks nodes entries;
+            tick, start, end, answer.as_mut_ptr(), answer.len(), &mut count);
+        assert_eq!(refusal, 0, "touching");
+        count
     }
 
     pub fn next(&self, tick: u64, cell: u64) -> Option<u64> {
         let (mut found, mut number) = (0, 0);
         let refusal = reads!(raw::servercape_next, self, tick, cell, &mut found, &mut number);
+        assert_eq!(refusal, 0, "next");
+        (found == 1).then_some(number)
+    }
+
+    pub fn next_tested(&self, tick: u64, cell: u64) -> Option<u64> {
+        let (mut found, mut number) = (0, 0);
+        let refusal = tested!(tested::servercape_next_tested, self, blocks nodes entries; tick, cell, &mut found, &mut number);
         assert_eq!(refusal, 0, "next");
         (found == 1).then_some(number)
     }
@@ -201,9 +220,22 @@ impl Tables {
         (found == 1).then_some(number)
     }
 
+    pub fn last_tested(&self, tick: u64, cell: u64) -> Option<u64> {
+        let (mut found, mut number) = (0, 0);
+        let refusal = tested!(tested::servercape_last_tested, self, blocks nodes entries; tick, cell, &mut found, &mut number);
+        assert_eq!(refusal, 0, "last");
+        (found == 1).then_some(number)
+    }
+
     pub fn cells(&self, tick: u64, start: u64, end: u64, bytes: &mut [u8], held: &mut [u8]) {
         let refusal =
             reads!(raw::servercape_read_cells, self, tick, start, end, bytes.as_mut_ptr(), bytes.len(), held.as_mut_ptr(), held.len());
+        assert_eq!(refusal, 0, "read cells");
+    }
+
+    pub fn cells_tested(&self, tick: u64, start: u64, end: u64, bytes: &mut [u8], held: &mut [u8]) {
+        let refusal = tested!(tested::servercape_read_cells_tested, self, blocks store nodes entries;
+            tick, start, end, bytes.as_mut_ptr(), bytes.len(), held.as_mut_ptr(), held.len());
         assert_eq!(refusal, 0, "read cells");
     }
 
@@ -214,16 +246,11 @@ impl Tables {
         written
     }
 
-    pub fn write_inner(&self, out: &mut [u8]) -> u64 {
-        unsafe {
-            servercape_inner_write(
-                self.blocks.as_ptr(), self.blocks.len(),
-                self.store.as_ptr(), self.store.len(),
-                self.nodes.as_ptr(), self.nodes.len(),
-                self.entries.as_ptr(), self.entries.len(),
-                out.as_mut_ptr(), out.len(),
-            )
-        }
+    pub fn write_tested(&self, out: &mut [u8]) -> u64 {
+        let mut written = 0;
+        let refusal = tested!(tested::servercape_write_tested, self, blocks store nodes entries; out.as_mut_ptr(), out.len(), &mut written);
+        assert_eq!(refusal, 0, "write");
+        written
     }
 
     pub fn load(&mut self, file: &[u8]) -> u64 {

@@ -53,14 +53,14 @@ impl<'a> Reads<'a> {
 
     pub fn find(&mut self, call: &'static str, window: impl Fn(u64) -> (u64, u64)) -> Times {
         let queries = self.queries(window);
-        let [mut of_public, mut of_inner] = [self.answer(), self.answer()];
+        let [mut of_public, mut of_tested] = [self.answer(), self.answer()];
         let Reads { tables, tree, public, .. } = self;
         for &(t, a, b) in &queries {
-            assert_eq!(tables.find_inner(t, a, b, &mut of_inner), tree.find(t, a, b).len() as u64, "hits");
+            assert_eq!(tables.find_tested(t, a, b, &mut of_tested), tree.find(t, a, b).len() as u64, "hits");
         }
         let all = [
             public.then(|| timed(|k| tables.find(queries[k].0, queries[k].1, queries[k].2, &mut of_public))),
-            Some(timed(|k| tables.find_inner(queries[k].0, queries[k].1, queries[k].2, &mut of_inner))),
+            Some(timed(|k| tables.find_tested(queries[k].0, queries[k].1, queries[k].2, &mut of_tested))),
             Some(timed(|k| tree.find(queries[k].0, queries[k].1, queries[k].2).len() as u64)),
         ];
         Times::of(call, by_turns(all))
@@ -69,32 +69,33 @@ impl<'a> Reads<'a> {
     /// The blocks that touch a window, in their order.
     pub fn touching(&mut self, call: &'static str, window: impl Fn(u64) -> (u64, u64)) -> Times {
         let queries = self.queries(window);
-        let [mut of_public, mut of_inner] = [self.answer(), self.answer()];
+        let [mut of_public, mut of_tested] = [self.answer(), self.answer()];
         let Reads { tables, blocks, tree, public, .. } = self;
         for &(t, a, b) in &queries {
-            let count = tables.touching_inner(t, a, b, &mut of_inner) as usize;
-            let cells: Vec<u64> = of_inner[..count].iter().map(|&k| blocks[k as usize].address).collect();
+            let count = tables.touching_tested(t, a, b, &mut of_tested) as usize;
+            let cells: Vec<u64> = of_tested[..count].iter().map(|&k| blocks[k as usize].address).collect();
             let of_rust: Vec<u64> = ported::touching(tree, t, a, b).iter().map(|block| block.address).collect();
             assert_eq!(cells, of_rust, "touching");
         }
         let all = [
             public.then(|| timed(|k| tables.touching(queries[k].0, queries[k].1, queries[k].2, &mut of_public))),
-            Some(timed(|k| tables.touching_inner(queries[k].0, queries[k].1, queries[k].2, &mut of_inner))),
+            Some(timed(|k| tables.touching_tested(queries[k].0, queries[k].1, queries[k].2, &mut of_tested))),
             Some(timed(|k| ported::touching(tree, queries[k].0, queries[k].1, queries[k].2).len() as u64)),
         ];
         Times::of(call, by_turns(all))
     }
 
-    /// The next or the last block of a cell in the middle of a stay. There is no inner call.
-    pub fn neighbour(&mut self, call: &'static str, of_port: PortNeighbour, of_rust: RustNeighbour) -> Times {
+    /// The next or the last block of a cell in the middle of a stay.
+    pub fn neighbour(&mut self, call: &'static str, [of_public, of_tested]: [PortNeighbour; 2], of_rust: RustNeighbour) -> Times {
         let queries = self.queries(|cell| (cell + 2, cell + 2));
         let Reads { tables, blocks, tree, public, .. } = self;
-        let port_cell = |k: usize| of_port(tables, queries[k].0, queries[k].1).map_or(0, |number| blocks[number as usize].address);
+        let cell_by = |port: PortNeighbour, k: usize| port(tables, queries[k].0, queries[k].1).map_or(0, |number| blocks[number as usize].address);
         let mut rust_cell = |k: usize| of_rust(tree, queries[k].0, queries[k].1).map_or(0, |block| block.address);
-        if *public {
-            assert_eq!(port_cell(0), rust_cell(0), "{call}");
+        for k in 0..MIXED {
+            assert_eq!(cell_by(of_tested, k), rust_cell(k), "{call}");
         }
-        Times::of(call, by_turns([public.then(|| timed(port_cell)), None, Some(timed(rust_cell))]))
+        let all = [public.then(|| timed(|k| cell_by(of_public, k))), Some(timed(|k| cell_by(of_tested, k))), Some(timed(rust_cell))];
+        Times::of(call, by_turns(all))
     }
 
     pub fn block_bytes(&self) -> Times {
@@ -102,30 +103,36 @@ impl<'a> Reads<'a> {
         let number = |k: usize| k * 7919 % blocks.len();
         let all = [
             public.then(|| timed(|k| sum(tables.block_bytes(number(k) as u64)))),
-            Some(timed(|k| sum(tables.block_bytes_inner(number(k) as u64)))),
+            Some(timed(|k| sum(tables.block_bytes_tested(number(k) as u64)))),
             Some(timed(|k| sum(&blocks[number(k)].data))),
         ];
         Times::of("block bytes", by_turns(all))
     }
 
-    /// There is no inner call; what the first call reads is compared in any case.
     pub fn cells(&mut self) -> Times {
         let windows = self.queries(|cell| (cell, cell + HOUR));
         let Reads { tables, tree, public, .. } = self;
-        let (mut bytes, mut held) = ([0; HOUR as usize], [0; HOUR as usize]);
-        let mut of_port = |k: usize| {
-            let (tick, start, end) = windows[k];
-            tables.cells(tick, start, end, &mut bytes, &mut held);
-            sum(&bytes) + sum(&held)
-        };
-        let (mut bytes, mut held) = ([0; HOUR as usize], [0; HOUR as usize]);
-        let mut of_rust = |k: usize| {
-            let (tick, start, end) = windows[k];
-            ported::cells(tree, tick, start, end, &mut bytes, &mut held);
-            sum(&bytes) + sum(&held)
-        };
-        assert_eq!(of_port(0), of_rust(0), "cells");
-        Times::of("read cells, an hour", by_turns([public.then(|| timed(of_port)), None, Some(timed(of_rust))]))
+        let [mut of_public, mut of_tested, mut of_rust] = [([0; HOUR as usize], [0; HOUR as usize]); 3];
+        for &(tick, start, end) in &windows {
+            tables.cells_tested(tick, start, end, &mut of_tested.0, &mut of_tested.1);
+            ported::cells(tree, tick, start, end, &mut of_rust.0, &mut of_rust.1);
+            assert!(of_tested == of_rust, "cells");
+        }
+        let all = [
+            public.then(|| timed(|k| {
+                tables.cells(windows[k].0, windows[k].1, windows[k].2, &mut of_public.0, &mut of_public.1);
+                sum(&of_public.0) + sum(&of_public.1)
+            })),
+            Some(timed(|k| {
+                tables.cells_tested(windows[k].0, windows[k].1, windows[k].2, &mut of_tested.0, &mut of_tested.1);
+                sum(&of_tested.0) + sum(&of_tested.1)
+            })),
+            Some(timed(|k| {
+                ported::cells(tree, windows[k].0, windows[k].1, windows[k].2, &mut of_rust.0, &mut of_rust.1);
+                sum(&of_rust.0) + sum(&of_rust.1)
+            })),
+        ];
+        Times::of("read cells, an hour", by_turns(all))
     }
 
     /// Writes into a slice that is as long as the Rust's file.
@@ -134,11 +141,11 @@ impl<'a> Reads<'a> {
         let mut other = vec![7; if *public { out.len() } else { 0 }];
         let all = [
             public.then(|| timed(|_| tables.write(&mut other))),
-            Some(timed(|_| tables.write_inner(out))),
+            Some(timed(|_| tables.write_tested(out))),
             Some(timed(|_| ported::write(tree).len() as u64)),
         ];
         let times = Times::of("write", by_turns(all)).for_all_blocks();
-        assert!(!*public || other == *out, "public and inner write the same");
+        assert!(!*public || other == *out, "both calls write the same");
         times
     }
 }

@@ -28,17 +28,17 @@ fn or_none(value: Option<f64>, shown: fn(f64) -> String) -> String {
     value.map_or("-".into(), shown)
 }
 
-/// Public by Rust, and in brackets inner by Rust.
+/// Public by Rust, and in brackets the call after one test by Rust.
 fn ratios(times: &Times, of: fn(Span) -> f64) -> String {
     let rust = times.rust.map(of);
     let by_rust = |span: Option<Span>| span.map(of).zip(rust).map(|(port, rust)| port / rust);
-    let inner = times.inner.map(|_| format!(" ({})", or_none(by_rust(times.inner), ratio)));
-    or_none(by_rust(times.public), ratio) + &inner.unwrap_or_default()
+    let tested = times.tested.map(|_| format!(" ({})", or_none(by_rust(times.tested), ratio)));
+    or_none(by_rust(times.public), ratio) + &tested.unwrap_or_default()
 }
 
-/// Public, inner and Rust; of what goes over all blocks also the nanoseconds for one.
+/// Public, after one test and Rust; of what goes over all blocks also the nanoseconds for one.
 fn all_times(times: &Times, blocks: u64, of: fn(Span) -> f64) -> String {
-    let sides = if times.rust.is_some() { vec![times.public, times.inner, times.rust] } else { vec![times.public] };
+    let sides = if times.rust.is_some() { vec![times.public, times.tested, times.rust] } else { vec![times.public] };
     let shown = |each: &dyn Fn(f64) -> String| sides.iter().map(|span| span.map(of).map_or("-".into(), each)).collect::<Vec<_>>().join(", ");
     let a_block = |ns: f64| format!("{:.0}", ns / blocks as f64);
     let for_one = if times.all_blocks { format!("; {} ns a block", shown(&a_block)) } else { String::new() };
@@ -47,12 +47,12 @@ fn all_times(times: &Times, blocks: u64, of: fn(Span) -> f64) -> String {
 
 /// Ratios and times of some boards, by the least or by the middle of their runs.
 fn print_by(boards: &[Board], runs: &str, of: fn(Span) -> f64) {
-    println!("\nTime of the port by time of the Rust, {runs}; below 1 is faster. In brackets: without the test of refusal 2.\n");
+    println!("\nTime of the port by time of the Rust, {runs}; below 1 is faster. In brackets: the call after one test.\n");
     head("call", boards);
     for (k, times) in boards[0].times.iter().enumerate().filter(|(_, times)| times.rust.is_some()) {
         row(times.call, boards, |b| ratios(&b.times[k], of));
     }
-    println!("\nTime of one call, {runs}: port, without the test, Rust.\n");
+    println!("\nTime of one call, {runs}: public, after one test, Rust.\n");
     head("call", boards);
     for (k, times) in boards[0].times.iter().enumerate() {
         row(times.call, boards, |b| all_times(&b.times[k], b.blocks, of));

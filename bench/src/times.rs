@@ -11,19 +11,19 @@ pub const TEST_CLOSED: &str = "the test of refusal 2, closed";
 pub const LOADED_TEST: &str = "the test, closed, of what was loaded";
 pub const OTHER_TEST: &str = "the test, closed, of what was loaded in another order";
 
-/// The public call, the inner one and the Rust's, as far as there are any and they were timed.
+/// The public call, the one after one test and the Rust's, as far as there are any and they were timed.
 pub struct Times {
     pub call: &'static str,
     pub public: Option<Span>,
-    pub inner: Option<Span>,
+    pub tested: Option<Span>,
     pub rust: Option<Span>,
     /// Whether it goes over all blocks, so that its time is told for a block too.
     pub all_blocks: bool,
 }
 
 impl Times {
-    pub fn of(call: &'static str, [public, inner, rust]: [Option<Span>; 3]) -> Times {
-        Times { call, public, inner, rust, all_blocks: false }
+    pub fn of(call: &'static str, [public, tested, rust]: [Option<Span>; 3]) -> Times {
+        Times { call, public, tested, rust, all_blocks: false }
     }
 
     pub fn for_all_blocks(self) -> Times {
@@ -32,6 +32,6 @@ impl Times {
 
     /// Without the test of refusal 2 where it can be had.
     pub fn plain(&self) -> Span {
-        self.inner.or(self.public).expect("a time of the port")
+        self.tested.or(self.public).expect("a time of the port")
     }
 }

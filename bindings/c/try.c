@@ -1,72 +1,6 @@
 /* Calls each function of servercape.h: the board of document 01's listing, lengths, refusals, and values that stay on a refusal.
    Prints how many checks it made, and every one that failed. */
-#include "../servercape.h"
-
-#include <stdio.h>
-#include <stdlib.h>
-#include <string.h>
-
-static int checks, wrong;
-
-static void same(const char *what, uint64_t got, uint64_t want)
-{
-    checks++;
-    if (got != want) {
-        wrong++;
-        printf("%s: %llu, and not %llu\n", what, (unsigned long long)got, (unsigned long long)want);
-    }
-}
-
-/* ── an index with its tables ── */
-
-struct lent {
-    uint64_t *pieces, *blocks, *nodes, *entries, *scratch;
-    uint8_t *store;
-    size_t pieces_length, blocks_length, store_length, nodes_length, entries_length, scratch_length;
-};
-
-/* Garbage: what stood in a table before must not matter. */
-static void *filled(size_t bytes)
-{
-    void *p = malloc(bytes + 1);
-    if (!p)
-        exit(2);
-    memset(p, 0xA5, bytes + 1);
-    return p;
-}
-
-static struct lent lend(uint64_t pieces, uint64_t blocks, uint64_t store, uint64_t nodes, uint64_t entries)
-{
-    struct lent x;
-    x.pieces_length = servercape_length(SERVERCAPE_PIECES, pieces);
-    x.blocks_length = servercape_length(SERVERCAPE_BLOCKS, blocks);
-    x.store_length = servercape_length(SERVERCAPE_STORE, store);
-    x.nodes_length = servercape_length(SERVERCAPE_NODES, nodes);
-    x.entries_length = servercape_length(SERVERCAPE_ENTRIES, entries);
-    x.scratch_length = servercape_length(SERVERCAPE_SCRATCH, 1);
-    x.pieces = filled(8 * x.pieces_length);
-    x.blocks = filled(8 * x.blocks_length);
-    x.store = filled(x.store_length);
-    x.nodes = filled(8 * x.nodes_length);
-    x.entries = filled(8 * x.entries_length);
-    x.scratch = filled(8 * x.scratch_length);
-    return x;
-}
-
-static void give_back(struct lent x)
-{
-    free(x.pieces);
-    free(x.blocks);
-    free(x.store);
-    free(x.nodes);
-    free(x.entries);
-    free(x.scratch);
-}
-
-/* The five slices, in the order that every call has. */
-#define TABLES(x)                                                                                                                                    \
-    (x).pieces, (x).pieces_length, (x).blocks, (x).blocks_length, (x).store, (x).store_length, (x).nodes, (x).nodes_length, (x).entries,             \
-        (x).entries_length
+#include "lent.h"
 
 /* What record must give: its number and the two values, which stand at 77 before the call. */
 struct told {
@@ -239,7 +173,7 @@ static void write_and_load(struct lent x)
     same("bytes end", servercape_load(TABLES(y), file, written + 2, 3, &next), 17);
     same("past the end", servercape_load(TABLES(y), file, sizeof file, sizeof file, &next), 17);
     same("kept position", next, 77);
-    same("untouched", y.blocks[0], UINT64_C(0xA5A5A5A5A5A5A5A5));
+    same("as they were", y.blocks[0], UINT64_C(0xA5A5A5A5A5A5A5A5));
     same("load", servercape_load(TABLES(y), file, sizeof file, 3, &next), 0);
     same("next", next, 3 + written);
     read_blocks(y);
@@ -366,6 +300,61 @@ static void scratch(void)
     give_back(x);
 }
 
+/* ── many records ── */
+
+/* An operation behind others in a list: where the next one begins. */
+static size_t put_operation(uint8_t *list, size_t at, uint64_t tick, uint64_t first, const uint8_t *bytes, size_t length)
+{
+    const uint64_t head[3] = {tick, first, length};
+    for (int k = 0; k < 3; k++)
+        for (int i = 0; i < 8; i++)
+            list[at++] = (uint8_t)(head[k] >> 8 * i);
+    memcpy(list + at, bytes, length);
+    return at + length;
+}
+
+/* The listing by one call, with two refused operations in it and a last one that is cut short. */
+static void record_all(void)
+{
+    struct lent x = lend(8, 16, 64, 16, 32), y = lend(8, 16, 64, 16, 32);
+    uint8_t list[256];
+    uint64_t answers[20], next = 77;
+    size_t end = put_operation(list, 0, 1, 100, (const uint8_t[]){7, 7, 7}, 3);
+    size_t second = end;
+    end = put_operation(list, end, 3, 102, (const uint8_t[]){9, 9, 9}, 3);
+    end = put_operation(list, end, 5, 100, (const uint8_t[]){7, 7}, 2);
+    end = put_operation(list, end, 8, 103, (const uint8_t[]){4}, 1);
+    end = put_operation(list, end, 5, 103, (const uint8_t[]){4}, 0);
+    end = put_operation(list, end, 6, 103, (const uint8_t[]){4}, 1);
+    size_t cut = put_operation(list, end, 7, 200, (const uint8_t[]){1, 1}, 2) - 1;
+    memset(answers, 77, sizeof answers);
+
+    same("open", servercape_open(TABLES(x), 8, 1), 0);
+    same("record all", servercape_record_all(TABLES(x), x.scratch, 8, list, cut, answers, 20, &next), 6);
+    same("behind the last whole one", next, end);
+    const uint64_t want[18] = {0, 1, 100, 0, 1, 102, 0, 0, 0, 7, 0, 0, 5, 0, 0, 0, 1, 103};
+    same("its answers", memcmp(answers, want, sizeof want) == 0, 1);
+    same("no more", answers[18] == answers[19] && answers[18] == UINT64_C(0x4D4D4D4D4D4D4D4D), 1);
+    same("finish", servercape_finish(TABLES(x)), 0);
+    read_blocks(x);
+
+    same("open", servercape_open(TABLES(y), 8, 1), 0);
+    same("one place", servercape_record_all(TABLES(y), y.scratch, 8, list, cut, answers, 5, &next), 1);
+    same("behind the first", next, second);
+    same("no place", servercape_record_all(TABLES(y), y.scratch, 8, list + next, cut - next, answers, 2, &next), 0);
+    same("still there", next, 0);
+    same("no list", servercape_record_all(TABLES(y), y.scratch, 8, list, 23, answers, 20, &next), 0);
+    same("a short scratch", servercape_record_all(TABLES(y), y.scratch, 7, list, second, answers, 20, &next), 1);
+    same("each is refused 2", answers[0], 2);
+    same("the rest", servercape_record_all(TABLES(y), y.scratch, 8, list + second, cut - second, answers, 20, &next), 5);
+    same("finish", servercape_finish(TABLES(y)), 0);
+    read_blocks(y);
+    same("finished", servercape_record_all(TABLES(y), y.scratch, 8, list, end, answers, 20, &next), 6);
+    same("each is refused 3", answers[0] + answers[3] + answers[15], 9);
+    give_back(x);
+    give_back(y);
+}
+
 static void without_blocks(struct lent x)
 {
     uint64_t count = 77;
@@ -431,6 +420,7 @@ int main(void)
     same_tick(x);
     changes(x);
     scratch();
+    record_all();
     without_blocks(x);
     same("clock", servercape_clock((UINT64_C(7) << 32) + 3 * 1440 + 605), 1005);
     give_back(x);

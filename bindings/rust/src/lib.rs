@@ -1,5 +1,5 @@
-//! The history of a planning board: which bytes its cells held at each tick. Every call here is one proved call of `libservercape.a`; this crate
-//! owns the tables that those calls are lent, and gives their answers Rust types.
+//! The history of a planning board: which bytes its cells held at each tick. Every call here is one proved call of `libservercape.a` or
+//! `libservercape_tested.a`; this crate owns the tables that those calls are lent, and gives their answers Rust types.
 //!
 //! ```text
 //! let mut index = Index::open(Room::even(1024), 8, Kind::Memory)?;
@@ -8,10 +8,14 @@
 //! for block in index.blocks()? { .. }
 //! ```
 //!
-//! Every call tests its tables first and so takes time linear in the rows in use.
+//! Nobody else can change the tables, so they are tested once: an index keeps the state that they are in, and its methods use the calls after one test,
+//! which are proved to answer as the public calls do. A read takes the time of what it reads, and not of all rows.
 
 pub mod raw;
 mod refusal;
+#[cfg(test)]
+mod same;
+pub mod tested;
 
 pub use refusal::Refusal;
 use std::ops::Range;
@@ -61,6 +65,13 @@ pub enum Recorded {
     Update { cell: u64 },
 }
 
+impl Recorded {
+    /// Of the two values that a call hands out.
+    fn of(updated: u64, cell: u64) -> Recorded {
+        if updated == 1 { Recorded::Update { cell } } else { Recorded::Read }
+    }
+}
+
 /// A block: bytes that some cells held from one tick up to another.
 #[derive(Clone, Copy, PartialEq, Eq, Debug)]
 pub struct Block<'a> {
@@ -78,6 +89,13 @@ pub struct Found {
     pub visited: u64,
 }
 
+/// What was played of a list of operations: an answer for each, and the position behind them.
+#[derive(Clone, PartialEq, Eq, Debug)]
+pub struct Played {
+    pub answers: Vec<Result<Recorded, Refusal>>,
+    pub next: usize,
+}
+
 /// An index and its tables.
 #[derive(Clone)]
 pub struct Index {
@@ -88,10 +106,18 @@ pub struct Index {
     entries: Vec<u64>,
     scratch: [u64; SCRATCH],
     room: Room,
+    /// What `servercape_state` says of the tables. Every method that changes them keeps it true.
+    state: u64,
 }
 
 /// The numbers of the scratch that record is lent, whatever the room: it asks for no more, and writes nothing there.
 const SCRATCH: usize = 8;
+
+/// How many numbers find and touching are lent first.
+const FEW: usize = 64;
+
+/// The bytes of an operation in a list, without those of its cells: tick, first cell, length.
+const OPERATION: usize = 24;
 
 /// A call with the five tables in front: which of them it may write to, then what comes after them.
 macro_rules! call {
@@ -107,10 +133,10 @@ macro_rules! call {
     };
 }
 
-/// A call that writes to none of them.
-macro_rules! reads {
-    ($call:ident, $index:expr $(, $rest:expr)*) => {
-        call!($call, $index, as_ptr as_ptr as_ptr as_ptr as_ptr $(, $rest)*)
+/// A read after the test: the state, the tables that it is lent, then what comes after them.
+macro_rules! tested {
+    ($call:ident, $index:expr, $($table:ident)* $(; $($rest:expr),*)?) => {
+        tested::$call($index.state, $($index.$table.as_ptr(), $index.$table.len(),)* $($($rest),*)?)
     };
 }
 
@@ -131,6 +157,7 @@ impl Index {
             entries: numbers(raw::SERVERCAPE_ENTRIES, room.entries),
             scratch: [0; SCRATCH],
             room,
+            state: tested::SERVERCAPE_NOT_WELL_FORMED,
         }
     }
 
@@ -145,7 +172,9 @@ impl Index {
     pub fn reopen(&mut self, end_tick: u64, kind: Kind) -> Result<(), Refusal> {
         Refusal::unless_zero(unsafe {
             call!(servercape_open, self, as_mut_ptr as_mut_ptr as_ptr as_mut_ptr as_mut_ptr, end_tick, kind as u8)
-        })
+        })?;
+        self.state = tested::SERVERCAPE_OPEN;
+        Ok(())
     }
 
     /// A finished index from a file's bytes from a position on, with the position after it. Refusals 17 to 24.
@@ -158,9 +187,15 @@ impl Index {
     /// Loads a file into the same tables. After a refusal above 20 they hold zeros, and after one up to 20 what they held. Refusals 17 to 24.
     pub fn reload(&mut self, file: &[u8], at: usize) -> Result<usize, Refusal> {
         let mut next = 0;
-        Refusal::unless_zero(unsafe {
+        let number = unsafe {
             call!(servercape_load, self, as_mut_ptr as_mut_ptr as_mut_ptr as_mut_ptr as_mut_ptr, file.as_ptr(), file.len(), at as u64, &mut next)
-        })?;
+        };
+        self.state = match number {
+            0 => tested::SERVERCAPE_CLOSED,
+            1..=20 => self.state,
+            _ => tested::SERVERCAPE_NOT_WELL_FORMED,
+        };
+        Refusal::unless_zero(number)?;
         Ok(next as usize)
     }
 
@@ -175,24 +210,47 @@ impl Index {
     pub fn record_with(&mut self, scratch: &[u64], tick: u64, first: u64, bytes: &[u8]) -> Result<Recorded, Refusal> {
         let (mut updated, mut cell) = (0, 0);
         Refusal::unless_zero(unsafe {
-            call!(servercape_record, self, as_mut_ptr as_mut_ptr as_mut_ptr as_ptr as_ptr,
-                scratch.as_ptr(), scratch.len(), tick, first, bytes.as_ptr(), bytes.len(), &mut updated, &mut cell)
+            tested::servercape_record_tested(
+                self.state,
+                self.pieces.as_mut_ptr(), self.pieces.len(),
+                self.blocks.as_mut_ptr(), self.blocks.len(),
+                self.store.as_mut_ptr(), self.store.len(),
+                scratch.as_ptr(), scratch.len(),
+                tick, first, bytes.as_ptr(), bytes.len(),
+                &mut updated, &mut cell,
+            )
         })?;
-        Ok(if updated == 1 { Recorded::Update { cell } } else { Recorded::Read })
+        Ok(Recorded::of(updated, cell))
+    }
+
+    /// Records the operations of a list, which `put_operation` makes, one after the other; a refused one changes nothing. A list that is cut short is played up to
+    /// there. Each answer is that of `record`.
+    pub fn record_all(&mut self, operations: &[u8]) -> Played {
+        let scratch = self.scratch;
+        let mut answers = vec![0; 3 * (operations.len() / OPERATION)];
+        let mut next = 0;
+        let played = unsafe {
+            call!(servercape_record_all, self, as_mut_ptr as_mut_ptr as_mut_ptr as_ptr as_ptr,
+                scratch.as_ptr(), scratch.len(), operations.as_ptr(), operations.len(), answers.as_mut_ptr(), answers.len(), &mut next)
+        };
+        let answer = |three: &[u64]| Refusal::unless_zero(three[0]).map(|()| Recorded::of(three[1], three[2]));
+        Played { answers: answers.chunks_exact(3).take(played as usize).map(answer).collect(), next: next as usize }
     }
 
     /// Finishes the index: it can be read from now on, and takes no more operations. Refusals 3, 12, 13.
     pub fn finish(&mut self) -> Result<(), Refusal> {
         Refusal::unless_zero(unsafe {
             call!(servercape_finish, self, as_mut_ptr as_mut_ptr as_ptr as_mut_ptr as_mut_ptr)
-        })
+        })?;
+        self.state = tested::SERVERCAPE_CLOSED;
+        Ok(())
     }
 
     /// The block of a number, from 0 in recorded order. Refusals 4, 15.
     pub fn block(&self, number: u64) -> Result<Block<'_>, Refusal> {
         let [mut kind, mut first, mut length, mut created, mut destroyed, mut offset] = [0; 6];
         Refusal::unless_zero(unsafe {
-            reads!(servercape_block, self, number, &mut kind, &mut first, &mut length, &mut created, &mut destroyed, &mut offset)
+            tested!(servercape_block_tested, self, blocks store; number, &mut kind, &mut first, &mut length, &mut created, &mut destroyed, &mut offset)
         })?;
         let from = offset as usize;
         let bytes = &self.store[from..from + length as usize];
@@ -211,18 +269,36 @@ impl Index {
     /// The blocks live at a tick whose first cell is in the window. One that starts before it and reaches in is not listed: `touching` has all. Refusals
     /// 4, 14, 15.
     pub fn find(&self, tick: u64, window: Range<u64>) -> Result<Found, Refusal> {
-        // a block is listed once at most
-        let mut numbers = vec![0; self.room.blocks as usize];
-        let (count, visited) = self.find_into(tick, window, &mut numbers)?;
-        numbers.truncate(count);
+        let mut visited = 0;
+        let numbers = self.listed(|numbers| {
+            let (count, nodes) = self.find_into(tick, window.clone(), numbers)?;
+            visited = nodes;
+            Ok(count)
+        })?;
         Ok(Found { numbers, visited })
+    }
+
+    /// What a call lists, in a slice that grows where it is refused 16: a block is listed once at most.
+    fn listed(&self, mut list: impl FnMut(&mut [u64]) -> Result<usize, Refusal>) -> Result<Vec<u64>, Refusal> {
+        let most = self.room.blocks as usize;
+        let mut numbers = vec![0; most.min(FEW)];
+        loop {
+            match list(&mut numbers) {
+                Err(refusal) if refusal.number() == 16 && numbers.len() < most => numbers.resize(most.min(8 * numbers.len()), 0),
+                answer => {
+                    numbers.truncate(answer?);
+                    return Ok(numbers);
+                }
+            }
+        }
     }
 
     /// The same into a slice: how many it lists there, and how many nodes were visited. Refusals 4, 14 to 16.
     pub fn find_into(&self, tick: u64, window: Range<u64>, answer: &mut [u64]) -> Result<(usize, u64), Refusal> {
         let (mut count, mut visited) = (0, 0);
         Refusal::unless_zero(unsafe {
-            reads!(servercape_find, self, tick, window.start, window.end, answer.as_mut_ptr(), answer.len(), &mut count, &mut visited)
+            tested!(servercape_find_tested, self, blocks nodes entries;
+                tick, window.start, window.end, answer.as_mut_ptr(), answer.len(), &mut count, &mut visited)
         })?;
         Ok((count as usize, visited))
     }
@@ -230,18 +306,15 @@ impl Index {
     /// The blocks live at a tick that hold any cell of the window, ascending by first cell; those that start before it too. An empty window lists none.
     /// Refusals 4, 14, 15.
     pub fn touching(&self, tick: u64, window: Range<u64>) -> Result<Vec<u64>, Refusal> {
-        // a block is listed once at most; the window's length says nothing, since it is not tested yet
-        let mut numbers = vec![0; self.room.blocks as usize];
-        let count = self.touching_into(tick, window, &mut numbers)?;
-        numbers.truncate(count);
-        Ok(numbers)
+        self.listed(|numbers| self.touching_into(tick, window.clone(), numbers))
     }
 
     /// The same into a slice: how many it lists there. Refusals 4, 14 to 16.
     pub fn touching_into(&self, tick: u64, window: Range<u64>, answer: &mut [u64]) -> Result<usize, Refusal> {
         let mut count = 0;
         Refusal::unless_zero(unsafe {
-            reads!(servercape_touching, self, tick, window.start, window.end, answer.as_mut_ptr(), answer.len(), &mut count)
+            tested!(servercape_touching_tested, self, blocks nodes entries;
+                tick, window.start, window.end, answer.as_mut_ptr(), answer.len(), &mut count)
         })?;
         Ok(count as usize)
     }
@@ -249,14 +322,18 @@ impl Index {
     /// The first block live at a tick that starts at or after the cell. Refusals 4, 14.
     pub fn next(&self, tick: u64, cell: u64) -> Result<Option<u64>, Refusal> {
         let (mut found, mut number) = (0, 0);
-        Refusal::unless_zero(unsafe { reads!(servercape_next, self, tick, cell, &mut found, &mut number) })?;
+        Refusal::unless_zero(unsafe {
+            tested!(servercape_next_tested, self, blocks nodes entries; tick, cell, &mut found, &mut number)
+        })?;
         Ok((found == 1).then_some(number))
     }
 
     /// The last block live at a tick whose cells are all below the cell. Refusals 4, 14.
     pub fn last(&self, tick: u64, cell: u64) -> Result<Option<u64>, Refusal> {
         let (mut found, mut number) = (0, 0);
-        Refusal::unless_zero(unsafe { reads!(servercape_last, self, tick, cell, &mut found, &mut number) })?;
+        Refusal::unless_zero(unsafe {
+            tested!(servercape_last_tested, self, blocks nodes entries; tick, cell, &mut found, &mut number)
+        })?;
         Ok((found == 1).then_some(number))
     }
 
@@ -274,12 +351,19 @@ impl Index {
     /// The same into a slice: how many bytes it wrote. Refusals 4, 16.
     pub fn write_into(&self, out: &mut [u8]) -> Result<usize, Refusal> {
         let mut written = 0;
-        Refusal::unless_zero(unsafe { reads!(servercape_write, self, out.as_mut_ptr(), out.len(), &mut written) })?;
+        Refusal::unless_zero(unsafe {
+            tested!(servercape_write_tested, self, blocks store nodes entries; out.as_mut_ptr(), out.len(), &mut written)
+        })?;
         Ok(written as usize)
     }
 
     /// For each cell of the window the byte that it holds at a tick, if it holds one. Refusals 4, 14, 15.
     pub fn cells(&self, tick: u64, window: Range<u64>) -> Result<Vec<Option<u8>>, Refusal> {
+        // into no cells first: a window that is refused takes no memory
+        match self.cells_into(tick, window.clone(), &mut [], &mut []) {
+            Err(refusal) if refusal.number() != 16 => return Err(refusal),
+            _ => (),
+        }
         let count = window.end.saturating_sub(window.start) as usize;
         let (mut bytes, mut held) = (vec![0; count], vec![0; count]);
         self.cells_into(tick, window, &mut bytes, &mut held)?;
@@ -289,7 +373,8 @@ impl Index {
     /// The same into two slices: the bytes, and 1 where a cell is held. Refusals 4, 14 to 16.
     pub fn cells_into(&self, tick: u64, window: Range<u64>, bytes: &mut [u8], held: &mut [u8]) -> Result<(), Refusal> {
         Refusal::unless_zero(unsafe {
-            reads!(servercape_read_cells, self, tick, window.start, window.end, bytes.as_mut_ptr(), bytes.len(), held.as_mut_ptr(), held.len())
+            tested!(servercape_read_cells_tested, self, blocks store nodes entries;
+                tick, window.start, window.end, bytes.as_mut_ptr(), bytes.len(), held.as_mut_ptr(), held.len())
         })
     }
 }
@@ -308,6 +393,14 @@ impl<'a> Iterator for Blocks<'a> {
         self.next += 1;
         Some(block)
     }
+}
+
+/// Puts an operation behind those of a list for `Index::record_all`.
+pub fn put_operation(list: &mut Vec<u8>, tick: u64, first: u64, bytes: &[u8]) {
+    for number in [tick, first, bytes.len() as u64] {
+        list.extend(number.to_le_bytes());
+    }
+    list.extend(bytes);
 }
 
 /// The clock label of a cell: hours times 100 plus minutes.

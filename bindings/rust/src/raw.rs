@@ -33,6 +33,18 @@ extern "C" {
         updated: &mut u64, cell: &mut u64,
     ) -> u64;
 
+    pub fn servercape_record_all(
+        pieces: *mut u64, pieces_length: usize,
+        blocks: *mut u64, blocks_length: usize,
+        store: *mut u8, store_length: usize,
+        nodes: *const u64, nodes_length: usize,
+        entries: *const u64, entries_length: usize,
+        scratch: *const u64, scratch_length: usize,
+        operations: *const u8, operations_length: usize,
+        answers: *mut u64, answers_length: usize,
+        next: &mut u64,
+    ) -> u64;
+
     pub fn servercape_finish(
         pieces: *mut u64, pieces_length: usize,
         blocks: *mut u64, blocks_length: usize,

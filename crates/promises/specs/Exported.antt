@@ -12,6 +12,7 @@ use Rattle.layout.specs.Files.{WrittenBy, LoadedBy}
 use Rattle.lengths.specs.Lengths.{lengthFor}
 use Rattle.index_record.specs.Calls.{operation}
 use Rattle.cells.specs.Answers.{CellsReadBy}
+use Rattle.record_all.specs.Many.{RecordedAll}
 use Rattle.servercape.specs.Numbers.{ByNumber, ToldAs, changes, changesOf, counts, near, fields}
 use Rattle.servercape.proofs.servercape_length.Kinds as length-kinds
 use Rattle.servercape.proofs.servercape_length.Reads as length-reads
@@ -19,6 +20,8 @@ use Rattle.servercape.proofs.servercape_open.Kinds as open-kinds
 use Rattle.servercape.proofs.servercape_open.Reads as open-reads
 use Rattle.servercape.proofs.servercape_record.Kinds as record-kinds
 use Rattle.servercape.proofs.servercape_record.Reads as record-reads
+use Rattle.servercape.proofs.servercape_record_all.Kinds as all-kinds
+use Rattle.servercape.proofs.servercape_record_all.Reads as all-reads
 use Rattle.servercape.proofs.servercape_finish.Kinds as finish-kinds
 use Rattle.servercape.proofs.servercape_finish.Reads as finish-reads
 use Rattle.servercape.proofs.servercape_block.Kinds as block-kinds
@@ -42,7 +45,7 @@ use Rattle.servercape.proofs.servercape_clock.Reads as clock-reads
 use Rattle.promises.specs.Contracts.{Says, held, behind}
 
 -- the fields of a block, behind six `&mut`
-abbrev handedOut : {X : Type 0} → RefT ℕ × (RefT ℕ × (RefT ℕ × (RefT ℕ × (RefT ℕ × (RefT ℕ × X))))) → Fields
+abbrev pub handedOut : {X : Type 0} → RefT ℕ × (RefT ℕ × (RefT ℕ × (RefT ℕ × (RefT ℕ × (RefT ℕ × X))))) → Fields
 handedOut a = fields (now (a .0)) (now (a .1 .0)) (now (a .1 .1 .0)) (now (a .1 .1 .1 .0)) (now (a .1 .1 .1 .1 .0)) (now (a .1 .1 .1 .1 .1 .0))
 
 -- arguments as in `Contracts`; `x` is the number
@@ -55,6 +58,9 @@ pub record Exported : Type 0 where
       (λ κs a x e. ByNumber (ToldAs changesOf (RecordedBy (length (now (behind a .0))) (operation (behind a .1 .0) (behind a .1 .1 .0) (now (behind a .1 .1 .1 .0))) (held a)
       (tables (held e .pieces) (held e .blocks) (held e .store) (held a .nodes) (held a .entries)))) x
       (changes (now (behind a .1 .1 .1 .1 .0)) (now (behind a .1 .1 .1 .1 .1 .0))) (changes (now (behind e .1 .1 .1 .1 .0)) (now (behind e .1 .1 .1 .1 .1 .0))))
+  pub record-all : Says 9 all-kinds.ps all-kinds.r all-reads.Asked all-reads.Learnt
+      (λ κs a x e. RecordedAll (length (now (behind a .0))) (now (behind a .1 .0)) (held a)
+      (tables (held e .pieces) (held e .blocks) (held e .store) (held a .nodes) (held a .entries)) (now (behind a .1 .1 .0)) (now (behind e .1 .1 .0)) x (now (behind e .1 .1 .1 .0)))
   pub finish : Says 5 finish-kinds.ps finish-kinds.r finish-reads.Asked finish-reads.Learnt
       (λ κs a x e. ByNumber (FinishedBy (held a) (tables (held e .pieces) (held e .blocks) (held a .store) (held e .nodes) (held e .entries))) x done done)
   pub block : Says 11 block-kinds.ps block-kinds.r block-reads.Asked block-reads.Learnt

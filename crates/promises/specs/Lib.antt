@@ -1,4 +1,5 @@
 pub mod Contracts
 pub mod Exported
+pub mod ExportedTested
 pub mod Meanings
 pub mod Promises

@@ -8,12 +8,15 @@ use Rattle.index_test.specs.Law.{TestDecides}
 use Rattle.demand.specs.Theorem.{Demand3}
 use Rattle.demand.specs.Cells.{CellsShown}
 use Rattle.demand.specs.Touching.{TouchingShown}
+use Rattle.index_tested.specs.Law.{TestKeeps, FinishCloses}
+use Rattle.sessions.specs.Law.{Sessions}
 use Rattle.spacetime_file.specs.Law.{SavedAndLoaded, LoadedAndWritten, TakenAndNotRefused, EmptyFiles}
 use Rattle.board_input.specs.Walk.{LawOfInput}
 use Rattle.board_text.specs.Line.{LawOfLines}
 use Rattle.lengths.specs.Lengths.{LengthsHold}
 use Rattle.promises.specs.Contracts.{Contracts}
 use Rattle.promises.specs.Exported.{Exported}
+use Rattle.promises.specs.ExportedTested.{ExportedTested}
 use Rattle.promises.specs.Meanings.{Meanings}
 
 -- over every list of calls, by the contracts of the public calls
@@ -42,6 +45,13 @@ pub record OfHistory : Type 0 where
   pub marked-boards : MarkedBoards
   pub requested-boards : RequestedBoards
   pub theorem-h : TheoremH
+
+-- of the calls after one test
+pub record OfTested : Type 0 where
+  pub test-keeps : TestKeeps
+  pub finish-closes : FinishCloses
+  pub sessions-hold : Sessions
+  pub tested-calls : ExportedTested
 
 -- of write and load together
 pub record OfFiles : Type 0 where

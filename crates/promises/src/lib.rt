@@ -3,12 +3,13 @@
 //
 //   specs/Promises    the statements, gathered
 //   specs/Contracts   the contracts of the public calls are the relations that the theorems speak of (proofs/Citing)
-//   specs/Exported    and so are those of the calls for Rust and C, at the number that they give
+//   specs/Exported    and so are those of the calls for Rust and C, at the number that they give; ExportedTested: those after one test
 //   specs/Meanings    no two answers of a call mean the same (proofs/Telling)
 ghost use Rattle.promises.specs.Contracts.{Contracts};
 ghost use Rattle.promises.specs.Exported.{Exported};
+ghost use Rattle.promises.specs.ExportedTested.{ExportedTested};
 ghost use Rattle.promises.specs.Meanings.{Meanings};
-ghost use Rattle.promises.specs.Promises.{OfCalls, OfTables, OfHistory, OfFiles, OfPrograms};
+ghost use Rattle.promises.specs.Promises.{OfCalls, OfTables, OfHistory, OfTested, OfFiles, OfPrograms};
 
 // The contract of each public call is its relation, and asks nothing of the caller.
 pub fn contracts_are_relations()
@@ -18,6 +19,11 @@ pub fn contracts_are_relations()
 // So is that of each call for Rust and C, at the answer that its number and values stand for.
 pub fn exported_calls()
     ensures { λ _. ⌜ Exported ⌝ }
+{}
+
+// Each call after one test has that of the public call of its name, wherever the state is true.
+pub fn tested_calls()
+    ensures { λ _. ⌜ ExportedTested ⌝ }
 {}
 
 // Each answer can be told from its meaning.
@@ -59,6 +65,16 @@ pub fn of_history()
     history::marked_boards();
     history::requested_boards();
     apart_laws::theorem_h();
+}
+
+// The calls after one test.
+pub fn of_tested()
+    ensures { λ _. ⌜ OfTested ⌝ }
+{
+    index_tested::test_keeps();
+    index_tested::finish_closes();
+    sessions::sessions_hold();
+    tested_calls();
 }
 
 // Files, there and back.

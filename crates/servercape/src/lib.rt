@@ -2,6 +2,8 @@
 // A slice is a pointer and a length, in the order of the parameters. The contracts are the relations of the calls behind, at the answer that the
 // number and the values stand for.
 //
+// `servercape_record_all` alone returns no refusal: it returns how many operations it played, each with its answer in a slice.
+//
 //   specs/Numbers   proofs/Answering                what the numbers mean; an answer as its number
 //                   proofs/Positive, PositiveLoad   no refusal is 0
 ghost use mathlib.Core.Path.{_≡_};
@@ -13,6 +15,7 @@ ghost use Rattle.history.specs.Results.{done};
 ghost use Rattle.layout.specs.Files.{WrittenBy, LoadedBy};
 ghost use Rattle.index_record.specs.Calls.{operation};
 ghost use Rattle.cells.specs.Answers.{CellsReadBy};
+ghost use Rattle.record_all.specs.Many.{RecordedAll};
 ghost use Rattle.lengths.specs.Lengths.{lengthFor};
 ghost use Rattle.servercape.specs.Numbers.{ByNumber, ToldAs, changes, changesOf, counts, near, fields};
 use cells::Read;
@@ -102,6 +105,38 @@ pub extern "C" fn servercape_record(
         }
         Recorded::Refused(number) => number,
     }
+}
+
+// Records the operations of a list, with one test of the tables for all: how many were played, and the position behind them.
+#[no_mangle]
+pub extern "C" fn servercape_record_all(
+    pieces: &mut [u64],
+    blocks: &mut [u64],
+    store: &mut [u8],
+    nodes: &[u64],
+    entries: &[u64],
+    scratch: &[u64],
+    operations: &[u8],
+    answers: &mut [u64],
+    next: &mut u64,
+) -> u64
+    ensures { λ r. ⌜ RecordedAll (length (now (scratch .entry))) (now (operations .entry))
+        (tables (now (pieces .entry)) (now (blocks .entry)) (now (store .entry)) (now (nodes .entry)) (now (entries .entry)))
+        (tables (now (pieces .exit)) (now (blocks .exit)) (now (store .exit)) (now (nodes .entry)) (now (entries .entry)))
+        (now (answers .entry)) (now (answers .exit)) r (now (next .exit)) ⌝ }
+{
+    let played = record_all::record_all(
+        pieces,
+        blocks,
+        store,
+        nodes,
+        entries,
+        scratch,
+        operations,
+        answers,
+    );
+    *next = played.next as u64;
+    played.count as u64
 }
 
 // Finishes an index.
