@@ -10,7 +10,8 @@
    aligned, even where the length is 0; the elements are there; what a call may write to overlaps nothing else that it is lent.
 
    An index is five tables: pieces, blocks, store, nodes, entries. docs/LAYOUT.md says what stands in them; a caller need not know. Lend the same five
-   to every call on the index, and change nothing in between. */
+   to every call on the index, and change nothing in between, but that any of them may be made longer by zeros: longer tables stand for the same index. So
+   after a refusal for want of room, 9 to 13, lengthen what it names (with realloc, say, and zeros behind) and call again. */
 #ifndef SERVERCAPE_H
 #define SERVERCAPE_H
 
@@ -32,7 +33,8 @@ enum servercape_table {
 };
 
 /* How many numbers (of the store: bytes) to lend for so many rows. 0 where that is no 64-bit number, and for any other table. Of the scratch one row is
-   enough: 8 numbers. */
+   enough: 8 numbers. Of nodes and entries finish needs rows by the end tick E: where E is at most 2^n and n at least 1, 1 + 2 * n * t nodes are enough for t
+   different ticks at which operations were recorded, and 2 * n - 1 entries for each row of the block table. */
 uint64_t servercape_length(uint64_t table, uint64_t rows);
 
 /* The largest end tick. */

@@ -11,6 +11,7 @@
 //! Nobody else can change the tables, so they are tested once: an index keeps the state that they are in, and its methods use the calls after one test,
 //! which are proved to answer as the public calls do. A read takes the time of what it reads, and not of all rows.
 
+mod grow;
 pub mod raw;
 mod refusal;
 #[cfg(test)]

@@ -3,7 +3,9 @@ use Rattle.history.specs.Law.{ValueAt, LawOfChange, LawOfCalls, LawOfFind, LawO
 use Rattle.history.specs.Boards.{MarkedBoards}
 use Rattle.history.specs.Requested.{RequestedBoards}
 use Rattle.apart_laws.specs.Law.{TheoremH}
+use Rattle.tree_room.specs.Room.{LawOfRoom}
 use Rattle.layout.specs.Law.{OneLedger, TablesExist, ShallowTrees}
+use Rattle.growth.specs.Longer.{LongerTables}
 use Rattle.index_test.specs.Law.{TestDecides}
 use Rattle.demand.specs.Theorem.{Demand3}
 use Rattle.demand.specs.Cells.{CellsShown}
@@ -33,6 +35,7 @@ pub record OfTables : Type 0 where
   pub tables-exist : TablesExist
   pub test-decides : TestDecides
   pub shallow-trees : ShallowTrees
+  pub longer-tables : LongerTables
 
 -- of the definitions, over plain lists
 pub record OfHistory : Type 0 where
@@ -45,6 +48,7 @@ pub record OfHistory : Type 0 where
   pub marked-boards : MarkedBoards
   pub requested-boards : RequestedBoards
   pub theorem-h : TheoremH
+  pub law-of-room : LawOfRoom
 
 -- of the calls after one test
 pub record OfTested : Type 0 where

@@ -50,6 +50,7 @@ pub fn of_tables()
     layout::tables_exist();
     index_test::test_decides();
     layout::shallow_trees();
+    growth::longer_tables();
 }
 
 // The definitions, over plain lists.
@@ -65,6 +66,7 @@ pub fn of_history()
     history::marked_boards();
     history::requested_boards();
     apart_laws::theorem_h();
+    tree_room::law_of_room();
 }
 
 // The calls after one test.
