@@ -31,8 +31,8 @@ fn reserved<T>(numbers: &mut Vec<T>, table: u64, rows: u64) -> Option<usize> {
     Some(length)
 }
 
-/// An index whose tables grow: where a call is refused for want of room, the table gets twice as long and the call is made again. So 9 to 13 and 20 are told only
-/// where there is no memory.
+/// An index whose tables grow: where a booking is refused for want of room, the table gets twice as long and the call is made again; finish and load are given
+/// what they need. So 9 to 13 and 20 are told only where there is no memory.
 ///
 /// ```
 /// use servercape::{GrowingIndex, Kind};
@@ -49,7 +49,7 @@ fn reserved<T>(numbers: &mut Vec<T>, table: u64, rows: u64) -> Option<usize> {
 pub struct GrowingIndex(Index);
 
 /// The room that it begins with.
-const BEGIN: Room = Room { pieces: 64, blocks: 64, bytes: 1024, nodes: 64, entries: 64 };
+const BEGIN: Room = Room { pieces: 64, blocks: 64, bytes: 1024, nodes: 0, entries: 0 };
 
 impl GrowingIndex {
     /// Opens an index. Refusal 1.
@@ -107,6 +107,10 @@ impl GrowingIndex {
 
     /// Finishes the index, as [`Index::finish`]. Refusal 3.
     pub fn finish(&mut self) -> Result<(), Refusal> {
+        // finish goes over all rows, so what it needs is counted first, and is tried once
+        let room = self.0.room_for_finish();
+        let unmet = if room.nodes > self.0.room().nodes { Refusal::NoRoomForNodes } else { Refusal::NoRoomForEntries };
+        self.0.grow(room).map_err(|_| unmet)?;
         loop {
             match self.0.finish() {
                 Err(refusal) if refusal.is_no_room() => self.grow_for(refusal, 0)?,
@@ -130,15 +134,12 @@ impl GrowingIndex {
     /// Makes the table larger that a refusal names; the refusal stays where there is no memory.
     fn grow_for(&mut self, refusal: Refusal, bytes: u64) -> Result<(), Refusal> {
         let room = self.0.room();
-        // so many blocks there will be: finish has no use for fewer nodes and entries
-        let used = self.0.used();
-        let blocks = used.blocks + used.pieces;
         let more = match refusal {
             Refusal::NoRoomForPieces => Room { pieces: twice(room.pieces), ..room },
             Refusal::NoRoomForBlocks => Room { blocks: twice(room.blocks), ..room },
             Refusal::NoRoomForBytes => Room { bytes: twice(room.bytes).max(room.bytes.saturating_add(bytes)), ..room },
-            Refusal::NoRoomForNodes => Room { nodes: twice(room.nodes).max(blocks), ..room },
-            Refusal::NoRoomForEntries => Room { entries: twice(room.entries).max(blocks), ..room },
+            Refusal::NoRoomForNodes => Room { nodes: twice(room.nodes), ..room },
+            Refusal::NoRoomForEntries => Room { entries: twice(room.entries), ..room },
             other => return Err(other),
         };
         self.0.grow(more).map_err(|_| refusal)

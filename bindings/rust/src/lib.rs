@@ -100,6 +100,7 @@ mod grow;
 mod head;
 mod index;
 mod kind;
+mod need;
 pub mod raw;
 mod reads;
 mod refusal;

@@ -203,6 +203,28 @@ fn enough_is_enough() {
     assert_eq!(Room::even(5).for_finish(1 << 63, 1), Room { nodes: 127, entries: 5 * 125, ..Room::even(5) });
 }
 
+/// What finish is said to need is what it uses: of entries just so many, of nodes at most twice as many.
+#[test]
+fn the_room_of_finish() {
+    let splits = (0..60).map(|k| (k * 17_000, if k == 0 { 0 } else { 2 * k }, vec![k as u8; if k == 0 { 400 } else { 1 }])).collect();
+    let early = bookings(7, 200).into_iter().map(|(tick, first, bytes)| (tick >> 13, first, bytes)).collect();
+    let at_once = bookings(8, 30).into_iter().map(|(_, first, bytes)| (0, first, bytes)).collect();
+    let lists: [Vec<(u64, u64, Vec<u8>)>; 6] = [splits, early, at_once, bookings(9, 300), bookings(10, 1), vec![]];
+    for (end, list) in [END, END + 12345, 1 << 63].into_iter().flat_map(|end| lists.iter().map(move |list| (end, list))) {
+        let mut index = Index::open(Room { nodes: 0, entries: 0, ..Room::even(1 << 14) }, end, Kind::Memory).unwrap();
+        for (tick, first, bytes) in list {
+            index.record(*tick, *first, bytes).unwrap();
+        }
+        let room = index.room_for_finish();
+        index.grow(room).unwrap();
+        index.finish().unwrap();
+        let used = index.used();
+        assert_eq!(room.entries, used.entries, "{} bookings up to {end}", list.len());
+        assert!(used.nodes <= room.nodes && room.nodes <= 2 * used.nodes, "{} bookings up to {end}: {} of {}", list.len(), used.nodes, room.nodes);
+        assert_eq!(index.room_for_finish(), index.room());
+    }
+}
+
 #[test]
 fn the_room_of_a_file() {
     let index = closed();
