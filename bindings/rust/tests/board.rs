@@ -1,4 +1,5 @@
 //! The boards to try and the edges of the refusals, through the Rust types.
+#![allow(clippy::reversed_empty_ranges)] // such windows are refused 15
 use servercape::{Block, Days, Index, Kind, Recorded, Room};
 
 fn opened(end_tick: u64) -> Index {

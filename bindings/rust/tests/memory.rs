@@ -1,4 +1,5 @@
 //! No method takes more memory than its answer needs, and none for a call that is refused. Alone in its file, since it counts all that is allocated.
+#![allow(clippy::reversed_empty_ranges)] // such windows are refused 15
 use servercape::{Index, Kind, Refusal, Room};
 use std::alloc::{GlobalAlloc, Layout, System};
 use std::sync::atomic::{AtomicUsize, Ordering::Relaxed};
