@@ -1,7 +1,7 @@
 /* The board's history, for C. Link target/staticlib/libservercape.a, which `rt staticlib servercape` writes.
 
    Every call is proved to give its answer for all slices of any length and content. It returns 0, or the number of the refusal; then nothing
-   has changed, the values handed out included (but see servercape_load; servercape_record_all has an answer for each operation).
+   has changed, the values handed out included (but see servercape_load; servercape_record_all and servercape_find_all have an answer for each call).
 
    Every call but open and load tests the tables first, so it takes time that grows with the rows in use. A caller with many calls on one index may test them
    once: servercape_tested.h.
@@ -114,6 +114,21 @@ uint64_t servercape_find(
     uint64_t tick, uint64_t start, uint64_t end,
     uint64_t *answer, size_t answer_length,
     uint64_t *count, uint64_t *visited);
+
+/* Asks many finds with one test of the tables. A query is three numbers: tick, start, end. Of query i the answers have at 3 * i what servercape_find returns for
+   it, and then `count` and `visited`, which are 0 where it is refused. The block numbers of all go one behind the other into `numbers`; a query is lent what is
+   left there, and refused 16 where that does not hold its own. It ends where no three numbers of a query or no three places for its answer are left.
+   Returns how many were asked, which is no refusal.
+   Of each query refusals 2, 4, 14 to 16. */
+uint64_t servercape_find_all(
+    const uint64_t *pieces, size_t pieces_length,
+    const uint64_t *blocks, size_t blocks_length,
+    const uint8_t *store, size_t store_length,
+    const uint64_t *nodes, size_t nodes_length,
+    const uint64_t *entries, size_t entries_length,
+    const uint64_t *queries, size_t queries_length,
+    uint64_t *answers, size_t answers_length,
+    uint64_t *numbers, size_t numbers_length);
 
 /* For each cell of [start, end) at a tick: its byte, and 1 where a live block holds it; 0 and 0 where none does.
    Refusals 2, 4, 14 to 16. */

@@ -4,13 +4,13 @@
    Every call of servercape.h but open and load tests all rows of its tables, for refusal 2. The calls here do not: they take the state that the test found, as
    a number.
 
-   A state is true of the tables that it was asked of, and stays so as long as calls of this library alone change them:
+   A state is true of the tables that it was asked of, and a caller knows it as long as calls of this library alone change them:
 
-     servercape_state        gives the state of any tables
-     a record, tested or not, servercape_record_all, a read, a refused finish
-                             leave it as it was
-     an accepted finish      makes 1 into 2
-     open, load              ask anew: after an accepted one it is 1 or 2, unless a table is too short for its head, as none of servercape_length is
+     servercape_state      gives the state of any tables;
+     an accepted open      leaves 1, an accepted finish 2, an accepted load 2: open and load where each table holds its head, as one of servercape_length does;
+     a load refused 21 to 24
+                           leaves 0, since the tables hold zeros;
+     any other call        leaves it as it was: a record, servercape_record_all, a read, a call that was refused.
 
    With a state that is true each call is proved to be the one of servercape.h that it is named after: the same number, the same values, the same bytes in every
    slice. With any other number as its state, or tables that something else has changed, the answer means nothing: it may be accepted and wrong, and a record may

@@ -80,6 +80,9 @@ fn read(stream: &Stream, all: &All, blocks: &[SpacetimeBlock], public: bool, mov
         reads.touching("touching, the whole board", |_| (0, u64::MAX)),
     ];
     if !moves {
+        let rust = times[0].rust;
+        let all = [("find all of 1, an hour, each", 1), ("find all of 100, an hour, each", 100), ("find all of 10,000, an hour, each", 10_000)];
+        times.splice(1..1, all.map(|(call, count)| reads.find_all(call, count, rust)));
         times.push(reads.neighbour("next", [Tables::next, Tables::next_tested], ported::next));
         times.push(reads.neighbour("last", [Tables::last, Tables::last_tested], ported::last));
         times.extend([reads.block_bytes(), reads.cells()]);

@@ -40,6 +40,11 @@ impl Span {
         let middle = if runs.len() % 2 == 1 { runs[half] } else { (runs[half - 1] + runs[half]) / 2.0 };
         Span { least: runs[0], middle }
     }
+
+    /// Of one of so many.
+    pub fn each(self, count: usize) -> Span {
+        Span { least: self.least / count as f64, middle: self.middle / count as f64 }
+    }
 }
 
 /// How many runs there are at most.

@@ -184,6 +184,12 @@ impl Tables {
         count
     }
 
+    /// Asks the queries of a list: how many were asked.
+    pub fn find_all(&self, queries: &[u64], answers: &mut [u64], numbers: &mut [u64]) -> u64 {
+        reads!(raw::servercape_find_all, self,
+            queries.as_ptr(), queries.len(), answers.as_mut_ptr(), answers.len(), numbers.as_mut_ptr(), numbers.len())
+    }
+
     pub fn touching(&self, tick: u64, start: u64, end: u64, answer: &mut [u64]) -> u64 {
         let mut count = 0;
         let refusal = reads!(raw::servercape_touching, self, tick, start, end, answer.as_mut_ptr(), answer.len(), &mut count);

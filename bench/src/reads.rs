@@ -1,5 +1,5 @@
 //! The reads of a finished index. What they fill is lent and has been touched before; the Rust allocates what it gives.
-use crate::clock::{by_turns, timed, MIXED};
+use crate::clock::{by_turns, timed, Span, MIXED};
 use crate::port::Tables;
 use crate::ported;
 use crate::stream::Stream;
@@ -64,6 +64,18 @@ impl<'a> Reads<'a> {
             Some(timed(|k| tree.find(queries[k].0, queries[k].1, queries[k].2).len() as u64)),
         ];
         Times::of(call, by_turns(all))
+    }
+
+    /// So many finds of an hour with one test, and what the Rust takes for one.
+    pub fn find_all(&self, call: &'static str, count: usize, rust: Option<Span>) -> Times {
+        // no hour of a platform has as many blocks
+        const MOST: usize = 64;
+        let queries = self.queries(|cell| (cell, cell + HOUR)).into_iter().cycle().take(count);
+        let queries: Vec<u64> = queries.flat_map(|(tick, start, end)| [tick, start, end]).collect();
+        let (mut answers, mut numbers) = (vec![7; 3 * count], vec![7; MOST * count]);
+        let [all] = by_turns([self.public.then(|| timed(|_| self.tables.find_all(&queries, &mut answers, &mut numbers)))]);
+        assert!(!self.public || answers.iter().step_by(3).all(|&refusal| refusal == 0), "find all");
+        Times::of(call, [all.map(|all| all.each(count)), None, rust])
     }
 
     /// The blocks that touch a window, in their order.

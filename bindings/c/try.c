@@ -355,6 +355,25 @@ static void record_all(void)
     give_back(y);
 }
 
+/* The finds of the listing by one call: accepted, refused 14, 15 and 16, and one that is cut short. */
+static void find_all(struct lent x)
+{
+    static const uint64_t queries[] = {6, 100, 104, 8, 0, 1, 6, 104, 100, 6, 0, UINT64_MAX, 1, 100, 101, 6, 0};
+    uint64_t answers[17], numbers[6], answer[4] = {77, 77, 77, 77}, count = 77, visited = 77;
+    memset(answers, 77, sizeof answers);
+    memset(numbers, 77, sizeof numbers);
+    same("find all", servercape_find_all(TABLES(x), queries, 17, answers, 17, numbers, 6), 5);
+    same("find", servercape_find(TABLES(x), 6, 100, 104, answer, 4, &count, &visited), 0);
+    same("the first", answers[0] == 0 && answers[1] == count && answers[2] == visited && memcmp(numbers, answer, 8 * count) == 0, 1);
+    const uint64_t refused[9] = {14, 0, 0, 15, 0, 0, 16, 0, 0};
+    same("refused ones", memcmp(answers + 3, refused, sizeof refused) == 0, 1);
+    same("find", servercape_find(TABLES(x), 1, 100, 101, answer, 4, &count, &visited), 0);
+    same("the last", answers[12] == 0 && answers[13] == count && answers[14] == visited && count == 1 && numbers[3] == answer[0], 1);
+    same("no more", numbers[4] == UINT64_C(0x4D4D4D4D4D4D4D4D) && answers[15] == UINT64_C(0x4D4D4D4D4D4D4D4D), 1);
+    same("two places", servercape_find_all(TABLES(x), queries, 17, answers, 8, numbers, 6), 2);
+    same("no query", servercape_find_all(TABLES(x), queries, 2, answers, 17, numbers, 6), 0);
+}
+
 static void without_blocks(struct lent x)
 {
     uint64_t count = 77;
@@ -412,6 +431,7 @@ int main(void)
     record("record, finished", x, 7, 0, (const uint8_t[]){1}, 1, refusal(3));
     read_blocks(x);
     read_finds(x);
+    find_all(x);
     read_touching(x);
     read_neighbours(x);
     read_all_cells(x);

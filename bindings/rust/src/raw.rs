@@ -85,6 +85,18 @@ extern "C" {
         count: &mut u64, visited: &mut u64,
     ) -> u64;
 
+    /// Many finds with one test; returns how many were asked.
+    pub fn servercape_find_all(
+        pieces: *const u64, pieces_length: usize,
+        blocks: *const u64, blocks_length: usize,
+        store: *const u8, store_length: usize,
+        nodes: *const u64, nodes_length: usize,
+        entries: *const u64, entries_length: usize,
+        queries: *const u64, queries_length: usize,
+        answers: *mut u64, answers_length: usize,
+        numbers: *mut u64, numbers_length: usize,
+    ) -> u64;
+
     /// The byte of each cell of a window, and whether it is held.
     pub fn servercape_read_cells(
         pieces: *const u64, pieces_length: usize,

@@ -158,6 +158,24 @@ fn same_lists(what: &str, index: &Index) {
     }
 }
 
+/// Many finds by one public call, each lent what the ones before have left.
+fn same_lists_of_finds(what: &str, index: &Index) {
+    let queries: Vec<u64> = windows().flat_map(|(tick, start, end)| [tick, start, end]).chain([0, 0]).collect();
+    for (places, room) in [(0, 0), (1 << 12, 0), (1 << 12, 77), (100, 1 << 14), (1 << 12, 1 << 16)] {
+        let (mut answers, mut numbers) = (vec![7; places], vec![7; room]);
+        let asked = public!(raw::servercape_find_all, index, queries.as_ptr(), queries.len(), answers.as_mut_ptr(), answers.len(), numbers.as_mut_ptr(), numbers.len());
+        assert_eq!(asked as usize, (queries.len() / 3).min(places / 3), "{what}: finds asked");
+        let (mut of_each, mut used) = (vec![7; room], 0);
+        for (query, answer) in queries.chunks_exact(3).zip(answers.chunks_exact(3)) {
+            let found = index.find_into(query[0], query[1]..query[2], &mut of_each[used..]);
+            let (count, visited) = found.unwrap_or((0, 0));
+            assert_eq!(answer, [number(&found), count as u64, visited], "{what}: one of many finds");
+            used += count;
+        }
+        assert_eq!((&numbers, &answers[3 * asked as usize..]), (&of_each, &vec![7; places - 3 * asked as usize][..]), "{what}: numbers of many finds");
+    }
+}
+
 fn same_neighbours(what: &str, index: &Index) {
     for (tick, cell) in TICKS.into_iter().flat_map(|tick| EDGES.map(|cell| (tick, cell))) {
         let (mut found, mut block) = (7, 7);
@@ -208,6 +226,7 @@ fn reads() {
         let before = index.clone();
         same_blocks(what, &index);
         same_lists(what, &index);
+        same_lists_of_finds(what, &index);
         same_neighbours(what, &index);
         same_cells(what, &index);
         same_file(what, &index);
@@ -321,9 +340,15 @@ fn finishes_opens_and_loads() {
 fn many_blocks() {
     let mut index = Index::open(Room::even(1 << 17), 12_000, Kind::Memory).unwrap();
     for tick in 0..12_000 {
-        index.record(tick, tick % 64 * 100, &[tick as u8, 1]).unwrap();
+        index.record(tick, tick % 600 * 10, &[tick as u8, 1]).unwrap();
     }
     index.finish().unwrap();
     assert_eq!(index.blocks().unwrap().count(), 12_000);
     assert_eq!(index.state, state(&index));
+    // more than a find is lent first, and than it is lent then
+    let live: Vec<u64> = (11_400..12_000).collect();
+    assert_eq!(index.touching(11_999, 0..u64::MAX).unwrap(), live);
+    let mut found = index.find(11_999, 0..u64::MAX).unwrap().numbers;
+    found.sort();
+    assert_eq!(found, live);
 }

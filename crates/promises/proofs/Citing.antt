@@ -27,6 +27,7 @@ contracts = record {
   serialize-to = says (λ κs a. tt);
   deserialize = says (λ κs a. tt);
   record-all = says (λ κs a. tt);
+  find-all = says (λ κs a. tt);
   run = says (λ κs a. tt);
 }
 
@@ -39,6 +40,7 @@ exported = record {
   finish = says (λ κs a. tt);
   block = says (λ κs a. tt);
   find = says (λ κs a. tt);
+  find-all = says (λ κs a. tt);
   touching = says (λ κs a. tt);
   next = says (λ κs a. tt);
   last = says (λ κs a. tt);

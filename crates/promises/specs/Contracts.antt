@@ -21,6 +21,7 @@ use Rattle.cells.specs.Answers.{CellsReadBy}
 use Rattle.file_write.specs.Answers.{writtenOf}
 use Rattle.file_load.specs.Load.{loadedOf}
 use Rattle.record_all.specs.Many.{RecordedAll}
+use Rattle.find_all.specs.Many.{FoundAll}
 use Rattle.board_run.specs.Room.{PrintsBoard}
 use Rattle.index.proofs.Index.open.Kinds as open-kinds
 use Rattle.index.proofs.Index.open.Reads as open-reads
@@ -50,6 +51,8 @@ use Rattle.spacetime_file.proofs.deserialize.Kinds as load-kinds
 use Rattle.spacetime_file.proofs.deserialize.Reads as load-reads
 use Rattle.record_all.proofs.record_all.Kinds as all-kinds
 use Rattle.record_all.proofs.record_all.Reads as all-reads
+use Rattle.find_all.proofs.find_all.Kinds as finds-kinds
+use Rattle.find_all.proofs.find_all.Reads as finds-reads
 use Rattle.board_run.proofs.run.Kinds as run-kinds
 use Rattle.board_run.proofs.run.Reads as run-reads
 
@@ -104,5 +107,7 @@ pub record Contracts : Type 0 where
   pub record-all : Says 8 all-kinds.ps all-kinds.r all-reads.Asked all-reads.Learnt
       (λ κs a x e. RecordedAll (length (now (behind a .0))) (now (behind a .1 .0)) (held a)
       (tables (held e .pieces) (held e .blocks) (held e .store) (held a .nodes) (held a .entries)) (now (behind a .1 .1 .0)) (now (behind e .1 .1 .0)) (x .count) (x .next))
+  pub find-all : Says 8 finds-kinds.ps finds-kinds.r finds-reads.Asked finds-reads.Learnt
+      (λ κs a x e. FoundAll (held a) (now (behind a .0)) (now (behind a .1 .0)) (now (behind e .1 .0)) (now (behind a .1 .1 .0)) (now (behind e .1 .1 .0)) x)
   -- and the program `board`, but for reading and writing
   pub run : Says 2 run-kinds.ps run-kinds.r run-reads.Asked run-reads.Learnt (λ κs a x e. PrintsBoard (now (a .0)) (now (a .1 .0)) (now (e .1 .0)) x)

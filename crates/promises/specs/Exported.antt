@@ -13,6 +13,7 @@ use Rattle.lengths.specs.Lengths.{lengthFor}
 use Rattle.index_record.specs.Calls.{operation}
 use Rattle.cells.specs.Answers.{CellsReadBy}
 use Rattle.record_all.specs.Many.{RecordedAll}
+use Rattle.find_all.specs.Many.{FoundAll}
 use Rattle.servercape.specs.Numbers.{ByNumber, ToldAs, changes, changesOf, counts, near, fields}
 use Rattle.servercape.proofs.servercape_length.Kinds as length-kinds
 use Rattle.servercape.proofs.servercape_length.Reads as length-reads
@@ -28,6 +29,8 @@ use Rattle.servercape.proofs.servercape_block.Kinds as block-kinds
 use Rattle.servercape.proofs.servercape_block.Reads as block-reads
 use Rattle.servercape.proofs.servercape_find.Kinds as find-kinds
 use Rattle.servercape.proofs.servercape_find.Reads as find-reads
+use Rattle.servercape.proofs.servercape_find_all.Kinds as finds-kinds
+use Rattle.servercape.proofs.servercape_find_all.Reads as finds-reads
 use Rattle.servercape.proofs.servercape_touching.Kinds as touching-kinds
 use Rattle.servercape.proofs.servercape_touching.Reads as touching-reads
 use Rattle.servercape.proofs.servercape_next.Kinds as next-kinds
@@ -68,6 +71,8 @@ pub record Exported : Type 0 where
   pub find : Says 8 find-kinds.ps find-kinds.r find-reads.Asked find-reads.Learnt
       (λ κs a x e. ByNumber (FoundBy (held a) (behind a .0) (behind a .1 .0) (behind a .1 .1 .0) (now (behind a .1 .1 .1 .0)) (now (behind e .1 .1 .1 .0))) x
       (counts (now (behind a .1 .1 .1 .1 .0)) (now (behind a .1 .1 .1 .1 .1 .0))) (counts (now (behind e .1 .1 .1 .1 .0)) (now (behind e .1 .1 .1 .1 .1 .0))))
+  pub find-all : Says 8 finds-kinds.ps finds-kinds.r finds-reads.Asked finds-reads.Learnt
+      (λ κs a x e. FoundAll (held a) (now (behind a .0)) (now (behind a .1 .0)) (now (behind e .1 .0)) (now (behind a .1 .1 .0)) (now (behind e .1 .1 .0)) x)
   pub touching : Says 7 touching-kinds.ps touching-kinds.r touching-reads.Asked touching-reads.Learnt
       (λ κs a x e. ByNumber (TouchedBy (held a) (behind a .0) (behind a .1 .0) (behind a .1 .1 .0) (now (behind a .1 .1 .1 .0)) (now (behind e .1 .1 .1 .0))) x
       (now (behind a .1 .1 .1 .1 .0)) (now (behind e .1 .1 .1 .1 .0)))

@@ -10,8 +10,10 @@ use Rattle.index_test.specs.Law.{TestDecides}
 use Rattle.demand.specs.Theorem.{Demand3}
 use Rattle.demand.specs.Cells.{CellsShown}
 use Rattle.demand.specs.Touching.{TouchingShown}
+use Rattle.record_all.specs.Law.{WrittenOut}
 use Rattle.index_tested.specs.Law.{TestKeeps, FinishCloses}
 use Rattle.sessions.specs.Law.{Sessions}
+use Rattle.sessions.specs.States.{StatesFollow}
 use Rattle.spacetime_file.specs.Law.{SavedAndLoaded, LoadedAndWritten, TakenAndNotRefused, EmptyFiles}
 use Rattle.board_input.specs.Walk.{LawOfInput}
 use Rattle.board_text.specs.Line.{LawOfLines}
@@ -26,6 +28,7 @@ pub record OfCalls : Type 0 where
   pub demand-3 : Demand3
   pub shows-history : CellsShown
   pub touching-shows-history : TouchingShown
+  pub records-written-out : WrittenOut
   pub contracts-are-relations : Contracts
   pub answers-told : Meanings
 
@@ -54,6 +57,7 @@ pub record OfHistory : Type 0 where
 pub record OfTested : Type 0 where
   pub test-keeps : TestKeeps
   pub finish-closes : FinishCloses
+  pub states-follow : StatesFollow
   pub sessions-hold : Sessions
   pub tested-calls : ExportedTested
 

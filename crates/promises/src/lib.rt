@@ -38,6 +38,7 @@ pub fn of_calls()
     demand::demand_3();
     demand::shows_history();
     demand::touching_shows_history();
+    record_all::records_written_out();
     contracts_are_relations();
     answers_told();
 }
@@ -75,6 +76,7 @@ pub fn of_tested()
 {
     index_tested::test_keeps();
     index_tested::finish_closes();
+    sessions::states_follow();
     sessions::sessions_hold();
     tested_calls();
 }

@@ -1,16 +1,14 @@
 -- The loop of `record_all`: what is played from a position on completes what was played before it. Assumes nothing.
-use mathlib.Core.Path.{_≡_, refl, sym, _∙_, ap, subst}
-use mathlib.Core.List.{List, [], _∷_, _++_, map, append-nil, append-assoc}
+use mathlib.Core.Path.{_≡_, refl, sym, subst}
+use mathlib.Core.List.{List, [], _∷_, _++_, append-nil, append-assoc}
 use Prim.Native.Nat.{ℕ, suc, _+_, _-_, _*_, _/_, _^_, _≤_, _<_}
 use native.Mathlib.Omega.{arith}
-use lib.ListN.{length, take, drop, length-append}
-use lib.Seq.{sets, length-sets}
-use Rattle.lists.proofs.Maps.{map-append, length-of-map}
+use lib.ListN.{length, take, drop}
+use lib.Seq.{sets}
 use Rattle.history.specs.Words.{Operation}
 use Rattle.history.specs.Results.{Result}
 use Rattle.history.specs.Refusals.{Answer}
 use Rattle.layout.specs.Tables.{Tables, tables}
-use Rattle.layout.specs.Relations.{RecordedBy}
 use Rattle.index_record.specs.Calls.{operation, recordedOf}
 use Rattle.index_record.specs.declared.Recorded.{Recorded}
 use Rattle.index_record.specs.declared.Recorded.the-variants.{Read, Update, Refused}
@@ -20,10 +18,9 @@ use Rattle.index_tested.specs.Kept.{Kept}
 use Rattle.index_tested.specs.Tested.{RecordedTested}
 use Rattle.index_tested.proofs.Keeping.{test-keeps}
 use Rattle.call_lists.specs.Operations.{ReadAs, ItemRead}
-use Rattle.call_lists.specs.Threes.{Three, threes}
 use Rattle.call_lists.specs.declared.Item.{Item}
 use Rattle.call_lists.specs.declared.Item.the-variants.{Operation as An, End}
-use Rattle.call_lists.proofs.Threes.{threes-more}
+use Rattle.call_lists.proofs.Threes.{Shown, shown-none, shown-length, shown-more}
 use Rattle.record_all.specs.Many.{shownOf, AnswerPut, Plays, plays-full, plays-end, plays-more, RecordedAll, RecordedOne}
 
 -- ── one answer ──
@@ -51,8 +48,7 @@ one-put {r} d p = record { recorded = r; tested = d; put = p }
 pub record Turning (s : State) (scratch : ℕ) (list : List ℕ) (t₀ t : Tables) (answers₀ answers : List ℕ) (most count at : ℕ) : Type 0 where
   pub given : List (Answer Result)
   pub kept : Kept s t
-  pub counted : count ≡ length given
-  pub shown : answers ≡ sets answers₀ 0 (threes (map shownOf given))
+  pub shown : Shown shownOf given answers₀ answers count
   pub places : most ≡ length answers₀ / 3
   pub few : length answers₀ < 2 ^ 64
   pub left : ℕ
@@ -61,12 +57,10 @@ pub record Turning (s : State) (scratch : ℕ) (list : List ℕ) (t₀ t : Table
 
 pub turn-first : {s : State} {scratch most : ℕ} {list answers : List ℕ} {t : Tables} → Outcome s t → length answers < 2 ^ 64 → most ≡ length answers / 3
     → Turning s scratch list t t answers answers most 0 0
-unfolding threes
 turn-first {s} {most = most} {answers} {t} told few e = record {
   given = [];
   kept = test-keeps s t told;
-  counted = refl;
-  shown = refl;
+  shown = shown-none;
   places = e;
   few = few;
   left = length answers / 3;
@@ -84,16 +78,13 @@ module _ {s : State} {scratch : ℕ} {list : List ℕ} {t₀ t : Tables} {answer
   ended p = record {
     given = turn .given;
     calls = subst (λ (g : List (Answer Result)). Plays scratch list (length answers₀ / 3) 0 t₀ g at t) (append-nil (turn .given)) (turn .whole [] at t p);
-    shown = turn .shown;
-    counted = turn .counted;
+    shown = turn .shown .put;
+    counted = turn .shown .counted;
   }
-
-  same-room : length answers ≡ length answers₀
-  same-room = ap length (turn .shown) ∙ length-sets answers₀ 0 (threes (map shownOf (turn .given)))
 
   -- there is a place for one answer more
   pub turn-room : count < most → 3 * count + 3 ≤ length answers
-  turn-room h = omega (arith, same-room, turn .places)
+  turn-room h = omega (arith, shown-length (turn .shown), turn .places)
 
   pub turn-count : count < most → count + 1 < 2 ^ 64
   turn-count h = omega (arith, turn .places, turn .few)
@@ -133,17 +124,10 @@ module _ {s : State} {scratch : ℕ} {list : List ℕ} {t₀ : Tables} {pieces b
       let t₁ = tables pieces′ blocks′ store′ nodes entries in
       let one = d .tested .done nodes entries (turn .kept) in
       let one-left : turn .left ≡ suc (turn .left - 1) = omega (arith, turn .room) in
-      let behind : map shownOf (turn .given ++ a ∷ []) ≡ map shownOf (turn .given) ++ shownOf a ∷ [] = map-append shownOf (turn .given) (a ∷ []) in
-      let many : count ≡ length (map shownOf (turn .given)) = turn .counted ∙ sym (length-of-map shownOf (turn .given)) in
       record {
         given = turn .given ++ a ∷ [];
         kept = one .1;
-        counted = omega (arith, turn .counted, length-append (turn .given) (a ∷ []));
-        shown =
-            d .put .is
-            ∙ ap (λ (l : List ℕ). sets l (3 * count) (shownOf a .refusal ∷ shownOf a .one ∷ shownOf a .other ∷ [])) (turn .shown)
-            ∙ threes-more answers₀ (map shownOf (turn .given)) (shownOf a) count many
-            ∙ ap (λ (l : List Three). sets answers₀ 0 (threes l)) (sym behind);
+        shown = shown-more (turn .shown) a (d .put .is);
         places = turn .places;
         few = turn .few;
         left = turn .left - 1;

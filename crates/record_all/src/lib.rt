@@ -2,12 +2,14 @@
 // that many calls of `record_op` on any tables: the first finds them as they are lent, each other one as the one before left them.
 //
 //   specs/Many       what `record_all` does
+//   specs/Law        it stands in every list of calls (proofs/Written)
 //   proofs/Playing   one step for each return, and for each turn of the loop
 ghost use Prim.Native.Nat.{_+_, _*_, _≤_};
 ghost use lib.ListN.{length};
 ghost use Rattle.layout.specs.Tables.{tables};
 ghost use Rattle.index_record.specs.Calls.{operation};
 ghost use Rattle.record_all.specs.Many.{AnswerPut, RecordedOne, RecordedAll};
+ghost use Rattle.record_all.specs.Law.{WrittenOut};
 use call_lists::Item;
 use index::Recorded;
 use index_test::State;
@@ -116,3 +118,8 @@ pub fn record_all(
         next: at,
     }
 }
+
+// Every list of calls with `record_all` is the list with its record calls written out.
+pub fn records_written_out()
+    ensures { λ _. ⌜ WrittenOut ⌝ }
+{}

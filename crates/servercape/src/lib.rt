@@ -2,7 +2,7 @@
 // A slice is a pointer and a length, in the order of the parameters. The contracts are the relations of the calls behind, at the answer that the
 // number and the values stand for.
 //
-// `servercape_record_all` alone returns no refusal: it returns how many operations it played, each with its answer in a slice.
+// `servercape_record_all` and `servercape_find_all` alone return no refusal: they return how many calls they made, each with its answer in a slice.
 //
 //   specs/Numbers   proofs/Answering                what the numbers mean; an answer as its number
 //                   proofs/Positive, PositiveLoad   no refusal is 0
@@ -16,6 +16,7 @@ ghost use Rattle.layout.specs.Files.{WrittenBy, LoadedBy};
 ghost use Rattle.index_record.specs.Calls.{operation};
 ghost use Rattle.cells.specs.Answers.{CellsReadBy};
 ghost use Rattle.record_all.specs.Many.{RecordedAll};
+ghost use Rattle.find_all.specs.Many.{FoundAll};
 ghost use Rattle.lengths.specs.Lengths.{lengthFor};
 ghost use Rattle.servercape.specs.Numbers.{ByNumber, ToldAs, changes, changesOf, counts, near, fields};
 use cells::Read;
@@ -244,6 +245,34 @@ pub extern "C" fn servercape_find(
         }
         Found::Refused(number) => number,
     }
+}
+
+// Asks the queries of a list, with one test of the tables for all: how many were asked.
+#[no_mangle]
+pub extern "C" fn servercape_find_all(
+    pieces: &[u64],
+    blocks: &[u64],
+    store: &[u8],
+    nodes: &[u64],
+    entries: &[u64],
+    queries: &[u64],
+    answers: &mut [u64],
+    numbers: &mut [u64],
+) -> u64
+    ensures { λ r. ⌜ FoundAll
+        (tables (now (pieces .entry)) (now (blocks .entry)) (now (store .entry)) (now (nodes .entry)) (now (entries .entry)))
+        (now (queries .entry)) (now (answers .entry)) (now (answers .exit)) (now (numbers .entry)) (now (numbers .exit)) r ⌝ }
+{
+    find_all::find_all(
+        pieces,
+        blocks,
+        store,
+        nodes,
+        entries,
+        queries,
+        answers,
+        numbers,
+    ) as u64
 }
 
 // The live blocks that hold a cell of [start, end) at a tick, ascending by first cell: their numbers go into the lent answer.

@@ -1,2 +1,3 @@
 pub mod Sessions
+pub mod States
 pub mod Growth
