@@ -1,8 +1,8 @@
 -- A ledger that is lent more answers every read alike, and takes what it took. Assumes nothing.
 use mathlib.Core.Path.{_≡_, refl, sym, _∙_}
-use mathlib.Core.Bool.{Bool, true, false, _&&_, _||_, not}
+use mathlib.Core.Bool.{Bool, true, false, _&&_, not}
 use mathlib.Core.List.{List, [], _∷_}
-use Prim.Native.Nat.{ℕ, _+_, _≤_}
+use Prim.Native.Nat.{ℕ, _≤_}
 use native.Mathlib.Omega.{arith}
 use lib.Dec.{ltb}
 use borrow.Author.Tests.{ltb-false, le-ltb}
@@ -53,9 +53,9 @@ unfolding firstOf
 passing [] a p = refl
 passing (r ∷ rs) a p = rw (p .0) (passing rs a (p .1))
 
--- two lists of which both pass give the same
-alike : {A : Type 0} (rs rs′ : List Refusal) (a : A) {x : A} → Passed rs′ → firstOf rs a ≡ accepted x → firstOf rs′ a ≡ accepted x
-alike rs rs′ a p e = passing rs′ a p ∙ sym (passing rs a (passed rs a e)) ∙ e
+-- so an accepted call gives what it is said to give
+given : {A : Type 0} (rs : List Refusal) (a : A) {x : A} → firstOf rs a ≡ accepted x → accepted a ≡ accepted x
+given rs a e = sym (passing rs a (passed rs a e)) ∙ e
 
 -- what is not too much for a table is not too much for a longer one
 more-room : (update : Bool) (rows rows′ many : ℕ) → rows ≤ rows′ → (update && ltb rows many) ≡ false → (update && ltb rows′ many) ≡ false
@@ -70,54 +70,37 @@ module _ (more : Lent) (l : Ledger) where
   there = lengthened more here
 
   records : (scratch : ℕ) (o : Operation) (r : Result) → recordAnswer l scratch o ≡ accepted r → recordAnswer (lentMore more l) scratch o ≡ accepted r
-  unfolding recordRefusals
+  unfolding recordRefusals firstOf
   records scratch o r e =
-      let p = passed _ _ e in
+      let p = passed (recordRefusals l scratch o) _ e in
       let short = tooShort here in
       let few = ltb scratch leastScratch in
       let update = not (isRead (l .now) o) in
-      alike (recordRefusals l scratch o) (recordRefusals (lentMore more l) scratch o) _ (
-        rw (longer-heads more here (or-left short few (p .0)), or-right short few (p .0)),
-        (
-          p .1 .0,
-          (
-            p .1 .1 .0,
-            (
-              p .1 .1 .1 .0,
-              (
-                p .1 .1 .1 .1 .0,
-                (
-                  p .1 .1 .1 .1 .1 .0,
-                  (
-                    more-room update (pieceRows here) (pieceRows there) _ (omega arith) (p .1 .1 .1 .1 .1 .1 .0),
-                    (
-                      more-room update (blockRows here) (blockRows there) _ (omega arith) (p .1 .1 .1 .1 .1 .1 .1 .0),
-                      (more-room update (here .store) (there .store) _ (omega arith) (p .1 .1 .1 .1 .1 .1 .1 .1 .0), tt),
-                    ),
-                  ),
-                ),
-              ),
-            ),
-          ),
-        ),
+      rw (
+        longer-heads more here (or-left short few (p .0)),
+        or-right short few (p .0),
+        p .1 .0,
+        p .1 .1 .0,
+        p .1 .1 .1 .0,
+        p .1 .1 .1 .1 .0,
+        p .1 .1 .1 .1 .1 .0,
+        more-room update (pieceRows here) (pieceRows there) _ (omega arith) (p .1 .1 .1 .1 .1 .1 .0),
+        more-room update (blockRows here) (blockRows there) _ (omega arith) (p .1 .1 .1 .1 .1 .1 .1 .0),
+        more-room update (here .store) (there .store) _ (omega arith) (p .1 .1 .1 .1 .1 .1 .1 .1 .0),
       )
-      e
+      (given (recordRefusals l scratch o) _ e)
 
   finishes : (r : Result) → finishAnswer l ≡ accepted r → finishAnswer (lentMore more l) ≡ accepted r
-  unfolding finishRefusals
+  unfolding finishRefusals firstOf
   finishes r e =
-      let p = passed _ _ e in
-      alike (finishRefusals l) (finishRefusals (lentMore more l)) _ (
+      let p = passed (finishRefusals l) _ e in
+      rw (
         longer-heads more here (p .0),
-        (
-          p .1 .0,
-          (
-            more-room true (nodeRows here) (nodeRows there) _ (omega arith) (p .1 .1 .0),
-            (more-room true (entryRows here) (entryRows there) _ (omega arith) (p .1 .1 .1 .0), tt),
-          ),
-        ),
+        p .1 .0,
+        more-room true (nodeRows here) (nodeRows there) _ (omega arith) (p .1 .1 .0),
+        more-room true (entryRows here) (entryRows there) _ (omega arith) (p .1 .1 .1 .0),
       )
-      e
+      (given (finishRefusals l) _ e)
 
   pub takes-alike : TakesAlike more l
   unfolding recordBy finishBy

@@ -7,13 +7,12 @@ use lib.ListN.{length, getD, take, drop, length-append, length-replicate}
 use Rattle.lists.specs.Lists.{All}
 use Rattle.lists.proofs.Lists.{all-map}
 use Rattle.lists.proofs.Maps.{map-all}
-use Rattle.history.specs.Lent.{rowWidth, entryWidth, entryHead}
-use Rattle.history.specs.Words.{Block, Piece}
+use Rattle.history.specs.Lent.{rowWidth}
 use Rattle.history.specs.Tree as segment
 use Rattle.tables.specs.Columns.{column, entryColumn, piecesRoot, piecesCount, pieceLength, pieceOffset, pieceLeft, pieceRight, pieceDepth, entryKey}
 use Rattle.merge_set.specs.Tree.{Tree, leaf, node, height}
 use Rattle.merge_set.specs.Table.{Shape}
-use Rattle.piece_table.specs.Piece.{PieceRow, pieceAt}
+use Rattle.piece_table.specs.Piece.{pieceAt}
 use Rattle.piece_table.specs.Rep.{Links}
 use Rattle.piece_table.specs.Shown.{shown}
 use Rattle.block_table.specs.Blocks.{lengthAt, offsetAt, blocksOf, Stored}

@@ -1,3 +1,4 @@
 pub mod Extending
-pub mod Longer
 pub mod Answering
+pub mod Longer
+pub mod Steps

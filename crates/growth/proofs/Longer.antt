@@ -1,20 +1,19 @@
 -- Longer tables stand for the same ledger, and are well formed again. Assumes nothing.
-use mathlib.Core.Path.{_≡_, refl, ap, sym, _∙_}
-use mathlib.Core.Bool.{false}
+use mathlib.Core.Path.{_≡_, ap, sym, _∙_}
 use mathlib.Core.Option.{Option, none, some}
 use mathlib.Core.List.{List, _++_}
-use Prim.Native.Nat.{ℕ, _+_, _≤_}
+use Prim.Native.Nat.{ℕ, _+_}
 use native.Mathlib.Omega.{arith}
 use lib.ListN.{length, take, replicate, replicate-append-replicate}
 use lib.Seq.{take-append-le}
 use Rattle.history.specs.Lent.{Lent}
 use Rattle.history.specs.Tree as segment
-use Rattle.history.specs.Ledger.{Ledger, finished}
-use Rattle.history.specs.Sound.{SoundBoard, SoundClosed, SoundTree, Sound, SoundForFinish}
+use Rattle.history.specs.Ledger.{Ledger}
+use Rattle.history.specs.Sound.{SoundBoard, SoundTree, Sound, SoundForFinish}
 use Rattle.tables.specs.Columns.{headState, headEnd, headKind, headCount, headUsed, headLast}
-use Rattle.layout.specs.Tables.{Tables, lengthsOf, headAt, treeTables}
+use Rattle.layout.specs.Tables.{Tables, lengthsOf, headAt}
 use Rattle.layout.specs.Encodes.{TreeIn, Encodes}
-use Rattle.layout.specs.Formed.{WellFormed, Blank, WellFormedForFinish}
+use Rattle.layout.specs.Formed.{Blank}
 use Rattle.layout.proofs.Lengths.{lent-same}
 use Rattle.layout.proofs.Pieces.{used-fits}
 use Rattle.growth.specs.Longer.{zerosBehind, longer, lengthened, lentMore, LongerTables}

@@ -6,6 +6,7 @@ use Rattle.apart_laws.specs.Law.{TheoremH}
 use Rattle.tree_room.specs.Room.{LawOfRoom}
 use Rattle.layout.specs.Law.{OneLedger, TablesExist, ShallowTrees}
 use Rattle.growth.specs.Longer.{LongerTables}
+use Rattle.growth.specs.Steps.{GrownBoards}
 use Rattle.index_test.specs.Law.{TestDecides}
 use Rattle.demand.specs.Theorem.{Demand3}
 use Rattle.demand.specs.Cells.{CellsShown}
@@ -39,6 +40,7 @@ pub record OfTables : Type 0 where
   pub test-decides : TestDecides
   pub shallow-trees : ShallowTrees
   pub longer-tables : LongerTables
+  pub grown-boards : GrownBoards
 
 -- of the definitions, over plain lists
 pub record OfHistory : Type 0 where

@@ -52,6 +52,7 @@ pub fn of_tables()
     index_test::test_decides();
     layout::shallow_trees();
     growth::longer_tables();
+    growth::grown_boards();
 }
 
 // The definitions, over plain lists.

@@ -1,5 +1,5 @@
 -- A state that is true of an index's tables is true of longer ones. Assumes nothing.
-use mathlib.Core.Path.{_≡_, _∙_}
+use mathlib.Core.Path.{_∙_}
 use Prim.Native.Nat.{ℕ}
 use Rattle.history.specs.Lent.{Lent}
 use Rattle.tables.specs.Columns.{headState}

@@ -1,7 +1,7 @@
 -- The entries that one block makes: below a node that its life does not cover, no more than the halves' together. Assumes nothing.
 use mathlib.Core.Path.{_≡_, refl, ap, _∙_}
 use mathlib.Core.Logic.{_⊎_, inl, inr}
-use mathlib.Core.Bool.{Bool, true, false, cond, _&&_}
+use mathlib.Core.Bool.{Bool, true, false, cond}
 use mathlib.Core.List.{List, [], _∷_, map}
 use Prim.Native.Nat.{ℕ, zero, suc, _+_, _*_, _-_, _^_, _≤_, _<_}
 use native.Mathlib.Nat.{mul-add, suc-mul, mul-le-mul-left}
@@ -10,10 +10,10 @@ use lib.Dec.{ltb}
 use lib.ListN.{length}
 use borrow.Author.Tests.{ltb-true, lt-ltb, le-ltb}
 use Rattle.lists.specs.Lists.{All, all-nil, all-cons, here, there, sumOf}
-use Rattle.lists.proofs.Numbers.{lt-or-le, le-or-lt}
+use Rattle.lists.proofs.Numbers.{le-or-lt}
 use Rattle.history.specs.Words.{Block}
 use Rattle.history.specs.Tree.{mid, halves, covers, treeOf, entryCount}
-use Rattle.history.proofs.TreeAdding.{Covering, all, part, covering, half-left, half-right}
+use Rattle.history.proofs.TreeAdding.{all, part, covering, half-left, half-right}
 use Rattle.history.proofs.TreeCounts.{newEntries, treeOf-entries}
 use Rattle.tree_room.specs.Room.{entriesFor}
 use Rattle.tree_room.proofs.Ticks.{ticksIn, ticks-split, ticks-some, ticks-most}

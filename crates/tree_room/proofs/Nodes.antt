@@ -1,6 +1,6 @@
 -- The nodes of all blocks: one has halves only where one of the blocks' ticks is inside it. So on each level there are two for each tick, and no more. Assumes
 -- nothing.
-use mathlib.Core.Path.{_≡_, refl, ap, sym, _∙_}
+use mathlib.Core.Path.{_≡_, ap, sym, _∙_}
 use mathlib.Core.Logic.{_⊎_, inl, inr}
 use mathlib.Core.Bool.{true, false, true≢false}
 use mathlib.Core.List.{List}
@@ -13,7 +13,7 @@ use Rattle.lists.proofs.Lists.{all-at}
 use Rattle.history.specs.Words.{Block}
 use Rattle.history.specs.Tree.{Tree, hole, node, mid, covers, entriesOf, leftOf, rightOf, addLocation, noBlock, blockAt, keyIn, treeOf, nodeCount}
 use Rattle.history.specs.Refusals.{maxEndTick}
-use Rattle.history.proofs.TreeAdding.{Covering, all, part, covering, half-left, half-right, made, listed, Half, went, kept, add-by, addBlock, tree-by}
+use Rattle.history.proofs.TreeAdding.{all, part, covering, half-left, half-right, made, listed, Half, went, kept, add-by, tree-by}
 use Rattle.tree_room.specs.Room.{nodesFor, TicksAmong}
 use Rattle.tree_room.proofs.Ticks.{ticksIn, ticks-split, ticks-some, ticks-most}
 

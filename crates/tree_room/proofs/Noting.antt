@@ -5,12 +5,12 @@ use mathlib.Core.List.{List, [], _∷_, map}
 use Prim.Native.Nat.{ℕ}
 use Rattle.lists.specs.Lists.{All, all-nil, Mem, here, there}
 use Rattle.lists.proofs.Lists.{all-append, all-map, all-of-map}
-use Rattle.history.specs.Words.{Operation, Piece, Block, ends, stretchOf, pieceOf, blockOf, inside}
-use Rattle.history.specs.Ledger.{Opening, Moment, Ledger, withNow, opened, finished, isRead, readBy, updateBy, recordBy, finishBy}
+use Rattle.history.specs.Words.{Operation, Piece, Block, ends, stretchOf, blockOf}
+use Rattle.history.specs.Ledger.{Opening, Moment, Ledger, opened, finished, isRead, readBy, updateBy, recordBy, finishBy}
 use Rattle.history.specs.Results.{Result}
 use Rattle.history.specs.Refusals.{Answer, accepted, refused, recordAnswer, finishAnswer}
 use Rattle.history.specs.Calls.{Call, recordCall, finishCall, answerTo, acceptedBy, leaves, after, afterAll, noted, history}
-use Rattle.history.proofs.Parts.{PartOf, all-inside, all-updated}
+use Rattle.history.proofs.Parts.{all-inside, all-updated}
 
 abbrev tickOf : Operation → ℕ
 tickOf o = o .tick

@@ -1,20 +1,21 @@
 -- The law of room: the bounds by ticks and by blocks, and finish. Assumes nothing.
-use mathlib.Core.Path.{_≡_, refl, ap, sym, _∙_}
-use mathlib.Core.List.{List, [], _∷_, _++_, map}
+use mathlib.Core.Path.{_≡_, refl, ap}
+use mathlib.Core.List.{List, [], _∷_, map}
 use Prim.Native.Nat.{ℕ, _+_, _-_, _*_, _^_, _≤_, _<_}
 use native.Mathlib.Nat.{mul-le-mul-right}
 use native.Mathlib.Omega.{arith}
 use lib.ListN.{length, length-append, length-map}
 use borrow.Author.Tests.{le-ltb}
 use Rattle.lists.specs.Lists.{All, all-nil, all-cons, Mem, here, there}
-use Rattle.lists.proofs.Lists.{all-map, all-both, all-mem, all-of-map, all-un-map, all-of-mem}
-use Rattle.history.specs.Words.{Operation, Piece, Block, blockOf}
+use Rattle.lists.proofs.Lists.{all-map, all-both, all-mem, all-of-map}
+use Rattle.history.specs.Words.{Operation, Block, blockOf}
 use Rattle.history.specs.Lent.{blockRows, nodeRows, entryRows}
 use Rattle.history.specs.Tree.{insert, addLocation, addAll, treeOf, nodeCount, entryCount}
 use Rattle.history.specs.Ledger.{Opening, Ledger, opened, settled}
 use Rattle.history.specs.Results.{done}
-use Rattle.history.specs.Refusals.{accepted, firstOf, maxEndTick, openAnswer, finishRefusals, finishAnswer}
+use Rattle.history.specs.Refusals.{accepted, firstOf, maxEndTick, finishRefusals, finishAnswer}
 use Rattle.history.specs.Calls.{Call, afterAll, history}
+use Rattle.history.specs.Sound.{SoundBoard}
 use Rattle.history.specs.Law.{LedgerLaw}
 use Rattle.history.proofs.Steps.{all-settled}
 use Rattle.history.proofs.EveryList.{the-law, opening-kept}
@@ -61,6 +62,9 @@ module _ (n : ℕ) (ts : List ℕ) (a : Opening) (ks : List Call) (w : Awaits n 
   law : LedgerLaw l h
   law = the-law a (w .opens) ks
 
+  board : SoundBoard l
+  board = law .sound .sound .board
+
   same-opening : l .opening ≡ a
   unfolding opened
   same-opening = opening-kept ks (opened a)
@@ -78,14 +82,14 @@ module _ (n : ℕ) (ts : List ℕ) (a : Opening) (ks : List Call) (w : Awaits n 
   -- no block is created after the last accepted tick, and that is below E
   created-in-time : All (λ (b : Block). b .created < l .opening .end) (l .now .blocks)
   created-in-time =
-      all-both (λ b s d. omega (arith, s .forward, d, law .sound .sound .board .last-below-end)) (law .sound .sound .board .blocks) (law .open-blocks (w .still-open))
+      all-both (λ b s d. omega (arith, s .forward, d, board .last-below-end)) (board .blocks) (law .open-blocks (w .still-open))
 
   among : All (TicksAmong (l .opening .end) ts) (settled (l .opening .end) (l .now))
   among =
       all-settled (l .opening .end) (l .now) (TicksAmong (l .opening .end) ts)
       (all-both (λ b x t. record { in-time = t; created = λ _. known (x .created); destroyed = λ _. known (x .destroyed) }) (noted .blocks) created-in-time)
-      (all-both (λ p x s. record { in-time = omega (arith, s .written-by-last, law .sound .sound .board .last-below-end); created = λ _. known x; destroyed = λ d. absurd (omega (arith, d)) })
-      (noted .pieces) (law .sound .sound .board .pieces))
+      (all-both (λ p x s. record { in-time = omega (arith, s .written-by-last, board .last-below-end); created = λ _. known x; destroyed = λ d. absurd (omega (arith, d)) })
+      (noted .pieces) (board .pieces))
     where
       noted : Noted (l .now) h
       noted = noted-ticks a ks (w .still-open)
@@ -97,11 +101,11 @@ module _ (n : ℕ) (ts : List ℕ) (a : Opening) (ks : List Call) (w : Awaits n 
         arith,
         length-append (l .now .blocks) (map (blockOf (l .opening .end)) (l .now .pieces)),
         length-map (l .now .pieces) (blockOf (l .opening .end)),
-        law .sound .sound .board .blocks-fit,
+        board .blocks-fit,
       )
 
   fits : TreeFits n (l .opening .end) (settled (l .opening .end) (l .now))
-  fits = tree-fits n (l .opening .end) _ (law .sound .sound .board .end-most) (rw same-end (w .halved))
+  fits = tree-fits n (l .opening .end) _ (board .end-most) (rw same-end (w .halved))
 
   nodes-fit : nodesFor n (length ts) ≤ nodeRows (a .lent) → nodeCount (treeOf (l .opening .end) (settled (l .opening .end) (l .now))) ≤ nodeRows (l .opening .lent)
   nodes-fit many = rw same-lent (omega (arith, many, fits .nodes ts among))

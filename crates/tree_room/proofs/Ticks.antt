@@ -1,5 +1,5 @@
 -- How many of some ticks are in an interval. Assumes nothing.
-use mathlib.Core.Path.{_≡_, refl}
+use mathlib.Core.Path.{_≡_}
 use mathlib.Core.Logic.{inl, inr}
 use mathlib.Core.Bool.{cond}
 use mathlib.Core.List.{List, [], _∷_}
@@ -8,7 +8,7 @@ use native.Mathlib.Omega.{arith}
 use lib.ListN.{length}
 use borrow.Author.Tests.{le-leb, lt-leb, lt-ltb, le-ltb}
 use Rattle.lists.specs.Lists.{Mem, here, there}
-use Rattle.lists.proofs.Numbers.{le-or-lt, lt-or-le}
+use Rattle.lists.proofs.Numbers.{lt-or-le}
 use Rattle.history.specs.Words.{within}
 
 -- 1 where the tick is in [lo, hi)

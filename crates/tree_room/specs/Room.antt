@@ -8,7 +8,7 @@ use Rattle.lists.specs.Lists.{All, Mem}
 use Rattle.history.specs.Words.{Operation, Block, aBlock}
 use Rattle.history.specs.Lent.{blockRows, nodeRows, entryRows, tooShort}
 use Rattle.history.specs.Tree.{treeOf, nodeCount, entryCount}
-use Rattle.history.specs.Ledger.{Opening, Ledger, opened, finished}
+use Rattle.history.specs.Ledger.{Opening, opened, finished}
 use Rattle.history.specs.Results.{done}
 use Rattle.history.specs.Refusals.{accepted, maxEndTick, openAnswer, finishAnswer}
 use Rattle.history.specs.Calls.{Call, afterAll, history}
