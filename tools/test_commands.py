@@ -1,5 +1,5 @@
 #!/usr/bin/env python3
-"""Tests ./board and boardfile.py as they are called from a shell: what they print, where, and their status."""
+"""Tests ./board and boardfile.py as they are called from a shell: what they print, where, and their status. And that README's examples are what it says."""
 import os
 import subprocess
 import sys
@@ -147,6 +147,35 @@ class Boardfile(unittest.TestCase):
 
     def test_itself(self):
         self.assertEqual(run([*BOARDFILE, "--test"]), (0, b"boardfile: ok\n", ""))
+
+
+class Readme(unittest.TestCase):
+    def setUp(self):
+        self.lines = content(os.path.join(ROOT, "README.md")).decode().split("\n")
+
+    def behind(self, line):
+        """The indented lines behind one, up to the next that is not."""
+        rest = self.lines[self.lines.index(line) + 1 :]
+        end = next(k for k, text in enumerate(rest) if not text.startswith("    ") or text.startswith("    $"))
+        return "".join(text[4:] + "\n" for text in rest[:end])
+
+    def fenced(self, language):
+        start = self.lines.index("```" + language) + 1
+        return self.lines[start : self.lines.index("```", start)]
+
+    def test_shell(self):
+        self.assertEqual(run([BOARD, example("listing.board")])[1].decode(), self.behind("    $ ./board examples/listing.board"))
+        bookings = [line.strip() for line in self.lines if line.startswith("    at ")]
+        self.assertEqual(bookings, [line for line in content(example("listing.txt")).decode().split("\n") if line.startswith("at ")])
+
+    def test_rust(self):
+        # the crate's own page is compiled and run by cargo test
+        self.assertIn("\n".join(self.fenced("rust")), content(os.path.join(ROOT, "bindings", "rust", "README.md")).decode())
+
+    def test_c(self):
+        first = [line.strip() for line in content(os.path.join(ROOT, "bindings", "c", "first.c")).decode().split("\n")]
+        start = first.index(self.fenced("c")[0])
+        self.assertEqual(first[start : start + len(self.fenced("c"))], self.fenced("c"))
 
 
 if __name__ == "__main__":

@@ -12,6 +12,15 @@ static uint64_t *table(uint64_t which, uint64_t rows, size_t *length)
     return calloc(*length, sizeof(uint64_t));
 }
 
+/* Ends with the number of a refusal. */
+static void must(uint64_t refused)
+{
+    if (refused != 0) {
+        printf("refused %" PRIu64 "\n", refused);
+        exit(1);
+    }
+}
+
 #define TABLES pieces, pieces_length, blocks, blocks_length, store, sizeof store, nodes, nodes_length, entries, entries_length
 
 int main(void)
@@ -23,22 +32,16 @@ int main(void)
     if (!pieces || !blocks || !nodes || !entries)
         return 3;
 
-    /* record: train 7 for three minutes from 01:40 on, then train 9 from 01:42 on */
-    uint64_t scratch[8] = {0}, updated, cell, refused;
-    if ((refused = servercape_open(TABLES, 8, 1)) != 0 ||
-        (refused = servercape_record(TABLES, scratch, 8, 1, 100, (const uint8_t[]){7, 7, 7}, 3, &updated, &cell)) != 0 ||
-        (refused = servercape_record(TABLES, scratch, 8, 3, 102, (const uint8_t[]){9, 9, 9}, 3, &updated, &cell)) != 0 ||
-        (refused = servercape_finish(TABLES)) != 0) {
-        printf("refused %" PRIu64 "\n", refused);
-        return 1;
-    }
+    uint64_t scratch[8] = {0}, updated, cell, numbers[32], count;
+    must(servercape_open(TABLES, 8, 1));
+    must(servercape_record(TABLES, scratch, 8, 1, 100, (const uint8_t[]){7, 7, 7}, 3, &updated, &cell)); /* train 7 from 01:40 on, at tick 1 */
+    must(servercape_record(TABLES, scratch, 8, 3, 102, (const uint8_t[]){9, 9, 9}, 3, &updated, &cell)); /* train 9 from 01:42 on, at tick 3 */
+    must(servercape_finish(TABLES));
+    must(servercape_touching(TABLES, 6, 101, 103, numbers, 32, &count)); /* at tick 6, who holds cell 101 or 102? */
 
-    /* read: at tick 6, who holds cell 101 or 102? */
-    uint64_t numbers[32], count = 0;
-    servercape_touching(TABLES, 6, 101, 103, numbers, 32, &count);
     for (uint64_t k = 0; k < count; k++) {
         uint64_t kind, first, length, created, destroyed, offset;
-        servercape_block(TABLES, numbers[k], &kind, &first, &length, &created, &destroyed, &offset);
+        must(servercape_block(TABLES, numbers[k], &kind, &first, &length, &created, &destroyed, &offset));
         printf("%strain %d at %04" PRIu64 " for %" PRIu64 " min", k ? ", " : "", store[offset], servercape_clock(first), length);
     }
     printf("\n");
