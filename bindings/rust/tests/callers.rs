@@ -288,6 +288,7 @@ fn grows_by_itself() {
         assert_eq!(index.blocks().unwrap().collect::<Vec<Block>>(), whole.blocks().unwrap().collect::<Vec<Block>>());
         assert_eq!(index.write(), whole.write());
     }
+    assert_eq!(board.room().entries, board.used().entries, "what finish needs is counted and not tried");
     assert_eq!((number(board.finish()), number(board.record(END - 1, 0, &[1])), number(board.finished())), (3, 3, 3));
 }
 
