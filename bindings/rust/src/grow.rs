@@ -22,6 +22,25 @@ impl Index {
         self.room = room;
         Ok(())
     }
+
+    /// A clone; refusals 9 to 13 where there is no memory for a table, for which `clone` would end the program.
+    pub fn try_clone(&self) -> Result<Index, Refusal> {
+        Ok(Index {
+            pieces: copied(&self.pieces).ok_or(Refusal::NoRoomForPieces)?,
+            blocks: copied(&self.blocks).ok_or(Refusal::NoRoomForBlocks)?,
+            store: copied(&self.store).ok_or(Refusal::NoRoomForBytes)?,
+            nodes: copied(&self.nodes).ok_or(Refusal::NoRoomForNodes)?,
+            entries: copied(&self.entries).ok_or(Refusal::NoRoomForEntries)?,
+            ..*self
+        })
+    }
+}
+
+fn copied<T: Copy>(numbers: &[T]) -> Option<Vec<T>> {
+    let mut copy = Vec::new();
+    room::reserve(&mut copy, numbers.len())?;
+    copy.extend_from_slice(numbers);
+    Some(copy)
 }
 
 /// The length of a table of so many rows, for which there is memory.
@@ -108,9 +127,7 @@ impl GrowingIndex {
     /// Finishes the index, as [`Index::finish`]. Refusal 3.
     pub fn finish(&mut self) -> Result<(), Refusal> {
         // finish goes over all rows, so what it needs is counted first, and is tried once
-        let room = self.0.room_for_finish();
-        let unmet = if room.nodes > self.0.room().nodes { Refusal::NoRoomForNodes } else { Refusal::NoRoomForEntries };
-        self.0.grow(room).map_err(|_| unmet)?;
+        self.0.grow(self.0.room_for_finish())?;
         loop {
             match self.0.finish() {
                 Err(refusal) if refusal.is_no_room() => self.grow_for(refusal, 0)?,
@@ -121,7 +138,7 @@ impl GrowingIndex {
 
     /// The board as it stands now, to be read: a clone that is finished. This one goes on. Refusal 3.
     pub fn finished(&self) -> Result<Index, Refusal> {
-        let mut copy = self.clone();
+        let mut copy = GrowingIndex(self.0.try_clone()?);
         copy.finish()?;
         Ok(copy.0)
     }

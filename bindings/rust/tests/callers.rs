@@ -281,6 +281,7 @@ fn grows_by_itself() {
     }
     assert_eq!((number(board.record(0, 0, &[1])), number(board.record(END, 0, &[1])), number(board.record(END - 1, 0, &[]))), (8, 7, 5));
     let copy = board.finished().unwrap();
+    assert_eq!(board.try_clone().map(|clone| format!("{clone:?}")), Ok(format!("{:?}", *board)));
     assert_eq!(board.state(), State::Open);
     board.finish().unwrap();
     whole.finish().unwrap();
