@@ -1,6 +1,7 @@
 #!/usr/bin/env python3
 """Tests ./board and boardfile.py as they are called from a shell: what they print, where, and their status. And that README's examples are what it says."""
 import os
+import re
 import subprocess
 import sys
 import tempfile
@@ -176,6 +177,20 @@ class Readme(unittest.TestCase):
         first = [line.strip() for line in content(os.path.join(ROOT, "bindings", "c", "first.c")).decode().split("\n")]
         start = first.index(self.fenced("c")[0])
         self.assertEqual(first[start : start + len(self.fenced("c"))], self.fenced("c"))
+
+
+class Words(unittest.TestCase):
+    @unittest.skipUnless(os.path.isdir(os.path.join(ROOT, "bindings", "python")), "bindings/python is not there")
+    def test_refusals(self):
+        """A refusal has the same words in Rust and in Python."""
+        sys.path.insert(0, os.path.join(ROOT, "bindings", "python", "servercape"))
+        from refusal import WORDS
+
+        rust = re.sub(r"\\\n +", "", content(os.path.join(ROOT, "bindings", "rust", "src", "refusal.rs")).decode())
+        self.assertEqual(sorted(WORDS), list(range(1, 25)))
+        for words in WORDS.values():
+            for meaning in words:
+                self.assertIn(f'"{meaning}"', rust)
 
 
 if __name__ == "__main__":
