@@ -1,4 +1,5 @@
-/* The board's history, for C. Link target/staticlib/libservercape.a, which `rt staticlib servercape` writes.
+/* The board's history, for C. Link target/staticlib/libservercape.a, which `rt staticlib servercape` writes; or, once `bindings/install PREFIX` has put it
+   somewhere, what `pkg-config --cflags --libs servercape` says. docs/RULES.md has the rules, and every refusal.
 
    Every call is proved to give its answer for all slices of any length and content. It returns 0, or the number of the refusal; then nothing
    has changed, the values handed out included (but see servercape_load; servercape_record_all and servercape_find_all have an answer for each call).

@@ -1,11 +1,11 @@
-"""Document 01 and requests 1, 2 and 9 of document 02 as a plain model: an index that answers the calls of the stored list.
+"""The rules (docs/RULES.md) as a plain model: an index that answers the calls of the stored list.
 
 Nothing is shared with the crates. Pieces and blocks are lists, the tree is made of Python objects, and the loader reads fields from bytes. A call is a list of
 words and its answer a text, as in the list of the oracle: `open E KIND PIECES SCRATCH BLOCKS STORE NODES ENTRIES`, `record TICK FIRST HEX`, `finish`,
 `load AT BLOCKS STORE NODES ENTRIES HEX`, `block NUMBER`, `find TICK START END ROOM`, `cells TICK START END BYTEROOM HELDROOM`, `write ROOM`, `clock CELL`.
 What is lent is counted in rows, the scratch in numbers; a table of -1 rows cannot hold its head.
 
-Of document 02: `touching TICK START END ROOM`, whose answer is the count and the numbers, and `next TICK CELL` and `last TICK CELL`, with a number or `missing`;
+Of the requests: `touching TICK START END ROOM`, whose answer is the count and the numbers, and `next TICK CELL` and `last TICK CELL`, with a number or `missing`;
 record answers `read`, or `update` with the lowest cell that was unknown or had another byte, and is refused 2 with a scratch of fewer than eight numbers.
 
 Two more are our own. `scratch NUMBERS` lends another scratch from there on. `damaged AT BY FROM TO HEX` loads a file into the tables of the load before, once

@@ -4,8 +4,10 @@
   boardfile.py make FILE.txt [FILE.board]   text to input
   boardfile.py show FILE.board [FILE.txt]   input to text
   boardfile.py --test                       tries itself, by round trips and by wrong files
+  boardfile.py --help                       this text
 
-Without the second file, or with `-` for a file, it reads standard input and writes standard output.
+`-` stands for standard input or output; without the second file it writes standard output. The status is 0 where it is done, 1 for a wrong file, 2 for wrong
+arguments, 3 where reading or writing failed.
 
 The text has one statement to a line; `#` starts a comment:
 
@@ -17,7 +19,8 @@ The text has one statement to a line; `#` starts a comment:
 
 A cell has its platform in the upper 32 bits and its minute in the lower 32. Minute 0 is a Monday 00:00, and every day has 1,440 minutes; `tuesday+1` is
 the Tuesday one week after the first. Bytes are pairs of hexadecimal digits, in one or more words; `09*3` stands for `090909`, and no word at all for no
-cells. Bookings stand in the order in which they are made. Text that board would refuse, as a kind above 4, is taken: it may be meant.
+cells. Bookings stand in the order in which they are made. Text that board would refuse, as a kind above 4, is taken: it may be meant. The text is UTF-8; a
+byte order mark in front is passed over.
 
 The input has 8 bytes of end tick, 1 of kind, then for each booking the mark B7 4F, 8 bytes of tick, 8 of first cell, 2 of length, and the bytes; numbers
 are little-endian. Board reads the first 65,536 bytes: a longer input is refused here.
@@ -120,6 +123,17 @@ def statement(board, words):
         board["bookings"].append(booking(words))
     else:
         raise Fault(f"'{words[0]}' is no statement: it is end, kind or at")
+
+
+def decoded(data):
+    """A file's bytes as text."""
+    try:
+        return data.decode("utf-8-sig")
+    except UnicodeDecodeError as error:
+        # with the mark in front the error counts from behind it
+        at = error.start + len(data) - len(error.object)
+        line = data.count(b"\n", 0, at) + 1
+        raise Fault(f"line {line}: byte {data[at]:02x} is no UTF-8 text; a board's input is turned into text by show") from None
 
 
 def read_text(text):
@@ -227,6 +241,13 @@ WRONG_TEXTS = [
     ("end 8\nkind 1\n" + 2 * "at 1 cell 0 bytes 07*40000\n", "the input would have 80049 bytes"),
 ]
 
+WRONG_BYTES = [
+    (b"end 8\nkind 1\n# Z\xfcrich\n", "line 3: byte fc is no UTF-8 text"),
+    (b"\xef\xbb\xbfend 8\nkind \xff\n", "line 2: byte ff is no UTF-8 text"),
+    ("end 8\n".encode("utf-16"), "line 1: byte ff is no UTF-8 text"),
+    (b"end 8\nkind 1\n# cut \xc3", "line 3: byte c3 is no UTF-8 text"),
+]
+
 WRONG_INPUTS = [
     (b"", "record 0 is cut"),
     (bytes(8), "record 0 is cut"),
@@ -267,8 +288,12 @@ def test():
         assert read_text(write_text(board)) == board
     for text, words in WRONG_TEXTS:
         expect_fault(lambda given: write_input(read_text(given)), text, words)
+    for data, words in WRONG_BYTES:
+        expect_fault(decoded, data, words)
     for data, words in WRONG_INPUTS:
         expect_fault(read_input, data, words)
+    assert decoded(b"\xef\xbb\xbf# Z\xc3\xbcrich\r\n") == "# Zürich\r\n"
+    assert read_text(decoded(b"\xef\xbb\xbf" + LISTING.replace("\n", "\r\n").encode())) == listing
     examples = os.path.join(os.path.dirname(os.path.abspath(__file__)), "..", "examples")
     for name in ("listing", "midnight"):
         with open(os.path.join(examples, name + ".txt"), encoding="utf-8") as text, open(os.path.join(examples, name + ".board"), "rb") as made:
@@ -282,41 +307,41 @@ def test():
 
 
 def load(name):
-    if name == "-":
-        return sys.stdin.buffer.read()
-    with open(name, "rb") as file:
+    with open(0 if name == "-" else name, "rb", closefd=name != "-") as file:
         return file.read()
 
 
 def store(name, data):
-    if name == "-":
-        sys.stdout.buffer.write(data)
-    else:
-        with open(name, "wb") as file:
-            file.write(data)
+    with open(1 if name == "-" else name, "wb", closefd=name != "-") as file:
+        file.write(data)
+
+
+def fail(status, words):
+    print(f"boardfile: {words}", file=sys.stderr)
+    return status
 
 
 def main(arguments):
-    if arguments == ["--help"]:
-        return print(__doc__)
-    if arguments == ["--test"]:
-        return test()
-    if len(arguments) not in (2, 3) or arguments[0] not in ("make", "show"):
-        sys.exit(__doc__.split("\n\nWithout")[0])
-    name, to = arguments[1], arguments[2] if len(arguments) == 3 else "-"
+    """Does what the arguments ask; the status."""
+    name, to = "", "-"
     try:
-        data = load(name)
-        if arguments[0] == "make":
-            store(to, write_input(read_text(data.decode("utf-8"))))
+        if "--help" in arguments or "-h" in arguments:
+            store("-", __doc__.encode())
+        elif arguments == ["--test"]:
+            test()
+        elif len(arguments) not in (2, 3) or arguments[0] not in ("make", "show"):
+            return fail(2, "write: make FILE.txt [FILE.board], or show FILE.board [FILE.txt]; --help says more")
         else:
-            store(to, write_text(read_input(data)).encode("utf-8"))
+            name, *rest = arguments[1:]
+            to, data = rest[0] if rest else "-", load(name)
+            store(to, write_input(read_text(decoded(data))) if arguments[0] == "make" else write_text(read_input(data)).encode())
     except Fault as fault:
-        sys.exit(f"{name}: {fault}")
-    except UnicodeDecodeError:
-        sys.exit(f"{name}: this is no text; to read a board's input, use show")
+        return fail(1, f"{name}: {fault}")
     except OSError as error:
-        sys.exit(f"{error.filename}: {error.strerror}")
+        where = error.filename if isinstance(error.filename, str) else "standard input or output"
+        return fail(3, f"{where}: {error.strerror}")
+    return 0
 
 
 if __name__ == "__main__":
-    main(sys.argv[1:])
+    sys.exit(main(sys.argv[1:]))

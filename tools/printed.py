@@ -4,9 +4,9 @@
   printed.py make          writes crates/board_try/stdin
   printed.py list          the cases by number, with how many bytes they have and how their output starts
   printed.py run PROGRAM   runs a program on each input, and compares what it prints
-  printed.py --test        tries itself: the boards of document 01, and that crates/board_try/stdin is what `make` writes
+  printed.py --test        tries itself: the boards to try, and that crates/board_try/stdin is what `make` writes
 
-What must be printed is what the model of document 01 (board_model.py) says, by nothing that the program uses.
+What must be printed is what the model of the rules (board_model.py) says, by nothing that the program uses.
 
 The data is a count of cases, then for each case the input's length, the input, the output's length and the output; counts and lengths have 4 bytes,
 little-endian.
@@ -25,7 +25,7 @@ HEADER = "cell n from to clock bytes"
 DATA = os.path.join(os.path.dirname(os.path.abspath(__file__)), "..", "crates", "board_try", "stdin")
 
 
-# ── what document 01 says ──
+# ── what the rules say ──
 
 
 def records_of(data):
@@ -85,7 +85,7 @@ MIDNIGHT = board(
 
 
 def marked_boards():
-    """The boards to try of document 01."""
+    """The boards to try of docs/RULES.md."""
     yield LISTING
     yield MIDNIGHT
     yield board(8, 1, (0, 10, b"\5\5"), (1, 10, b"\5\5\5\5"))

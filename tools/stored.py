@@ -6,7 +6,7 @@
   stored.py spoil VECTORS FILE           the same cases, each up to a call whose answer is changed: replay must say that one of each differs
   stored.py --test                       tries itself: the model gives every answer of marked.txt, and rows are read as they were written
 
-Before anything is written, the model of document 01 (board_model.py) must give every answer of the oracle's list and of marked.txt; the answers of the other
+Before anything is written, the model of the rules (board_model.py) must give every answer of the oracle's list and of marked.txt; the answers of the other
 cases are the model's. With the program ORACLE they are compared with the Rust too (board_oracle.py). The same VECTORS give the same bytes.
 """
 import collections

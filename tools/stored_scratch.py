@@ -1,5 +1,5 @@
 """Own cases of the scratch for the stored list (stored.py): record does with eight numbers, a shorter scratch is 2 before all else, and 9 goes by the piece
-table alone (document 02, request 9).
+table alone (request 9).
 
 As in stored_cases.py a case is a name and a list of calls in words; what they answer is left to the model.
 """

@@ -1,4 +1,4 @@
-/* Calls each function of servercape.h: the board of document 01's listing, lengths, refusals, and values that stay on a refusal.
+/* Calls each function of servercape.h: the listing's board, lengths, refusals, and values that stay on a refusal.
    Prints how many checks it made, and every one that failed. */
 #include "lent.h"
 

@@ -1,4 +1,4 @@
-//! A plain reading of document 01: pieces in a list, every cell looked at by itself. It says what the calls must answer, and which operations meet
+//! A plain reading of the rules: pieces in a list, every cell looked at by itself. It says what the calls must answer, and which operations meet
 //! D1 or D2, where the Rust does something else.
 use crate::tree::Tree;
 use servercape::{Recorded, Room};
@@ -29,7 +29,7 @@ impl Block {
     }
 }
 
-/// The numbers of a scratch that record does with (document 02, request 9).
+/// The numbers of a scratch that record does with (request 9).
 pub const LEAST_SCRATCH: usize = 8;
 
 /// A stretch that is known now.
@@ -190,7 +190,7 @@ impl Board {
 pub struct Known(BTreeMap<u64, u8>);
 
 impl Known {
-    /// Takes an accepted operation. Document 02, request 2: it is an update from the lowest cell on that was unknown or had another byte, or a read.
+    /// Takes an accepted operation. Request 2: it is an update from the lowest cell on that was unknown or had another byte, or a read.
     pub fn record(&mut self, op: &Op) -> Recorded {
         let cells = || op.bytes.iter().copied().zip(op.first..);
         let changed = cells().find(|(byte, cell)| self.0.get(cell) != Some(byte));
@@ -236,7 +236,7 @@ impl Closed {
         live
     }
 
-    /// Document 02, request 1: the numbers of the live blocks that hold any cell of the window, ascending by cell.
+    /// Request 1: the numbers of the live blocks that hold any cell of the window, ascending by cell.
     pub fn touching(&self, tick: u64, start: u64, end: u64) -> Vec<u64> {
         let touches = |b: &Block| (b.first..b.end()).any(|cell| start <= cell && cell < end);
         self.in_order(tick).into_iter().filter(|(_, b)| touches(b)).map(|(number, _)| number).collect()

@@ -1,4 +1,4 @@
-//! The file of document 01: its bytes, its fields one after the other, and the loader's refusals. Also the Rust's files in another order (D4).
+//! The file of docs/RULES.md: its bytes, its fields one after the other, and the loader's refusals. Also the Rust's files in another order (D4).
 use crate::board::{Block, Closed};
 use crate::tree::{Node, Tree};
 use servercape::{Index, Room};

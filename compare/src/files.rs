@@ -143,7 +143,7 @@ struct Loaded {
 
 fn loaded(random: &mut Random, case: &Case, tally: &mut Tally) -> Loaded {
     let want = file::loaded(&case.file, case.at, &case.room);
-    let got = Index::load(case.room, &case.file, case.at);
+    let got = Index::load_with(case.room, &case.file, case.at);
     let number = number(&got);
     tally.count(40, "files loaded, the answer compared with the document", 1);
     tally.same(|| format!("load of {case:?}"), &number, &want.as_ref().err().copied().unwrap_or(0));

@@ -84,7 +84,7 @@ pub fn number<T>(answer: &Result<T, Refusal>) -> u64 {
 }
 
 pub fn opened(case: &Case) -> Index {
-    Index::open(case.room, case.end, Kind::of(case.kind).unwrap()).expect("an end tick and a kind that opening takes")
+    Index::open(case.room, case.end, Kind::try_from(case.kind as u8).unwrap()).expect("an end tick and a kind that opening takes")
 }
 
 pub fn owned(block: servercape::Block) -> Block {
@@ -104,9 +104,9 @@ fn recorded(index: &mut Index, want: &Told, tally: &mut Tally, of: &dyn Fn() -> 
         Err(refusal) => tally.refused(refusal.number()),
         Ok(recorded) => {
             tally.same(|| format!("change by {op:?} of {}", of()), &Some(recorded), &want.ok());
-            match recorded {
-                Recorded::Read => tally.count(8, "reads compared with the document", 1),
-                Recorded::Update { .. } => tally.count(9, "updates compared with the document, by their first changed cell", 1),
+            match recorded.cell() {
+                None => tally.count(8, "reads compared with the document", 1),
+                Some(_) => tally.count(9, "updates compared with the document, by their first changed cell", 1),
             }
         }
     }

@@ -1,6 +1,6 @@
 //! compare [--full] [--seed N] [--spoil]
 //!
-//! Feeds the same inputs to the proved calls (through bindings/rust), to a plain reading of document 01, and to the Rust that they are ported from:
+//! Feeds the same inputs to the proved calls (through bindings/rust), to a plain reading of the rules (docs/RULES.md), and to the Rust that they are ported from:
 //! every list of a small world, random lists around each boundary, damaged copies of good files. Prints how many of each; exits with 1 where any
 //! answer differs. `--spoil` changes one expectation for each kind of answer, and exits with 1 unless just these differences are seen.
 //!

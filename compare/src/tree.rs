@@ -1,4 +1,4 @@
-//! The segment tree of document 01: which node a block stands in.
+//! The segment tree of docs/RULES.md: which node a block stands in.
 use crate::board::Block;
 
 /// A node [min, max) with the numbers of its blocks, ascending by first cell, and its halves.

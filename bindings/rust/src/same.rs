@@ -1,6 +1,6 @@
 //! Every method answers as the public call of its name, which tests the tables: the same number, the same values, the same slices and tables. Tried on
 //! indices that were opened, finished, loaded and refused.
-use crate::{clock, put_operation, raw, tested, Index, Kind, Played, Recorded, Refusal, Room};
+use crate::{put_operation, raw, tested, Index, Kind, Played, Recorded, Refusal, Room};
 
 /// A public call that writes to none of the tables.
 macro_rules! public {
@@ -86,14 +86,14 @@ fn indices() -> Vec<(&'static str, Index)> {
     let mut loaded_over = played(room, 30);
     loaded_over.reload(&file, 0).unwrap();
     vec![
-        ("not opened", Index::lend(room)),
+        ("not opened", Index::lend(room).unwrap()),
         ("opened", played(room, 0)),
         ("opened, of no rows", Index::open(Room::even(0), 1, Kind::Unique).unwrap()),
         ("recorded", played(room, 30)),
         ("opened anew", opened_anew),
         ("finished", finished(200)),
         ("finished, no blocks", finished(0)),
-        ("loaded", Index::load(room, &file, 0).unwrap().0),
+        ("loaded", Index::load_with(room, &file, 0).unwrap().0),
         ("loaded over an open index", loaded_over),
         ("finish refused", full),
         ("load refused before anything was written", cut),
@@ -290,13 +290,13 @@ fn lists_of_records() {
     list.pop();
     for (what, index) in indices() {
         let (mut one, mut other, mut third) = (index.clone(), index.clone(), index.clone());
-        let Played { answers, next } = one.record_all(&list);
+        let Played { answers, next } = one.record_all(&list).unwrap();
         assert_eq!((answers.len(), next), (100, whole), "{what}: the last one is cut");
         let (mut threes, mut behind) = (vec![7; 3 * 41 + 2], 7);
         let scratch = [0; 8];
         let played = writes!(raw::servercape_record_all, other, as_mut_ptr as_ptr, scratch.as_ptr(), 8, list.as_ptr(), list.len(), threes.as_mut_ptr(), threes.len(), &mut behind);
         assert_eq!((played, &threes[3 * 41..]), (41, &[7, 7][..]), "{what}: as many as there are places");
-        let rest = other.record_all(&list[behind as usize..]);
+        let rest = other.record_all(&list[behind as usize..]).unwrap();
         assert_eq!(rest.answers, answers[41..], "{what}: the rest");
         same_tables(what, &one, &other);
         let mut at = 0;
@@ -333,7 +333,6 @@ fn finishes_opens_and_loads() {
             same_tables(what, &one, &other);
         }
     }
-    assert_eq!(clock(605), unsafe { raw::servercape_clock(605) });
 }
 
 /// All blocks of 12,000 in one pass: with a test for each this takes a minute.

@@ -1,11 +1,14 @@
 //! The calls after one test as the linker sees them. ../../servercape_tested.h says what each does, and when it may be called.
 
-/// The states that `servercape_state` gives.
+/// The state of tables that are not well formed.
 pub const SERVERCAPE_NOT_WELL_FORMED: u64 = 0;
+/// The state of an open index.
 pub const SERVERCAPE_OPEN: u64 = 1;
+/// The state of one that is finished or loaded.
 pub const SERVERCAPE_CLOSED: u64 = 2;
 
 extern "C" {
+    /// Tests the tables: one of the three states.
     pub fn servercape_state(
         pieces: *const u64, pieces_length: usize,
         blocks: *const u64, blocks_length: usize,
@@ -14,6 +17,7 @@ extern "C" {
         entries: *const u64, entries_length: usize,
     ) -> u64;
 
+    /// [`servercape_record`](crate::raw::servercape_record) after the test.
     pub fn servercape_record_tested(
         state: u64,
         pieces: *mut u64, pieces_length: usize,
@@ -25,6 +29,7 @@ extern "C" {
         updated: &mut u64, cell: &mut u64,
     ) -> u64;
 
+    /// [`servercape_block`](crate::raw::servercape_block) after the test.
     pub fn servercape_block_tested(
         state: u64,
         blocks: *const u64, blocks_length: usize,
@@ -33,6 +38,7 @@ extern "C" {
         kind: &mut u64, first: &mut u64, length: &mut u64, created: &mut u64, destroyed: &mut u64, offset: &mut u64,
     ) -> u64;
 
+    /// [`servercape_find`](crate::raw::servercape_find) after the test.
     pub fn servercape_find_tested(
         state: u64,
         blocks: *const u64, blocks_length: usize,
@@ -43,6 +49,7 @@ extern "C" {
         count: &mut u64, visited: &mut u64,
     ) -> u64;
 
+    /// [`servercape_read_cells`](crate::raw::servercape_read_cells) after the test.
     pub fn servercape_read_cells_tested(
         state: u64,
         blocks: *const u64, blocks_length: usize,
@@ -54,6 +61,7 @@ extern "C" {
         held: *mut u8, held_length: usize,
     ) -> u64;
 
+    /// [`servercape_touching`](crate::raw::servercape_touching) after the test.
     pub fn servercape_touching_tested(
         state: u64,
         blocks: *const u64, blocks_length: usize,
@@ -64,6 +72,7 @@ extern "C" {
         count: &mut u64,
     ) -> u64;
 
+    /// [`servercape_next`](crate::raw::servercape_next) after the test.
     pub fn servercape_next_tested(
         state: u64,
         blocks: *const u64, blocks_length: usize,
@@ -73,6 +82,7 @@ extern "C" {
         found: &mut u64, number: &mut u64,
     ) -> u64;
 
+    /// [`servercape_last`](crate::raw::servercape_last) after the test.
     pub fn servercape_last_tested(
         state: u64,
         blocks: *const u64, blocks_length: usize,
@@ -82,6 +92,7 @@ extern "C" {
         found: &mut u64, number: &mut u64,
     ) -> u64;
 
+    /// [`servercape_write`](crate::raw::servercape_write) after the test.
     pub fn servercape_write_tested(
         state: u64,
         blocks: *const u64, blocks_length: usize,

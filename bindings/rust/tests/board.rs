@@ -1,5 +1,6 @@
-//! The boards of document 01 and the edges of its refusals, through the Rust types.
-use servercape::{clock, Block, Index, Kind, Recorded, Room};
+//! The boards to try and the edges of the refusals, through the Rust types.
+#![allow(clippy::reversed_empty_ranges)] // such windows are refused 15
+use servercape::{Block, Days, Index, Kind, Recorded, Room};
 
 fn opened(end_tick: u64) -> Index {
     Index::open(Room::even(64), end_tick, Kind::Memory).unwrap()
@@ -50,7 +51,7 @@ fn written_and_loaded() {
     let index = listing();
     let file = index.write().unwrap();
     assert_eq!(number(index.write_into(&mut vec![0; file.len() - 1])), 16);
-    let (loaded, next) = Index::load(Room::even(64), &file, 0).unwrap();
+    let (loaded, next) = Index::load_with(Room::even(64), &file, 0).unwrap();
     assert_eq!(next, file.len());
     assert!(loaded.blocks().unwrap().eq(index.blocks().unwrap()));
     assert_eq!(loaded.find(6, 100..104), index.find(6, 100..104));
@@ -59,9 +60,9 @@ fn written_and_loaded() {
     assert_eq!(loaded.write().unwrap(), file);
     // as one of several in a file
     let twice = [&file[..], &file[..]].concat();
-    assert_eq!(Index::load(Room::even(64), &twice, next).unwrap().1, twice.len());
-    assert_eq!(number(Index::load(Room::even(64), &twice, twice.len())), 17);
-    assert_eq!(number(Index::load(Room { entries: 11, ..Room::even(64) }, &file, 0)), 20);
+    assert_eq!(Index::load_with(Room::even(64), &twice, next).unwrap().1, twice.len());
+    assert_eq!(number(Index::load_with(Room::even(64), &twice, twice.len())), 17);
+    assert_eq!(number(Index::load_with(Room { entries: 11, ..Room::even(64) }, &file, 0)), 20);
     // nothing was recorded: no bytes
     let mut empty = opened(1);
     empty.finish().unwrap();
@@ -127,7 +128,7 @@ fn through_midnight() {
     assert_eq!(index.touching(0, 1445..1450), Ok(vec![0]));
     assert_eq!(index.touching(0, 1446..1450), Ok(vec![]));
     assert_eq!(index.cells(0, 1444..1447).unwrap(), [Some(3), Some(3), None]);
-    assert_eq!((clock(1432), clock(1445)), (2352, 5));
+    assert_eq!([1432, 1445].map(|cell| Days::regular().label(cell).to_string()), ["23:52", "00:05"]);
 }
 
 #[test]

@@ -55,7 +55,7 @@ fn row_by_row() {
     let mut more = |index: &mut Index, refusal: Refusal| {
         met[refusal.number() as usize] += 1;
         room = one_more(room, refusal.number());
-        index.grow(room);
+        index.grow(room).unwrap();
     };
     for (tick, first, bytes) in operations() {
         let recorded = loop {
@@ -80,11 +80,11 @@ fn finished_and_loaded() {
     let mut whole = board();
     whole.finish().unwrap();
     let mut finished = whole.clone();
-    finished.grow(Room { blocks: 5000, nodes: 7777, ..Room::even(0) });
+    finished.grow(Room { blocks: 5000, nodes: 7777, ..Room::even(0) }).unwrap();
     same(&finished, &whole);
     assert_eq!((number(finished.record(END - 1, 0, &[1])), number(finished.finish())), (3, 3));
-    let (mut loaded, _) = Index::load(Room::even(4096), &whole.write().unwrap(), 0).unwrap();
-    loaded.grow(Room::even(5000));
+    let (mut loaded, _) = Index::load_with(Room::even(4096), &whole.write().unwrap(), 0).unwrap();
+    loaded.grow(Room::even(5000)).unwrap();
     same(&loaded, &whole);
     // and the longer tables take another index
     loaded.reopen(8, Kind::Other).unwrap();
@@ -95,8 +95,8 @@ fn finished_and_loaded() {
 #[test]
 fn never_shorter() {
     let mut index = board();
-    index.grow(Room::even(0));
-    index.grow(Room::even(4096));
+    index.grow(Room::even(0)).unwrap();
+    index.grow(Room::even(4096)).unwrap();
     index.finish().unwrap();
     let mut whole = board();
     whole.finish().unwrap();

@@ -1,0 +1,235 @@
+"""The package: each method against the plain model of the documents (tools/board_model.py), growth, refusals, and arguments that no call takes."""
+import inspect
+import pickle
+import random
+import re
+import typing
+import unittest
+
+from support import ROOT
+
+import board_model
+import servercape
+from servercape.library import library
+from servercape import WORDS, Block, Index, Kind, Operation, Place, Refused, clock
+
+LISTING = [Operation(1, 100, b"\7\7\7"), Operation(3, 102, b"\t\t\t"), Operation(5, 100, b"\7\7"), Operation(6, 103, b"\4")]
+ROOM = 1 << 40
+
+
+def finished(operations, end_tick=8) -> Index:
+    index = Index.open(end_tick)
+    index.record_all(operations)
+    index.finish()
+    return index
+
+
+def answer(run):
+    """What a call gives, or its refusal."""
+    try:
+        return run()
+    except Refused as refused:
+        return refused
+
+
+def random_operation(dice) -> Operation:
+    first = dice.choice([dice.randrange(40), dice.randrange(40), (1 << 64) - dice.randrange(1, 9)])
+    return Operation(dice.randrange(14), first, bytes(dice.choice([0, 7, 9]) for _ in range(dice.choice([0, 1, 2, 5, 12]))))
+
+
+class Played:
+    """The model with the package's shapes of answers; it has room for all."""
+
+    def __init__(self, end_tick, kind):
+        self.model = board_model.Model()
+        self.model.open(end_tick, kind, ROOM, ROOM, ROOM, ROOM, ROOM, ROOM)
+
+    def call(self, name, *arguments):
+        try:
+            return getattr(self.model, name)(*arguments)
+        except board_model.Refused as refused:
+            return Refused(refused.number)
+
+    def shaped(self, shape, name, *arguments):
+        given = self.call(name, *arguments)
+        return given if isinstance(given, Refused) else shape(given)
+
+    def record(self, tick, first, data):
+        return self.shaped(lambda given: given[1] if given[0] == "update" else None, "record", tick, first, board_model.hexed(data))
+
+    def find(self, tick, start, end):
+        return self.shaped(lambda given: (given[2:], given[1]), "find", tick, start, end, ROOM)
+
+    def touching(self, tick, start, end):
+        return self.shaped(lambda given: given[1:], "touching", tick, start, end, ROOM)
+
+    def near(self, name, tick, cell):
+        return self.shaped(lambda given: None if given[0] == "missing" else given[0], name, tick, cell)
+
+    def cells(self, tick, start, end):
+        shape = lambda given: [byte if held else None for byte, held in zip(*map(board_model.unhexed, given))]
+        return self.shaped(shape, "cells", tick, start, end, ROOM, ROOM)
+
+    def block(self, number):
+        return self.shaped(lambda given: Block(given[0], given[1], given[3], given[4], board_model.unhexed(given[5])), "block", number)
+
+
+class Model(unittest.TestCase):
+    def play(self, dice):
+        end_tick, kind = dice.randrange(1, 14), dice.randrange(5)
+        index, model = Index.open(end_tick, kind), Played(end_tick, kind)
+        for _ in range(dice.randrange(4)):
+            operations = [random_operation(dice) for _ in range(dice.randrange(12))]
+            want = [model.record(*operation) for operation in operations]
+            if dice.randrange(2):
+                self.assertEqual(index.record_all(operations), want)
+            else:
+                self.assertEqual([answer(lambda: index.record(*operation)) for operation in operations], want)
+        self.compare(dice, index, model)  # before finish each is refused 4
+        board = index.finished()
+        self.assertFalse(index.closed)
+        index.finish()
+        self.assertEqual(list(board.blocks()), list(index.blocks()))
+        model.call("finish")
+        self.compare(dice, index, model)
+        self.assertEqual(answer(lambda: index.record(13, 1, b"x")), Refused(3))
+        self.assertEqual(answer(index.finish), Refused(3))
+        return index
+
+    def compare(self, dice, index, model):
+        self.assertEqual(library.state(*index._tables), (index._state,))  # the state that the index keeps is true
+        window = lambda: (dice.randrange(14), dice.randrange(45), dice.randrange(45))
+        for _ in range(12):
+            asked = window()
+            self.assertEqual(answer(lambda: index.find(*asked)), model.find(*asked))
+            self.assertEqual(answer(lambda: index.touching(*asked)), model.touching(*asked))
+            self.assertEqual(answer(lambda: index.cells(*asked)), model.cells(*asked))
+            self.assertEqual(answer(lambda: index.next(*asked[:2])), model.near("next", *asked[:2]))
+            self.assertEqual(answer(lambda: index.last(*asked[:2])), model.near("last", *asked[:2]))
+        for number in range(30):
+            self.assertEqual(answer(lambda: index.block(number)), model.block(number))
+
+    def test_random_lists(self):
+        dice = random.Random(24)
+        for _ in range(150):
+            index = self.play(dice)
+            file = index.write()
+            if file:
+                loaded, end = Index.load(b"xyz" + file, 3)
+                self.assertEqual((end, loaded.write()), (3 + len(file), file))
+                self.assertEqual(list(loaded.blocks()), [block for block in index.blocks() if block.created < block.destroyed])
+
+    def test_damaged_files(self):
+        file = finished(LISTING).write()
+        model = board_model.Model()
+        model.rows = {"scratch": 8, "pieces": 0, "blocks": ROOM, "store": ROOM, "nodes": ROOM, "entries": ROOM}
+        for place in range(len(file)):
+            for by in (0, 1, 128):
+                damaged = board_model.damaged_at(file, place, by)
+                got = answer(lambda: Index.load(damaged))
+                self.assertEqual(got.number if isinstance(got, Refused) else 0, model.refusal(damaged, 0))
+
+
+class Growth(unittest.TestCase):
+    def test_many(self):
+        """Many bookings one by one and as one list leave the same; no table was large enough at first."""
+        dice = random.Random(7)
+        operations = [Operation(tick, dice.randrange(3000), bytes([dice.randrange(256)]) * dice.randrange(1, 60)) for tick in range(5000)]
+        one, all_at_once = Index.open(1 << 63, Kind.OTHER), Index.open(1 << 63, Kind.OTHER)
+        self.assertEqual([one.record(*operation) for operation in operations], all_at_once.record_all(operations))
+        one.finish()
+        all_at_once.finish()
+        self.assertEqual(one.write(), all_at_once.write())
+        self.assertEqual(library.state(*one._tables), (one._state,))
+        self.assertGreater(one.block_count, 5000)
+        everything = one.find(4999, 0, 1 << 63).numbers
+        self.assertEqual(sorted(everything), sorted(one.touching(4999, 0, 1 << 63)))
+        self.assertGreater(len(everything), 64)
+
+    def test_long_booking_over_many(self):
+        """The most that an update can leave: each cell a piece of its own, then one booking over all."""
+        index = Index.open(100)
+        self.assertEqual(set(map(type, index.record_all([(1, 2 * cell, b"a") for cell in range(3000)]))), {int})
+        self.assertEqual(index.record_all([(2, 1, b"b" * 6000), *((3, 3 * cell, b"c") for cell in range(2000))])[0], 1)
+        index.finish()
+        self.assertEqual(index.cells(3, 0, 4), [99, 98, 98, 99])
+
+
+class Refusals(unittest.TestCase):
+    def test_each(self):
+        index = Index.open(8)
+        index.record(3, 0, b"a")
+        closed = finished(LISTING)
+        cases = [(1, lambda: Index.open(0)), (1, lambda: Index.open((1 << 63) + 1)), (1, lambda: Index.open(8, 5)), (3, closed.finish),
+                 (3, lambda: closed.record(1, 1, b"a")), (4, lambda: index.find(0, 0, 1)), (4, lambda: index.blocks()), (4, index.write),
+                 (5, lambda: index.record(3, 0, b"")), (6, lambda: index.record(3, (1 << 64) - 2, b"ab")), (7, lambda: index.record(8, 0, b"a")),
+                 (8, lambda: index.record(2, 0, b"a")), (14, lambda: closed.find(8, 0, 1)), (14, lambda: closed.next(8, 0)),
+                 (15, lambda: closed.cells(1, 2, 1)), (15, lambda: closed.block(6)), (17, lambda: Index.load(b"")), (17, lambda: Index.load(b"", 9))]
+        for number, run in cases:
+            with self.subTest(number=number):
+                self.assertEqual(answer(run), Refused(number))
+
+    def test_window_larger_than_memory(self):
+        index = finished(LISTING)
+        self.assertEqual(answer(lambda: index.cells(9, 0, (1 << 64) - 1)), Refused(14))
+        with self.assertRaises(MemoryError):
+            index.cells(1, 0, (1 << 64) - 1)
+
+    def test_words(self):
+        self.assertEqual(list(WORDS), list(range(1, 25)))
+        self.assertEqual(str(Refused(8)), "refused 8: the booking's tick is below the last accepted one")
+        with self.assertRaisesRegex(Refused, "15: there is no block of that number"):
+            finished(LISTING).block(6)
+        with self.assertRaisesRegex(Refused, "15: the window's start is above its end"):
+            finished(LISTING).find(0, 2, 1)
+        self.assertEqual(pickle.loads(pickle.dumps(Refused(8))), Refused(8))
+
+    def test_words_are_those_of_rust(self):
+        source = re.sub(r"\\\n\s*", "", (ROOT / "bindings/rust/src/refusal.rs").read_text("utf-8"))
+        self.assertEqual([words for several in WORDS.values() for words in several if f'"{words}"' not in source], [])
+
+    def test_what_no_call_takes(self):
+        index = finished(LISTING)
+        for run in (lambda: index.find(-1, 0, 1), lambda: index.find(0, 0, 1 << 64), lambda: index.block(-1), lambda: Index.open(8, 256),
+                    lambda: Index.open(8).record_all([(1 << 64, 0, b"a")]), lambda: Index.open(8).record(-1, 0, b"a"), lambda: Index.load(b"", -1), lambda: Index.load(bytes(50), -30)):
+            self.assertRaises(ValueError, run)
+        for run in (lambda: Index.open(8).record(0, 0, 5), lambda: Index.open(8).record_all([(0, 0, "text")]), lambda: index.find("1", 0, 1)):
+            self.assertRaises(TypeError, run)
+
+
+class Values(unittest.TestCase):
+    def test_getters(self):
+        index = Index.open(8)
+        self.assertEqual(index.record_all(LISTING), [100, 102, None, 103])
+        self.assertEqual((index.end_tick, index.kind, index.last_tick, index.closed, index.block_count, index.byte_count), (8, Kind.MEMORY, 6, False, 2, 7))
+        index.finish()
+        self.assertEqual((index.closed, index.block_count, index.node_count, index.entry_count), (True, 6, 10, 12))
+        self.assertEqual(index.find(6, 100, 104), ([2, 3, 4], 3))
+        self.assertEqual(repr(index), "<Index memory, end tick 8, 6 blocks, closed>")
+
+    def test_no_blocks(self):
+        index = finished([])
+        self.assertEqual((index.find(0, 0, 9), index.touching(0, 0, 9), index.write(), list(index.blocks())), (([], 0), [], b"", []))
+
+    def test_places(self):
+        place = Place.at(2, "tuesday+1", "23:52")
+        self.assertEqual((Place.of(place.cell), place.time), (place, "tuesday+1 23:52"))
+        self.assertEqual(clock(place.cell), 2352)
+
+    def test_types(self):
+        """Every public name has types."""
+        for name in servercape.__all__:
+            public = getattr(servercape, name)
+            functions = [public] if inspect.isfunction(public) else [
+                function for key, function in vars(public).items() if not key.startswith("_") and callable(getattr(function, "__func__", function))
+            ] if inspect.isclass(public) else []
+            for function in functions:
+                function = getattr(function, "__func__", function)
+                if inspect.isfunction(function):
+                    hints = typing.get_type_hints(function)
+                    wanted = [each for each in inspect.signature(function).parameters if each not in ("self", "cls")] + ["return"]
+                    self.assertEqual([each for each in wanted if each not in hints], [], f"{name}.{function.__name__}")
+
+
+if __name__ == "__main__":
+    unittest.main()
