@@ -53,8 +53,8 @@ uint64_t servercape_open(
 
 /* Records an operation: the bytes of the cells from `first` on, at a tick. Of an update `updated` is 1 and `cell` the lowest cell that was unknown or had
    another byte; of a read, which changes no cell, both are 0. Of the scratch only the length counts: 8 numbers are enough for any number of pieces, and with
-   fewer every call is refused 2.
-   Refusals 2, 3, 5 to 11. */
+   fewer every call is refused 2. Outside the hours of the installed calendar a byte other than 0 is refused 26, even where it is known; 0 is not.
+   Refusals 2, 3, 5 to 8, 26, 9 to 11. */
 uint64_t servercape_record(
     uint64_t *pieces, size_t pieces_length,
     uint64_t *blocks, size_t blocks_length,
@@ -70,7 +70,7 @@ uint64_t servercape_record(
    cells. Of operation i the answers have at 3 * i what servercape_record returns for it, and then `updated` and `cell`, which are 0 where it is refused: a
    refused operation changes nothing, and the next one is played. It ends where the next operation is cut short or no three places for answers are left.
    Returns how many were played, which is no refusal; `next` is the position behind them.
-   Of each operation refusals 2, 3, 5 to 11. */
+   Of each operation refusals 2, 3, 5 to 8, 26, 9 to 11. */
 uint64_t servercape_record_all(
     uint64_t *pieces, size_t pieces_length,
     uint64_t *blocks, size_t blocks_length,
@@ -90,6 +90,19 @@ uint64_t servercape_finish(
     const uint8_t *store, size_t store_length,
     uint64_t *nodes, size_t nodes_length,
     uint64_t *entries, size_t entries_length);
+
+/* Installs a calendar into an open index, in place of the one before; until the first, every cell is open. Day 0 is a Monday and a day has 1,440 minutes. A
+   cell is open if a window [from, to), in minutes of the day, of its weekday or of its special day covers it. The numbers are: seven times a count of windows
+   and eight pairs from, to, Monday first; a count of special days; as many times a day number, a count and eight pairs. A number past the slice's end is 0,
+   pairs past a count are not looked at, and nothing is read past the 64th special day, 1,272 numbers in all.
+   Refusals 2, 3, 27: from >= to, to above 1440, more than eight windows or 64 special days, or special days that do not ascend. */
+uint64_t servercape_install_calendar(
+    const uint64_t *pieces, size_t pieces_length,
+    uint64_t *blocks, size_t blocks_length,
+    const uint8_t *store, size_t store_length,
+    const uint64_t *nodes, size_t nodes_length,
+    const uint64_t *entries, size_t entries_length,
+    const uint64_t *calendar, size_t calendar_length);
 
 /* The block of a number, from 0 in recorded order. Its bytes are store[offset] to store[offset + length - 1]. It is live from tick `created`
    up to, and not including, `destroyed`.

@@ -6,13 +6,16 @@ words and its answer a text, as in the list of the oracle: `open E KIND PIECES S
 What is lent is counted in rows, the scratch in numbers; a table of -1 rows cannot hold its head.
 
 Of the requests: `touching TICK START END ROOM`, whose answer is the count and the numbers, and `next TICK CELL` and `last TICK CELL`, with a number or `missing`;
-record answers `read`, or `update` with the lowest cell that was unknown or had another byte, and is refused 2 with a scratch of fewer than eight numbers.
+record answers `read`, or `update` with the lowest cell that was unknown or had another byte, and is refused 2 with a scratch of fewer than eight numbers; `calendar
+NUMBERS` installs the calendar of these numbers, with commas between them, and answers `installed`.
 
 Two more are our own. `scratch NUMBERS` lends another scratch from there on. `damaged AT BY FROM TO HEX` loads a file into the tables of the load before, once
 for each place from FROM up to TO: cut at that place where BY is 0, else with the byte there raised by BY. Its answer is `NUMBER*MANY` for each run of files
 that come out alike, refused with that number, or 0 for those that are taken.
 """
 import struct
+
+from hours_model import Calendar
 
 WORD = 1 << 64
 MOST_END = 1 << 63
@@ -231,8 +234,13 @@ def damaged_at(file, place, by):
 
 # ── the index ──
 
-# The calls whose last word is bytes.
-BYTES_LAST = ("record", "load", "damaged")
+# The calls whose last word is bytes, or numbers with commas.
+BYTES_LAST = ("record", "load", "damaged", "calendar")
+
+
+def listed(word):
+    """The numbers of a word with commas."""
+    return [] if word == "-" else list(map(int, word.split(",")))
 
 
 class Model:
@@ -255,7 +263,7 @@ class Model:
         self.rows = {"pieces": pieces, "scratch": scratch, "blocks": blocks, "store": store, "nodes": nodes, "entries": entries}
         self.end, self.kind, self.state = end, kind, self.headed("open")
         self.pieces, self.blocks, self.root = [], [], None
-        self.last_tick, self.used = 0, 0
+        self.last_tick, self.used, self.hours = 0, 0, None
         return ["ok"]
 
     def headed(self, state):
@@ -301,6 +309,7 @@ class Model:
         refuse(6, first + len(data) > WORD - 1)
         refuse(7, tick >= self.end)
         refuse(8, tick < self.last_tick)
+        refuse(26, self.hours is not None and any(byte and not self.hours.is_open(first + i) for i, byte in enumerate(data)))
         cell = self.first_change(first, data)
         if cell is None:
             self.last_tick = tick
@@ -324,6 +333,14 @@ class Model:
         refuse(13, entry_count(root) > self.rows["entries"])
         self.blocks, self.pieces, self.root, self.state = blocks, [], root, "closed"
         return [len(blocks), len(nodes_of(root)), entry_count(root)]
+
+    def calendar(self, word):
+        hours = Calendar(listed(word))
+        refuse(2, self.state is None)
+        refuse(3, self.state != "open")
+        refuse(27, not hours.taken())
+        self.hours = hours
+        return ["installed"]
 
     def load(self, at, blocks, store, nodes, entries, word):
         rows = {"blocks": blocks, "store": store, "nodes": nodes, "entries": entries}

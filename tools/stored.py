@@ -1,7 +1,8 @@
 #!/usr/bin/env python3
 """Makes the stored list that the program `replay` plays: calls with their answers, as its standard input.
 
-  stored.py make VECTORS FILE [ORACLE]   from the oracle's list, the boards of marked.txt and the own cases (stored_cases.py, _touching, _changes, _scratch)
+  stored.py make VECTORS FILE [ORACLE]   from the oracle's list, the boards of marked.txt and the own cases (stored_cases.py, _touching, _changes, _scratch,
+                                         _hours)
   stored.py show FILE [CASE]             the list, or one case of it, in words; cases count from 1
   stored.py spoil VECTORS FILE           the same cases, each up to a call whose answer is changed: replay must say that one of each differs
   stored.py --test                       tries itself: the model gives every answer of marked.txt, and rows are read as they were written
@@ -13,14 +14,15 @@ import collections
 import os
 import sys
 
-from board_model import BYTES_LAST, LEAST_SCRATCH, WORD, Model, hexed, unhexed
+from board_model import BYTES_LAST, LEAST_SCRATCH, WORD, Model, hexed, listed, unhexed
 from board_oracle import compare
 from stored_cases import Dice, own_cases
 from stored_changes import change_cases
 from stored_rows import (
-    BLOCK, CASE, CELLS, CLOCK, DAMAGED, FIND, FINISH, LAST, LOAD, NEXT, OPEN, OWN, PART, RECORD, SCRATCH, TOUCHING, WRITE, Part, line, number, read_number, row,
+    BLOCK, CALENDAR, CASE, CELLS, CLOCK, DAMAGED, FIND, FINISH, LAST, LOAD, NEXT, OPEN, OWN, PART, RECORD, SCRATCH, TOUCHING, WRITE, Part, line, number, read_number, row,
     rows_of
 )
+from stored_hours import hours_cases
 from stored_scratch import scratch_cases
 from stored_touching import touching_cases
 
@@ -30,10 +32,11 @@ MARKED = os.path.join(os.path.dirname(os.path.abspath(__file__)), "marked.txt")
 PIECE_HEAD, BLOCK_HEAD, NODE_HEAD, ENTRY_HEAD = 8, 2048, 8, 8
 ROW, ENTRY_ROW = 8, 2
 
-# What the program has room for: rows of each table, bytes of store, numbers of a scratch, places of an answer, cells, bytes of a file.
+# What the program has room for: rows of each table, bytes of store, numbers of a scratch, places of an answer, cells, bytes of a file, numbers of a calendar.
 PIECES, BLOCKS, STORE, NODES, ENTRIES = 64, 256, 4103, 4096, 8195
 SCRATCH_MOST = ROW * PIECES + 7
 ANSWER, WINDOW, FILE = 64, 64, 16384
+CALENDAR_MOST = 1300
 
 
 class LeftOut(Exception):
@@ -104,6 +107,12 @@ class Case:
     def record(self, words, answer):
         start, length = self.bytes(words[2])
         return RECORD, [int(words[0]), int(words[1]), start, length] + ([1, int(answer[1])] if answer[:1] == ["update"] else [])
+
+    def calendar(self, words, answer):
+        numbers = listed(words[0])
+        fits(len(numbers), CALENDAR_MOST)
+        data = b"".join(map(number, numbers))
+        return CALENDAR, [self.part.place(data), len(data), len(numbers)]
 
     def finish(self, words, answer):
         return FINISH, list(map(int, answer))
@@ -258,7 +267,7 @@ def tell(stored, vectors, whole):
 
 
 def own_lists():
-    return [(name, [list(map(str, call)) for call in calls]) for name, calls in own_cases() + touching_cases() + change_cases() + scratch_cases()]
+    return [(name, [list(map(str, call)) for call in calls]) for name, calls in own_cases() + touching_cases() + change_cases() + scratch_cases() + hours_cases()]
 
 
 def put_out(vectors, own, out):
@@ -306,7 +315,7 @@ def changed(dice, call, answer):
     other = ["refused", str(1 + (int(answer[1]) + dice.below(23)) % 24 if answer[0] == "refused" else dice.among(1, 24))]
     place = dice.below(len(answer))
     word, words = answer[place], list(answer)
-    if answer[0] == "refused" or word in ("ok", "-") or (call != "clock" and dice.below(5) == 0):
+    if answer[0] == "refused" or word in ("ok", "installed", "-") or (call != "clock" and dice.below(5) == 0):
         return other
     if call in ("next", "last") and (word == "missing" or dice.below(2)):
         return ["0" if word == "missing" else "missing"]
@@ -365,7 +374,7 @@ def test():
     lines = [line(*r) for start in range(0, len(stored.bytes()), PART) for r in rows_of(stored.bytes()[start:start + PART])]
     assert lines.count("own case") == len(marked) and len(lines) == len(marked) + sum(map(len, marked))
     said = {n for case in marked for _, answer in case for n in answer[1:] if answer[0] == "refused"}
-    assert said == {str(n) for n in range(1, 25)}, "marked.txt has the edge of each refusal"
+    assert said == {str(n) for n in [*range(1, 25), 26, 27]}, "marked.txt has the edge of each refusal"
     assert [run_of(word) for word in broken(Dice(1), ["17*5"])] != [(17, 5)]
     print("stored: ok")
 

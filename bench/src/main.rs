@@ -11,6 +11,7 @@ mod clock;
 mod file;
 mod files;
 mod growth;
+mod hours;
 mod memory;
 mod play;
 mod port;
@@ -37,6 +38,7 @@ fn boards(count: u64) -> (Vec<Board>, Vec<Board>) {
 fn main() {
     let given: Vec<u64> = std::env::args().skip(1).map(|a| a.parse().expect("a number of operations")).collect();
     let counts = if given.is_empty() { vec![1_000, 10_000, 100_000, 250_000, 1_000_000] } else { given };
+    hours::print();
     let (mut all, mut all_moves) = (vec![], vec![]);
     for &count in &counts {
         println!("\n## {count} operations");

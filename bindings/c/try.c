@@ -374,6 +374,52 @@ static void find_all(struct lent x)
     same("no query", servercape_find_all(TABLES(x), queries, 2, answers, 17, numbers, 6), 0);
 }
 
+/* A calendar is refused, and nothing changes. */
+static void not_installed(const char *what, struct lent x, const uint64_t *calendar, size_t length, uint64_t number)
+{
+    uint64_t before = sum_of(x);
+    same(what, servercape_install_calendar(TABLES(x), calendar, length), number);
+    same("kept tables", sum_of(x), before);
+}
+
+/* Mondays 480 to 1200, then nothing, then day 1 alone; each fault of 27; a finished index takes none. */
+static void station_hours(struct lent x)
+{
+    uint64_t numbers[1272] = {1, 480, 1200};
+    same("open", servercape_open(TABLES(x), 8, 1), 0);
+    record("before the first calendar", x, 0, 479, (const uint8_t[]){7}, 1, update(479));
+    same("install", servercape_install_calendar(TABLES(x), numbers, 1272), 0);
+    record("closed, though known", x, 1, 479, (const uint8_t[]){7}, 1, refusal(26));
+    record("from", x, 1, 480, (const uint8_t[]){7}, 1, update(480));
+    record("to", x, 1, 1199, (const uint8_t[]){7, 7}, 2, refusal(26));
+    record("a zero byte at to", x, 1, 1199, (const uint8_t[]){7, 0}, 2, update(1199));
+    record("8 before 26", x, 0, 0, (const uint8_t[]){7}, 1, refusal(8));
+    record("another platform's Monday", x, 1, (UINT64_C(3) << 32) + 480, (const uint8_t[]){7}, 1, update((UINT64_C(3) << 32) + 480));
+    same("a shorter slice", servercape_install_calendar(TABLES(x), numbers, 0), 0);
+    record("an empty calendar closes all", x, 1, 480, (const uint8_t[]){8}, 1, refusal(26));
+    numbers[0] = 0;
+    numbers[119] = 1;
+    numbers[120] = 1;
+    numbers[121] = 1;
+    numbers[123] = 1440;
+    same("a special day", servercape_install_calendar(TABLES(x), numbers, 138), 0);
+    record("its first minute", x, 1, 1440, (const uint8_t[]){7}, 1, update(1440));
+    record("the week after", x, 1, 8 * 1440, (const uint8_t[]){7}, 1, refusal(26));
+    numbers[123] = 1441;
+    not_installed("to above 1440", x, numbers, 138, 27);
+    not_installed("from = to", x, (const uint64_t[]){1, 5, 5}, 3, 27);
+    not_installed("nine windows", x, (const uint64_t[]){9}, 1, 27);
+    numbers[119] = 2;
+    not_installed("day 1, then day 0", x, numbers, 122, 27);
+    numbers[119] = 65;
+    not_installed("65 days", x, numbers, 120, 27);
+    record("the special day still stands", x, 1, 1440, (const uint8_t[]){7}, 1, a_read);
+    same("finish", servercape_finish(TABLES(x)), 0);
+    not_installed("finished", x, numbers, 120, 3);
+    x.blocks[servercape_length(SERVERCAPE_BLOCKS, 0) - 8] = 9;
+    not_installed("not well formed", x, numbers, 120, 2);
+}
+
 static void without_blocks(struct lent x)
 {
     uint64_t count = 77;
@@ -441,6 +487,7 @@ int main(void)
     changes(x);
     scratch();
     record_all();
+    station_hours(x);
     without_blocks(x);
     same("clock", servercape_clock((UINT64_C(7) << 32) + 3 * 1440 + 605), 1005);
     give_back(x);

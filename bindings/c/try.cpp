@@ -50,7 +50,10 @@ void record(Tables &x, std::uint64_t tick, std::uint64_t first, const Bytes &byt
 
 void play(Tables &x)
 {
+    const Numbers hours = {1, 90, 120}, reversed = {1, 120, 90};
     same("open", call(servercape_open, x, std::uint64_t{8}, std::uint8_t{1}), 0);
+    same("hours, Mondays from 01:30 to 02:00", call(servercape_install_calendar, x, hours.data(), hours.size()), 0);
+    same("no hours", call(servercape_install_calendar, x, reversed.data(), reversed.size()), 27);
     record(x, 1, 100, {7, 7, 7}, 1, 100);
     record(x, 3, 102, {9, 9, 9}, 1, 102);
     record(x, 5, 100, {7, 7}, 0, 0);

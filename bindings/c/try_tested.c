@@ -152,6 +152,26 @@ static void with_true_states(void)
     give_back(z);
 }
 
+/* Mondays from minute 100 to 103. */
+static void with_hours(void)
+{
+    static const uint64_t hours[] = {1, 100, 103};
+    struct lent x = lend(8, 16, 64, 16, 32), y = lend(8, 16, 64, 16, 32);
+    same("open", servercape_open(TABLES(x), 8, 1) + servercape_open(TABLES(y), 8, 1), 0);
+    same("install", servercape_install_calendar(TABLES(x), hours, 3) + servercape_install_calendar(TABLES(y), hours, 3), 0);
+    same_records(x, y, SERVERCAPE_OPEN);
+    same_record(x, y, SERVERCAPE_OPEN, 6, 99, "1", 8);
+    same_record(x, y, SERVERCAPE_OPEN, 6, 102, "1", 8);
+    same_record(x, y, SERVERCAPE_OPEN, 6, 1440, "1", 8);
+    same_record(x, y, SERVERCAPE_OPEN, 6, 7 * 1440 + 100, "123", 8);
+    same_record(x, y, SERVERCAPE_OPEN, 6, (UINT64_C(9) << 32) + 100, "1234", 8);
+    same("finish", servercape_finish(TABLES(x)) + servercape_finish(TABLES(y)), 0);
+    same_records(x, y, SERVERCAPE_CLOSED);
+    same_all_reads(x, SERVERCAPE_CLOSED);
+    give_back(x);
+    give_back(y);
+}
+
 /* ── with states that are false ── */
 
 /* The head of the block table: its last eight numbers. */
@@ -176,8 +196,8 @@ static struct lent full_tables(void)
     return x;
 }
 
-/* Every way to spoil them: none; links that lead back or to one row; counts and offsets that no table has; garbage. */
-enum { WAYS = 13 };
+/* Every way to spoil them: none; links that lead back or to one row; counts and offsets that no table has; garbage; a calendar of more than there is room for. */
+enum { WAYS = 14, CALENDAR = 32, SPECIAL = CALENDAR + 120 };
 
 static void spoil(struct lent x, int way)
 {
@@ -206,6 +226,8 @@ static void spoil(struct lent x, int way)
         h[1] = UINT64_MAX, h[5] = HUGE_COUNT, x.nodes[5] = x.entries[0] = HUGE_COUNT;
     if (way == 12)
         memset(x.pieces, GARBAGE, 8 * x.pieces_length), memset(x.blocks, GARBAGE, 8 * x.blocks_length), memset(x.nodes, GARBAGE, 8 * x.nodes_length);
+    if (way == 13)
+        x.blocks[CALENDAR] = 1, x.blocks[CALENDAR + 1] = x.blocks[SPECIAL] = x.blocks[SPECIAL + 2] = HUGE_COUNT;
 }
 
 /* Every call with a state, whatever it answers; no read changes a table. */
@@ -257,6 +279,7 @@ int main(void)
     /* a call that does not end is a failure */
     alarm(60);
     with_true_states();
+    with_hours();
     with_false_states();
     printf("C, calls after one test: %d checks, %d wrong\n", checks, wrong);
     return wrong != 0;

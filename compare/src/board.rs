@@ -1,7 +1,8 @@
 //! A plain reading of the rules: pieces in a list, every cell looked at by itself. It says what the calls must answer, and which operations meet
 //! D1 or D2, where the Rust does something else.
+use crate::hours;
 use crate::tree::Tree;
-use servercape::{Recorded, Room};
+use servercape::{Calendar, Recorded, Room};
 use std::collections::BTreeMap;
 
 #[derive(Clone, PartialEq, Eq, Debug)]
@@ -72,11 +73,12 @@ pub struct Board {
     pub blocks: Vec<Block>,
     last: u64,
     used: u64,
+    hours: Option<Calendar>,
 }
 
 impl Board {
     pub fn open(end: u64, kind: u64, room: Room) -> Board {
-        Board { end, kind, room, pieces: vec![], blocks: vec![], last: 0, used: 0 }
+        Board { end, kind, room, pieces: vec![], blocks: vec![], last: 0, used: 0, hours: None }
     }
 
     /// The byte of a cell, if it is known.
@@ -148,6 +150,9 @@ impl Board {
         if op.tick < self.last {
             return 8;
         }
+        if self.outside(op) {
+            return 26;
+        }
         if !self.is_read(op) {
             let next = self.updated(op);
             if next.pieces.len() as u64 > self.room.pieces {
@@ -162,6 +167,21 @@ impl Board {
             *self = next;
         }
         self.last = op.tick;
+        0
+    }
+
+    /// Whether a byte that is not 0 falls on a cell that the calendar closes.
+    fn outside(&self, op: &Op) -> bool {
+        let closed = |hours: &Calendar| op.bytes.iter().zip(op.first..).any(|(byte, cell)| *byte != 0 && !hours::open(hours, cell));
+        self.hours.as_ref().is_some_and(closed)
+    }
+
+    /// Installs a calendar: 0, or the number of the refusal.
+    pub fn install(&mut self, calendar: &Calendar) -> u64 {
+        if !hours::taken(calendar) {
+            return 27;
+        }
+        self.hours = Some(calendar.clone());
         0
     }
 

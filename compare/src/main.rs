@@ -8,6 +8,7 @@
 mod board;
 mod file;
 mod files;
+mod hours;
 mod lists;
 mod random;
 mod rust;
@@ -29,16 +30,19 @@ struct Extent {
     /// Lists of each size, for each table and each of one less, as many, one more.
     tight: u64,
     random: u64,
+    /// Lists with calendars.
+    hours: u64,
     /// Copies of good files, most of them damaged.
     files: usize,
 }
 
-const SHORT: Extent = Extent { worlds: &[World { end: 2, cells: 3, letters: 2, most: 2 }], tight: 1, random: 3_000, files: 4_000 };
+const SHORT: Extent = Extent { worlds: &[World { end: 2, cells: 3, letters: 2, most: 2 }], tight: 1, random: 3_000, hours: 300, files: 4_000 };
 
 const FULL: Extent = Extent {
     worlds: &[World { end: 3, cells: 3, letters: 2, most: 3 }, World { end: 4, cells: 4, letters: 2, most: 2 }],
     tight: 30,
     random: 120_000,
+    hours: 10_000,
     files: 100_000,
 };
 
@@ -111,6 +115,8 @@ fn main() -> ExitCode {
         let room = GOOD - good.len();
         good.extend(files.into_iter().filter(|f| !f.is_empty() && f.len() <= LONGEST).take(room));
     }
+    println!("Lists with calendars: {} lists", extent.hours);
+    hours::compare(&mut Random::new(seed ^ 0x40EA5), extent.hours, &mut tally);
     let mut random = Random::new(seed ^ 0xF11E);
     println!("Copies of {} good files, as they are or damaged: {} files", good.len(), extent.files);
     for start in (0..extent.files).step_by(BATCH) {

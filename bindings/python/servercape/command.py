@@ -1,5 +1,6 @@
 """The command `servercape`."""
 import argparse
+import json
 import os
 import sys
 from collections.abc import Callable, Iterable, Iterator
@@ -26,6 +27,8 @@ WINDOW = """The window has the cells from --from up to, and not including, --to:
 of cells, or with --platform a day and a clock time, as 'monday 23:50', or
 'tuesday+1 00:10' for one week later. What is left out is the first cell, or
 the end."""
+CALENDAR = """it must be JSON, {"week": DAYS, "special": SPECIAL}: DAYS are seven lists of windows, Monday first, SPECIAL is a list of [DAY, WINDOWS], and a \
+window is [FROM, TO], in minutes of the day"""
 TICK = "Without --tick the board is read at its last tick."
 
 
@@ -109,6 +112,18 @@ def tick(options: argparse.Namespace, index: Index) -> int:
 # ── the commands ──
 
 
+def install(index: Index, name: str) -> None:
+    """Installs the station hours of a file."""
+    data = read_file(name)
+    try:
+        hours = json.loads(data)
+        index.install_calendar(hours["week"], hours.get("special", ()))
+    except Refused as refused:
+        raise Fault(f"the calendar {name}: {refused}") from None
+    except (AttributeError, KeyError, TypeError, ValueError):
+        raise Fault(f"the calendar {name}: {CALENDAR}") from None
+
+
 def record(bookings: Bookings, index: Index, name: str, progress: Progress) -> int:
     """Records a list, and tells each refusal with its place: how many there are."""
     count, refused = len(bookings.operations), 0
@@ -127,6 +142,8 @@ def build(options: argparse.Namespace) -> int:
     progress.say("reading the list")
     bookings = read_bookings(data)
     index = Index.open(bookings.end_tick, bookings.kind)
+    if options.calendar is not None:
+        install(index, options.calendar)
     refused = record(bookings, index, options.file, progress)
     if refused and not options.skip_refused:
         complain(f"{options.file}: {refused} of {len(bookings.operations)} bookings refused: nothing is written; --skip-refused writes the others")
@@ -208,7 +225,7 @@ def verify(options: argparse.Namespace) -> int:
 
 def explain(options: argparse.Namespace) -> int:
     if options.number is not None and options.number not in WORDS:
-        options.parser.error(f"refusals go from {min(WORDS)} to {max(WORDS)}")
+        options.parser.error(f"there is no refusal {options.number}: they go from {min(WORDS)} to {max(WORDS)}, without 25")
     for each in WORDS if options.number is None else [options.number]:
         for words in WORDS[each]:
             print(f"{each}: {words}")
@@ -289,11 +306,12 @@ def make_parser() -> argparse.ArgumentParser:
                                       formatter_class=argparse.RawDescriptionHelpFormatter)
         command.set_defaults(run=run, parser=command, file="refusals")
         if name == "explain":
-            command.add_argument("number", type=natural, nargs="?", metavar="NUMBER", help="from 1 to 24")
+            command.add_argument("number", type=natural, nargs="?", metavar="NUMBER", help="from 1 to 27, without 25")
         else:
             command.add_argument("file", metavar="BOOKINGS" if name == "build" else "FILE", help="a file, or - for standard input")
         if name == "build":
             command.add_argument("-o", "--output", required=True, metavar="FILE", help="the file to write, or - for standard output")
+            command.add_argument("--calendar", metavar="HOURS", help="station hours to install first, as examples/hours.json has them")
             command.add_argument("--skip-refused", action="store_true", help="write the file without the bookings that are refused; the status stays 1")
         for add in additions:
             add(command)

@@ -5,6 +5,7 @@ from collections.abc import Callable, Iterable, Iterator
 from enum import IntEnum
 from typing import NamedTuple
 
+from .hours import Windows, calendar
 from .library import library
 from .refusal import Refused, accepted
 
@@ -204,7 +205,7 @@ class Index:
 
     def record(self, tick: int, first: int, data: bytes) -> int | None:
         """Records the bytes of the cells from `first` on, at a tick: the lowest cell that was unknown or had another byte, or None where nothing changed.
-        Refusals 3, 5 to 8."""
+        Outside the station hours that are installed a byte other than 0 is refused 26, even where it changes nothing. Refusals 3, 5 to 8, 26."""
         data = _bytes(data)
         self._reserve(1, len(data))
         number, updated, cell = library.record_tested(
@@ -230,6 +231,12 @@ class Index:
         library.record_all(*self._tables, self._scratch, b"".join(parts), answers)
         return [Refused(number) if number else cell if updated else None
                 for number, updated, cell in zip(answers[0::3], answers[1::3], answers[2::3])]
+
+    def install_calendar(self, week: Iterable[Windows], special: Iterable[tuple[int, Windows]] = ()) -> None:
+        """Installs station hours in place of those before; until the first, every cell is open. A window is a pair, from and to, in minutes of the day. `week` has
+        those of each weekday, Monday first, and `special` pairs of a day's number, ascending, and the windows that are open on it besides. Day 0 is a Monday.
+        Refusals 3, 27."""
+        accepted(*library.install_calendar(*self._tables, calendar(week, special)))
 
     def finish(self) -> None:
         """Finishes the index: it can be read from now on, and takes no more operations. Refusal 3."""

@@ -14,6 +14,7 @@ SIGNATURES = {
     "open": "sssssnk",
     "record_all": "ssssss" "bso",
     "finish": "sssss",
+    "install_calendar": "sssss" "s",
     "load": "sssss" "bno",
     "clock": "n",
     "state": "sssss",

@@ -28,11 +28,14 @@ WORDS: dict[int, tuple[str, ...]] = {
     23: ("the file's entries are wrong: a block number is too high, an entry's block does not cover the node or covers its parent too, first cells do not "
          "ascend, or a block's nodes do not make up its life",),
     24: ("two blocks of the file share a cell at a tick",),
+    26: ("the booking has a byte other than 0 in a minute at which the station is closed",),
+    27: ("the calendar is wrong: a window does not end after it starts, or ends above minute 1440 of the day, a day has more than 8 windows, there are more than "
+         "64 special days, or they do not ascend",),
 }
 
 
 class Refused(Exception):
-    """A call was refused: nothing has changed. `number` is from 1 to 24, `words` say the condition."""
+    """A call was refused: nothing has changed. `number` is one of `WORDS`, `words` say the condition."""
 
     def __init__(self, number: int, meaning: int = 0) -> None:
         super().__init__(number, meaning)

@@ -67,6 +67,29 @@ class Build(Command):
         self.assertEqual((status, len(errors.splitlines())), (REFUSED, 3))
         self.assertEqual(Index.load((self.folder / "made").read_bytes())[0].find(5, 0, 9).numbers, [0, 1])
 
+    def test_calendar(self):
+        """Trains in the night are refused, each with its line, but on the special day."""
+        hours = json.loads((EXAMPLES / "hours.json").read_text("utf-8"))
+        made, other = self.folder / "made", self.folder / "hours.json"
+        self.assertEqual(run("build", EXAMPLES / "evening.txt", "--calendar", EXAMPLES / "hours.json", "-o", made), (DONE, "", ""))
+        del hours["special"]
+        other.write_text(json.dumps(hours), "utf-8")
+        status, output, errors = run("build", EXAMPLES / "evening.txt", "--calendar", other, "-o", made)
+        self.assertEqual((status, output), (REFUSED, ""))
+        self.assertEqual([line.split(": ")[2:4] for line in errors.splitlines()[:-1]], [[f"line {line}", "refused 26"] for line in (17, 20, 22, 33)])
+
+    def test_bad_calendars(self):
+        hours = self.folder / "hours.json"
+        week = '"week": [[], [], [], [], [], [], []]'
+        for text, words in (("{", "it must be JSON"), ("[]", "it must be JSON"), ("{}", "it must be JSON"), ('{"week": []}', "it must be JSON"), ("{%s, \"special\": [5]}" % week, "it must be JSON"),
+                            (week, "it must be JSON"), ("\udcff", "it must be JSON"), ("{%s, \"special\": [[1, [[5, 5]]]]}" % week, "refused 27: the calendar is wrong"),
+                            ("{%s, \"special\": [[2, []], [1, []]]}" % week, "refused 27: the calendar is wrong")):
+            hours.write_text(text, "utf-8", "surrogateescape")
+            status, output, errors = self.build("end 8\nkind memory\nat 1 cell 2 bytes 00\n", "--calendar", hours)
+            self.assertEqual((status, output), (REFUSED, ""), text)
+            self.assertIn(f"-: the calendar {hours}: {words}", errors)
+        self.assertEqual(self.build("end 8\nkind memory\n", "--calendar", self.folder / "none")[0], BROKEN)
+
     def test_records_of_a_binary_list(self):
         bookings = [(3, 1, b"\7"), (2, 1, b"\7")]
         status, _, errors = self.build(boardfile.write_input({"end": 8, "kind": 1, "bookings": bookings}))
@@ -211,7 +234,8 @@ class Reads(Command):
 
     def test_explain(self):
         self.assertEqual(run("explain", 8), (DONE, "8: the booking's tick is below the last accepted one\n", ""))
-        self.assertEqual(len(run("explain")[1].splitlines()), 25)
+        self.assertEqual(run("explain", 26)[1], "26: the booking has a byte other than 0 in a minute at which the station is closed\n")
+        self.assertEqual(len(run("explain")[1].splitlines()), 27)
 
 
 class Usage(Command):

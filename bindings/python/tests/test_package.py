@@ -10,6 +10,7 @@ from support import ROOT
 
 import board_model
 import servercape
+from servercape.hours import calendar
 from servercape.library import library
 from servercape import WORDS, Block, Index, Kind, Operation, Place, Refused, clock
 
@@ -35,6 +36,18 @@ def answer(run):
 def random_operation(dice) -> Operation:
     first = dice.choice([dice.randrange(40), dice.randrange(40), (1 << 64) - dice.randrange(1, 9)])
     return Operation(dice.randrange(14), first, bytes(dice.choice([0, 7, 9]) for _ in range(dice.choice([0, 1, 2, 5, 12]))))
+
+
+def random_windows(dice) -> list[tuple[int, int]]:
+    """Around the cells of the operations, and now and then a fault of 27."""
+    fault = dice.randrange(40) == 0
+    edges = lambda: dice.choice([sorted(dice.sample(range(60), 2)), (0, 1440), (1439, 1440)])
+    return [(5, 5)] if fault else [tuple(edges()) for _ in range(dice.choice([0, 1, 2, 8 + (dice.randrange(20) == 0)]))]
+
+
+def random_calendar(dice) -> tuple:
+    days = sorted(dice.sample([0, 1, 7, (1 << 32) // 1440, (1 << 64) - 1], dice.randrange(4)), reverse=dice.randrange(20) == 0)
+    return [random_windows(dice) for _ in range(7)], [(day, random_windows(dice)) for day in days]
 
 
 class Played:
@@ -63,6 +76,9 @@ class Played:
     def touching(self, tick, start, end):
         return self.shaped(lambda given: given[1:], "touching", tick, start, end, ROOM)
 
+    def calendar(self, week, special):
+        return self.shaped(lambda given: None, "calendar", ",".join(map(str, calendar(week, special))))
+
     def near(self, name, tick, cell):
         return self.shaped(lambda given: None if given[0] == "missing" else given[0], name, tick, cell)
 
@@ -79,6 +95,9 @@ class Model(unittest.TestCase):
         end_tick, kind = dice.randrange(1, 14), dice.randrange(5)
         index, model = Index.open(end_tick, kind), Played(end_tick, kind)
         for _ in range(dice.randrange(4)):
+            if dice.randrange(2):
+                hours = random_calendar(dice)
+                self.assertEqual(answer(lambda: index.install_calendar(*hours)), model.calendar(*hours))
             operations = [random_operation(dice) for _ in range(dice.randrange(12))]
             want = [model.record(*operation) for operation in operations]
             if dice.randrange(2):
@@ -94,6 +113,7 @@ class Model(unittest.TestCase):
         self.compare(dice, index, model)
         self.assertEqual(answer(lambda: index.record(13, 1, b"x")), Refused(3))
         self.assertEqual(answer(index.finish), Refused(3))
+        self.assertEqual(answer(lambda: index.install_calendar([[]] * 7)), Refused(3))
         return index
 
     def compare(self, dice, index, model):
@@ -155,6 +175,43 @@ class Growth(unittest.TestCase):
         self.assertEqual(index.cells(3, 0, 4), [99, 98, 98, 99])
 
 
+class Hours(unittest.TestCase):
+    def test_hours(self):
+        index = Index.open(8)
+        monday = [[(480, 1200)], *[[]] * 6]
+        self.assertEqual(index.record(1, 479, b"a"), 479)  # until the first calendar every cell is open
+        index.install_calendar(monday)
+        self.assertEqual(answer(lambda: index.record(1, 479, b"a")), Refused(26))
+        self.assertEqual(index.record_all([(1, 480, b"a"), (1, 1199, b"aa"), (1, 1199, b"a\0"), (1, 1440, b"a")]), [480, Refused(26), 1199, Refused(26)])
+        self.assertEqual(answer(lambda: index.install_calendar([[(9, 9)]] * 7)), Refused(27))  # the one before still counts
+        self.assertEqual(answer(lambda: index.record(1, 0, b"a")), Refused(26))
+        index.install_calendar(monday, [(1, [(0, 5)])])
+        self.assertEqual(index.record(2, 1440, b"aaaaa"), 1440)
+        copy = index.copy()
+        self.assertEqual(answer(lambda: copy.record(2, 1445, b"a")), Refused(26))
+        copy.install_calendar([[(0, 1440)]] * 7)
+        self.assertEqual(copy.record(2, 1445, b"a"), 1445)
+        self.assertEqual(library.state(*index._tables), (index._state,))
+
+    def test_every_window_counts(self):
+        """A full calendar, whose windows are all apart."""
+        index = Index.open(8)
+        windows = lambda day: [(100 * k + day, 100 * k + day + 1) for k in range(8)]
+        index.install_calendar(map(windows, range(7)), ((70 + k, windows(10 + k)) for k in range(64)))
+        cells = [(day, minute) for day in (*range(9), *range(69, 136, 5), 70, 133, 134) for minute in range(800)]
+        answers = index.record_all((0, 1440 * day + minute, b"a") for day, minute in cells)
+        is_open = lambda day, minute: minute % 100 == day % 7 or 70 <= day < 134 and minute % 100 == day - 60
+        self.assertEqual([given == Refused(26) for given in answers], [not is_open(*cell) for cell in cells])
+
+    def test_no_such_calendar(self):
+        index = Index.open(8)
+        for week, special in (([], []), ([[]] * 6, []), ([[(-1, 5)]] * 7, []), ([[]] * 7, [(1 << 64, [])]), ([[(1, 2, 3)]] * 7, [])):
+            self.assertRaises(ValueError, index.install_calendar, week, special)
+        for week, special in (([[5]] * 7, []), (5, []), ([[("0", "9")]] * 7, []), ([[]] * 7, [5])):
+            self.assertRaises(TypeError, index.install_calendar, week, special)
+        self.assertEqual(index.record(0, 0, b"a"), 0)
+
+
 class Refusals(unittest.TestCase):
     def test_each(self):
         index = Index.open(8)
@@ -164,6 +221,9 @@ class Refusals(unittest.TestCase):
                  (3, lambda: closed.record(1, 1, b"a")), (4, lambda: index.find(0, 0, 1)), (4, lambda: index.blocks()), (4, index.write),
                  (5, lambda: index.record(3, 0, b"")), (6, lambda: index.record(3, (1 << 64) - 2, b"ab")), (7, lambda: index.record(8, 0, b"a")),
                  (8, lambda: index.record(2, 0, b"a")), (14, lambda: closed.find(8, 0, 1)), (14, lambda: closed.next(8, 0)),
+                 (3, lambda: closed.install_calendar([[]] * 7)), (27, lambda: index.install_calendar([[(5, 5)]] * 7)),
+                 (27, lambda: index.install_calendar([[(0, 1441)]] * 7)), (27, lambda: index.install_calendar([[(0, 1)] * 9] * 7)),
+                 (27, lambda: index.install_calendar([[]] * 7, [(3, []), (3, [])])), (27, lambda: index.install_calendar([[]] * 7, [(day, []) for day in range(65)])),
                  (15, lambda: closed.cells(1, 2, 1)), (15, lambda: closed.block(6)), (17, lambda: Index.load(b"")), (17, lambda: Index.load(b"", 9))]
         for number, run in cases:
             with self.subTest(number=number):
@@ -176,7 +236,7 @@ class Refusals(unittest.TestCase):
             index.cells(1, 0, (1 << 64) - 1)
 
     def test_words(self):
-        self.assertEqual(list(WORDS), list(range(1, 25)))
+        self.assertEqual(list(WORDS), [*range(1, 25), 26, 27])
         self.assertEqual(str(Refused(8)), "refused 8: the booking's tick is below the last accepted one")
         with self.assertRaisesRegex(Refused, "15: there is no block of that number"):
             finished(LISTING).block(6)

@@ -1,5 +1,5 @@
 //! Tables that grow.
-use crate::{index::Operations, raw, room, Index, Kind, Opening, Played, Recorded, Refusal, Room};
+use crate::{index::Operations, raw, room, Calendar, Index, Kind, Opening, Played, Recorded, Refusal, Room};
 use alloc::vec::Vec;
 use core::ops::Deref;
 
@@ -103,7 +103,7 @@ impl GrowingIndex {
         }
     }
 
-    /// Records a booking, as [`Index::record`]. Refusals 3, 5 to 8.
+    /// Records a booking, as [`Index::record`]. Refusals 3, 5 to 8, 26.
     pub fn record(&mut self, tick: u64, first: u64, bytes: &[u8]) -> Result<Recorded, Refusal> {
         loop {
             match self.0.record(tick, first, bytes) {
@@ -113,7 +113,7 @@ impl GrowingIndex {
         }
     }
 
-    /// Records the bookings of a list, as [`Index::record_all`]. Of each refusals 3, 5 to 8.
+    /// Records the bookings of a list, as [`Index::record_all`]. Of each refusals 3, 5 to 8, 26.
     pub fn record_all(&mut self, operations: &[u8]) -> Result<Played, Refusal> {
         let mut answers = Vec::new();
         room::reserve(&mut answers, Operations(operations).count()).ok_or(Refusal::NoRoomForAnswer)?;
@@ -122,6 +122,11 @@ impl GrowingIndex {
             answers.push(self.record(tick, first, bytes));
         }
         Ok(Played { answers, next: operations.len() - list.0.len() })
+    }
+
+    /// Installs a calendar, as [`Index::install_calendar`]. Refusals 3, 27.
+    pub fn install_calendar(&mut self, calendar: &Calendar) -> Result<(), Refusal> {
+        self.0.install_calendar(calendar)
     }
 
     /// Finishes the index, as [`Index::finish`]. Refusal 3.

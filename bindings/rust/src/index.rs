@@ -1,5 +1,5 @@
 //! An index and its tables: opening, recording, finishing, files.
-use crate::{head::Head, raw, room, tested, Days, Kind, Label, Refusal, Room};
+use crate::{head::Head, raw, room, tested, Calendar, Days, Kind, Label, Refusal, Room};
 use alloc::vec::Vec;
 use core::fmt;
 
@@ -219,13 +219,14 @@ impl Index {
 
     // ── recording ──
 
-    /// Records a booking: the bytes of the cells from `first` on, at a tick; and says what that changed. Refusals 3, 5 to 11.
+    /// Records a booking: the bytes of the cells from `first` on, at a tick; and says what that changed. Outside the station
+    /// hours that are installed a byte other than 0 is refused 26, even where it changes nothing. Refusals 3, 5 to 8, 26, 9 to 11.
     pub fn record(&mut self, tick: u64, first: u64, bytes: &[u8]) -> Result<Recorded, Refusal> {
         self.record_with(&SCRATCH, tick, first, bytes)
     }
 
     /// The same with a scratch of the caller's, of which only the length counts. With fewer than eight numbers it is refused 2, before all else. Refusals 2, 3,
-    /// 5 to 11.
+    /// 5 to 8, 26, 9 to 11.
     pub fn record_with(&mut self, scratch: &[u64], tick: u64, first: u64, bytes: &[u8]) -> Result<Recorded, Refusal> {
         let (mut updated, mut cell) = (0, 0);
         Refusal::unless_zero(unsafe {
@@ -257,6 +258,15 @@ impl Index {
         let answer = |three: &[u64]| Refusal::unless_zero(three[0]).map(|()| Recorded::of(three[1], three[2]));
         answers.extend(threes.chunks_exact(3).take(played as usize).map(answer));
         Ok(Played { answers, next: next as usize })
+    }
+
+    /// Installs a calendar in place of the one before; until the first, every cell is open. What is booked already stays. Refusals 3, 27.
+    pub fn install_calendar(&mut self, calendar: &Calendar) -> Result<(), Refusal> {
+        let numbers = calendar.numbers();
+        // accepted or refused, the state stays as it was
+        Refusal::unless_zero(unsafe {
+            call!(servercape_install_calendar, self, as_ptr as_mut_ptr as_ptr as_ptr as_ptr, numbers.as_ptr(), numbers.len())
+        })
     }
 
     /// Finishes the index: it can be read from now on, and takes no more bookings. Refusals 3, 12, 13.

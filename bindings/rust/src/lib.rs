@@ -25,6 +25,21 @@
 //! # Ok::<(), Refusal>(())
 //! ```
 //!
+//! It installs station hours ([`Calendar`]), so that nobody books a train for a minute at which the station is closed.
+//!
+//! ```
+//! use servercape::{Calendar, Cell, GrowingIndex, Kind, Refusal};
+//!
+//! let mut board = GrowingIndex::open(1_000_000, Kind::Memory)?;
+//! let mut hours = Calendar::default();
+//! hours.week[0].push(480..1200); // Mondays from 08:00 to 20:00, and no other day
+//! board.install_calendar(&hours)?;
+//! let at_1955 = Cell::new(2, 1195).number();
+//! assert_eq!(board.record(1, at_1955, &[7; 6]), Err(Refusal::OutsideHours), "its last minute is 20:00");
+//! assert_eq!(board.record(1, at_1955, &[7; 5])?.cell(), Some(at_1955));
+//! # Ok::<(), Refusal>(())
+//! ```
+//!
 //! # The conflict checker
 //!
 //! It asks who holds a minute of a window: by [`touching`](Index::touching), not by [`find`](Index::find), which lists only blocks that start in the window and
@@ -95,6 +110,7 @@
 
 extern crate alloc;
 
+mod calendar;
 mod cell;
 mod grow;
 mod head;
@@ -109,6 +125,7 @@ mod room;
 mod same;
 pub mod tested;
 
+pub use calendar::Calendar;
 pub use cell::{Cell, Days, Label};
 pub use grow::GrowingIndex;
 pub use index::{put_operation, Index, Opening, Played, Recorded, State};

@@ -62,6 +62,16 @@ extern "C" {
         entries: *mut u64, entries_length: usize,
     ) -> u64;
 
+    /// Installs a calendar.
+    pub fn servercape_install_calendar(
+        pieces: *const u64, pieces_length: usize,
+        blocks: *mut u64, blocks_length: usize,
+        store: *const u8, store_length: usize,
+        nodes: *const u64, nodes_length: usize,
+        entries: *const u64, entries_length: usize,
+        calendar: *const u64, calendar_length: usize,
+    ) -> u64;
+
     /// The block of a number.
     pub fn servercape_block(
         pieces: *const u64, pieces_length: usize,

@@ -11,7 +11,7 @@ pub enum Refusal {
     Opening,
     /// 2, any call: the tables hold no index, since a load into them was refused; or the scratch lent to record has fewer than eight numbers.
     NotWellFormed,
-    /// 3, record and finish: the index is finished or loaded, and takes no more.
+    /// 3, record, finish and install: the index is finished or loaded, and takes no more.
     Closed,
     /// 4, every read: the index is still open. Finish it, or a clone of it.
     StillOpen,
@@ -57,17 +57,21 @@ pub enum Refusal {
     FileEntry,
     /// 24, load: two blocks share a cell at a tick.
     FileOverlap,
+    /// 26, record: a byte other than 0 falls on a cell that the installed calendar closes.
+    OutsideHours,
+    /// 27, install: the calendar has an empty or reversed window, one that ends above 1440, too many windows or special days, or special days that do not ascend.
+    WrongCalendar,
     /// A number that this crate has no name for: the library is newer.
     Other(u64),
 }
 
 use Refusal::*;
 
-/// By number; of the two of 15 the one that most calls mean.
-const NUMBERED: [Refusal; 24] = [
+/// By number, of which 25 is given by no call; of the two of 15 the one that most calls mean.
+const NUMBERED: [Refusal; 27] = [
     Opening, NotWellFormed, Closed, StillOpen, NoCells, PastLastCell, RecordAtEnd, TickGoesBack, NoRoomForPieces, NoRoomForBlocks, NoRoomForBytes,
     NoRoomForNodes, NoRoomForEntries, ReadAtEnd, WindowReversed, NoRoomForAnswer, FileCut, FileKind, FilePresence, NoRoomForFile, FileTree, FileBlock,
-    FileEntry, FileOverlap,
+    FileEntry, FileOverlap, Other(25), OutsideHours, WrongCalendar,
 ];
 
 impl Refusal {
@@ -134,6 +138,11 @@ impl Refusal {
                  not ascend, or a block's nodes do not make up its life"
             }
             FileOverlap => "two blocks of the file share a cell at a tick",
+            OutsideHours => "the booking has a byte other than 0 in a minute at which the station is closed",
+            WrongCalendar => {
+                "the calendar is wrong: a window does not end after it starts, or ends above minute 1440 of the day, a day has more than 8 windows, there are \
+                 more than 64 special days, or they do not ascend"
+            }
             Other(_) => "refused for a reason that this crate does not know",
         }
     }

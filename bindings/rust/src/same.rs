@@ -1,6 +1,6 @@
 //! Every method answers as the public call of its name, which tests the tables: the same number, the same values, the same slices and tables. Tried on
 //! indices that were opened, finished, loaded and refused.
-use crate::{put_operation, raw, tested, Index, Kind, Played, Recorded, Refusal, Room};
+use crate::{put_operation, raw, tested, Calendar, Index, Kind, Played, Recorded, Refusal, Room};
 
 /// A public call that writes to none of the tables.
 macro_rules! public {
@@ -66,6 +66,14 @@ fn finished(operations: u64) -> Index {
     index
 }
 
+/// Station hours that close some of the cells.
+fn hours() -> Calendar {
+    let mut hours = Calendar::default();
+    hours.week[0] = vec![8..20, 12..41];
+    hours.special.push((0, vec![45..60]));
+    hours
+}
+
 /// Indices of every state, each as some call has left it, accepted or refused.
 fn indices() -> Vec<(&'static str, Index)> {
     let room = Room::even(4096);
@@ -85,6 +93,12 @@ fn indices() -> Vec<(&'static str, Index)> {
     assert_eq!(number(&not_opened_anew.reopen(0, Kind::Other)), 1);
     let mut loaded_over = played(room, 30);
     loaded_over.reload(&file, 0).unwrap();
+    let mut with_hours = played(room, 30);
+    with_hours.install_calendar(&hours()).unwrap();
+    let mut finished_with_hours = with_hours.clone();
+    finished_with_hours.finish().unwrap();
+    let mut loaded_over_hours = with_hours.clone();
+    loaded_over_hours.reload(&file, 0).unwrap();
     vec![
         ("not opened", Index::lend(room).unwrap()),
         ("opened", played(room, 0)),
@@ -95,6 +109,9 @@ fn indices() -> Vec<(&'static str, Index)> {
         ("finished, no blocks", finished(0)),
         ("loaded", Index::load_with(room, &file, 0).unwrap().0),
         ("loaded over an open index", loaded_over),
+        ("with station hours", with_hours),
+        ("finished, with station hours", finished_with_hours),
+        ("loaded over station hours", loaded_over_hours),
         ("finish refused", full),
         ("load refused before anything was written", cut),
         ("load refused after that", zeroed),
@@ -307,6 +324,30 @@ fn lists_of_records() {
             at += 24 + bytes.len();
         }
         same_tables(what, &one, &third);
+    }
+}
+
+/// As the call with all numbers, and with those alone that are not 0 at the end.
+#[test]
+fn installs() {
+    let mut wrong = hours();
+    wrong.week[6].push(5..5);
+    for (what, index) in indices() {
+        for calendar in [hours(), wrong.clone(), Calendar::default(), Calendar::always_open()] {
+            let numbers = calendar.numbers();
+            let said = numbers.iter().rposition(|&number| number != 0).map_or(0, |last| last + 1);
+            let (mut one, mut other) = (index.clone(), index.clone());
+            let by = writes!(raw::servercape_install_calendar, other, as_ptr as_ptr, numbers.as_ptr(), said);
+            assert_eq!(number(&one.install_calendar(&calendar)), by, "{what}: install {calendar:?}");
+            same_tables(what, &one, &other);
+            for cell in 0..CELLS {
+                let (by, recorded) = public_record(&mut other, &[0; 8], END - 1, cell, &[cell as u8 % 3]);
+                let answer = one.record(END - 1, cell, &[cell as u8 % 3]);
+                assert_eq!(number(&answer), by, "{what}: record at {cell}");
+                assert!(answer.is_err() || answer == Ok(recorded), "{what}: record at {cell}");
+            }
+            same_tables(what, &one, &other);
+        }
     }
 }
 

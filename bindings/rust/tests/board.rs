@@ -1,6 +1,6 @@
 //! The boards to try and the edges of the refusals, through the Rust types.
 #![allow(clippy::reversed_empty_ranges)] // such windows are refused 15
-use servercape::{Block, Days, Index, Kind, Recorded, Room};
+use servercape::{Block, Calendar, Days, Index, Kind, Recorded, Room};
 
 fn opened(end_tick: u64) -> Index {
     Index::open(Room::even(64), end_tick, Kind::Memory).unwrap()
@@ -273,4 +273,62 @@ fn the_largest_end_tick() {
     index.record(Index::MAX_END_TICK - 1, 0, &[9]).unwrap();
     index.finish().unwrap();
     assert_eq!(index.find(Index::MAX_END_TICK - 1, 0..1).unwrap().visited, 64);
+}
+
+#[test]
+fn station_hours() {
+    let mut index = opened(8);
+    assert_eq!(index.record(0, 479, &[7]), update(479), "open until the first calendar");
+    let mut hours = Calendar::default();
+    hours.week[0].push(480..1200);
+    index.install_calendar(&hours).unwrap();
+    assert_eq!(number(index.record(1, 479, &[7])), 26, "known, and closed");
+    assert_eq!(index.record(1, 480, &[7]), update(480));
+    assert_eq!(number(index.record(1, 1199, &[7, 7])), 26);
+    assert_eq!(index.record(1, 1199, &[7, 0]), update(1199), "a zero byte passes");
+    // Mondays to midnight, and the Tuesday after: each cell by its own day
+    hours.week[0] = vec![1437..1440];
+    hours.special.push((1, vec![0..2]));
+    index.install_calendar(&hours).unwrap();
+    assert_eq!(index.record(2, 1437, &[7; 5]), update(1437));
+    assert_eq!(number(index.record(2, 1438, &[7; 5])), 26);
+    assert_eq!(number(index.record(2, 480, &[7])), 26, "the calendar before is gone");
+    index.install_calendar(&Calendar::default()).unwrap();
+    assert_eq!(number(index.record(2, 1437, &[7])), 26, "no windows: closed");
+    assert_eq!(index.record(2, 1437, &[0]), update(1437));
+    index.finish().unwrap();
+    assert_eq!(number(index.install_calendar(&hours)), 3);
+}
+
+/// Each weekday, window and special day counts: a full calendar, whose windows are all apart.
+#[test]
+fn every_window_counts() {
+    let windows = |day: u64| (0..8).map(|k| 100 * k + day..100 * k + day + 1).collect::<Vec<_>>();
+    let hours = Calendar {
+        week: std::array::from_fn(|day| windows(day as u64)),
+        special: (0..64).map(|k| (70 + k, windows(10 + k))).collect(),
+    };
+    let mut index = opened(8);
+    index.install_calendar(&hours).unwrap();
+    for day in 0..140 {
+        for minute in 0..800 {
+            let open = minute % 100 == day % 7 || (70..134).contains(&day) && minute % 100 == day - 60;
+            assert_eq!(number(index.record(0, 1440 * day + minute, &[7])) == 26, !open, "day {day} minute {minute}");
+        }
+    }
+}
+
+#[test]
+fn calendars_that_are_refused() {
+    let mut index = opened(8);
+    let day = |windows: Vec<std::ops::Range<u64>>| Calendar { special: vec![(3, windows)], ..Calendar::default() };
+    let days = |days: Vec<u64>| Calendar { special: days.into_iter().map(|d| (d, vec![])).collect(), ..Calendar::default() };
+    let faults = [day(vec![5..5]), day(vec![0..1441]), day(vec![0..1; 9]), days(vec![3, 3]), days(vec![4, 3]), days((0..65).collect())];
+    for fault in &faults {
+        assert_eq!(number(index.install_calendar(fault)), 27, "{fault:?}");
+    }
+    assert_eq!(index.record(0, 0, &[7]), update(0), "none is installed");
+    for taken in [day(vec![0..1440; 8]), days((0..64).collect()), days(vec![0, u64::MAX])] {
+        assert_eq!(index.install_calendar(&taken), Ok(()), "{taken:?}");
+    }
 }

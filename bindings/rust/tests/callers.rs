@@ -1,5 +1,5 @@
 //! What callers meet besides the answers: words, sizes, growth, names.
-use servercape::{put_operation, Block, Cell, Days, GrowingIndex, Index, Kind, Opening, Recorded, Refusal, Room, State};
+use servercape::{put_operation, Block, Calendar, Cell, Days, GrowingIndex, Index, Kind, Opening, Recorded, Refusal, Room, State};
 use std::error::Error;
 
 const END: u64 = 1 << 20;
@@ -37,7 +37,7 @@ fn closed() -> Index {
 
 #[test]
 fn a_refusal_has_number_and_words() {
-    for number in 1..=24 {
+    for number in (1..=24).chain([26, 27]) {
         let refusal = Refusal::of(number).unwrap();
         assert_eq!(refusal.number(), number);
         let words = refusal.to_string();
@@ -45,8 +45,33 @@ fn a_refusal_has_number_and_words() {
         assert_eq!(refusal.is_no_room(), [9, 10, 11, 12, 13, 16, 20].contains(&number));
     }
     assert_eq!((Refusal::of(0), Refusal::of(77), Refusal::of(u64::MAX)), (None, Some(Refusal::Other(77)), Some(Refusal::Other(u64::MAX))));
-    assert_eq!(Refusal::Other(77).number(), 77);
+    assert_eq!((Refusal::Other(77).number(), Refusal::of(25), Refusal::Other(25).number()), (77, Some(Refusal::Other(25)), 25));
     assert_ne!(Refusal::RecordAtEnd.to_string()[10..], Refusal::ReadAtEnd.to_string()[11..], "7 and 14");
+}
+
+#[test]
+fn station_hours_have_names() {
+    let mut board = GrowingIndex::open(END, Kind::Memory).unwrap();
+    assert_eq!(board.install_calendar(&Calendar { special: vec![(9, vec![]), (9, vec![])], ..Calendar::default() }), Err(Refusal::WrongCalendar));
+    board.install_calendar(&Calendar { special: vec![(9, vec![0..5])], ..Calendar::default() }).unwrap();
+    // tables that grow keep the calendar, and so does a clone
+    let day = Cell::new(3, 9 * 1440).number();
+    for tick in 0..500 {
+        board.record(tick, day, &[tick as u8; 5]).unwrap();
+        assert_eq!(board.record(tick, day, &[7; 6]), Err(Refusal::OutsideHours));
+    }
+    let mut list = vec![];
+    put_operation(&mut list, 500, day + 4, &[1, 1]);
+    put_operation(&mut list, 500, day + 4, &[1, 0]);
+    let mut copy = board.clone();
+    assert_eq!(copy.record_all(&list).unwrap().answers, [Err(Refusal::OutsideHours), Ok(Recorded::Update { cell: day + 4 })]);
+    assert_eq!(copy.install_calendar(&Calendar::always_open()), Ok(()));
+    assert_eq!(copy.record(501, day - 3, &[7; 20]).map(Recorded::cell), Ok(Some(day - 3)));
+    // opened anew it has none
+    board.reopen(END, Kind::Memory).unwrap();
+    assert_eq!(board.record(0, 0, &[7]).map(Recorded::cell), Ok(Some(0)));
+    board.finish().unwrap();
+    assert_eq!(board.install_calendar(&Calendar::default()), Err(Refusal::Closed));
 }
 
 #[test]

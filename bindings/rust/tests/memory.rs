@@ -1,6 +1,6 @@
 //! No method takes more memory than its answer needs, and none for a call that is refused. Alone in its file, since it counts all that is allocated.
 #![allow(clippy::reversed_empty_ranges)] // such windows are refused 15
-use servercape::{Index, Kind, Refusal, Room};
+use servercape::{Calendar, Index, Kind, Refusal, Room};
 use std::alloc::{GlobalAlloc, Layout, System};
 use std::sync::atomic::{AtomicUsize, Ordering::Relaxed};
 
@@ -51,7 +51,12 @@ fn as_much_as_the_answer() {
     }
     refused(4, || index.find(0, 0..9));
     refused(4, || index.write());
+    let wrong = Calendar { special: vec![(1, vec![5..5])], ..Calendar::default() };
+    refused(27, || index.install_calendar(&wrong));
+    assert_eq!(asked(|| index.install_calendar(&Calendar::default())), (0, Ok(())));
+    refused(26, || index.record(600, 0, &[7]));
     index.finish().unwrap();
+    refused(3, || index.install_calendar(&wrong));
     let window = 0..u64::MAX;
     refused(14, || index.cells(1000, window.clone()));
     refused(14, || index.find(1000, window.clone()));

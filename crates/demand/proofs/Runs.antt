@@ -11,7 +11,7 @@ use borrow.Author.Tests.{le-ltb, lt-ltb}
 use Rattle.lists.proofs.Numbers.{bool-cases}
 use Rattle.history.specs.Words.{Operation, Block}
 use Rattle.history.specs.Lent.{rowWidth, tooShort}
-use Rattle.history.specs.Ledger.{Opening, Ledger, opened, finished, isRead, recordBy, finishBy}
+use Rattle.history.specs.Ledger.{Opening, Ledger, opened, finished, isRead, recordBy, finishBy, installBy}
 use Rattle.history.specs.Reads.{blockBy, findBy}
 use Rattle.tables.specs.Columns.{blockColumn, blockOffset, piecesRoot}
 use Rattle.merge_set.specs.Tree.{leaf, rows, height, Balanced}
@@ -19,8 +19,8 @@ use Rattle.merge_set.specs.Table.{Shape}
 use Rattle.piece_table.specs.Piece.{pieceAt}
 use Rattle.piece_table.specs.Shown.{shown}
 use Rattle.history.specs.Results.{Result}
-use Rattle.history.specs.Refusals.{Answer, accepted, refused, firstOf, maxEndTick, openAnswer, recordRefusals, recordAnswer, finishRefusals, finishAnswer, findAnswer}
-use Rattle.history.specs.Calls.{Call, recordCall, finishCall, answerTo, acceptedBy, leaves, after, answers, afterAll, noted, history}
+use Rattle.history.specs.Refusals.{Answer, accepted, refused, firstOf, maxEndTick, openAnswer, recordRefusals, recordAnswer, finishRefusals, finishAnswer, installRefusals, installAnswer, findAnswer}
+use Rattle.history.specs.Calls.{Call, recordCall, finishCall, calendarCall, answerTo, acceptedBy, leaves, after, answers, afterAll, noted, history}
 use Rattle.history.specs.Sound.{Sound}
 use Rattle.history.specs.Law.{LedgerLaw, Faithful}
 use Rattle.history.proofs.EveryList.{the-law, every-list, law-after, opening-kept}
@@ -28,8 +28,9 @@ use Rattle.history.proofs.FindSound.{find-sound}
 use Rattle.layout.specs.Tables.{Tables, lengthsOf}
 use Rattle.layout.specs.Encodes.{Encodes}
 use Rattle.layout.specs.Formed.{WellFormed, WellFormedForFinish, Blank}
-use Rattle.layout.specs.Relations.{openingOf, openedTables, leftBy, OpenedBy, RecordLeaves, RecordedBy, FinishLeaves, FinishedBy, Fields, blockIn, fieldsAt, BlockHanded}
+use Rattle.layout.specs.Relations.{openingOf, openedTables, leftBy, OpenedBy, RecordLeaves, RecordedBy, FinishLeaves, FinishedBy, InstallLeaves, InstalledBy, Fields, blockIn, fieldsAt, BlockHanded}
 use Rattle.layout.proofs.Recording.{record-blank, record-open}
+use Rattle.layout.proofs.Installing.{installed-blank, install-open}
 use Rattle.layout.specs.Reads.{valuesOf}
 use Rattle.layout.proofs.ReadLaws.{block-there, block-15, window-rest, into-gives, into-refuses}
 use Rattle.layout.proofs.Opening.{open-accepted, getD-zeros, opened-encodes, opened-lengths, opened-blank}
@@ -44,9 +45,10 @@ formed-heads t w = w .encodes .heads
 
 -- of a ledger whose lengths are too short every call is refused 2
 short-answer : (l : Ledger) (k : Call) → tooShort (l .opening .lent) ≡ true → answerTo l k ≡ refused 2
-unfolding answerTo firstOf recordRefusals finishRefusals
+unfolding answerTo firstOf recordRefusals finishRefusals installRefusals
 short-answer l (recordCall scratch o) e = rw e
 short-answer l finishCall e = rw e
+short-answer l (calendarCall numbers) e = rw e
 
 short-after : (l : Ledger) (k : Call) → tooShort (l .opening .lent) ≡ true → after l k ≡ l
 unfolding after leaves
@@ -55,6 +57,7 @@ short-after l k e = rw (short-answer l k e)
 short-call : (k : Call) (t t′ : Tables) (a : Answer Result) → tooShort (lengthsOf t) ≡ true → CallDone k t t′ a → (a ≡ refused 2) × (t′ ≡ t)
 short-call (recordCall scratch o) t t′ a e d = d .unformed (λ w. true≢false (sym e ∙ w .encodes .heads))
 short-call finishCall t t′ a e d = d .unformed (λ w. true≢false (sym e ∙ w .encodes .heads))
+short-call (calendarCall numbers) t t′ a e d = d .unformed (λ w. true≢false (sym e ∙ w .encodes .heads))
 
 short-run : {t t′ : Tables} {ks : List Call} {given : List (Answer Result)} (l : Ledger) → tooShort (l .opening .lent) ≡ true → tooShort (lengthsOf t) ≡ true
     → Run t ks given t′ → (given ≡ answers l ks) × (afterAll l ks ≡ l)
@@ -115,11 +118,28 @@ step-finish t t′ l h a s d =
     go (accepted b) law x = record { encodes = x .0; law = law; blank = λ still. absurd (true≢false (sym (finish-done l) ∙ still)) }
     go (refused n) law x = rw x (record { encodes = s .encodes; law = law; blank = s .blank })
 
+step-install : (numbers : List ℕ) (t t′ : Tables) (l : Ledger) (h : List Operation) (a : Answer Result) → Standing t l h → InstalledBy numbers t t′ a
+    → (a ≡ installAnswer l numbers) × Standing t′ (after l (calendarCall numbers)) (noted h (calendarCall numbers) (installAnswer l numbers))
+unfolding after leaves answerTo acceptedBy noted
+step-install numbers t t′ l h a s d =
+    let f = d .formed l (s .encodes) (s .law .sound .sound) in
+    (f .0, go (installAnswer l numbers) (law-after l h (calendarCall numbers) (s .law)) (f .1))
+  where
+    go : (x : Answer Result) → LedgerLaw (leaves x l (installBy l numbers)) (noted h (calendarCall numbers) x) → InstallLeaves x l numbers t t′
+        → Standing t′ (leaves x l (installBy l numbers)) (noted h (calendarCall numbers) x)
+    go (accepted b) law x = record {
+      encodes = x .0;
+      law = law;
+      blank = λ still. rw (x .1) (installed-blank t numbers (s .blank (sym (install-open l numbers) ∙ still)));
+    }
+    go (refused n) law x = rw x (record { encodes = s .encodes; law = law; blank = s .blank })
+
 step : (k : Call) (t t′ : Tables) (l : Ledger) (h : List Operation) (a : Answer Result) → Standing t l h → CallDone k t t′ a
     → (a ≡ answerTo l k) × Standing t′ (after l k) (noted h k (answerTo l k))
 unfolding answerTo
 step (recordCall scratch o) t t′ l h a s d = step-record scratch o t t′ l h a s d
 step finishCall t t′ l h a s d = step-finish t t′ l h a s d
+step (calendarCall numbers) t t′ l h a s d = step-install numbers t t′ l h a s d
 
 runs : {t t′ : Tables} {ks : List Call} {given : List (Answer Result)} (l : Ledger) (h : List Operation) → Standing t l h → Run t ks given t′
     → (given ≡ answers l ks) × Standing t′ (afterAll l ks) (history h l ks)

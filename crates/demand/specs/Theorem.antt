@@ -10,13 +10,13 @@ use Rattle.history.specs.Ledger.{Ledger, opened, finished}
 use Rattle.history.specs.Reads.{blockBy, findBy}
 use Rattle.history.specs.Results.{Result}
 use Rattle.history.specs.Refusals.{Answer, accepted, refused, maxEndTick}
-use Rattle.history.specs.Calls.{Call, recordCall, finishCall, answers, afterAll, history}
+use Rattle.history.specs.Calls.{Call, recordCall, finishCall, calendarCall, answers, afterAll, history}
 use Rattle.history.specs.Law.{Faithful, FindLaw}
 use Rattle.tables.specs.Columns.{column, piecesRoot}
 use Rattle.merge_set.specs.Tree.{Tree, rows, height, Balanced}
 use Rattle.merge_set.specs.Table.{Shape}
 use Rattle.layout.specs.Tables.{Tables}
-use Rattle.layout.specs.Relations.{openingOf, OpenedBy, RecordedBy, FinishedBy, Counts, FoundBy, Fields, blockIn, BlockGivenBy}
+use Rattle.layout.specs.Relations.{openingOf, OpenedBy, RecordedBy, FinishedBy, InstalledBy, Counts, FoundBy, Fields, blockIn, BlockGivenBy}
 
 -- ── lists of calls ──
 
@@ -24,6 +24,7 @@ use Rattle.layout.specs.Relations.{openingOf, OpenedBy, RecordedBy, FinishedBy,
 abbrev pub CallDone : Call → (t t′ : Tables) → Answer Result → Type 0
 CallDone (recordCall scratch o) t t′ answer = RecordedBy scratch o t t′ answer
 CallDone finishCall t t′ answer = FinishedBy t t′ answer
+CallDone (calendarCall numbers) t t′ answer = InstalledBy numbers t t′ answer
 
 -- a list of calls, each with the scratch it is lent, and their answers, refused ones included: every call finds the tables as the one before left them
 pub data Run : Tables → List Call → List (Answer Result) → Tables → Type 0 where

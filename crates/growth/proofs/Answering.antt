@@ -9,10 +9,10 @@ use borrow.Author.Tests.{ltb-false, le-ltb}
 use Rattle.lists.proofs.Numbers.{or-left, or-right}
 use Rattle.history.specs.Words.{Operation}
 use Rattle.history.specs.Lent.{Lent, pieceRows, blockRows, nodeRows, entryRows, tooShort, leastScratch}
-use Rattle.history.specs.Ledger.{Ledger, isRead, recordBy, finishBy}
+use Rattle.history.specs.Ledger.{Ledger, isRead, recordBy, finishBy, installBy}
 use Rattle.history.specs.Results.{Result}
 use Rattle.history.specs.Reads.{findBy, liveBy, cellsBy}
-use Rattle.history.specs.Refusals.{accepted, Refusal, firstOf, recordRefusals, recordAnswer, finishRefusals, finishAnswer, windowRefusals, neighbourRefusals, blockRefusals, writeRefusals}
+use Rattle.history.specs.Refusals.{accepted, Refusal, firstOf, recordRefusals, recordAnswer, finishRefusals, finishAnswer, installRefusals, installAnswer, windowRefusals, neighbourRefusals, blockRefusals, writeRefusals}
 use Rattle.history.proofs.Passing.{Passed, passed}
 use Rattle.layout.proofs.Lengths.{Heads, heads-fit, fit-heads}
 use Rattle.growth.specs.Longer.{lengthened, lentMore, ReadsAlike, TakesAlike}
@@ -45,7 +45,7 @@ reads-alike more l here =
       write = λ out. rw (here, there);
     }
 
--- ── record and finish ──
+-- ── record, finish and install ──
 
 -- where no condition holds, the call is accepted
 passing : {A : Type 0} (rs : List Refusal) (a : A) → Passed rs → firstOf rs a ≡ accepted a
@@ -84,9 +84,10 @@ module _ (more : Lent) (l : Ledger) where
         p .1 .1 .1 .0,
         p .1 .1 .1 .1 .0,
         p .1 .1 .1 .1 .1 .0,
-        more-room update (pieceRows here) (pieceRows there) _ (omega arith) (p .1 .1 .1 .1 .1 .1 .0),
-        more-room update (blockRows here) (blockRows there) _ (omega arith) (p .1 .1 .1 .1 .1 .1 .1 .0),
-        more-room update (here .store) (there .store) _ (omega arith) (p .1 .1 .1 .1 .1 .1 .1 .1 .0),
+        p .1 .1 .1 .1 .1 .1 .0,
+        more-room update (pieceRows here) (pieceRows there) _ (omega arith) (p .1 .1 .1 .1 .1 .1 .1 .0),
+        more-room update (blockRows here) (blockRows there) _ (omega arith) (p .1 .1 .1 .1 .1 .1 .1 .1 .0),
+        more-room update (here .store) (there .store) _ (omega arith) (p .1 .1 .1 .1 .1 .1 .1 .1 .1 .0),
       )
       (given (recordRefusals l scratch o) _ e)
 
@@ -102,6 +103,19 @@ module _ (more : Lent) (l : Ledger) where
       )
       (given (finishRefusals l) _ e)
 
+  installs : (numbers : List ℕ) (r : Result) → installAnswer l numbers ≡ accepted r → installAnswer (lentMore more l) numbers ≡ accepted r
+  unfolding installRefusals firstOf
+  installs numbers r e =
+      let p = passed (installRefusals l numbers) _ e in
+      rw (longer-heads more here (p .0), p .1 .0, p .1 .1 .0) (given (installRefusals l numbers) _ e)
+
   pub takes-alike : TakesAlike more l
-  unfolding recordBy finishBy
-  takes-alike = record { records = records; recorded = λ o. refl; finishes = finishes; finished = refl }
+  unfolding recordBy finishBy installBy
+  takes-alike = record {
+    records = records;
+    recorded = λ o. refl;
+    finishes = finishes;
+    finished = refl;
+    installs = installs;
+    installed = λ numbers. refl;
+  }

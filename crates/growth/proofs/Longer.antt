@@ -11,6 +11,7 @@ use Rattle.history.specs.Tree as segment
 use Rattle.history.specs.Ledger.{Ledger}
 use Rattle.history.specs.Sound.{SoundBoard, SoundTree, Sound, SoundForFinish}
 use Rattle.tables.specs.Columns.{headState, headEnd, headKind, headCount, headUsed, headLast}
+use Rattle.calendar_table.proofs.Calendars.{calendar-kept}
 use Rattle.layout.specs.Tables.{Tables, lengthsOf, headAt}
 use Rattle.layout.specs.Encodes.{TreeIn, Encodes}
 use Rattle.layout.specs.Formed.{Blank}
@@ -68,6 +69,7 @@ module _ (more : Lent) (t : Tables) (l : Ledger) (e : Encodes t l) where
         pieces = e .pieces ∙ sym (pieces-kept pieces-longer (t .store) _ _ store-kept (e .pieces-stored));
         pieces-stored = rw (same headUsed) (inside-kept pieces-longer _ (e .pieces-stored));
         tree = tree-kept (l .tree) (e .tree);
+        calendar = calendar-kept (t .blocks) (longer more t .blocks) (l .calendar) (λ i _ _. blocks-longer .same i) (e .calendar);
       }
 
 -- ── the ledger ──
@@ -85,6 +87,7 @@ board-more more l s =
       pieces-fit = omega (arith, s .pieces-fit);
       blocks-fit = omega (arith, s .blocks-fit);
       store-fits = omega (arith, s .store-fits);
+      calendar-taken = s .calendar-taken;
     }
 
 tree-more : (more : Lent) (l : Ledger) (tree : Option segment.Tree) → SoundTree l tree → SoundTree (lentMore more l) tree

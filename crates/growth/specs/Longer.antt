@@ -6,9 +6,9 @@ use Prim.Native.Nat.{ℕ, _+_}
 use lib.ListN.{replicate}
 use Rattle.history.specs.Words.{Operation}
 use Rattle.history.specs.Lent.{Lent, tooShort}
-use Rattle.history.specs.Ledger.{Ledger, openingFor, recordBy, finishBy}
+use Rattle.history.specs.Ledger.{Ledger, openingFor, recordBy, finishBy, installBy}
 use Rattle.history.specs.Results.{Result}
-use Rattle.history.specs.Refusals.{accepted, recordAnswer, finishAnswer, findAnswer, touchingAnswer, nextAnswer, lastAnswer, cellsAnswer, blockAnswer}
+use Rattle.history.specs.Refusals.{accepted, recordAnswer, finishAnswer, installAnswer, findAnswer, touchingAnswer, nextAnswer, lastAnswer, cellsAnswer, blockAnswer}
 use Rattle.history.specs.File.{writeAnswer}
 use Rattle.history.specs.Sound.{Sound, SoundForFinish}
 use Rattle.layout.specs.Tables.{Tables, tables, headAt}
@@ -37,13 +37,14 @@ lengthened more n =
       entries = n .entries + more .entries;
     }
 
--- the same ledger, with longer lengths: what it keeps and its tree stay, so an open index stays open and a closed one closed
+-- the same ledger, with longer lengths: what it keeps, its tree and its calendar stay, so an open index stays open and a closed one closed
 abbrev pub lentMore : (more : Lent) → Ledger → Ledger
 lentMore more l =
     record {
       opening = openingFor (l .opening .end) (l .opening .kind) (lengthened more (l .opening .lent));
       now = l .now;
       tree = l .tree;
+      calendar = l .calendar;
     }
 
 -- ── answers ──
@@ -64,6 +65,8 @@ pub record TakesAlike (more : Lent) (l : Ledger) : Type 0 where
   pub recorded : (o : Operation) → recordBy (lentMore more l) o ≡ lentMore more (recordBy l o)
   pub finishes : (r : Result) → finishAnswer l ≡ accepted r → finishAnswer (lentMore more l) ≡ accepted r
   pub finished : finishBy (lentMore more l) ≡ lentMore more (finishBy l)
+  pub installs : (numbers : List ℕ) (r : Result) → installAnswer l numbers ≡ accepted r → installAnswer (lentMore more l) numbers ≡ accepted r
+  pub installed : (numbers : List ℕ) → installBy (lentMore more l) numbers ≡ lentMore more (installBy l numbers)
 
 -- ── the law ──
 
@@ -78,6 +81,6 @@ pub record LongerTables : Type 0 where
   -- so they are well formed again, for finish too;
   pub formed : (more : Lent) (t : Tables) → WellFormed t → WellFormed (longer more t)
   pub formed-for-finish : (more : Lent) (t : Tables) → WellFormedForFinish t → WellFormedForFinish (longer more t)
-  -- every read is answered alike, and what record and finish took they take.
+  -- every read is answered alike, and what record, finish and install took they take.
   pub reads : (more : Lent) (l : Ledger) → tooShort (l .opening .lent) ≡ false → ReadsAlike l (lentMore more l)
   pub takes : (more : Lent) (l : Ledger) → TakesAlike more l

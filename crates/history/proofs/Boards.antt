@@ -8,12 +8,14 @@ use Rattle.history.specs.Tree.{insert, addLocation, addAll, treeOf, node
 use Rattle.history.specs.Find.{path, visited, window, find}
 use Rattle.history.specs.Rules.{every, halved, filled, lived, numbered, placed, ascends, sorted, summed, rule23, shares, apart}
 use Rattle.history.specs.File.{bytesOf, numberOf, blockBytes, nodeBytes, fileBytes, thoseWith, placeIn, mapTree, nodesOf, contents, fileOf, onward, _>>=_, give, refuse_unless_, field, number, many, readBlock, readNodes, readRoot, readFile, treeFrom, placedIn, rule20, rule21, rule22, load}
-use Rattle.history.specs.Ledger.{opened, firstChange, changed, readBy, updateBy, recordBy, settled, finishBy}
+use Rattle.history.specs.Ledger.{opened, firstChange, changed, readBy, updateBy, recordBy, settled, finishBy, installBy}
 use Rattle.history.specs.Reads.{findBy, ascendingFrom, liveBy, lastIn, shows, seen, cellsBy, labelOf, clockLabel}
-use Rattle.history.specs.Refusals.{firstOf, openRefusals, recordRefusals, finishRefusals, windowRefusals, neighbourRefusals, blockRefusals}
+use Rattle.history.specs.Refusals.{firstOf, openRefusals, recordRefusals, finishRefusals, installRefusals, windowRefusals, neighbourRefusals, blockRefusals}
 use Rattle.history.specs.Calls.{answerTo, acceptedBy, leaves, after, answers, afterAll}
 use Rattle.history.specs.Boards.{marked, edges, loading, told, played, expected, loadedAs, Load, listingInput, listingOutput, refusedInput, refusedOutput, MarkedBoards}
-use Rattle.history.specs.Requested.{scratchBoards, touchingBoards, changeBoards, labelBoards, RequestedBoards}
+use Rattle.history.specs.Hours.{hoursAt, calendarOf, covered, specialOf, windowsOf, openMinute, closedCell, hoursTaken, rises, daysAscend, calendarTaken}
+use Rattle.history.specs.HoursBoards.{pairs, hours, special, calendar, noWeek, monday, dayByDay, boards, night, bookings, eight, offers, HoursBoards}
+use Rattle.history.specs.Requested.{scratchBoards, touchingBoards, changeBoards, labelBoards, hoursBoards, RequestedBoards}
 use Rattle.history.specs.Printed.{printed, parsed, inputOf, recordsFrom, nextRecord, onto, readRecord, recordLines, openLines, linesFrom, lastLines, opLine, refusedLine, blockLine, digits, fourDigits, hexDigit, hexBytes}
 
 marked-right : map played marked ≡ map expected marked
@@ -50,6 +52,14 @@ boards-right = record {
   refused-opening = refl;
 }
 
+calendars-right : HoursBoards
+unfolding flatten flatMap countFrom every hoursAt calendarOf covered specialOf windowsOf openMinute closedCell hoursTaken rises daysAscend calendarTaken pairs hours special calendar noWeek monday dayByDay boards night bookings eight offers
+calendars-right = record { cells-open = refl; bookings-judged = refl; offers-judged = refl }
+
+hours-right : map played hoursBoards ≡ map expected hoursBoards
+unfolding hoursBoards played expected told opened answers afterAll after leaves answerTo acceptedBy recordBy finishBy installBy settled readBy updateBy changed firstChange has stretchOf byteAt heldAt clip clipPiece below inside above filterMap firstOf recordRefusals finishRefusals installRefusals tooShort insert addLocation addAll treeOf nodeCount entryCount flatten flatMap countFrom every hoursAt calendarOf covered specialOf windowsOf openMinute closedCell hoursTaken rises daysAscend calendarTaken pairs hours special calendar noWeek monday
+hours-right = refl
+
 pub requested-right : RequestedBoards
 unfolding touchingBoards changeBoards labelBoards scratchBoards played expected told opened answers afterAll after leaves answerTo acceptedBy recordBy finishBy settled readBy updateBy changed firstChange has stretchOf byteAt heldAt clip clipPiece below inside above filterMap firstOf recordRefusals finishRefusals windowRefusals neighbourRefusals tooShort insert addLocation addAll treeOf nodeCount entryCount path visited window find findBy ascendingFrom liveBy lastIn labelOf clockLabel
-requested-right = record { item-1 = refl; item-2 = refl; item-4 = refl; item-9 = refl }
+requested-right = record { item-1 = refl; item-2 = refl; item-4 = refl; item-5 = hours-right; calendars = calendars-right; item-9 = refl }

@@ -12,15 +12,15 @@ use Rattle.lists.proofs.Lists.{all-map, all-mem, mem-right}
 use Rattle.history.specs.Words.{Operation, Block, Holds, blockOf, byteAt}
 use Rattle.history.specs.Tree.{Tree, treeOf}
 use Rattle.history.specs.Rules.{Apart, isHole}
-use Rattle.history.specs.Ledger.{Opening, Moment, Ledger, withNow, opened, finished, isSome, isRead, readBy, updateBy, recordBy, settled, finishBy}
+use Rattle.history.specs.Ledger.{Opening, Moment, Ledger, withNow, opened, finished, isSome, isRead, readBy, updateBy, recordBy, settled, finishBy, installBy}
 use Rattle.history.specs.Reads.{seen}
 use Rattle.history.specs.Results.{Result}
-use Rattle.history.specs.Refusals.{Answer, accepted, refused, openAnswer, recordAnswer, finishAnswer}
-use Rattle.history.specs.Calls.{Call, recordCall, finishCall, answerTo, acceptedBy, leaves, after, afterAll, noted, history, valueAt}
+use Rattle.history.specs.Refusals.{Answer, accepted, refused, openAnswer, recordAnswer, finishAnswer, installAnswer}
+use Rattle.history.specs.Calls.{Call, recordCall, finishCall, calendarCall, answerTo, acceptedBy, leaves, after, afterAll, noted, history, valueAt}
 use Rattle.history.specs.Sound.{SoundBoard, SoundTree, Sound, SoundForFinish, isEmpty}
 use Rattle.history.specs.Law.{CoversBy, LastCall, LedgerLaw, Faithful, EveryList}
 use Rattle.history.proofs.ByKind.{rule-23-kind}
-use Rattle.history.proofs.Passing.{opens, Taken, taken, room, finishes}
+use Rattle.history.proofs.Passing.{opens, Taken, taken, room, finishes, Installs, installs}
 use Rattle.history.proofs.Cells.{Shown, shown-read, shown-updated}
 use Rattle.history.proofs.Steps.{opened-sound, read-sound, update-sound, new-blocks, settled-sound, shown-apart}
 use Rattle.history.proofs.Reading.{seen-some, seen-holds}
@@ -88,6 +88,7 @@ finish-sound l e s =
           pieces-fit = omega arith;
           blocks-fit = omega (arith, settled-length (l .opening .end) (l .now), b .blocks-fit);
           store-fits = b .store-fits;
+          calendar-taken = b .calendar-taken;
         };
         closed = record {
           no-pieces = refl;
@@ -104,6 +105,27 @@ finish-sound l e s =
       };
       apart = subst Apart (sym (finish-settled l)) (s .apart);
     }
+
+-- an accepted install changes the calendar alone, to one that it takes
+install-board : (l : Ledger) (numbers : List ℕ) → Installs l numbers → SoundBoard l → SoundBoard (installBy l numbers)
+unfolding installBy
+install-board l numbers k b = record {
+  some-tick = b .some-tick;
+  end-most = b .end-most;
+  known-kind = b .known-kind;
+  last-below-end = b .last-below-end;
+  pieces = b .pieces;
+  in-order = b .in-order;
+  blocks = b .blocks;
+  pieces-fit = b .pieces-fit;
+  blocks-fit = b .blocks-fit;
+  store-fits = b .store-fits;
+  calendar-taken = record { numbers = numbers; is = refl; taken = k .taken };
+}
+
+pub install-sound : (l : Ledger) (numbers : List ℕ) {r : Result} → installAnswer l numbers ≡ accepted r → Sound l → Sound (installBy l numbers)
+unfolding installBy
+install-sound l numbers e s = let k = installs l numbers e in open-sound _ (k .still-open) (install-board l numbers k (s .board))
 
 -- ── the law, from call to call ──
 
@@ -170,6 +192,14 @@ law-finish l h e law = record {
   open-blocks = λ x. absurd (true≢false (finish-closed l x));
 }
 
+law-install : (l : Ledger) (h : List Operation) (numbers : List ℕ) {r : Result} → installAnswer l numbers ≡ accepted r → LedgerLaw l h → LedgerLaw (installBy l numbers) h
+unfolding installBy
+law-install l h numbers e law = record {
+  sound = record { sound = install-sound l numbers e (law .sound .sound); apart = law .sound .apart };
+  cells = law .cells;
+  open-blocks = law .open-blocks;
+}
+
 -- ── a call, and a list of calls ──
 
 pub law-after : (l : Ledger) (h : List Operation) (k : Call) → LedgerLaw l h → LedgerLaw (after l k) (noted h k (answerTo l k))
@@ -184,6 +214,11 @@ law-after l h finishCall law = go (finishAnswer l) refl
     go : (x : Answer Result) → finishAnswer l ≡ x → LedgerLaw (leaves x l (finishBy l)) h
     go (accepted a) e = law-finish l h e law
     go (refused n) e = law
+law-after l h (calendarCall numbers) law = go (installAnswer l numbers) refl
+  where
+    go : (x : Answer Result) → installAnswer l numbers ≡ x → LedgerLaw (leaves x l (installBy l numbers)) h
+    go (accepted a) e = law-install l h numbers e law
+    go (refused n) e = law
 
 law-all : (ks : List Call) (l : Ledger) (h : List Operation) → LedgerLaw l h → LedgerLaw (afterAll l ks) (history h l ks)
 unfolding afterAll history
@@ -192,7 +227,7 @@ law-all (k ∷ ks) l h law = law-all ks (after l k) (noted h k (answerTo l k)) (
 
 -- no call changes what opening was fed
 pub opening-kept : (ks : List Call) (l : Ledger) → (afterAll l ks) .opening ≡ l .opening
-unfolding afterAll after leaves acceptedBy recordBy finishBy
+unfolding afterAll after leaves acceptedBy recordBy finishBy installBy
 opening-kept [] l = refl
 opening-kept (k ∷ ks) l = opening-kept ks (after l k) ∙ one k (answerTo l k)
   where
@@ -201,6 +236,8 @@ opening-kept (k ∷ ks) l = opening-kept ks (after l k) ∙ one k (answerTo l k)
     one (recordCall scratch o) (refused n) = refl
     one finishCall (accepted a) = refl
     one finishCall (refused n) = refl
+    one (calendarCall numbers) (accepted a) = refl
+    one (calendarCall numbers) (refused n) = refl
 
 opening-of : (a : Opening) → (opened a) .opening ≡ a
 unfolding opened

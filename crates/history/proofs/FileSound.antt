@@ -73,6 +73,7 @@ accepted-sound n f fits rules =
         pieces-fit = omega arith;
         blocks-fit = omega (arith, room .blocks);
         store-fits = rw (flat-length (f .blocks)) (room .bytes);
+        calendar-taken = tt;
       };
       closed = record {
         no-pieces = refl;

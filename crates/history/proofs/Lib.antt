@@ -52,3 +52,5 @@ pub mod FileReloaded
 pub mod FileAlike
 pub mod FileSound
 pub mod FileBoards
+pub mod HoursLaws
+pub mod Installing

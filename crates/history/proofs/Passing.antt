@@ -6,14 +6,15 @@ use Prim.Native.Nat.{ℕ, _+_, _-_, _/_, _^_, _≤_, _<_, min}
 use native.Mathlib.Omega.{arith}
 use lib.Dec.{ltb, eqb}
 use lib.ListN.{length}
-use borrow.Author.Tests.{ltb-false, leb-false, eqb-false}
+use borrow.Author.Tests.{ltb-false, leb-false, eqb-false, not-false}
 use Rattle.lists.proofs.Numbers.{or-left, or-right}
 use Rattle.history.specs.Words.{Operation, size, ends, stretchOf}
 use Rattle.history.specs.Lent.{Lent, pieceRows, blockRows, nodeRows, entryRows}
 use Rattle.history.specs.Tree.{treeOf, nodeCount, entryCount}
+use Rattle.history.specs.Hours.{calendarOf, calendarTaken}
 use Rattle.history.specs.Ledger.{Opening, Moment, Ledger, finished, isRead, updateBy, settled}
 use Rattle.history.specs.Results.{Result}
-use Rattle.history.specs.Refusals.{accepted, refused, Refusal, firstOf, maxEndTick, openRefusals, openAnswer, recordRefusals, recordAnswer, finishRefusals, finishAnswer}
+use Rattle.history.specs.Refusals.{accepted, refused, Refusal, firstOf, maxEndTick, openRefusals, openAnswer, recordRefusals, recordAnswer, finishRefusals, finishAnswer, installRefusals, installAnswer}
 
 -- no condition of the list holds
 abbrev pub Passed : List Refusal → Type 0
@@ -85,9 +86,9 @@ room l scratch o e u =
     let p = passed _ _ e in
     let next = updateBy (l .opening .kind) (l .now) o in
     record {
-      pieces = ltb-false _ _ (really (p .1 .1 .1 .1 .1 .1 .0));
-      blocks = ltb-false _ _ (really (p .1 .1 .1 .1 .1 .1 .1 .0));
-      store = ltb-false _ _ (really (p .1 .1 .1 .1 .1 .1 .1 .1 .0));
+      pieces = ltb-false _ _ (really (p .1 .1 .1 .1 .1 .1 .1 .0));
+      blocks = ltb-false _ _ (really (p .1 .1 .1 .1 .1 .1 .1 .1 .0));
+      store = ltb-false _ _ (really (p .1 .1 .1 .1 .1 .1 .1 .1 .1 .0));
     }
   where
     really : {b : Bool} → (not (isRead (l .now) o) && b) ≡ false → b ≡ false
@@ -105,3 +106,15 @@ unfolding finishRefusals
 finishes l e =
     let p = passed _ _ e in
     record { still-open = p .1 .0; nodes = ltb-false _ _ (p .1 .1 .0); entries = ltb-false _ _ (p .1 .1 .1 .0) }
+
+-- ── install ──
+
+pub record Installs (l : Ledger) (numbers : List ℕ) : Type 0 where
+  pub still-open : finished l ≡ false
+  pub taken : calendarTaken (calendarOf numbers) ≡ true
+
+pub installs : (l : Ledger) (numbers : List ℕ) {r : Result} → installAnswer l numbers ≡ accepted r → Installs l numbers
+unfolding installRefusals
+installs l numbers e =
+    let p = passed _ _ e in
+    record { still-open = p .1 .0; taken = not-false _ (p .1 .1 .0) }

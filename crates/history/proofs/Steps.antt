@@ -61,6 +61,7 @@ module _ (l : Ledger) (o : Operation) (s : SoundBoard l) (before-end : o .tick <
     pieces-fit = s .pieces-fit;
     blocks-fit = s .blocks-fit;
     store-fits = s .store-fits;
+    calendar-taken = s .calendar-taken;
   }
 
   next : Moment
@@ -117,6 +118,7 @@ module _ (l : Ledger) (o : Operation) (s : SoundBoard l) (before-end : o .tick <
     pieces-fit = r .pieces;
     blocks-fit = r .blocks;
     store-fits = r .store;
+    calendar-taken = s .calendar-taken;
   }
 
 -- each piece counted as live up to E
@@ -138,4 +140,5 @@ opened-sound a o = record {
   pieces-fit = omega arith;
   blocks-fit = omega arith;
   store-fits = omega arith;
+  calendar-taken = tt;
 }

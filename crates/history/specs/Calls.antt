@@ -5,14 +5,15 @@ use mathlib.Core.List.{List, [], _∷_}
 use Prim.Native.Nat.{ℕ}
 use lib.Dec.{leb}
 use Rattle.history.specs.Words.{Operation, stretchOf, byteAt}
-use Rattle.history.specs.Ledger.{Ledger, recordBy, finishBy}
+use Rattle.history.specs.Ledger.{Ledger, recordBy, finishBy, installBy}
 use Rattle.history.specs.Results.{Result}
-use Rattle.history.specs.Refusals.{Answer, accepted, refused, recordAnswer, finishAnswer}
+use Rattle.history.specs.Refusals.{Answer, accepted, refused, recordAnswer, finishAnswer, installAnswer}
 
--- Record is lent a scratch, of which the length is fed.
+-- Record is lent a scratch, of which the length is fed; a calendar is installed as numbers.
 pub data Call : Type 0 where
   recordCall : (scratch : ℕ) → Operation → Call
   finishCall : Call
+  calendarCall : (numbers : List ℕ) → Call
 
 -- ── answers, and what is left ──
 
@@ -20,10 +21,12 @@ pub data Call : Type 0 where
 unfoldable pub answerTo : Ledger → Call → Answer Result
 answerTo l (recordCall scratch o) = recordAnswer l scratch o
 answerTo l finishCall = finishAnswer l
+answerTo l (calendarCall numbers) = installAnswer l numbers
 
 unfoldable pub acceptedBy : Ledger → Call → Ledger
 acceptedBy l (recordCall scratch o) = recordBy l o
 acceptedBy l finishCall = finishBy l
+acceptedBy l (calendarCall numbers) = installBy l numbers
 
 -- after a refusal nothing changes
 unfoldable pub leaves : {A : Type 0} → Answer A → (before after : Ledger) → Ledger
@@ -49,6 +52,7 @@ unfoldable pub noted : List Operation → Call → Answer Result → List Operat
 noted h (recordCall scratch o) (accepted a) = o ∷ h
 noted h (recordCall scratch o) (refused n) = h
 noted h finishCall a = h
+noted h (calendarCall numbers) a = h
 
 -- the accepted record calls of a list, newest first, in front of those that were accepted already
 unfoldable pub history : List Operation → Ledger → List Call → List Operation

@@ -4,6 +4,7 @@ pub mod Tree
 pub mod Find
 pub mod Rules
 pub mod File
+pub mod Hours
 pub mod Ledger
 pub mod Reads
 pub mod Results
@@ -11,6 +12,8 @@ pub mod Refusals
 pub mod Calls
 pub mod Sound
 pub mod Law
+pub mod HoursLaw
 pub mod Printed
 pub mod Boards
+pub mod HoursBoards
 pub mod Requested

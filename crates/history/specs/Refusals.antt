@@ -1,4 +1,4 @@
--- The refusals of document 01 in their checking order: for each call a list of numbers with their conditions, of which the first that holds is given.
+-- The refusals of documents 01 and 02 in their checking order: for each call a list of numbers with their conditions, of which the first that holds is given.
 -- 17 to 24, the loader's, stand with the file format in File.
 use mathlib.Core.Bool.{Bool, cond, _&&_, _||_, not}
 use mathlib.Core.Option.{Option}
@@ -9,6 +9,7 @@ use lib.ListN.{length}
 use Rattle.history.specs.Words.{Operation, Block}
 use Rattle.history.specs.Lent.{pieceRows, blockRows, nodeRows, entryRows, tooShort, leastScratch}
 use Rattle.history.specs.Tree.{treeOf, nodeCount, entryCount}
+use Rattle.history.specs.Hours.{calendarOf, calendarTaken, closedBy}
 use Rattle.history.specs.Ledger.{Opening, Ledger, finished, changed, isRead, updateBy, settled}
 use Rattle.history.specs.Results.{Result, done, resultOf}
 use Rattle.history.specs.Reads.{Found, Cells, findBy, touchingBy, nextBy, lastBy, cellsBy, blockBy}
@@ -20,7 +21,7 @@ pub data Answer (A : Type 0) : Type 0 where
   accepted : A → Answer A
   refused : ℕ → Answer A
 
--- a refusal: its number in document 01, and whether its condition holds
+-- a refusal: its number in the documents, and whether its condition holds
 pub record Refusal : Type 0 where
   pub number : ℕ
   pub holds : Bool
@@ -65,6 +66,8 @@ recordRefusals l scratch o =
     ∷ 7 if leb (l .opening .end) (o .tick)
     -- tick below the last accepted one's
     ∷ 8 if ltb (o .tick) (l .now .last)
+    -- a non-zero byte on a closed cell, of a read too
+    ∷ 26 if closedBy (l .calendar) (o .first) (o .bytes)
     -- an update would leave more pieces than there is space for
     ∷ 9 if (update && ltb (pieceRows lent) (length (next .pieces)))
     -- blocks recorded plus pieces, after the update, exceed the block table
@@ -85,6 +88,14 @@ finishRefusals l =
     ∷ 13 if ltb (entryRows lent) (entryCount tree)
     ∷ []
 
+unfoldable pub installRefusals : Ledger → (numbers : List ℕ) → List Refusal
+installRefusals l numbers =
+    2 if tooShort (l .opening .lent)
+    ∷ 3 if finished l
+    -- a window with from ≥ to or with to above 1,440, too many windows or special days, or special days that do not ascend
+    ∷ 27 if not (calendarTaken (calendarOf numbers))
+    ∷ []
+
 abbrev pub openAnswer : Opening → Answer Unit
 openAnswer a = firstOf (openRefusals a) tt
 
@@ -93,6 +104,9 @@ recordAnswer l scratch o = firstOf (recordRefusals l scratch o) (resultOf (chang
 
 abbrev pub finishAnswer : Ledger → Answer Result
 finishAnswer l = firstOf (finishRefusals l) done
+
+abbrev pub installAnswer : Ledger → (numbers : List ℕ) → Answer Result
+installAnswer l numbers = firstOf (installRefusals l numbers) done
 
 -- ── the reads ──
 

@@ -5,7 +5,8 @@ use mathlib.Core.List.{List, [], _∷_, _++_, map}
 use Prim.Native.Nat.{ℕ, _-_, _*_, _^_}
 use lib.ListN.{replicate}
 use Rattle.history.specs.Refusals.{accepted, refused}
-use Rattle.history.specs.Calls.{finishCall}
+use Rattle.history.specs.Calls.{finishCall, calendarCall}
+use Rattle.history.specs.HoursBoards.{_to_, calendar, noWeek, monday, special, HoursBoards}
 use Rattle.history.specs.Boards.{Fact, answered, touching, neighbour, label, _is_, Board, whatAnswers, whatFind, whatTouching, whatNext, whatLast, whatLabel, played, expected, lengths, ample, on, opWith, op, from!, known!, done!, listed, listing}
 
 -- ── Item 1 ──
@@ -141,6 +142,42 @@ labelBoards =
     }
     ∷ []
 
+-- ── Item 5 ──
+
+unfoldable pub hoursBoards : List Board
+hoursBoards =
+    -- Mondays 480 to 1200: `to` is closed, each cell counts for itself, and zero bytes pass; nothing was refused before the calendar came
+    record {
+      opening = on 8 ample;
+      calls = op 0 479 (7 ∷ []) ∷ calendarCall (1 ∷ 480 ∷ 1200 ∷ []) ∷ op 1 479 (7 ∷ []) ∷ op 1 480 (7 ∷ []) ∷ op 1 1199 (7 ∷ 7 ∷ []) ∷ op 1 1199 (7 ∷ 0 ∷ []) ∷ op 1 479 (0 ∷ 7 ∷ []) ∷ op 2 1920 (7 ∷ []) ∷ [];
+      cases = whatAnswers is answered (from! 479 ∷ done! ∷ refused 26 ∷ from! 480 ∷ refused 26 ∷ from! 1199 ∷ from! 479 ∷ refused 26 ∷ []) ∷ [];
+    }
+    -- an empty calendar closes all: a known booking is refused too, a zero byte is written; then one that opens all
+    ∷ record {
+      opening = on 8 ample;
+      calls = op 1 100 (7 ∷ []) ∷ calendarCall [] ∷ op 2 100 (7 ∷ []) ∷ op 2 100 (0 ∷ []) ∷ op 2 100 (0 ∷ []) ∷ calendarCall (calendar (monday (0 to 1440 ∷ [])) 0 []) ∷ op 2 100 (7 ∷ []) ∷ [];
+      cases = whatAnswers is answered (from! 100 ∷ done! ∷ refused 26 ∷ from! 100 ∷ known! ∷ done! ∷ from! 100 ∷ []) ∷ [];
+    }
+    -- replaced whole, special days too; a calendar that is refused leaves the one before
+    ∷ record {
+      opening = on 8 ample;
+      calls = calendarCall (calendar (monday (0 to 10 ∷ [])) 1 (special 1 (0 to 10 ∷ []) ∷ [])) ∷ op 1 1440 (7 ∷ []) ∷ calendarCall (0 ∷ 0 ∷ 0 ∷ []) ∷ op 1 0 (7 ∷ []) ∷ op 1 1441 (7 ∷ [])
+          ∷ calendarCall (calendar noWeek 1 (special 0 (0 to 10 ∷ []) ∷ [])) ∷ calendarCall (1 ∷ 10 ∷ 10 ∷ []) ∷ op 1 9 (7 ∷ []) ∷ op 1 10 (7 ∷ []) ∷ [];
+      cases = whatAnswers is answered (done! ∷ from! 1440 ∷ done! ∷ refused 26 ∷ refused 26 ∷ done! ∷ refused 27 ∷ from! 9 ∷ refused 26 ∷ []) ∷ [];
+    }
+    -- the order: 2, 3 before 27; 8 before 26 before 9; finish keeps the calendar and refuses the next one
+    ∷ record {
+      opening = on 8 (lengths 1 9 9 99 99);
+      calls = calendarCall (1 ∷ 0 ∷ 10 ∷ []) ∷ op 3 0 (7 ∷ []) ∷ op 2 20 (7 ∷ []) ∷ op 3 20 (7 ∷ []) ∷ op 3 5 (7 ∷ []) ∷ opWith 7 3 20 (7 ∷ []) ∷ finishCall ∷ calendarCall (1 ∷ 10 ∷ 10 ∷ []) ∷ calendarCall [] ∷ [];
+      cases = whatAnswers is answered (done! ∷ from! 0 ∷ refused 8 ∷ refused 26 ∷ refused 9 ∷ refused 2 ∷ done! ∷ refused 3 ∷ refused 3 ∷ []) ∷ [];
+    }
+    ∷ record {
+      opening = on 8 (record { pieces = 7; blocks = 8200; store = 65536; nodes = 8200; entries = 8200 });
+      calls = calendarCall (1 ∷ 10 ∷ 10 ∷ []) ∷ [];
+      cases = whatAnswers is answered (refused 2 ∷ []) ∷ [];
+    }
+    ∷ []
+
 -- ── Item 9 ──
 
 unfoldable pub scratchBoards : List Board
@@ -165,4 +202,6 @@ pub record RequestedBoards : Type 0 where
   pub item-1 : map played touchingBoards ≡ map expected touchingBoards
   pub item-2 : map played changeBoards ≡ map expected changeBoards
   pub item-4 : map played labelBoards ≡ map expected labelBoards
+  pub item-5 : map played hoursBoards ≡ map expected hoursBoards
+  pub calendars : HoursBoards
   pub item-9 : map played scratchBoards ≡ map expected scratchBoards

@@ -1,4 +1,4 @@
--- What makes a set of tables well formed, over lists: document 01's list ("Words", Lent), and nothing that it does not list. How tables stand for a
+-- What makes a set of tables well formed, over lists: document 01's list ("Words", Lent) with what document 02 adds, and nothing that they do not list. How tables stand for a
 -- ledger is the layout's matter.
 use mathlib.Core.Path.{_≡_}
 use mathlib.Core.Bool.{Bool, true, false}
@@ -11,6 +11,7 @@ use Rattle.history.specs.Words.{Stretch, Piece, Block, size, ends, onlyK
 use Rattle.history.specs.Lent.{pieceRows, blockRows, nodeRows, entryRows}
 use Rattle.history.specs.Tree.{Tree, nodeCount, entryCount}
 use Rattle.history.specs.Rules.{isHole, halved, rule23, Apart}
+use Rattle.history.specs.Hours.{NoneOrInstallable}
 use Rattle.history.specs.Ledger.{Moment, Ledger, settled}
 use Rattle.history.specs.Refusals.{maxEndTick}
 
@@ -62,6 +63,8 @@ pub record SoundBoard (l : Ledger) : Type 0 where
   pub pieces-fit : length (l .now .pieces) ≤ pieceRows (l .opening .lent)
   pub blocks-fit : length (l .now .blocks) + length (l .now .pieces) ≤ blockRows (l .opening .lent)
   pub store-fits : length (l .now .store) ≤ l .opening .lent .store
+  -- no calendar that install would refuse
+  pub calendar-taken : NoneOrInstallable (l .calendar)
 
 abbrev pub isEmpty : {A : Type 0} → List A → Bool
 isEmpty [] = true

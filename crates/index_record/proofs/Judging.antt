@@ -12,6 +12,7 @@ use Rattle.lists.specs.Lists.{All}
 use Rattle.lists.proofs.Lists.{all-map, all-of-map}
 use Rattle.lists.proofs.Numbers.{lt-or-le}
 use Rattle.history.specs.Words.{Operation, stretchOf}
+use Rattle.history.specs.Hours.{closedBy}
 use Rattle.history.specs.Lent.{rowWidth, pieceHead, blockHead, tooShort, pieceRows, blockRows}
 use Rattle.history.specs.Ledger.{Ledger, changed, isRead, updateBy}
 use Rattle.history.specs.Results.{Result, read, resultOf}
@@ -23,13 +24,14 @@ use Rattle.piece_table.specs.Shown.{shown, Stored}
 use Rattle.survey.specs.Survey.{changeAt, Counts, Surveyed}
 use Rattle.survey.specs.declared.Report.{Report}
 use Rattle.survey.proofs.Telling.{survey-read, survey-changed, survey-pieces, survey-blocks}
+use Rattle.calendar_table.specs.Calendars.{ClosedTold}
 use Rattle.layout.specs.Tables.{Tables, tables}
 use Rattle.layout.specs.Encodes.{Encodes}
 use Rattle.layout.proofs.Pieces.{pieces-inside, pieces-rep, pieces-shown}
 use Rattle.index_record.specs.Refusing.{callRefusals, spaceRefusals, lentRefusals, answerBy, First, CallTested, SpaceTested}
 use Rattle.index_record.specs.Calls.{operation, Judged}
 use Rattle.index_record.specs.declared.Verdict.the-variants.{Refused, Read, Update}
-use Rattle.index_record.proofs.Refusing.{Sized, call-sized, answer-call, answer-read, answer-space, answer-update}
+use Rattle.index_record.proofs.Refusing.{Sized, call-sized, answer-call, answer-closed, answer-read, answer-space, answer-update}
 
 -- ── `exceeds` ──
 
@@ -180,6 +182,13 @@ module _ (t : Tables) (l : Ledger) (o : Operation) (e : Encodes t l) where
       (length (updateBy (l .opening .kind) (l .now) o .blocks)) (length (updateBy (l .opening .kind) (l .now) o .store)))
   space-same n r v f = rw (v .pieces, v .blocks, v .store, e .lengths, ← e .count, ← e .used) f
 
+-- a call that was found to pass does
+passes : (pieces blocks store bytes : List ℕ) (tick first n : ℕ) → CallTested blocks tick first (length bytes) n → n ≡ 0
+    → (nodes entries : List ℕ) (l : Ledger) → Encodes (tables pieces blocks store nodes entries) l
+    → answerBy (callRefusals (l .opening .end) (l .now .last) tick first (length bytes)) ≡ accepted tt
+passes pieces blocks store bytes tick first n call z nodes entries l e =
+    call-same (tables pieces blocks store nodes entries) l (operation tick first bytes) e n (call .finds) .nothing z
+
 module _ {pieces blocks store bytes : List ℕ} {tick first n : ℕ}
     (call : CallTested blocks tick first (length bytes) n) where
   pub judge-call : (n ≡ 0 → ⊥) → Judged pieces blocks store (operation tick first bytes) (Refused n)
@@ -189,22 +198,29 @@ module _ {pieces blocks store bytes : List ℕ} {tick first n : ℕ}
         (call-same (tables pieces blocks store nodes entries) l (operation tick first bytes) e n (call .finds) .number h);
   }
 
-  module _ (z : n ≡ 0) (few : length pieces < 2 ^ 64) (fits : length store < 2 ^ 64) {r : Report} (v : Surveyed pieces store first bytes r) where
-    -- the call passes, and what the survey tells
-    passes : (nodes entries : List ℕ) (l : Ledger) → Encodes (tables pieces blocks store nodes entries) l
-        → answerBy (callRefusals (l .opening .end) (l .now .last) tick first (length bytes)) ≡ accepted tt
-    passes nodes entries l e = call-same (tables pieces blocks store nodes entries) l (operation tick first bytes) e n (call .finds) .nothing z
+  pub judge-closed : {c : Bool} → n ≡ 0 → ClosedTold blocks first bytes c → c ≡ true → Judged pieces blocks store (operation tick first bytes) (Refused 26)
+  judge-closed z q w = record {
+    says = λ nodes entries l scratch long e s still.
+        answer-closed l scratch (operation tick first bytes) (ap tooShort (e .lengths) ∙ e .heads) long still (passes pieces blocks store bytes tick first n call z nodes entries l e)
+        (sym (q .says (l .calendar) (e .calendar)) ∙ w);
+  }
+
+  module _ (z : n ≡ 0) (few : length pieces < 2 ^ 64) (fits : length store < 2 ^ 64) {c : Bool} (q : ClosedTold blocks first bytes c) (w : c ≡ false)
+      {r : Report} (v : Surveyed pieces store first bytes r) where
+    -- the calendar lets it pass, and what the survey tells
+    inside : (nodes entries : List ℕ) (l : Ledger) → Encodes (tables pieces blocks store nodes entries) l → closedBy (l .calendar) first bytes ≡ false
+    inside nodes entries l e = sym (q .says (l .calendar) (e .calendar)) ∙ w
 
     tells : (nodes entries : List ℕ) (l : Ledger) → Encodes (tables pieces blocks store nodes entries) l → Sound l → Told l (operation tick first bytes) r
     tells nodes entries l e s =
         told (tables pieces blocks store nodes entries) l (operation tick first bytes) r e s few fits
-        (call-sized (l .opening .end) (l .now .last) tick first (length bytes) (passes nodes entries l e)) v
+        (call-sized (l .opening .end) (l .now .last) tick first (length bytes) (passes pieces blocks store bytes tick first n call z nodes entries l e)) v
 
     pub judge-read : length bytes ≤ r .same → Judged pieces blocks store (operation tick first bytes) Read
     judge-read h = record {
       says = λ nodes entries l scratch long e s still.
           let read : isRead (l .now) (operation tick first bytes) ≡ true = tells nodes entries l e s .read ∙ ap not (le-ltb (r .same) (length bytes) h) in (
-            answer-read l scratch (operation tick first bytes) (ap tooShort (e .lengths) ∙ e .heads) long still (passes nodes entries l e) read
+            answer-read l scratch (operation tick first bytes) (ap tooShort (e .lengths) ∙ e .heads) long still (passes pieces blocks store bytes tick first n call z nodes entries l e) (inside nodes entries l e) read
                 ∙ ap {B = Answer Result} accepted (ap resultOf (tells nodes entries l e s .change) ∙ known first (length bytes) (r .same) (le-ltb (r .same) (length bytes) h)),
             read,
           );
@@ -217,14 +233,14 @@ module _ {pieces blocks store bytes : List ℕ} {tick first n : ℕ}
       pub judge-space : (m ≡ 0 → ⊥) → Judged pieces blocks store (operation tick first bytes) (Refused m)
       judge-space full = record {
         says = λ nodes entries l scratch long e s still.
-            answer-space l scratch (operation tick first bytes) (ap tooShort (e .lengths) ∙ e .heads) long still (passes nodes entries l e) (update nodes entries l e s) m
+            answer-space l scratch (operation tick first bytes) (ap tooShort (e .lengths) ∙ e .heads) long still (passes pieces blocks store bytes tick first n call z nodes entries l e) (inside nodes entries l e) (update nodes entries l e s) m
             (space-same (tables pieces blocks store nodes entries) l (operation tick first bytes) e m r (tells nodes entries l e s) (space .finds) .number full);
       }
 
       pub judge-update : {cell near : ℕ} → m ≡ 0 → cell ≡ first + r .same → Judged pieces blocks store (operation tick first bytes) (Update cell near)
       judge-update {cell} free is = record {
         says = λ nodes entries l scratch long e s still. (
-          answer-update l scratch (operation tick first bytes) (ap tooShort (e .lengths) ∙ e .heads) long still (passes nodes entries l e) (update nodes entries l e s)
+          answer-update l scratch (operation tick first bytes) (ap tooShort (e .lengths) ∙ e .heads) long still (passes pieces blocks store bytes tick first n call z nodes entries l e) (inside nodes entries l e) (update nodes entries l e s)
               (space-same (tables pieces blocks store nodes entries) l (operation tick first bytes) e m r (tells nodes entries l e s) (space .finds) .nothing free)
               ∙ ap {B = Answer Result} accepted (ap resultOf (tells nodes entries l e s .change) ∙ rw (lt-ltb (r .same) (length bytes) h, is)),
           update nodes entries l e s,
@@ -237,4 +253,4 @@ cell-fits {blocks} {tick} {first} {size} call z h =
     let sized = call-sized (blockColumn blocks 0 headEnd) (blockColumn blocks 0 headLast) tick first size (call .finds .nothing z) in
     omega (arith, sized .near)
 
-pub ruleset judging = (judge-call, judge-read, judge-space, judge-update)
+pub ruleset judging = (judge-call, judge-closed, judge-read, judge-space, judge-update)

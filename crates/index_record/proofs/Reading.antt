@@ -1,7 +1,7 @@
 -- The tables after a read: the last tick is set, and they stand for the ledger's next state. Assumes nothing.
 use mathlib.Core.Path.{_≡_, refl, sym, subst, _∙_}
-use mathlib.Core.Bool.{true, false, true≢false}
-use mathlib.Core.Option.{Option, none, some}
+use mathlib.Core.Bool.{true, false}
+use mathlib.Core.Option.{Option}
 use Prim.Native.Nat.{ℕ, _+_, _*_, _≤_}
 use native.Mathlib.Omega.{arith}
 use lib.ListN.{length, getD, set, length-set}
@@ -9,27 +9,18 @@ use lib.Seq.{getD-set-same, getD-set-other}
 use Rattle.history.specs.Lent.{rowWidth, blockHead}
 use Rattle.history.specs.Words.{Operation}
 use Rattle.history.specs.Tree as segment
-use Rattle.history.specs.Ledger.{Ledger, withNow, isSome, finished, isRead, readBy, updateBy, recordBy}
+use Rattle.history.specs.Ledger.{Ledger, withNow, finished, isRead, readBy, updateBy, recordBy}
 use Rattle.tables.specs.Columns.{blockBase, headState, headEnd, headKind, headCount, headUsed, headLast, blockNext}
 use Rattle.block_table.specs.Blocks.{SameRows, headPlace}
 use Rattle.block_table.proofs.Blocks.{blocks-kept}
 use Rattle.block_table.proofs.Keeping.{stored-kept}
-use Rattle.ordering.specs.Order.{Unordered}
 use Rattle.ordering.proofs.Keeping.{unordered-kept}
+use Rattle.calendar_table.proofs.Calendars.{calendar-kept}
 use Rattle.layout.specs.Tables.{Tables, lengthsOf, headAt}
 use Rattle.layout.specs.Encodes.{Encodes, TreeIn}
 use Rattle.layout.specs.Relations.{readTables}
 use Rattle.layout.proofs.Lengths.{lent-same, heads-fit}
-
--- ── an open ledger ──
-
-pub still-none : (tree : Option segment.Tree) → isSome tree ≡ false → tree ≡ none
-still-none none e = refl
-still-none (some tree) e = absurd (true≢false e)
-
--- its tables have no order
-pub open-unordered : (t : Tables) (l : Ledger) → Encodes t l → finished l ≡ false → Unordered (t .blocks) (length (l .now .blocks))
-open-unordered t l e still = subst (λ (x : Option segment.Tree). TreeIn t l x) (still-none (l .tree) still) (e .tree)
+use Rattle.layout.proofs.Installing.{still-none, open-unordered}
 
 -- ── what recording leaves ──
 
@@ -84,5 +75,6 @@ module _ (t : Tables) (l : Ledger) (o : Operation) (e : Encodes t l) (still : fi
         pieces-stored = rw used (e .pieces-stored);
         tree = subst (λ (x : Option segment.Tree). TreeIn (readTables (o .tick) t) (withNow (readBy (l .now) o) l) x) (sym (still-none (l .tree) still))
             (unordered-kept (same-rows (length (l .now .blocks))) (other (rowWidth * 0 + (blockBase + blockNext)) (λ z. omega arith)) (open-unordered t l e still));
+        calendar = calendar-kept (t .blocks) (set (t .blocks) (headPlace headLast) (o .tick)) (l .calendar) (λ i lo hi. other i (λ z. omega arith)) (e .calendar);
       } in
       subst (λ (m : Ledger). Encodes (readTables (o .tick) t) m) (sym (record-read l o read)) there

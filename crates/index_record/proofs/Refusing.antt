@@ -1,4 +1,5 @@
--- The ledger's refusals of record from those of the numbers: the call's come first, and those of space are an update's alone. Assumes nothing.
+-- The ledger's refusals of record from those of the numbers: the call's come first, then that of the calendar, and those of space are an update's alone.
+-- Assumes nothing.
 use mathlib.Core.Path.{_≡_, refl, _∙_}
 use mathlib.Core.Bool.{Bool, true, false, cond, _&&_, not}
 use mathlib.Core.List.{List, [], _∷_, _++_}
@@ -8,6 +9,7 @@ use lib.Dec.{ltb}
 use lib.ListN.{length}
 use borrow.Author.Tests.{ltb-false, eqb-false}
 use Rattle.history.specs.Words.{Operation}
+use Rattle.history.specs.Hours.{closedBy}
 use Rattle.history.specs.Lent.{tooShort, pieceRows, blockRows, leastScratch}
 use Rattle.history.specs.Ledger.{changed, Ledger, finished, isRead, updateBy}
 use Rattle.history.specs.Results.{Result, resultOf}
@@ -100,29 +102,40 @@ module _ (l : Ledger) (scratch : ℕ) (o : Operation) (fits : tooShort (l .openi
       let next = updateBy (l .opening .kind) (l .now) o in
       spaceRefusals (pieceRows (l .opening .lent)) (blockRows (l .opening .lent)) (l .opening .lent .store) (length (next .pieces)) (length (next .blocks)) (length (next .store))
 
+  -- 26 in front of them
+  abbrev outside : Bool
+  outside = closedBy (l .calendar) (o .first) (o .bytes)
+
+  abbrev rest : List Refusal
+  rest = 26 if outside ∷ ofUpdate (not (isRead (l .now) o))
+
   -- what an accepted call gives
   abbrev given : Result
   given = resultOf (changed (l .now) o)
 
-  split : recordAnswer l scratch o ≡ firstOf (ofCall ++ ofUpdate (not (isRead (l .now) o))) given
+  split : recordAnswer l scratch o ≡ firstOf (ofCall ++ rest) given
   unfolding recordRefusals callRefusals firstOf
   split = rw (fits, long, still)
 
   pub answer-call : (n : ℕ) → answerBy ofCall ≡ refused n → recordAnswer l scratch o ≡ refused n
-  answer-call n e =
-      split ∙ value-refused (ofCall ++ ofUpdate (not (isRead (l .now) o))) given n (first-front ofCall (ofUpdate (not (isRead (l .now) o))) n e)
+  answer-call n e = split ∙ value-refused (ofCall ++ rest) given n (first-front ofCall rest n e)
 
-  pub answer-read : answerBy ofCall ≡ accepted tt → isRead (l .now) o ≡ true → recordAnswer l scratch o ≡ accepted (resultOf (changed (l .now) o))
-  unfolding firstOf
-  answer-read e read =
-      split ∙ value-accepted (ofCall ++ ofUpdate (not (isRead (l .now) o))) given (first-back ofCall (ofUpdate (not (isRead (l .now) o))) e ∙ rw read)
+  module _ (e : answerBy ofCall ≡ accepted tt) where
+    pub answer-closed : outside ≡ true → recordAnswer l scratch o ≡ refused 26
+    unfolding firstOf
+    answer-closed out = split ∙ value-refused (ofCall ++ rest) given 26 (first-back ofCall rest e ∙ rw out)
 
-  of-space : answerBy ofCall ≡ accepted tt → isRead (l .now) o ≡ false → answerBy (ofCall ++ ofUpdate (not (isRead (l .now) o))) ≡ answerBy ofSpace
-  unfolding spaceRefusals
-  of-space e read = first-back ofCall (ofUpdate (not (isRead (l .now) o))) e ∙ rw read
+    module _ (inside : outside ≡ false) where
+      pub answer-read : isRead (l .now) o ≡ true → recordAnswer l scratch o ≡ accepted (resultOf (changed (l .now) o))
+      unfolding firstOf
+      answer-read read = split ∙ value-accepted (ofCall ++ rest) given (first-back ofCall rest e ∙ rw (inside, read))
 
-  pub answer-space : answerBy ofCall ≡ accepted tt → isRead (l .now) o ≡ false → (n : ℕ) → answerBy ofSpace ≡ refused n → recordAnswer l scratch o ≡ refused n
-  answer-space e read n full = split ∙ value-refused (ofCall ++ ofUpdate (not (isRead (l .now) o))) given n (of-space e read ∙ full)
+      of-space : isRead (l .now) o ≡ false → answerBy (ofCall ++ rest) ≡ answerBy ofSpace
+      unfolding spaceRefusals firstOf
+      of-space read = first-back ofCall rest e ∙ rw (inside, read)
 
-  pub answer-update : answerBy ofCall ≡ accepted tt → isRead (l .now) o ≡ false → answerBy ofSpace ≡ accepted tt → recordAnswer l scratch o ≡ accepted (resultOf (changed (l .now) o))
-  answer-update e read free = split ∙ value-accepted (ofCall ++ ofUpdate (not (isRead (l .now) o))) given (of-space e read ∙ free)
+      pub answer-space : isRead (l .now) o ≡ false → (n : ℕ) → answerBy ofSpace ≡ refused n → recordAnswer l scratch o ≡ refused n
+      answer-space read n full = split ∙ value-refused (ofCall ++ rest) given n (of-space read ∙ full)
+
+      pub answer-update : isRead (l .now) o ≡ false → answerBy ofSpace ≡ accepted tt → recordAnswer l scratch o ≡ accepted (resultOf (changed (l .now) o))
+      answer-update read free = split ∙ value-accepted (ofCall ++ rest) given (of-space read ∙ free)

@@ -35,6 +35,7 @@ use Rattle.recording.specs.Calls.{Updated, AppliedUpdate}
 use Rattle.recording.proofs.Telling.{shown-kept, update-pieces, update-blocks}
 use Rattle.recording.specs.Recorded.{blockRowOf, recorded}
 use Rattle.recording.proofs.Recorded.{recorded-count, recorded-row, recorded-out, recorded-blocks}
+use Rattle.calendar_table.proofs.Calendars.{calendar-kept}
 use Rattle.layout.specs.Tables.{Tables, tables, lengthsOf, headAt}
 use Rattle.layout.specs.Encodes.{Encodes, TreeIn}
 use Rattle.layout.specs.Relations.{UpdatedTables}
@@ -42,7 +43,8 @@ use Rattle.layout.proofs.Lengths.{lent-same, Heads, heads-fit}
 use Rattle.layout.proofs.Pieces.{pieces-rep, pieces-shown}
 use Rattle.index_record.specs.Calls.{operation, UpdateApplied}
 use Rattle.index_record.proofs.Storing.{sets-part, sets-grow, Within, below-stored, inside-stored, above-stored}
-use Rattle.index_record.proofs.Reading.{still-none, open-unordered, record-update}
+use Rattle.layout.proofs.Installing.{still-none, open-unordered}
+use Rattle.index_record.proofs.Reading.{record-update}
 
 -- ── the block table ──
 
@@ -309,6 +311,9 @@ module _ (t : Tables) (l : Ledger) (o : Operation) (scratch : ℕ) (e : Encodes 
           pieces-stored = rw used-after (all-un-map (pieceAt pieces′) (rep .links) inside);
           tree = subst (λ (x : Option segment.Tree). TreeIn t′ l′ x) (sym (still-none (l .tree) still))
               (rw count-after (left-unordered (o .tick) (used + size) gone (t .blocks) (there .blocks) blocks-fit (rw (e .count) (open-unordered t l e still))));
+          calendar =
+              calendar-kept (t .blocks) blocks′ (l .calendar)
+              (λ i lo hi. left-appended (o .tick) (used + size) gone (t .blocks) (there .blocks) .head i (omega arith) (λ z. omega arith) (λ z. omega arith) (λ z. omega arith)) (e .calendar);
         } in
         subst (λ (m : Ledger). Encodes t′ m) (sym (record-update l o update)) whole
 

@@ -1,4 +1,4 @@
--- The refusals of record that depend on the call and the board, 5 to 11, by the numbers that they compare. Definitions alone: that they are the ledger's
+-- The refusals of record that depend on the call and the board, 5 to 11 but for 26, by the numbers that they compare. Definitions alone: that they are the ledger's
 -- stands in proofs/Refusing.antt.
 use mathlib.Core.Path.{_≡_}
 use mathlib.Core.List.{List, [], _∷_}

@@ -108,6 +108,9 @@ pub fn refusal(
     if number != 0 {
         return Verdict::Refused(number);
     }
+    if calendar_table::closed(blocks, first, bytes) {
+        return Verdict::Refused(26);
+    }
     let after = survey::survey(pieces, store, first, bytes);
     let same = after.same;
     let near = after.near;

@@ -6,14 +6,15 @@ use native.Mathlib.Omega.{arith}
 use lib.ListN.{length}
 use borrow.Author.Tests.{not-true, not-false}
 use Rattle.lists.specs.Tests.{Decides}
-use Rattle.lists.proofs.Numbers.{confirm, refute}
+use Rattle.lists.proofs.Numbers.{confirm, refute, decides-iff}
 use Rattle.history.specs.Lent.{tooShort, blockRows}
 use Rattle.history.specs.Refusals.{maxEndTick}
 use Rattle.tables.specs.Columns.{column, piecesCount, headEnd, headKind, headCount, headUsed, headLast}
 use Rattle.block_table.specs.Rows.{RowsSound}
 use Rattle.piece_table.specs.Test as piece
+use Rattle.calendar_table.specs.Calendars.{CalendarFormed}
 use Rattle.layout.specs.Tables.{Tables, lengthsOf, headAt}
-use Rattle.index_test.specs.Board.{Numbers, BoardFormed}
+use Rattle.index_test.specs.Board.{Numbers, HeadFormed, BoardFormed}
 
 -- ── numbers ──
 
@@ -36,13 +37,25 @@ numbers-yes t r count pieces end used kind last e p q a b c d some most known be
 
 pub ruleset numbering = (numbers-rows, numbers-yes, arith)
 
+-- ── the heads ──
+
+pub head-heads : (t : Tables) (r : Bool) → not r ≡ true → Decides r (tooShort (lengthsOf t) ≡ false) → Decides false (HeadFormed t)
+head-heads t r e d = refute (λ s. d .not (not-true r e) (s .heads))
+
+pub head-numbers : (t : Tables) (r : Bool) → not r ≡ true → Decides r (Numbers t) → Decides false (HeadFormed t)
+head-numbers t r e d = refute (λ s. d .not (not-true r e) (s .numbers))
+
+pub head-rest : (t : Tables) (h m k : Bool) → not h ≡ false → not m ≡ false → Decides h (tooShort (lengthsOf t) ≡ false) → Decides m (Numbers t)
+    → Decides k (CalendarFormed (t .blocks)) → Decides k (HeadFormed t)
+head-rest t h m k eh em dh dm dk =
+    decides-iff k (λ c. record { heads = dh .yes (not-false h eh); numbers = dm .yes (not-false m em); calendar = c }) (λ s. s .calendar) dk
+
+pub ruleset heading = (head-heads, head-numbers, head-rest)
+
 -- ── the board ──
 
-pub board-heads : (t : Tables) (r : Bool) → not r ≡ true → Decides r (tooShort (lengthsOf t) ≡ false) → Decides false (BoardFormed t)
-board-heads t r e d = refute (λ s. d .not (not-true r e) (s .heads))
-
-pub board-numbers : (t : Tables) (r : Bool) → not r ≡ true → Decides r (Numbers t) → Decides false (BoardFormed t)
-board-numbers t r e d = refute (λ s. d .not (not-true r e) (s .numbers))
+pub board-head : (t : Tables) (r : Bool) → not r ≡ true → Decides r (HeadFormed t) → Decides false (BoardFormed t)
+board-head t r e d = refute (λ s. d .not (not-true r e) (record { heads = s .heads; numbers = s .numbers; calendar = s .calendar }))
 
 module _ (t : Tables) (kind end used last count : ℕ) (a : kind ≡ headAt t headKind) (b : end ≡ headAt t headEnd) (c : used ≡ headAt t headUsed)
     (d : last ≡ headAt t headLast) (n : count ≡ headAt t headCount) where
@@ -52,14 +65,17 @@ module _ (t : Tables) (kind end used last count : ℕ) (a : kind ≡ headAt t he
   pub board-pieces : (r : Bool) → r ≡ false → Decides r (piece.WellFormed (t .pieces) kind used last) → Decides false (BoardFormed t)
   board-pieces r e k = refute (λ s. k .not e (rw (a, c, d) (s .pieces)))
 
-  pub board-yes : (h m r p : Bool) → not h ≡ false → not m ≡ false → not r ≡ false → p ≡ true → Decides h (tooShort (lengthsOf t) ≡ false) → Decides m (Numbers t)
+  pub board-yes : (h r p : Bool) → not h ≡ false → not r ≡ false → p ≡ true → Decides h (HeadFormed t)
       → Decides r (RowsSound (t .blocks) (record { kind = kind; end = end; used = used }) 0 count) → Decides p (piece.WellFormed (t .pieces) kind used last)
       → Decides true (BoardFormed t)
-  board-yes h m r p eh em er ep dh dm dr dp = confirm (record {
-    heads = dh .yes (not-false h eh);
-    numbers = dm .yes (not-false m em);
-    rows = rw (← a, ← b, ← c, ← n) (dr .yes (not-false r er));
-    pieces = rw (← a, ← c, ← d) (dp .yes ep);
-  })
+  board-yes h r p eh er ep dh dr dp =
+      let head = dh .yes (not-false h eh) in
+      confirm (record {
+        heads = head .heads;
+        numbers = head .numbers;
+        calendar = head .calendar;
+        rows = rw (← a, ← b, ← c, ← n) (dr .yes (not-false r er));
+        pieces = rw (← a, ← c, ← d) (dp .yes ep);
+      })
 
-pub ruleset boarding = (board-heads, board-numbers, board-rows, board-pieces, board-yes)
+pub ruleset boarding = (board-head, board-rows, board-pieces, board-yes)

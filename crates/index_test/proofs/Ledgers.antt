@@ -22,6 +22,7 @@ use Rattle.piece_table.specs.Piece.{pieceAt, Filled}
 use Rattle.piece_table.specs.Shown.{shown}
 use Rattle.piece_table.specs.Test as piece
 use Rattle.piece_table.proofs.Order.{follow-filled}
+use Rattle.calendar_table.proofs.Calendars.{calendarHeld, formed-held, formed-installable, held-formed}
 use Rattle.layout.specs.Tables.{Tables, lengthsOf, headAt}
 use Rattle.layout.specs.Encodes.{Encodes, TreeIn, stateOf}
 use Rattle.layout.proofs.Pieces.{used-fits, pieces-formed, shown-sound, follow-order, part-front}
@@ -81,6 +82,7 @@ ledgerOf t links tree =
         store = take (headAt t headUsed) (t .store);
       };
       tree = tree;
+      calendar = calendarHeld (t .blocks);
     }
 
 module _ (t : Tables) (b : BoardFormed t) where
@@ -115,6 +117,7 @@ module _ (t : Tables) (b : BoardFormed t) where
     pieces = refl;
     pieces-stored = all-map (λ link x. x .inside) links-allowed;
     tree = in-tree;
+    calendar = formed-held (t .blocks) (b .calendar);
   }
 
   pub board-sound : (tree : Option segment.Tree) → SoundBoard (ledgerOf t boardLinks tree)
@@ -143,6 +146,7 @@ module _ (t : Tables) (b : BoardFormed t) where
         pieces-fit = omega (arith, length-of-map (λ link. shown (t .store) (pieceAt (t .pieces) link)) (b .pieces .rep .links), b .pieces .rep .linked .dense .room);
         blocks-fit = omega (arith, length-of-map (λ link. shown (t .store) (pieceAt (t .pieces) link)) (b .pieces .rep .links), blocks-length (t .store) (t .blocks) (headAt t headCount), n .rows-fit);
         store-fits = omega (arith, length-take (headAt t headUsed) (t .store));
+        calendar-taken = formed-installable (t .blocks) (b .calendar);
       }
 
 -- ── the tables of a sound ledger pass ──
@@ -161,6 +165,7 @@ board-formed t l e s few fits =
         used-fits = used;
         rows-fit = omega (arith, e .count, e .linked .count, pieces-length, rw lent at (s .blocks-fit));
       };
+      calendar = held-formed (t .blocks) (l .calendar) (e .calendar) (s .calendar-taken);
       rows = record { rows = row };
       pieces = pieces-formed t l e s few fits;
     }

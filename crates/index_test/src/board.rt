@@ -1,4 +1,4 @@
-// What any index has, open or closed: heads, numbers, rows of blocks, pieces.
+// What any index has, open or closed: heads, numbers, calendar, rows of blocks, pieces.
 ghost use mathlib.Core.Path.{_≡_};
 ghost use mathlib.Core.Bool.{false};
 ghost use lib.ListN.{length};
@@ -6,7 +6,7 @@ ghost use Prim.Native.Nat.{_+_, _-_, _/_, _≤_};
 ghost use Rattle.lists.specs.Tests.{Decides};
 ghost use Rattle.history.specs.Lent.{tooShort, rowWidth, blockHead};
 ghost use Rattle.layout.specs.Tables.{tables, lengthsOf};
-ghost use Rattle.index_test.specs.Board.{Numbers, BoardFormed};
+ghost use Rattle.index_test.specs.Board.{Numbers, HeadFormed, BoardFormed};
 use tables::block;
 use tables::entry;
 use tables::node;
@@ -83,6 +83,19 @@ fn test_numbers(
     false
 }
 
+// Whether the heads are those of an index: lengths, numbers, calendar.
+fn test_head(pieces: &[u64], blocks: &[u64], store: &[u8], nodes: &[u64], entries: &[u64]) -> bool
+    ensures { λ r. ⌜ Decides r (HeadFormed (tables (now (pieces .entry)) (now (blocks .entry)) (now (store .entry)) (now (nodes .entry)) (now (entries .entry)))) ⌝ }
+{
+    if !test_heads(pieces, blocks, store, nodes, entries) {
+        return false;
+    }
+    if !test_numbers(pieces, blocks, store, nodes, entries) {
+        return false;
+    }
+    calendar_table::formed(blocks)
+}
+
 // Whether the tables have what any index has. Linear in the rows in use.
 pub fn test_board(
     pieces: &[u64],
@@ -93,10 +106,7 @@ pub fn test_board(
 ) -> bool
     ensures { λ r. ⌜ Decides r (BoardFormed (tables (now (pieces .entry)) (now (blocks .entry)) (now (store .entry)) (now (nodes .entry)) (now (entries .entry)))) ⌝ }
 {
-    if !test_heads(pieces, blocks, store, nodes, entries) {
-        return false;
-    }
-    if !test_numbers(pieces, blocks, store, nodes, entries) {
+    if !test_head(pieces, blocks, store, nodes, entries) {
         return false;
     }
     let kind = block_table::kind(blocks);

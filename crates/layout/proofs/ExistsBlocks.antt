@@ -1,16 +1,19 @@
 -- A table for every list of blocks, with any head and any order column. Assumes nothing.
-use mathlib.Core.Path.{_≡_, refl, ap₂}
+use mathlib.Core.Path.{_≡_, refl, ap₂, _∙_}
+use mathlib.Core.Logic.{inr}
 use mathlib.Core.List.{List, [], _∷_, _++_, map}
 use Prim.Native.Nat.{ℕ, zero, suc, _+_, _*_, _^_, _≤_, _<_}
 use native.Mathlib.Omega.{arith}
-use lib.ListN.{length, getD}
+use lib.ListN.{length, getD, set}
+use lib.Seq.{sets, length-sets}
 use Rattle.lists.specs.Lists.{All, all-nil, all-cons}
 use Rattle.lists.proofs.Lists.{all-at}
 use Rattle.lists.proofs.Counting.{map-from-at}
 use Rattle.history.specs.Lent.{rowWidth, blockHead}
 use Rattle.history.specs.Words.{Block, size, firstCell}
 use Rattle.history.specs.Sound as sound
-use Rattle.tables.specs.Columns.{blockColumn, blockBase, blockFirst, blockLength, blockCreated, blockDestroyed, blockOffset, blockOwner, blockNext}
+use Rattle.lists.proofs.Stores.{getD-sets-out}
+use Rattle.tables.specs.Columns.{frontCalendar, frontDays, blockColumn, blockBase, blockFirst, blockLength, blockCreated, blockDestroyed, blockOffset, blockOwner, blockNext}
 use Rattle.block_table.specs.Blocks.{BlockRow, noRow, shownBlock, rowAt, blockOfRow, blocksOf, Stored}
 use Rattle.block_table.proofs.Blocks.{shown-is}
 use Rattle.ordering.specs.Order.{nextAt}
@@ -49,6 +52,9 @@ pub record Head : Type 0 where
   pub kind : ℕ
   pub used : ℕ
   pub last : ℕ
+  -- what stands in its front from the calendar's place on, no more than a calendar takes
+  pub front : List ℕ
+  pub front-fits : frontCalendar + length front ≤ frontDays
 
 -- the head, then a row for each block; what is not used is 0
 unfoldable pub blockRow : Head → (fs : List BlockRow) (link : ℕ) → List ℕ
@@ -59,17 +65,19 @@ blockRow h fs (suc k) =
 
 -- as long as it is lent
 unfoldable pub blockTable : (many : ℕ) → Head → (fs : List BlockRow) → List ℕ
-blockTable many h fs = tableBy blockBase many (blockRow h fs)
+blockTable many h fs = sets (tableBy blockBase many (blockRow h fs)) frontCalendar (h .front)
 
 pub block-table-length : (many : ℕ) (h : Head) (fs : List BlockRow) → length (blockTable many h fs) ≡ many
 unfolding blockTable
-block-table-length many h fs = table-by-length blockBase many (blockRow h fs)
+block-table-length many h fs = length-sets (tableBy blockBase many (blockRow h fs)) frontCalendar (h .front) ∙ table-by-length blockBase many (blockRow h fs)
 
 module _ (many : ℕ) (h : Head) (fs : List BlockRow) (room : blockHead + rowWidth * length fs ≤ many) where
   -- a column in use reads as the row says
   pub block-column : (link c : ℕ) → link ≤ length fs → c < rowWidth → blockColumn (blockTable many h fs) link c ≡ getD (blockRow h fs link) c 0
   unfolding blockTable
-  block-column link c p q = table-by-at blockBase many (blockRow h fs) link c q (omega arith)
+  block-column link c p q =
+      getD-sets-out (h .front) (tableBy blockBase many (blockRow h fs)) frontCalendar (rowWidth * link + (blockBase + c)) (inr (omega (arith, h .front-fits)))
+      ∙ table-by-at blockBase many (blockRow h fs) link c q (omega arith)
 
   -- there is no order
   pub block-next : (link : ℕ) → link ≤ length fs → nextAt (blockTable many h fs) link ≡ 0
@@ -110,6 +118,16 @@ module _ (many : ℕ) (h : Head) (fs : List BlockRow) (room : blockHead + rowWid
 
 -- ── its numbers ──
 
+-- words written over words
+all-set : {P : ℕ → Type 0} {l : List ℕ} (i v : ℕ) → P v → All P l → All P (set l i v)
+all-set i v p all-nil = all-nil
+all-set zero v p (all-cons q qs) = all-cons p qs
+all-set (suc i) v p (all-cons q qs) = all-cons q (all-set i v p qs)
+
+all-sets : {P : ℕ → Type 0} {l : List ℕ} (vs : List ℕ) (at : ℕ) → All P vs → All P l → All P (sets l at vs)
+all-sets [] at all-nil a = a
+all-sets (v ∷ vs) at (all-cons p ps) a = all-sets vs (suc at) ps (all-set at v p a)
+
 -- the numbers of a block and of the head are words
 pub record RowWords (f : BlockRow) : Type 0 where
   pub owner : f .owner < 2 ^ 64
@@ -125,12 +143,13 @@ pub record HeadWords (h : Head) : Type 0 where
   pub kind : h .kind < 2 ^ 64
   pub used : h .used < 2 ^ 64
   pub last : h .last < 2 ^ 64
+  pub front : All Word (h .front)
 
 -- and so are all numbers of the table
 pub block-table-words : (many : ℕ) (h : Head) (fs : List BlockRow) → HeadWords h
     → length fs < 2 ^ 64 → All RowWords fs → All Word (blockTable many h fs)
 unfolding blockTable blockRow
-block-table-words many h fs w few a = table-by-words blockBase many (blockRow h fs) words
+block-table-words many h fs w few a = all-sets (h .front) frontCalendar (w .front) (table-by-words blockBase many (blockRow h fs) words)
   where
     none : RowWords noRow
     none = record { owner = omega arith; first = omega arith; size = omega arith; created = omega arith; destroyed = omega arith; offset = omega arith }

@@ -1,28 +1,33 @@
 -- The tables of a sound board: pieces, blocks and store, with any order column, node and entry table. Assumes nothing.
-use mathlib.Core.Path.{_≡_, ap, sym, _∙_, subst}
+use mathlib.Core.Path.{_≡_, refl, ap, sym, _∙_, subst}
 use mathlib.Core.Bool.{false}
 use mathlib.Core.Option.{Option, none, some}
-use mathlib.Core.List.{List, _++_}
+use mathlib.Core.List.{List, [], _∷_, _++_}
 use Prim.Native.Nat.{ℕ, zero, suc, _+_, _-_, _*_, _^_, _≤_, _<_}
 use native.Mathlib.Omega.{arith}
 use lib.ListN.{length, getD, replicate, length-append, length-replicate}
-use lib.Seq.{take-append-seam}
+use lib.Seq.{sets, getD-set-same, take-append-seam}
 use Rattle.lists.specs.Lists.{All, all-nil, all-cons, countFrom}
-use Rattle.lists.proofs.Lists.{all-append, all-both, all-un-map}
+use Rattle.lists.proofs.Lists.{all-append, all-both, all-of-map, all-un-map}
+use Rattle.lists.proofs.Counting.{all-count-from}
 use Rattle.lists.proofs.Maps.{length-of-map}
 use Rattle.history.specs.Lent.{rowWidth, blockHead, tooShort}
 use Rattle.history.specs.Words.{Piece, Block}
 use Rattle.history.specs.Tree as segment
+use Rattle.history.specs.Hours.{Calendar, calendarWidth}
 use Rattle.history.specs.Ledger.{Ledger}
 use Rattle.history.specs.Sound.{SoundPiece, SoundBlock, SoundBoard}
-use Rattle.tables.specs.Columns.{headState, headEnd, headKind, headCount, headUsed, headLast}
+use Rattle.tables.specs.Columns.{blockBase, frontCalendar, frontDays, headState, headEnd, headKind, headCount, headUsed, headLast}
 use Rattle.block_table.specs.Blocks.{BlockRow, shownBlock}
 use Rattle.piece_table.specs.Piece.{PieceRow}
 use Rattle.piece_table.specs.Shown.{shown}
+use Rattle.calendar_table.specs.Calendars.{CalendarIn, calendarNumbers}
+use Rattle.calendar_table.proofs.Calendars.{calendar-none, written-length, installed-in}
 use Rattle.layout.specs.Tables.{Tables, tables, lengthsOf, headAt}
 use Rattle.layout.specs.Encodes.{stateOf, TreeIn, Encodes}
-use Rattle.layout.specs.Law.{Word, Byte, Fits, Lendable}
+use Rattle.layout.specs.Law.{Word, Byte, Fits, NoneOrOfWords, Lendable}
 use Rattle.layout.proofs.Lengths.{lent-same, Heads, heads-fit}
+use Rattle.layout.proofs.ExistsTable.{tableBy, table-by-length, word-at}
 use Rattle.layout.proofs.ExistsPieces.{PieceRows, piece-rows, pieceTable, piece-table-length, piece-links, pieces-shown, pieces-inside, PieceWords, piece-table-words}
 use Rattle.layout.proofs.ExistsBlocks.{BlockRows, block-rows, Head, blockRow, blockTable, block-table-length, block-column, blocks-shown, blocks-inside, RowWords, HeadWords, block-table-words}
 
@@ -32,8 +37,44 @@ use Rattle.layout.proofs.ExistsBlocks.{BlockRows, block-rows, Head, blo
 unfoldable pub unused : Ledger → List ℕ
 unused l = replicate (l .opening .lent .store - length (l .now .store)) 0
 
-unfoldable pub headOf : Ledger → Head
-headOf l = record { state = stateOf (l .tree); end = l .opening .end; kind = l .opening .kind; used = length (l .now .store); last = l .now .last }
+-- what the front holds of the ledger's calendar: its flag and its numbers
+pub record Front (l : Ledger) : Type 0 where
+  pub numbers : List ℕ
+  pub fits : frontCalendar + length numbers ≤ frontDays
+  pub words : All Word numbers
+  pub there : (blocks : List ℕ) → frontDays ≤ length blocks → CalendarIn (sets blocks frontCalendar numbers) (l .calendar)
+
+-- the numbers of a calendar are words, as those are that it was made of
+written-words : {ns : List ℕ} → All Word ns → All Word (calendarNumbers ns)
+written-words a = all-of-map _ (all-count-from 0 calendarWidth (λ i p q. word-at a i))
+
+pub front-of : (l : Ledger) → Lendable l → Front l
+front-of l f = go (l .calendar) (f .calendar) refl
+  where
+    go : (x : Option Calendar) → NoneOrOfWords x → l .calendar ≡ x → Front l
+    go none w is = record {
+      numbers = 0 ∷ [];
+      fits = omega arith;
+      words = all-cons {x = 0} (omega arith) all-nil;
+      there = λ blocks room. rw is (calendar-none (sets blocks frontCalendar (0 ∷ [])) (getD-set-same blocks frontCalendar 0 0 (omega arith)));
+    }
+    go (some c) w is = record {
+      numbers = 1 ∷ calendarNumbers (w .numbers);
+      fits = omega (arith, written-length (w .numbers));
+      words = all-cons {x = 1} (omega arith) (written-words (w .words));
+      there = λ blocks room. rw (is, ← w .is) (installed-in blocks (w .numbers) room);
+    }
+
+unfoldable pub headOf : (l : Ledger) → Front l → Head
+headOf l w = record {
+  state = stateOf (l .tree);
+  end = l .opening .end;
+  kind = l .opening .kind;
+  used = length (l .now .store);
+  last = l .now .last;
+  front = w .numbers;
+  front-fits = w .fits;
+}
 
 module _ (l : Ledger) (s : SoundBoard l) where
   -- pieces and blocks with the offsets of their bytes
@@ -44,9 +85,9 @@ module _ (l : Ledger) (s : SoundBoard l) where
   blockRowsOf = block-rows (l .opening .kind) (l .opening .end) (l .now .store) (unused l) (l .now .blocks) (s .blocks)
 
   -- the tables of the board, with any order column, nodes and entries
-  unfoldable pub tablesBy : (nodes entries : List ℕ) → Tables
-  tablesBy nodes entries =
-      tables (pieceTable (l .opening .lent .pieces) (pieceRowsOf .rows)) (blockTable (l .opening .lent .blocks) (headOf l) (blockRowsOf .rows))
+  unfoldable pub tablesBy : Front l → (nodes entries : List ℕ) → Tables
+  tablesBy w nodes entries =
+      tables (pieceTable (l .opening .lent .pieces) (pieceRowsOf .rows)) (blockTable (l .opening .lent .blocks) (headOf l w) (blockRowsOf .rows))
       (l .now .store ++ unused l) nodes entries
 
   -- as many rows as pieces and blocks, and there is room for them
@@ -69,22 +110,29 @@ module _ (l : Ledger) (s : SoundBoard l) where
     pub block-room : blockHead + rowWidth * length (blockRowsOf .rows) ≤ l .opening .lent .blocks
     block-room = let h : Heads (l .opening .lent) = heads-fit (l .opening .lent) fits in omega (arith, blocks-many, s .blocks-fit, h .blocks)
 
-    module _ (nodes entries : List ℕ) where
-      head-column : (c : ℕ) → c < rowWidth → headAt (tablesBy nodes entries) c ≡ getD (blockRow (headOf l) (blockRowsOf .rows) 0) c 0
+    module _ (w : Front l) (nodes entries : List ℕ) where
+      head-column : (c : ℕ) → c < rowWidth → headAt (tablesBy w nodes entries) c ≡ getD (blockRow (headOf l w) (blockRowsOf .rows) 0) c 0
       unfolding tablesBy
-      head-column c h = block-column (l .opening .lent .blocks) (headOf l) (blockRowsOf .rows) block-room 0 c (omega arith) h
+      head-column c h = block-column (l .opening .lent .blocks) (headOf l w) (blockRowsOf .rows) block-room 0 c (omega arith) h
 
-      used-is : headAt (tablesBy nodes entries) headUsed ≡ length (l .now .store)
+      used-is : headAt (tablesBy w nodes entries) headUsed ≡ length (l .now .store)
       unfolding blockRow headOf
       used-is = head-column headUsed (omega arith)
 
-      count-is : headAt (tablesBy nodes entries) headCount ≡ length (blockRowsOf .rows)
+      count-is : headAt (tablesBy w nodes entries) headCount ≡ length (blockRowsOf .rows)
       unfolding blockRow headOf
       count-is = head-column headCount (omega arith)
 
+      calendar-there : CalendarIn (blockTable (l .opening .lent .blocks) (headOf l w) (blockRowsOf .rows)) (l .calendar)
+      unfolding blockTable headOf
+      calendar-there =
+          let h : Heads (l .opening .lent) = heads-fit (l .opening .lent) fits in
+          w .there (tableBy blockBase (l .opening .lent .blocks) (blockRow (headOf l w) (blockRowsOf .rows)))
+          (omega (arith, h .blocks, table-by-length blockBase (l .opening .lent .blocks) (blockRow (headOf l w) (blockRowsOf .rows))))
+
       -- the board is as it should be, whatever tree there is
       pub board-encodes : length nodes ≡ l .opening .lent .nodes → length entries ≡ l .opening .lent .entries
-          → TreeIn (tablesBy nodes entries) l (l .tree) → Encodes (tablesBy nodes entries) l
+          → TreeIn (tablesBy w nodes entries) l (l .tree) → Encodes (tablesBy w nodes entries) l
       unfolding tablesBy blockRow headOf
       board-encodes n e tree =
           record {
@@ -99,22 +147,23 @@ module _ (l : Ledger) (s : SoundBoard l) where
             count = count-is ∙ blocks-many;
             blocks =
                 rw count-is
-                (sym (blocks-shown (l .opening .lent .blocks) (headOf l) (blockRowsOf .rows) block-room (l .now .store ++ unused l) ∙ blockRowsOf .shows));
+                (sym (blocks-shown (l .opening .lent .blocks) (headOf l w) (blockRowsOf .rows) block-room (l .now .store ++ unused l) ∙ blockRowsOf .shows));
             blocks-stored =
                 rw (used-is, count-is)
-                (blocks-inside (l .opening .lent .blocks) (headOf l) (blockRowsOf .rows) block-room (length (l .now .store)) (blockRowsOf .inside));
+                (blocks-inside (l .opening .lent .blocks) (headOf l w) (blockRowsOf .rows) block-room (length (l .now .store)) (blockRowsOf .inside));
             links = countFrom 1 (length (pieceRowsOf .rows));
             linked = piece-links (l .opening .lent .pieces) (pieceRowsOf .rows) piece-room;
             pieces = sym (pieces-shown (l .opening .lent .pieces) (pieceRowsOf .rows) piece-room (l .now .store ++ unused l) ∙ pieceRowsOf .shows);
             pieces-stored =
                 rw used-is (pieces-inside (l .opening .lent .pieces) (pieceRowsOf .rows) piece-room (length (l .now .store)) (pieceRowsOf .inside));
             tree = tree;
+            calendar = calendar-there;
           }
         where
-          long : l .opening .lent ≡ lengthsOf (tablesBy nodes entries)
+          long : l .opening .lent ≡ lengthsOf (tablesBy w nodes entries)
           long =
-              lent-same (l .opening .lent) (lengthsOf (tablesBy nodes entries)) (sym (piece-table-length (l .opening .lent .pieces) (pieceRowsOf .rows)))
-              (sym (block-table-length (l .opening .lent .blocks) (headOf l) (blockRowsOf .rows))) (sym store-long) (sym n) (sym e)
+              lent-same (l .opening .lent) (lengthsOf (tablesBy w nodes entries)) (sym (piece-table-length (l .opening .lent .pieces) (pieceRowsOf .rows)))
+              (sym (block-table-length (l .opening .lent .blocks) (headOf l w) (blockRowsOf .rows))) (sym store-long) (sym n) (sym e)
 
 -- ── numbers of 64 bits ──
 
@@ -123,14 +172,14 @@ replicate-all zero p = all-nil
 replicate-all (suc n) p = all-cons p (replicate-all n p)
 
 -- what a sound ledger says is within 64 bits
-head-words : (l : Ledger) → SoundBoard l → Lendable l → HeadWords (headOf l)
+head-words : (l : Ledger) → SoundBoard l → Lendable l → (w : Front l) → HeadWords (headOf l w)
 unfolding headOf
-head-words l s f =
+head-words l s f w =
     let last : l .now .last < 2 ^ 64 = omega (arith, s .last-below-end, s .end-most) in
     let e : l .opening .end < 2 ^ 64 = omega (arith, s .end-most) in
     let k : l .opening .kind < 2 ^ 64 = omega (arith, s .known-kind) in
     let used : length (l .now .store) < 2 ^ 64 = omega (arith, s .store-fits, f .store) in
-    record { state = state (l .tree); end = e; kind = k; used = used; last = last }
+    record { state = state (l .tree); end = e; kind = k; used = used; last = last; front = w .words }
   where
     state : (tree : Option segment.Tree) → stateOf tree < 2 ^ 64
     state none = omega arith
@@ -180,16 +229,16 @@ module _ (l : Ledger) (s : SoundBoard l) (f : Lendable l) where
   pub blocks-few : length (blockRowsOf l s .rows) < 2 ^ 64
   blocks-few = omega (arith, block-room l s (f .heads), f .blocks)
 
-  pub blocks-fit : All Word (blockTable (l .opening .lent .blocks) (headOf l) (blockRowsOf l s .rows))
-  blocks-fit = block-table-words (l .opening .lent .blocks) (headOf l) (blockRowsOf l s .rows) (head-words l s f) blocks-few block-words
+  pub blocks-fit : (w : Front l) → All Word (blockTable (l .opening .lent .blocks) (headOf l w) (blockRowsOf l s .rows))
+  blocks-fit w = block-table-words (l .opening .lent .blocks) (headOf l w) (blockRowsOf l s .rows) (head-words l s f w) blocks-few block-words
 
-  pub board-fits : (nodes entries : List ℕ) → All Word nodes → All Word entries
-      → Fits (tablesBy l s nodes entries)
+  pub board-fits : (w : Front l) (nodes entries : List ℕ) → All Word nodes → All Word entries
+      → Fits (tablesBy l s w nodes entries)
   unfolding tablesBy unused
-  board-fits nodes entries a b =
+  board-fits w nodes entries a b =
       record {
         pieces = piece-table-words (l .opening .lent .pieces) (pieceRowsOf l s .rows) (omega (arith, piece-room l s (f .heads), f .pieces)) piece-words;
-        blocks = blocks-fit;
+        blocks = blocks-fit w;
         store = all-append (f .bytes) (replicate-all (l .opening .lent .store - length (l .now .store)) (omega arith));
         nodes = a;
         entries = b;

@@ -12,3 +12,4 @@ pub mod ExistsBoard
 pub mod Exists
 pub mod Recording
 pub mod Depths
+pub mod Installing

@@ -16,6 +16,7 @@ use Rattle.piece_table.specs.Rep.{Links}
 use Rattle.piece_table.specs.Shown.{shown}
 use Rattle.ordering.specs.Order.{Unordered}
 use Rattle.segment_table.specs.Closed.{Closed}
+use Rattle.calendar_table.specs.Calendars.{CalendarIn}
 use Rattle.layout.specs.Tables.{Tables, lengthsOf, headAt, treeTables}
 
 -- ── state ──
@@ -58,3 +59,5 @@ pub record Encodes (t : Tables) (l : Ledger) : Type 0 where
   pub pieces : l .now .pieces ≡ map (λ link. shown (t .store) (pieceAt (t .pieces) link)) links
   pub pieces-stored : All (λ link. pieceAt (t .pieces) link .offset + pieceAt (t .pieces) link .size ≤ headAt t headUsed) links
   pub tree : TreeIn t l (l .tree)
+  -- the calendar, or that there is none, in the front of the head
+  pub calendar : CalendarIn (t .blocks) (l .calendar)

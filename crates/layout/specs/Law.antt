@@ -2,10 +2,13 @@
 -- deep. Statements alone: the proofs stand in proofs/.
 use mathlib.Core.Path.{_≡_}
 use mathlib.Core.Bool.{false}
+use mathlib.Core.Option.{Option, none, some}
+use mathlib.Core.List.{List}
 use Prim.Native.Nat.{ℕ, _^_, _≤_, _<_}
 use lib.ListN.{length}
 use Rattle.lists.specs.Lists.{All}
 use Rattle.history.specs.Lent.{tooShort, pieceRows}
+use Rattle.history.specs.Hours.{Calendar, calendarOf}
 use Rattle.history.specs.Ledger.{Ledger, finished}
 use Rattle.history.specs.Sound.{Sound, SoundForFinish}
 use Rattle.tables.specs.Columns.{column, piecesRoot}
@@ -38,7 +41,17 @@ pub record Fits (t : Tables) : Type 0 where
   pub nodes : All Word (t .nodes)
   pub entries : All Word (t .entries)
 
--- what a ledger can be lent: its heads are there, lengths are of 64 bits, and the store's used part has bytes
+-- the calendar of numbers of 64 bits
+pub record CalendarOfWords (c : Calendar) : Type 0 where
+  pub numbers : List ℕ
+  pub words : All Word numbers
+  pub is : calendarOf numbers ≡ c
+
+abbrev pub NoneOrOfWords : Option Calendar → Type 0
+NoneOrOfWords none = Unit {0}
+NoneOrOfWords (some c) = CalendarOfWords c
+
+-- what a ledger can be lent: its heads are there, lengths are of 64 bits, the store's used part has bytes, and so has a calendar its numbers
 pub record Lendable (l : Ledger) : Type 0 where
   pub heads : tooShort (l .opening .lent) ≡ false
   pub pieces : Word (l .opening .lent .pieces)
@@ -47,6 +60,7 @@ pub record Lendable (l : Ledger) : Type 0 where
   pub nodes : Word (l .opening .lent .nodes)
   pub entries : Word (l .opening .lent .entries)
   pub bytes : All Byte (l .now .store)
+  pub calendar : NoneOrOfWords (l .calendar)
 
 -- tables that stand for the ledger; the node and entry tables of an open one are zeros
 pub record Encoded (l : Ledger) : Type 0 where

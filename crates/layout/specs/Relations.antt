@@ -10,16 +10,17 @@ use lib.Seq.{sets}
 use Rattle.history.specs.Words.{Operation, Block, aBlock, size}
 use Rattle.history.specs.Lent.{rowWidth}
 use Rattle.history.specs.Tree.{treeOf}
-use Rattle.history.specs.Ledger.{Opening, Ledger, isRead, recordBy, finishBy, openingFor}
+use Rattle.history.specs.Ledger.{Opening, Ledger, isRead, recordBy, finishBy, installBy, openingFor}
 use Rattle.history.specs.Reads.{Found}
 use Rattle.history.specs.Results.{Result}
-use Rattle.history.specs.Refusals.{Answer, accepted, refused, openAnswer, recordAnswer, finishAnswer, findAnswer, touchingAnswer, nextAnswer, lastAnswer, blockAnswer}
+use Rattle.history.specs.Refusals.{Answer, accepted, refused, openAnswer, recordAnswer, finishAnswer, installAnswer, findAnswer, touchingAnswer, nextAnswer, lastAnswer, blockAnswer}
 use Rattle.history.specs.Sound.{Sound}
 use Rattle.tables.specs.Columns.{column, blockBase, blockColumn, blockOffset, blockNext, blockSpare, headState, headCount, headLast, pieceOffset}
 use Rattle.block_table.specs.Blocks.{headPlace}
 use Rattle.block_table.specs.Appended.{Appended}
 use Rattle.piece_table.specs.Rep.{Links}
 use Rattle.segment_table.specs.Alone.{TreeAlone}
+use Rattle.calendar_table.specs.Calendars.{installedIn}
 use Rattle.layout.specs.Tables.{Tables, tables, lengthsOf}
 use Rattle.layout.specs.Encodes.{Encodes, openState}
 use Rattle.layout.specs.Formed.{WellFormed, WellFormedForFinish}
@@ -107,6 +108,20 @@ FinishLeaves (refused n) l t t′ = t′ ≡ t
 pub record FinishedBy (t t′ : Tables) (answer : Answer Result) : Type 0 where
   pub formed : (w : WellFormedForFinish t) → (answer ≡ finishAnswer (w .ledger)) × FinishLeaves (finishAnswer (w .ledger)) (w .ledger) t t′
   pub unformed : (WellFormedForFinish t → ⊥) → (answer ≡ refused 2) × (t′ ≡ t)
+
+-- ── install ──
+
+-- the calendar written into the front of the blocks' head, all its numbers; all else as it was
+abbrev pub installedTables : (numbers : List ℕ) → Tables → Tables
+installedTables numbers t = tables (t .pieces) (installedIn (t .blocks) numbers) (t .store) (t .nodes) (t .entries)
+
+abbrev pub InstallLeaves : Answer Result → Ledger → (numbers : List ℕ) → (t t′ : Tables) → Type 0
+InstallLeaves (accepted a) l numbers t t′ = Encodes t′ (installBy l numbers) × (t′ ≡ installedTables numbers t)
+InstallLeaves (refused n) l numbers t t′ = t′ ≡ t
+
+pub record InstalledBy (numbers : List ℕ) (t t′ : Tables) (answer : Answer Result) : Type 0 where
+  pub formed : (l : Ledger) → Encodes t l → Sound l → (answer ≡ installAnswer l numbers) × InstallLeaves (installAnswer l numbers) l numbers t t′
+  pub unformed : (WellFormed t → ⊥) → (answer ≡ refused 2) × (t′ ≡ t)
 
 -- ── find ──
 

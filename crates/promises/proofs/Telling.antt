@@ -20,6 +20,9 @@ use Rattle.index_read.specs.declared.Found.{Found}
 use Rattle.index_read.specs.declared.Found.the-variants.{Listed, Refused as FindRefused}
 use Rattle.index_read.specs.declared.Given.{Given}
 use Rattle.index_read.specs.declared.Given.the-variants.{Block, Refused as BlockRefused}
+use Rattle.install.specs.Answers.{installedOf}
+use Rattle.install.specs.declared.Installed.{Installed}
+use Rattle.install.specs.declared.Installed.the-variants.{Done as IsInstalled, Refused as InstallRefused}
 use Rattle.touching_read.specs.Answers.{touchingOf, neighbourOf}
 use Rattle.touching_read.specs.declared.Touching.{Touching}
 use Rattle.touching_read.specs.declared.Touching.the-variants.{Listed as Touched, Refused as TouchingRefused}
@@ -68,6 +71,14 @@ finishedBack (refused n) = FinishRefused n
 finished-same : (x : Finished) → finishedBack (finishedOf x) ≡ x
 finished-same IsFinished = refl
 finished-same (FinishRefused n) = refl
+
+abbrev installedBack : Answer Result → Installed
+installedBack (accepted u) = IsInstalled
+installedBack (refused n) = InstallRefused n
+
+installed-same : (x : Installed) → installedBack (installedOf x) ≡ x
+installed-same IsInstalled = refl
+installed-same (InstallRefused n) = refl
 
 abbrev foundBack : Answer Counts → Found
 foundBack (accepted c) = Listed (c .count) (c .visited)
@@ -133,6 +144,7 @@ meanings = record {
   opening = undone openedOf openedBack opened-same;
   record-op = undone recordedOf recordedBack recorded-same;
   finalize = undone finishedOf finishedBack finished-same;
+  install-calendar = undone installedOf installedBack installed-same;
   block = undone givenOf givenBack given-same;
   find = undone foundOf foundBack found-same;
   touching = undone touchingOf touchingBack touching-same;

@@ -9,12 +9,13 @@ use denote.Triple.Clauses.{AtExit}
 use denote.Ref.{RefT, now}
 use Rattle.history.specs.Reads.{clockLabel}
 use Rattle.layout.specs.Tables.{Tables, tables}
-use Rattle.layout.specs.Relations.{OpenedBy, RecordedBy, FinishedBy, FoundBy, TouchedBy, NextGivenBy, LastGivenBy, BlockGivenBy}
+use Rattle.layout.specs.Relations.{OpenedBy, RecordedBy, FinishedBy, InstalledBy, FoundBy, TouchedBy, NextGivenBy, LastGivenBy, BlockGivenBy}
 use Rattle.layout.specs.Files.{WrittenBy, LoadedBy}
 use Rattle.index_record.specs.Calls.{operation, recordedOf}
 use Rattle.index_finish.specs.Answers.{finishedOf}
 use Rattle.index_read.specs.Answers.{foundOf, givenOf}
 use Rattle.index.specs.Answers.{openedOf, BytesGivenBy}
+use Rattle.install.specs.Answers.{installedOf}
 use Rattle.touching_read.specs.Answers.{touchingOf, neighbourOf}
 use Rattle.cells_read.specs.Answers.{readOf}
 use Rattle.cells.specs.Answers.{CellsReadBy}
@@ -35,6 +36,8 @@ use Rattle.index.proofs.block_bytes.Kinds as bytes-kinds
 use Rattle.index.proofs.block_bytes.Reads as bytes-reads
 use Rattle.index.proofs.find.Kinds as find-kinds
 use Rattle.index.proofs.find.Reads as find-reads
+use Rattle.install.proofs.install_calendar.Kinds as install-kinds
+use Rattle.install.proofs.install_calendar.Reads as install-reads
 use Rattle.touching.proofs.touching.Kinds as touching-kinds
 use Rattle.touching.proofs.touching.Reads as touching-reads
 use Rattle.touching.proofs.next.Kinds as next-kinds
@@ -84,6 +87,8 @@ pub record Contracts : Type 0 where
       (tables (held e .pieces) (held e .blocks) (held e .store) (held a .nodes) (held a .entries)) (recordedOf x))
   pub finalize : Says 5 finish-kinds.ps finish-kinds.r finish-reads.Asked finish-reads.Learnt
       (λ κs a x e. FinishedBy (held a) (tables (held e .pieces) (held e .blocks) (held a .store) (held e .nodes) (held e .entries)) (finishedOf x))
+  pub install-calendar : Says 6 install-kinds.ps install-kinds.r install-reads.Asked install-reads.Learnt
+      (λ κs a x e. InstalledBy (now (behind a .0)) (held a) (tables (held a .pieces) (held e .blocks) (held a .store) (held a .nodes) (held a .entries)) (installedOf x))
   pub block : Says 5 block-kinds.ps block-kinds.r block-reads.Asked block-reads.Learnt
       (λ κs a x e. BlockGivenBy (held a) (behind a .0) (givenOf x))
   pub block-bytes : Says 5 bytes-kinds.ps bytes-kinds.r bytes-reads.Asked bytes-reads.Learnt

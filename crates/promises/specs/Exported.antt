@@ -6,7 +6,7 @@ use lib.ListN.{length}
 use denote.Ref.{RefT, now}
 use Rattle.history.specs.Reads.{clockLabel}
 use Rattle.layout.specs.Tables.{tables}
-use Rattle.layout.specs.Relations.{OpenedBy, RecordedBy, FinishedBy, FoundBy, TouchedBy, NextGivenBy, LastGivenBy, Fields, BlockGivenBy}
+use Rattle.layout.specs.Relations.{OpenedBy, RecordedBy, FinishedBy, InstalledBy, FoundBy, TouchedBy, NextGivenBy, LastGivenBy, Fields, BlockGivenBy}
 use Rattle.history.specs.Results.{done}
 use Rattle.layout.specs.Files.{WrittenBy, LoadedBy}
 use Rattle.lengths.specs.Lengths.{lengthFor}
@@ -25,6 +25,8 @@ use Rattle.servercape.proofs.servercape_record_all.Kinds as all-kinds
 use Rattle.servercape.proofs.servercape_record_all.Reads as all-reads
 use Rattle.servercape.proofs.servercape_finish.Kinds as finish-kinds
 use Rattle.servercape.proofs.servercape_finish.Reads as finish-reads
+use Rattle.servercape.proofs.servercape_install_calendar.Kinds as install-kinds
+use Rattle.servercape.proofs.servercape_install_calendar.Reads as install-reads
 use Rattle.servercape.proofs.servercape_block.Kinds as block-kinds
 use Rattle.servercape.proofs.servercape_block.Reads as block-reads
 use Rattle.servercape.proofs.servercape_find.Kinds as find-kinds
@@ -66,6 +68,8 @@ pub record Exported : Type 0 where
       (tables (held e .pieces) (held e .blocks) (held e .store) (held a .nodes) (held a .entries)) (now (behind a .1 .1 .0)) (now (behind e .1 .1 .0)) x (now (behind e .1 .1 .1 .0)))
   pub finish : Says 5 finish-kinds.ps finish-kinds.r finish-reads.Asked finish-reads.Learnt
       (λ κs a x e. ByNumber (FinishedBy (held a) (tables (held e .pieces) (held e .blocks) (held a .store) (held e .nodes) (held e .entries))) x done done)
+  pub install-calendar : Says 6 install-kinds.ps install-kinds.r install-reads.Asked install-reads.Learnt
+      (λ κs a x e. ByNumber (InstalledBy (now (behind a .0)) (held a) (tables (held a .pieces) (held e .blocks) (held a .store) (held a .nodes) (held a .entries))) x done done)
   pub block : Says 11 block-kinds.ps block-kinds.r block-reads.Asked block-reads.Learnt
       (λ κs a x e. ByNumber (BlockGivenBy (held a) (behind a .0)) x (handedOut (behind a .1)) (handedOut (behind e .1)))
   pub find : Says 8 find-kinds.ps find-kinds.r find-reads.Asked find-reads.Learnt

@@ -4,6 +4,7 @@ use Rattle.index_record.specs.Calls.{recordedOf}
 use Rattle.index_finish.specs.Answers.{finishedOf}
 use Rattle.index_read.specs.Answers.{foundOf, givenOf}
 use Rattle.index.specs.Answers.{openedOf}
+use Rattle.install.specs.Answers.{installedOf}
 use Rattle.touching_read.specs.Answers.{touchingOf, neighbourOf}
 use Rattle.cells_read.specs.Answers.{readOf}
 use Rattle.file_write.specs.Answers.{writtenOf}
@@ -18,6 +19,7 @@ pub record Meanings : Type 0 where
   pub opening : Injective openedOf
   pub record-op : Injective recordedOf
   pub finalize : Injective finishedOf
+  pub install-calendar : Injective installedOf
   pub block : Injective givenOf
   pub find : Injective foundOf
   pub touching : Injective touchingOf

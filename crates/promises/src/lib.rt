@@ -65,6 +65,7 @@ pub fn of_history()
     history::law_of_find();
     history::law_of_touching();
     history::law_of_neighbours();
+    history::law_of_hours();
     history::marked_boards();
     history::requested_boards();
     apart_laws::theorem_h();

@@ -104,8 +104,17 @@ pub fn sum(pieces: &[u64], blocks: &[u64], store: &[u8], nodes: &[u64], entries:
     sum_of(entries, up_to_nodes)
 }
 
-// The last refusal that leaves the tables; after a later one they hold zeros.
-const LEAVES: u64 = 20;
+// The first and last refusal of a file for its contents, after which the tables hold zeros; every other one leaves them.
+const ZEROED: u64 = 21;
+
+const LAST_ZEROED: u64 = 24;
+
+fn is_zeroed(refusal: u64) -> bool {
+    if refusal < ZEROED {
+        return false;
+    }
+    refusal <= LAST_ZEROED
+}
 
 // Whether the tables are left as they must be after a call: as the sum before says where it was refused, zeros where a file was refused for its contents.
 pub fn is_left(
@@ -120,7 +129,7 @@ pub fn is_left(
     if refusal == 0 {
         return true;
     }
-    if LEAVES < refusal {
+    if is_zeroed(refusal) {
         return are_zero(pieces, blocks, store, nodes, entries);
     }
     sum(pieces, blocks, store, nodes, entries) == before

@@ -4,7 +4,7 @@
 //   input          the list as it is read
 //   rows           the columns of its rows, and what is told in them
 //   play           row after row
-//   update, read, near   each call
+//   update, calendar, read, near   each call
 //   damage         a file damaged at each place of a run
 //   alike, kept    slices and tables compared
 //   counts         what is counted, and what is lent
@@ -16,6 +16,7 @@ use tables::node;
 use tables::piece;
 
 mod alike;
+mod calendar;
 mod counts;
 mod damage;
 mod input;

@@ -1,4 +1,5 @@
 // Plays a part of the stored list, row after row, in lent tables.
+use crate::calendar;
 use crate::counts;
 use crate::damage;
 use crate::input;
@@ -86,6 +87,8 @@ fn update(
         );
     } else if code == rows::FINISH {
         update::finish(pieces, blocks, store, nodes, entries, told);
+    } else if code == rows::CALENDAR {
+        calendar::play(pieces, blocks, store, nodes, entries, row, pool, told);
     } else {
         update::load(pieces, blocks, store, nodes, entries, row, pool, told);
     }
@@ -130,6 +133,9 @@ fn play_update(
 // Whether a call is one that may change an index.
 fn changes(code: u64) -> bool {
     if code == rows::LOAD {
+        return true;
+    }
+    if code == rows::CALENDAR {
         return true;
     }
     code < rows::BLOCK

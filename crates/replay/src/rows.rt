@@ -58,6 +58,8 @@ pub const NEXT: u64 = 15;
 
 pub const LAST: u64 = 16;
 
+pub const CALENDAR: u64 = 17;
+
 // A column of a row.
 pub fn get(row: &[u64; COLUMNS], col: usize) -> u64 {
     tables::get(row, 0, col)

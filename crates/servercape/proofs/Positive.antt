@@ -12,12 +12,12 @@ use Rattle.history.specs.Words.{Operation}
 use Rattle.history.specs.Ledger.{Ledger}
 use Rattle.history.specs.Reads.{findBy, touchingBy, nextBy, lastBy, cellsBy}
 use Rattle.history.specs.Results.{Result}
-use Rattle.history.specs.Refusals.{Answer, accepted, refused, Refusal, firstOf, openRefusals, recordRefusals, finishRefusals, windowRefusals, neighbourRefusals, blockRefusals, writeRefusals}
+use Rattle.history.specs.Refusals.{Answer, accepted, refused, Refusal, firstOf, openRefusals, recordRefusals, finishRefusals, installRefusals, windowRefusals, neighbourRefusals, blockRefusals, writeRefusals}
 use Rattle.history.specs.File.{fileBy}
 use Rattle.layout.specs.Tables.{Tables}
 use Rattle.layout.specs.Formed.{WellFormed, WellFormedForFinish}
 use Rattle.layout.specs.Reads.{valuesOf, ReadBy}
-use Rattle.layout.specs.Relations.{openingOf, OpenedBy, RecordedBy, FinishedBy, FoundBy, TouchedBy, NextGivenBy, LastGivenBy, BlockGivenBy}
+use Rattle.layout.specs.Relations.{openingOf, OpenedBy, RecordedBy, FinishedBy, InstalledBy, FoundBy, TouchedBy, NextGivenBy, LastGivenBy, BlockGivenBy}
 use Rattle.layout.specs.Files.{WrittenBy}
 use Rattle.cells.specs.Answers.{CellsReadBy}
 use Rattle.servercape.specs.Numbers.{ToldAs, changesOf}
@@ -60,6 +60,12 @@ pub finish-positive : {t t′ : Tables} → FinishedBy t t′ (refused 0) → �
 unfolding finishRefusals positive
 finish-positive {t} told =
     let ill : WellFormedForFinish t → ⊥ = λ w. first-positive (finishRefusals (w .ledger)) _ refl (sym (told .formed w .0)) in
+    not-2 (told .unformed ill .0)
+
+pub install-positive : {numbers : List ℕ} {t t′ : Tables} → InstalledBy numbers t t′ (refused 0) → ⊥
+unfolding installRefusals positive
+install-positive {numbers} {t} told =
+    let ill : WellFormed t → ⊥ = λ w. first-positive (installRefusals (w .ledger) numbers) _ refl (sym (told .formed (w .ledger) (w .encodes) (w .sound) .0)) in
     not-2 (told .unformed ill .0)
 
 -- ── the reads: the ledger's answer, with other values ──

@@ -10,7 +10,7 @@ ghost use mathlib.Core.Path.{_≡_};
 ghost use lib.ListN.{length};
 ghost use Rattle.history.specs.Reads.{clockLabel};
 ghost use Rattle.layout.specs.Tables.{tables};
-ghost use Rattle.layout.specs.Relations.{OpenedBy, RecordedBy, FinishedBy, BlockGivenBy, FoundBy, TouchedBy, NextGivenBy, LastGivenBy};
+ghost use Rattle.layout.specs.Relations.{OpenedBy, RecordedBy, FinishedBy, InstalledBy, BlockGivenBy, FoundBy, TouchedBy, NextGivenBy, LastGivenBy};
 ghost use Rattle.history.specs.Results.{done};
 ghost use Rattle.layout.specs.Files.{WrittenBy, LoadedBy};
 ghost use Rattle.index_record.specs.Calls.{operation};
@@ -28,6 +28,7 @@ use index::Given;
 use index::Index;
 use index::Opened;
 use index_record::Recorded;
+use install::Installed;
 use touching::Nearest;
 use touching::Touching;
 
@@ -157,6 +158,27 @@ pub extern "C" fn servercape_finish(
     match finished {
         Finished::Finished => 0,
         Finished::Refused(number) => number,
+    }
+}
+
+// Installs a calendar into an open index, in place of the one before.
+#[no_mangle]
+pub extern "C" fn servercape_install_calendar(
+    pieces: &[u64],
+    blocks: &mut [u64],
+    store: &[u8],
+    nodes: &[u64],
+    entries: &[u64],
+    calendar: &[u64],
+) -> u64
+    ensures { λ r. ⌜ ByNumber (InstalledBy (now (calendar .entry))
+        (tables (now (pieces .entry)) (now (blocks .entry)) (now (store .entry)) (now (nodes .entry)) (now (entries .entry)))
+        (tables (now (pieces .entry)) (now (blocks .exit)) (now (store .entry)) (now (nodes .entry)) (now (entries .entry)))) r done done ⌝ }
+{
+    let installed = install::install_calendar(pieces, blocks, store, nodes, entries, calendar);
+    match installed {
+        Installed::Done => 0,
+        Installed::Refused(number) => number,
     }
 }
 

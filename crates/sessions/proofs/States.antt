@@ -1,4 +1,4 @@
--- The state after open, record and load. Assumes nothing.
+-- The state after open, load, record and install. Assumes nothing.
 use mathlib.Core.Path.{_≡_, refl, sym, _∙_, subst}
 use mathlib.Core.Bool.{false}
 use mathlib.Core.List.{List, []}
@@ -6,17 +6,17 @@ use Prim.Native.Nat.{ℕ, _≤_}
 use lib.ListN.{length}
 use Rattle.history.specs.Words.{Operation}
 use Rattle.history.specs.Lent.{pieceHead, tooShort}
-use Rattle.history.specs.Ledger.{Opening, Ledger, opened, recordBy}
+use Rattle.history.specs.Ledger.{Opening, Ledger, opened, recordBy, installBy}
 use Rattle.history.specs.Calls.{afterAll, history}
 use Rattle.history.specs.Results.{Result}
-use Rattle.history.specs.Refusals.{Answer, accepted, refused, openAnswer, recordAnswer}
+use Rattle.history.specs.Refusals.{Answer, accepted, refused, openAnswer, recordAnswer, installAnswer}
 use Rattle.history.specs.Sound.{Sound}
-use Rattle.history.proofs.EveryList.{the-law, record-sound}
+use Rattle.history.proofs.EveryList.{the-law, record-sound, install-sound}
 use Rattle.tables.specs.Columns.{headState}
 use Rattle.layout.specs.Tables.{Tables, lengthsOf, headAt}
 use Rattle.layout.specs.Encodes.{Encodes, stateOf, openState, closedState}
 use Rattle.layout.specs.Formed.{WellFormed}
-use Rattle.layout.specs.Relations.{openingOf, openedTables, leftBy, OpenedBy, RecordLeaves, RecordedBy}
+use Rattle.layout.specs.Relations.{openingOf, openedTables, leftBy, OpenedBy, RecordLeaves, RecordedBy, InstallLeaves, InstalledBy}
 use Rattle.layout.specs.Files.{LoadedBy}
 use Rattle.layout.proofs.Opening.{opened-encodes}
 use Rattle.spacetime_file.specs.Law.{IsFile}
@@ -56,32 +56,57 @@ loads file at next t t′ bytes d long =
     let told = takes .taken next refl in
     kept-closed refl (record { formed = takes .formed next refl long; state = takes .stands (told .0) next (told .1) (told .2) .state })
 
--- ── record ──
+-- ── record and install ──
 
-same-state : (l : Ledger) (o : Operation) → stateOf (recordBy l o .tree) ≡ stateOf (l .tree)
-unfolding recordBy
-same-state l o = refl
-
-stays : {head : ℕ} (scratch : ℕ) (o : Operation) (t t′ : Tables) (l : Ledger) → Encodes t l → Sound l → headAt t headState ≡ head
-    → (a : Answer Result) → recordAnswer l scratch o ≡ a → RecordLeaves a l o t t′ → StandsIn head t′
-stays scratch o t t′ l enc s h (accepted r) q left = record {
-  formed = record { ledger = recordBy l o; encodes = left .0; sound = record-sound l scratch o q s };
-  state = left .0 .state ∙ same-state l o ∙ sym (enc .state) ∙ h;
+-- a call that leaves unformed tables alone, and what it finds standing in its state, keeps the state
+keeps : {s : State} {t t′ : Tables} → Kept s t → ((WellFormed t → ⊥) → t′ ≡ t) → ((head : ℕ) → StandsIn head t → StandsIn head t′) → Kept s t′
+keeps k bad on = record {
+  unformed = λ e w. k .unformed e (subst WellFormed (bad (k .unformed e)) w);
+  opened = λ e. on openState (k .opened e);
+  closed = λ e. on closedState (k .closed e);
 }
-stays scratch o t t′ l enc s h (refused n) q left = rw left (record { formed = record { ledger = l; encodes = enc; sound = s }; state = h })
+
+-- so does a sound ledger with a tree as before
+goes-on : {head : ℕ} {t t′ : Tables} {l l′ : Ledger} → Encodes t l → Encodes t′ l′ → Sound l′ → stateOf (l′ .tree) ≡ stateOf (l .tree) → headAt t headState ≡ head
+    → StandsIn head t′
+goes-on {l′ = l′} before after s same h = record {
+  formed = record { ledger = l′; encodes = after; sound = s };
+  state = after .state ∙ same ∙ sym (before .state) ∙ h;
+}
+
+record-state : (l : Ledger) (o : Operation) → stateOf (recordBy l o .tree) ≡ stateOf (l .tree)
+unfolding recordBy
+record-state l o = refl
+
+recorded : {head : ℕ} (scratch : ℕ) (o : Operation) (t t′ : Tables) (l : Ledger) → Encodes t l → Sound l → headAt t headState ≡ head
+    → (a : Answer Result) → recordAnswer l scratch o ≡ a → RecordLeaves a l o t t′ → StandsIn head t′
+recorded scratch o t t′ l enc s h (accepted r) q left = goes-on enc (left .0) (record-sound l scratch o q s) (record-state l o) h
+recorded scratch o t t′ l enc s h (refused n) q left = rw left (goes-on enc enc s refl h)
 
 records : (s : State) (scratch : ℕ) (o : Operation) (t t′ : Tables) (a : Answer Result) → Kept s t → RecordedBy scratch o t t′ a → Kept s t′
-records s scratch o t t′ a k told = record {
-  unformed = λ e w. k .unformed e (subst WellFormed (told .unformed (k .unformed e) .1) w);
-  opened = λ e. on (k .opened e);
-  closed = λ e. on (k .closed e);
-}
-  where
-    on : {head : ℕ} → StandsIn head t → StandsIn head t′
-    on here =
-        let w = here .formed in
-        stays scratch o t t′ (w .ledger) (w .encodes) (w .sound) (here .state) (recordAnswer (w .ledger) scratch o) refl
-        (told .formed (w .ledger) (w .encodes) (w .sound) .1)
+records s scratch o t t′ a k told =
+    keeps k (λ n. told .unformed n .1)
+    (λ head here.
+    let w = here .formed in
+    recorded scratch o t t′ (w .ledger) (w .encodes) (w .sound) (here .state) (recordAnswer (w .ledger) scratch o) refl
+    (told .formed (w .ledger) (w .encodes) (w .sound) .1))
+
+install-state : (l : Ledger) (numbers : List ℕ) → stateOf (installBy l numbers .tree) ≡ stateOf (l .tree)
+unfolding installBy
+install-state l numbers = refl
+
+installed : {head : ℕ} (numbers : List ℕ) (t t′ : Tables) (l : Ledger) → Encodes t l → Sound l → headAt t headState ≡ head
+    → (a : Answer Result) → installAnswer l numbers ≡ a → InstallLeaves a l numbers t t′ → StandsIn head t′
+installed numbers t t′ l enc s h (accepted r) q left = goes-on enc (left .0) (install-sound l numbers q s) (install-state l numbers) h
+installed numbers t t′ l enc s h (refused n) q left = rw left (goes-on enc enc s refl h)
+
+installs : (s : State) (numbers : List ℕ) (t t′ : Tables) (a : Answer Result) → Kept s t → InstalledBy numbers t t′ a → Kept s t′
+installs s numbers t t′ a k told =
+    keeps k (λ n. told .unformed n .1)
+    (λ head here.
+    let w = here .formed in
+    installed numbers t t′ (w .ledger) (w .encodes) (w .sound) (here .state) (installAnswer (w .ledger) numbers) refl
+    (told .formed (w .ledger) (w .encodes) (w .sound) .1))
 
 plays : {s : State} {scratch : ℕ} {list : List ℕ} {most at next : ℕ} {t t′ : Tables} {given : List (Answer Result)} → Kept s t
     → Plays scratch list most at t given next t′ → Kept s t′
@@ -94,5 +119,6 @@ states-follow = record {
   opens = opens;
   loads = loads;
   records = records;
+  installs = installs;
   lists = λ s scratch list t t′ answers answers′ count next k all. plays k (all .calls);
 }

@@ -104,7 +104,7 @@ headLast = 5
 
 -- ── the front of the block table's head: places, each behind the one before it ──
 
--- Free until the requests that fill them: zeros from open or load on, and no call reads them.
+-- But for the calendar free until the requests that fill them: zeros from open or load on, and no call reads them.
 
 -- a planner's floor, and how many pieces he holds
 abbrev pub frontFloors : ℕ

@@ -46,8 +46,8 @@ pub const HEAD: usize = 2048;
 // Numbers in front of the row of link 0: the front of the head.
 pub const BASE: usize = HEAD - super::ROW;
 
-// Places in the front of the head, each behind the one before it. Free until the requests that fill them: zeros from open or load on, and no call
-// reads them. A planner's floor, and how many pieces he holds.
+// Places in the front of the head, each behind the one before it. But for the calendar free until the requests that fill them: zeros from open or load
+// on, and no call reads them. A planner's floor, and how many pieces he holds.
 pub const FLOORS: usize = 0;
 
 pub const COUNTS: usize = FLOORS + 16;

@@ -7,4 +7,4 @@ use Rattle.index_record.proofs.refusal.Tie as tie
 
 pub refusal-spec : {M : Type 1} → statement M
 refusal-spec =
-    tie.close (tie.spec (λ c κs. search needs) (λ c. search (judging, arith)) (λ c κs. search needs) (λ c. search (judging, arith)) (λ c κs. search needs) (λ c. search (judging, arith)) (λ c. search (cell-fits, arith)) (λ c. search (judging, arith)))
+    tie.close (tie.spec (λ c κs. search needs) (λ c. search (judging, arith)) (λ c κs. search needs) (λ c. search (judging, arith)) (λ c κs. search needs) (λ c. search (judging, arith)) (λ c κs. search needs) (λ c. search (judging, arith)) (λ c. search (cell-fits, arith)) (λ c. search (judging, arith)))

@@ -6,4 +6,4 @@ use Rattle.index_test.proofs.board.test_board.Tie as tie
 
 pub test-board-spec : {M : Type 1} → statement M
 test-board-spec =
-    tie.close (tie.spec (λ c κs. search needs) (λ c. search boarding) (λ c κs. search needs) (λ c. search boarding) (λ c κs. search needs) (λ c κs. search needs) (λ c κs. search needs) (λ c κs. search needs) (λ c κs. search needs) (λ c κs. search needs) (λ c. search boarding) (λ c κs. search needs) (λ c. search boarding) (λ c. search boarding))
+    tie.close (tie.spec (λ c κs. search needs) (λ c. search boarding) (λ c κs. search needs) (λ c κs. search needs) (λ c κs. search needs) (λ c κs. search needs) (λ c κs. search needs) (λ c κs. search needs) (λ c. search boarding) (λ c κs. search needs) (λ c. search boarding) (λ c. search boarding))

@@ -1,0 +1,296 @@
+-- Open cells: one step for each return of the reads. Assumes nothing.
+use mathlib.Core.Path.{_≡_, refl, sym, ap, _∙_}
+use mathlib.Core.Logic.{_⊎_, inl, inr}
+use mathlib.Core.Bool.{Bool, true, false, cond, _&&_, _||_, not}
+use mathlib.Core.Option.{none}
+use mathlib.Core.List.{List, [], _∷_, _++_}
+use Prim.Native.Nat.{ℕ, zero, suc, _+_, _-_, _*_, _%_, _^_, _≤_, _<_, min}
+use native.Mathlib.Omega.{arith}
+use native.Mathlib.Nat.{zero-add}
+use lib.ListN.{length, getD, drop, drop-of-length-le}
+use lib.Seq.{drop-cons}
+use lib.Dec.{leb, ltb, eqb}
+use borrow.Author.Needs.{needs}
+use borrow.Author.Tests.{lt-ltb, le-leb, eq-eqb, ne-eqb, leb-true, ltb-true}
+use Rattle.lists.specs.Lists.{countFrom}
+use Rattle.lists.proofs.Numbers.{bool-cases, and-left, and-right, or-true, eq-or-ne}
+use Rattle.lists.proofs.Lists.{count-from-at, count-from-length}
+use Rattle.lists.proofs.Maps.{getD-of-map}
+use Rattle.history.specs.Hours.{Window, Hours, Calendar, windowAt, hoursAt, weekdayAt, specialAt, specialPlace, calendarOf, mostWindows, mostSpecial, specialCount, dayOf, labelMinute, weekdayOf, minuteOf, covers, covered, specialOf, orNone, shut, weekdayWindows, windowsOf, openMinute, openCell, refusedOn, closedCell}
+use Rattle.hours.specs.Reach.{untilOf, windowsFrom, specialFrom, SpecialStands, OpenFor, Reaches, Passes}
+use Rattle.history.proofs.HoursLaws.{weekday-at}
+use Rattle.hours.proofs.Rows.{rows-more, rows-none, rows-all}
+
+-- ── the window that covers a minute ──
+
+pub record UntilRest (numbers : List ℕ) (at minute count j : ℕ) : Type 0 where
+  pub below : j ≤ count
+  pub few : count ≤ mostWindows
+  pub rest : untilOf minute (hoursAt numbers at .windows) ≡ untilOf minute (windowsFrom numbers at j (count - j))
+
+pub until-start : (numbers : List ℕ) (at minute count stated : ℕ) → stated ≡ getD numbers at 0 → count ≡ min stated mostWindows → UntilRest numbers at minute count 0
+unfolding hoursAt
+until-start numbers at minute count stated e m =
+    record {
+      below = omega arith;
+      few = omega arith;
+      rest = rw (← e, ← m) (ap (untilOf minute) (rows-all (windowAt numbers at) count));
+    }
+
+pub until-more : (numbers : List ℕ) (at minute count j from to : ℕ) (r : Bool) → UntilRest numbers at minute count j → j < count
+    → from ≡ windowAt numbers at j .from → to ≡ windowAt numbers at j .to → r ≡ (leb from minute && ltb minute to) → r ≡ false
+    → UntilRest numbers at minute count (j + 1)
+unfolding untilOf
+until-more numbers at minute count j from to r u h e f q n =
+    record {
+      below = omega arith;
+      few = u .few;
+      rest = u .rest ∙ rw (rows-more (windowAt numbers at) j count h, ← e, ← f, ← q, n);
+    }
+
+pub until-found : (numbers : List ℕ) (at minute count j from to : ℕ) (r : Bool) → UntilRest numbers at minute count j → j < count
+    → from ≡ windowAt numbers at j .from → to ≡ windowAt numbers at j .to → r ≡ (leb from minute && ltb minute to) → r ≡ true
+    → to ≡ untilOf minute (hoursAt numbers at .windows)
+unfolding untilOf
+until-found numbers at minute count j from to r u h e f q n =
+    sym (u .rest ∙ rw (rows-more (windowAt numbers at) j count h, ← e, ← f, ← q, n))
+
+pub until-none : (numbers : List ℕ) (at minute count j : ℕ) → UntilRest numbers at minute count j → count ≤ j → 0 ≡ untilOf minute (hoursAt numbers at .windows)
+unfolding untilOf
+until-none numbers at minute count j u h = sym (u .rest ∙ rw (rows-none (windowAt numbers at) j count h))
+
+pub ruleset waiting = (until-start, until-more, until-found, until-none, needs)
+
+-- ── special days ──
+
+pub record SpecialRest (numbers : List ℕ) (day count k : ℕ) : Type 0 where
+  pub below : k ≤ count
+  pub few : count ≤ mostSpecial
+  pub rest : specialOf day (calendarOf numbers .special) ≡ specialOf day (specialFrom numbers k (count - k))
+
+pub special-start : (numbers : List ℕ) (day count stated : ℕ) → stated ≡ getD numbers specialCount 0 → count ≡ min stated mostSpecial
+    → SpecialRest numbers day count 0
+unfolding calendarOf
+special-start numbers day count stated e m =
+    record {
+      below = omega arith;
+      few = omega arith;
+      rest = rw (← e, ← m) (ap (specialOf day) (rows-all (specialAt numbers) count));
+    }
+
+pub special-more : (numbers : List ℕ) (day count k was : ℕ) → SpecialRest numbers day count k → k < count → was ≡ specialAt numbers k .day
+    → (was ≡ day → ⊥) → SpecialRest numbers day count (k + 1)
+unfolding specialOf
+special-more numbers day count k was s h e n =
+    record {
+      below = omega arith;
+      few = s .few;
+      rest = s .rest ∙ rw (rows-more (specialAt numbers) k count h, ← e, ne-eqb was day n);
+    }
+
+pub special-found : (numbers : List ℕ) (day count k was : ℕ) → SpecialRest numbers day count k → k < count → was ≡ specialAt numbers k .day → was ≡ day
+    → SpecialStands numbers day (specialPlace k + 1)
+unfolding specialOf
+special-found numbers day count k was s h e n =
+    record {
+      low = omega (arith, s .few);
+      absent = λ z. absurd (omega arith);
+      present = λ _. s .rest ∙ rw (rows-more (specialAt numbers) k count h, ← e, eq-eqb was day n);
+    }
+
+pub special-none : (numbers : List ℕ) (day count k : ℕ) → SpecialRest numbers day count k → count ≤ k → SpecialStands numbers day 0
+unfolding specialOf
+special-none numbers day count k s h =
+    record {
+      low = omega arith;
+      absent = λ _. s .rest ∙ rw (rows-none (specialAt numbers) k count h);
+      present = λ n. absurd (n refl);
+    }
+
+pub ruleset standing = (special-start, special-more, special-found, special-none, needs)
+
+-- ── all windows of a day ──
+
+-- of two lists of windows, the first one's window comes first
+pub until-first : (minute : ℕ) (xs ys : List Window) → (untilOf minute xs ≡ 0 → ⊥) → untilOf minute (xs ++ ys) ≡ untilOf minute xs
+unfolding untilOf
+until-first minute [] ys n = absurd (n refl)
+until-first minute (x ∷ xs) ys n = step (bool-cases (covers minute x)) (until-first minute xs ys)
+  where
+    step : (covers minute x ≡ true) ⊎ (covers minute x ≡ false) → ((untilOf minute xs ≡ 0 → ⊥) → untilOf minute (xs ++ ys) ≡ untilOf minute xs)
+        → cond (covers minute x) (x .to) (untilOf minute (xs ++ ys)) ≡ cond (covers minute x) (x .to) (untilOf minute xs)
+    step (inl e) rest = rw e
+    step (inr e) rest = rw e (rest (λ z. n (rw e z)))
+
+pub until-second : (minute : ℕ) (xs ys : List Window) → untilOf minute xs ≡ 0 → untilOf minute (xs ++ ys) ≡ untilOf minute ys
+unfolding untilOf
+until-second minute [] ys z = refl
+until-second minute (x ∷ xs) ys z = step (bool-cases (covers minute x)) (until-second minute xs ys)
+  where
+    step : (covers minute x ≡ true) ⊎ (covers minute x ≡ false) → (untilOf minute xs ≡ 0 → untilOf minute (xs ++ ys) ≡ untilOf minute ys)
+        → cond (covers minute x) (x .to) (untilOf minute (xs ++ ys)) ≡ untilOf minute ys
+    step (inl e) rest =
+        let t : x .to ≡ 0 = rw e at z in
+        let l : minute < x .to = ltb-true minute (x .to) (and-right (leb (x .from) minute) (ltb minute (x .to)) e) in
+        absurd (omega arith)
+    step (inr e) rest = rw e (rest (rw e at z))
+
+module _ (numbers : List ℕ) (day minute weekday : ℕ) (w : weekday ≡ untilOf minute (hoursAt numbers (17 * (day % 7)) .windows)) where
+  before : untilOf minute (weekdayWindows (calendarOf numbers) day) ≡ weekday
+  before = ap (untilOf minute) (weekday-at numbers day) ∙ sym w
+
+  pub until-on-weekday : (weekday ≡ 0 → ⊥) → weekday ≡ untilOf minute (windowsOf (calendarOf numbers) day)
+  unfolding windowsOf
+  until-on-weekday n =
+      sym (until-first minute (weekdayWindows (calendarOf numbers) day) (orNone (specialOf day (calendarOf numbers .special))) (λ z. n (sym before ∙ z)) ∙ before)
+
+  after : weekday ≡ 0 → untilOf minute (windowsOf (calendarOf numbers) day) ≡ untilOf minute (orNone (specialOf day (calendarOf numbers .special)))
+  unfolding windowsOf
+  after z = until-second minute (weekdayWindows (calendarOf numbers) day) (orNone (specialOf day (calendarOf numbers .special))) (before ∙ z)
+
+  pub until-on-none : (place : ℕ) → SpecialStands numbers day place → weekday ≡ 0 → place ≡ 0 → 0 ≡ untilOf minute (windowsOf (calendarOf numbers) day)
+  unfolding untilOf
+  until-on-none place stands z n = sym (after z ∙ rw (stands .absent n))
+
+  pub until-on-special : (place r : ℕ) → SpecialStands numbers day place → weekday ≡ 0 → (place ≡ 0 → ⊥)
+      → r ≡ untilOf minute (hoursAt numbers place .windows) → r ≡ untilOf minute (windowsOf (calendarOf numbers) day)
+  until-on-special place r stands z n e = sym (after z ∙ rw (stands .present n, ← e))
+
+pub ruleset seeking = (until-on-weekday, until-on-none, until-on-special, needs)
+
+-- ── open cells ──
+
+-- a window that covers the minute ends after it, and covers all minutes until its end
+pub until-covers : (minute : ℕ) (ws : List Window) (m : ℕ) → minute ≤ m → m < untilOf minute ws → covered m ws ≡ true
+unfolding untilOf covered
+until-covers minute [] m h l = absurd (omega arith)
+until-covers minute (w ∷ ws) m h l = step (bool-cases (covers minute w)) (until-covers minute ws m h)
+  where
+    step : (covers minute w ≡ true) ⊎ (covers minute w ≡ false) → (m < untilOf minute ws → covered m ws ≡ true) → (covers m w || covered m ws) ≡ true
+    step (inl e) rest =
+        let t : m < w .to = rw e at l in
+        let f : w .from ≤ minute = leb-true (w .from) minute (and-left (leb (w .from) minute) (ltb minute (w .to)) e) in
+        rw (le-leb (w .from) m (omega arith), lt-ltb m (w .to) t)
+    step (inr e) rest = or-true (covers m w) (covered m ws) (rest (rw e at l))
+
+-- none covers it
+pub until-zero : (minute : ℕ) (ws : List Window) → untilOf minute ws ≤ minute → covered minute ws ≡ false
+unfolding untilOf covered
+until-zero minute [] z = refl
+until-zero minute (w ∷ ws) z = step (bool-cases (covers minute w)) (until-zero minute ws)
+  where
+    step : (covers minute w ≡ true) ⊎ (covers minute w ≡ false) → (untilOf minute ws ≤ minute → covered minute ws ≡ false)
+        → (covers minute w || covered minute ws) ≡ false
+    step (inl e) rest =
+        let t : w .to ≤ minute = rw e at z in
+        let l : minute < w .to = ltb-true minute (w .to) (and-right (leb (w .from) minute) (ltb minute (w .to)) e) in
+        absurd (omega arith)
+    step (inr e) rest = rw e (rest (rw e at z))
+
+-- ── how far a window reaches ──
+
+module _ (c : Calendar) (cell day label u : ℕ) (d : day ≡ dayOf (minuteOf cell)) (l : label ≡ labelMinute (minuteOf cell))
+    (e : u ≡ untilOf label (windowsOf c day)) where
+  pub reach-closed : u ≤ label → Reaches c cell 0
+  unfolding openMinute
+  reach-closed h =
+      record {
+        ahead = record { each = λ k z. absurd (omega arith) };
+        closed = λ _. rw (← d, ← l) (until-zero label (windowsOf c day) (rw e at h));
+      }
+
+  -- the cell k behind is of the same day, as far as the window, the day and the platform go
+  same-day : (k : ℕ) → minuteOf cell + k < 2 ^ 32 → label + k < 1440 → label + k < u → openCell c (cell + k) ≡ true
+  unfolding openMinute
+  same-day k p q h =
+      let m : minuteOf (cell + k) ≡ minuteOf cell + k = omega arith in
+      let same : dayOf (minuteOf cell + k) ≡ day = omega arith in
+      let further : labelMinute (minuteOf cell + k) ≡ label + k = omega arith in
+      rw (m, same, further) (until-covers label (windowsOf c day) (label + k) (omega arith) (rw e at h))
+
+  pub reach-open : (a r : ℕ) → label < u → a ≡ min u 1440 → r ≡ min (a - label) (2 ^ 32 - minuteOf cell) → Reaches c cell r
+  reach-open a r h p q =
+      let within-window : a ≤ u = omega arith in
+      let within-day : a ≤ 1440 = omega arith in
+      let some-day : label < a = omega arith in
+      let first : r ≤ a - label = omega arith in
+      let second : r ≤ 2 ^ 32 - minuteOf cell = omega arith in
+      let some-left : r ≡ 0 → ⊥ = λ z. omega arith in
+      record {
+        ahead = record { each = λ k z. same-day k (omega arith) (omega arith) (omega arith) };
+        closed = λ z. absurd (some-left z);
+      }
+
+pub ruleset reaching = (reach-closed, reach-open, needs)
+
+-- ── what passes ──
+
+pub passes-zero : (c : Calendar) (cell byte : ℕ) → byte ≡ 0 → Passes c cell byte 1
+passes-zero c cell byte z = record { refused = λ q. absurd (omega arith); passes = inl (z, refl) }
+
+pub passes-reach : (c : Calendar) (cell byte r : ℕ) → (byte ≡ 0 → ⊥) → Reaches c cell r → Passes c cell byte r
+passes-reach c cell byte r n s = record { refused = λ z. (n, s .closed z); passes = inr (s .ahead) }
+
+pub ruleset passing = (passes-zero, passes-reach, needs)
+
+-- ── all cells of an operation ──
+
+-- the bytes from the i-th on decide
+pub record ClosedRest (c : Calendar) (first : ℕ) (bytes : List ℕ) (i : ℕ) : Type 0 where
+  pub below : i ≤ length bytes
+  pub rest : closedCell c first bytes ≡ closedCell c (first + i) (drop i bytes)
+
+pub closed-start : (c : Calendar) (first : ℕ) (bytes : List ℕ) → ClosedRest c first bytes 0
+closed-start c first bytes =
+    let z : first + 0 ≡ first = omega arith in
+    record { below = omega arith; rest = rw z }
+
+pub closed-none : (c : Calendar) (first : ℕ) (bytes : List ℕ) (i : ℕ) → ClosedRest c first bytes i → length bytes ≤ i → false ≡ closedCell c first bytes
+unfolding closedCell
+closed-none c first bytes i s h = sym (s .rest ∙ rw (drop-of-length-le bytes h))
+
+-- one more byte is not refused
+one-more : (c : Calendar) (first : ℕ) (bytes : List ℕ) (i : ℕ) → i < length bytes → refusedOn c (first + i) (getD bytes i 0) ≡ false → ClosedRest c first bytes i
+    → ClosedRest c first bytes (suc i)
+unfolding closedCell
+one-more c first bytes i h e s =
+    let f : first + suc i ≡ suc (first + i) = omega arith in
+    record { below = omega arith; rest = s .rest ∙ rw (drop-cons bytes i 0 h, e, f) }
+
+-- a cell is open or closed by its minute alone
+by-minute : (c : Calendar) (first i cell k : ℕ) → cell ≡ first % 2 ^ 32 + i % 2 ^ 32 → openCell c (cell + k) ≡ openCell c (first + i + k)
+by-minute c first i cell k e = ap (openMinute c) (omega arith)
+
+and-false : (t : Bool) → (t && false) ≡ false
+and-false true = refl
+and-false false = refl
+
+-- so are k more, all of them open
+more-open : (c : Calendar) (first : ℕ) (bytes : List ℕ) (i k : ℕ) → i + k ≤ length bytes → OpenFor c (first + i) k → ClosedRest c first bytes i → ClosedRest c first bytes (i + k)
+more-open c first bytes i zero h o s = let z : i + 0 ≡ i = omega arith in rw z s
+more-open c first bytes i (suc k) h o s =
+    let e : i + suc k ≡ suc (i + k) = omega arith in
+    let at : first + (i + k) ≡ first + i + k = omega arith in
+    rw e (one-more c first bytes (i + k) (omega arith) (rw (at, o .each k (omega arith)) (and-false (not (eqb (getD bytes (i + k) 0) 0))))
+    (more-open c first bytes i k (omega arith) (record { each = λ j l. o .each j (omega arith) }) s))
+
+module _ (c : Calendar) (first : ℕ) (bytes : List ℕ) (i cell byte r : ℕ) (s : ClosedRest c first bytes i) (h : i < length bytes)
+    (e : cell ≡ first % 2 ^ 32 + i % 2 ^ 32) (b : byte ≡ getD bytes i 0) (p : Passes c cell byte r) where
+  this : openCell c cell ≡ openCell c (first + i)
+  this = ap (openMinute c) (omega arith)
+
+  pub closed-found : r ≡ 0 → true ≡ closedCell c first bytes
+  unfolding closedCell
+  closed-found z =
+      let q = p .refused z in
+      sym (s .rest ∙ rw (drop-cons bytes i 0 h, ← b, ne-eqb byte 0 (q .0), ← this, q .1))
+
+  pub closed-more : (k : ℕ) → (r ≡ 0 → ⊥) → k ≡ min r (length bytes - i) → ClosedRest c first bytes (i + k)
+  closed-more k n m = go (p .passes)
+    where
+      go : ((byte ≡ 0) × (r ≡ 1)) ⊎ OpenFor c cell r → ClosedRest c first bytes (i + k)
+      go (inl z) =
+          let one : i + k ≡ suc i = omega (arith, z .1) in
+          rw one (one-more c first bytes i h (rw (← b, eq-eqb byte 0 (z .0))) s)
+      go (inr o) =
+          more-open c first bytes i k (omega arith) (record { each = λ j l. sym (by-minute c first i cell j e) ∙ o .each j (omega arith) }) s
