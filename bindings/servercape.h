@@ -92,9 +92,10 @@ uint64_t servercape_finish(
     uint64_t *entries, size_t entries_length);
 
 /* Installs a calendar into an open index, in place of the one before; until the first, every cell is open. Day 0 is a Monday and a day has 1,440 minutes. A
-   cell is open if a window [from, to), in minutes of the day, of its weekday or of its special day covers it. The numbers are: seven times a count of windows
-   and eight pairs from, to, Monday first; a count of special days; as many times a day number, a count and eight pairs. A number past the slice's end is 0,
-   pairs past a count are not looked at, and nothing is read past the 64th special day, 1,272 numbers in all.
+   cell is open if a window [from, to), in minutes of the day, of its weekday covers it; on a special day only the windows of that day count, and without any
+   it is closed. The numbers are: seven times a count of windows and eight pairs from, to, Monday first; a count of special days; as many times a day number, a
+   count and eight pairs. A number past the slice's end is 0, pairs past a count are not looked at, and nothing is read past the 64th special day, 1,272 numbers
+   in all.
    Refusals 2, 3, 27: from >= to, to above 1440, more than eight windows or 64 special days, or special days that do not ascend. */
 uint64_t servercape_install_calendar(
     const uint64_t *pieces, size_t pieces_length,

@@ -32,5 +32,6 @@ class Calendar:
 
     def is_open(self, cell):
         day, minute = divmod(cell % MINUTES, DAY)
-        windows = self.week[day % WEEK] + [w for special, hours in self.special if special == day for w in hours]
+        special = [hours for number, hours in self.special if number == day]
+        windows = special[0] if special else self.week[day % WEEK]
         return any(start <= minute < end for start, end in windows)

@@ -74,11 +74,19 @@ def midnight():
 
 
 def special_days():
-    """A special day adds its windows to those of its weekday, to no other day; without windows none; the last day of a platform; days of any number."""
+    """A special day has its own windows in place of its weekday's, and no other day has them; without windows it is closed, also where a slice ends behind a count
+    of one; the last day of a platform; days of any number; the weekday again."""
     days = [(0, [(60, 120)]), (1, [(0, 10)]), (7, []), (2982616, [(0, 1), (255, 256)]), (WORD - 1, [(0, DAY)])]
-    cells = [59, 60, 119, 120, 480, DAY, DAY + 9, DAY + 10, DAY + 480, 7 * DAY + 60, 7 * DAY + 480, 8 * DAY + 5, MINUTES - 257, MINUTES - 256, MINUTES - 255, MINUTES - 1]
+    cells = [59, 60, 119, 120, 480, DAY, DAY + 9, DAY + 10, DAY + 480, 7 * DAY + 60, 7 * DAY + 480, 8 * DAY + 5, 14 * DAY + 480, MINUTES - 257, MINUTES - 256, MINUTES - 255, MINUTES - 1]
     calls = [opened(), install(calendar([[(480, 1200)]], days))]
     yield "special", calls + [train(0, platform * MINUTES + cell) for platform in (0, 9) for cell in cells]
+    week = [[(0, DAY)]] * WEEK
+    spots = [(3 * DAY - 2, 4), (3 * DAY, 10), (3 * DAY + 9, 2), (4 * DAY - 1, 1), (4 * DAY - 1, 2), (4 * DAY, 20), (10 * DAY, 20)]
+    for place, special in enumerate(([], [(0, 10)], [(0, DAY)], [(5, 10), (0, 6)])):
+        calls = [opened(), install(calendar(week)), train(0, 3 * DAY - 5, DAY + 10), install(calendar(week, [(3, special)]))]
+        calls += [train(1, first, many) for first, many in spots] + [["record", 1, 3 * DAY - 2, "0707000007"], ["record", 1, 3 * DAY - 2, "07070000"]]
+        yield f"prevails-{place}", calls + [install(calendar(week)), train(2, 3 * DAY - 5, DAY + 10), ["finish"]] + READS
+    yield "special-cut", [opened(), install(calendar([[(0, 10)]], count=1)), train(0, 5), train(0, 7 * DAY + 5), train(0, 5, 1, 0)]
 
 
 def windows():

@@ -382,7 +382,7 @@ static void not_installed(const char *what, struct lent x, const uint64_t *calen
     same("kept tables", sum_of(x), before);
 }
 
-/* Mondays 480 to 1200, then nothing, then day 1 alone; each fault of 27; a finished index takes none. */
+/* Mondays 480 to 1200, then nothing, then day 1 alone, then all days but day 1; each fault of 27; a finished index takes none. */
 static void station_hours(struct lent x)
 {
     uint64_t numbers[1272] = {1, 480, 1200};
@@ -405,6 +405,14 @@ static void station_hours(struct lent x)
     same("a special day", servercape_install_calendar(TABLES(x), numbers, 138), 0);
     record("its first minute", x, 1, 1440, (const uint8_t[]){7}, 1, update(1440));
     record("the week after", x, 1, 8 * 1440, (const uint8_t[]){7}, 1, refusal(26));
+    uint64_t closed[138] = {0};
+    for (size_t weekday = 0; weekday < 7; weekday++)
+        closed[17 * weekday] = 1, closed[17 * weekday + 2] = 1440;
+    closed[119] = closed[120] = 1;
+    same("all open but day 1", servercape_install_calendar(TABLES(x), closed, 138), 0);
+    record("a special day without windows", x, 1, 1440, (const uint8_t[]){7}, 1, refusal(26));
+    record("its weekday", x, 1, 8 * 1440, (const uint8_t[]){7}, 1, update(8 * 1440));
+    same("the special day again", servercape_install_calendar(TABLES(x), numbers, 138), 0);
     numbers[123] = 1441;
     not_installed("to above 1440", x, numbers, 138, 27);
     not_installed("from = to", x, (const uint64_t[]){1, 5, 5}, 3, 27);

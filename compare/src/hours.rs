@@ -11,12 +11,13 @@ const PLATFORM: u64 = 1 << 32;
 
 // ── what the document says ──
 
-/// Whether a window of the cell's weekday or of its special day covers its minute of the day.
+/// Whether a window of the cell's special day, or of its weekday where it has none, covers its minute of the day.
 pub fn open(calendar: &Calendar, cell: u64) -> bool {
     let minute = cell % PLATFORM;
     let (day, label) = (minute / DAY, minute % DAY);
-    let special = calendar.special.iter().filter(|(number, _)| *number == day).flat_map(|(_, windows)| windows);
-    calendar.week[(day % 7) as usize].iter().chain(special).any(|window| window.contains(&label))
+    let special = calendar.special.iter().find(|(number, _)| *number == day);
+    let windows = special.map_or(&calendar.week[(day % 7) as usize], |(_, windows)| windows);
+    windows.iter().any(|window| window.contains(&label))
 }
 
 /// Whether the calendar can be installed.

@@ -234,8 +234,8 @@ class Index:
 
     def install_calendar(self, week: Iterable[Windows], special: Iterable[tuple[int, Windows]] = ()) -> None:
         """Installs station hours in place of those before; until the first, every cell is open. A window is a pair, from and to, in minutes of the day. `week` has
-        those of each weekday, Monday first, and `special` pairs of a day's number, ascending, and the windows that are open on it besides. Day 0 is a Monday.
-        Refusals 3, 27."""
+        those of each weekday, Monday first, and `special` pairs of a day's number, ascending, and the windows that count on it in place of its weekday's: without
+        windows it is closed. Day 0 is a Monday. Refusals 3, 27."""
         accepted(*library.install_calendar(*self._tables, calendar(week, special)))
 
     def finish(self) -> None:

@@ -187,6 +187,8 @@ class Hours(unittest.TestCase):
         self.assertEqual(answer(lambda: index.record(1, 0, b"a")), Refused(26))
         index.install_calendar(monday, [(1, [(0, 5)])])
         self.assertEqual(index.record(2, 1440, b"aaaaa"), 1440)
+        index.install_calendar(monday, [(0, []), (1, [(0, 5)])])  # on a special day only its windows count
+        self.assertEqual(index.record_all([(2, 480, b"a"), (2, 7 * 1440 + 480, b"a"), (2, 1440, b"aaaaa")]), [Refused(26), 7 * 1440 + 480, None])
         copy = index.copy()
         self.assertEqual(answer(lambda: copy.record(2, 1445, b"a")), Refused(26))
         copy.install_calendar([[(0, 1440)]] * 7)
@@ -200,7 +202,7 @@ class Hours(unittest.TestCase):
         index.install_calendar(map(windows, range(7)), ((70 + k, windows(10 + k)) for k in range(64)))
         cells = [(day, minute) for day in (*range(9), *range(69, 136, 5), 70, 133, 134) for minute in range(800)]
         answers = index.record_all((0, 1440 * day + minute, b"a") for day, minute in cells)
-        is_open = lambda day, minute: minute % 100 == day % 7 or 70 <= day < 134 and minute % 100 == day - 60
+        is_open = lambda day, minute: minute % 100 == (day - 60 if 70 <= day < 134 else day % 7)
         self.assertEqual([given == Refused(26) for given in answers], [not is_open(*cell) for cell in cells])
 
     def test_no_such_calendar(self):

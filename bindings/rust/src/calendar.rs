@@ -3,7 +3,8 @@ use alloc::vec::Vec;
 use core::ops::Range;
 
 /// When a station is open. A window is some minutes of a day, from 0 up to 1440. Day 0 is a Monday, and [`Days::day`](crate::Days::day) gives the day of a cell. A
-/// cell is open if a window of its weekday or of its special day covers its minute of the day. The default has no windows: every cell is closed.
+/// cell is open if a window of its weekday covers its minute of the day; on a special day only the windows of that day count. The default has no windows: every
+/// cell is closed.
 ///
 /// ```
 /// use servercape::{Calendar, Index, Kind, Refusal, Room};
@@ -11,17 +12,19 @@ use core::ops::Range;
 /// let mut hours = Calendar::default();
 /// hours.week[0] = vec![300..720, 780..1440]; // Mondays from 05:00, with a break at noon
 /// hours.special.push((1, vec![0..90])); // and the Tuesday after, up to 01:30
+/// hours.special.push((7, vec![])); // the Monday after is a holiday
 /// let mut index = Index::open(Room::even(64), 8, Kind::Memory)?;
 /// index.install_calendar(&hours)?;
 /// index.record(1, 1430, &[7; 20])?; // through midnight: each minute by its own day
 /// assert_eq!(index.record(2, 715, &[9; 10]), Err(Refusal::OutsideHours));
+/// assert_eq!(index.record(2, 7 * 1440 + 600, &[9; 10]), Err(Refusal::OutsideHours));
 /// # Ok::<(), servercape::Refusal>(())
 /// ```
 #[derive(Clone, PartialEq, Eq, Hash, Debug, Default)]
 pub struct Calendar {
     /// The windows of each weekday, Monday first: at most eight a day, in any order.
     pub week: [Vec<Range<u64>>; 7],
-    /// Special days, at most 64, by ascending day number: their windows are open beside those of the weekday.
+    /// Special days, at most 64, by ascending day number: their windows count in place of the weekday's, and one without windows is closed.
     pub special: Vec<(u64, Vec<Range<u64>>)>,
 }
 

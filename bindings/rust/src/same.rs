@@ -69,8 +69,8 @@ fn finished(operations: u64) -> Index {
 /// Station hours that close some of the cells.
 fn hours() -> Calendar {
     let mut hours = Calendar::default();
-    hours.week[0] = vec![8..20, 12..41];
-    hours.special.push((0, vec![45..60]));
+    hours.week[0] = vec![0..30];
+    hours.special.push((0, vec![8..20, 12..41, 45..60]));
     hours
 }
 

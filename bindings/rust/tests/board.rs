@@ -300,6 +300,23 @@ fn station_hours() {
     assert_eq!(number(index.install_calendar(&hours)), 3);
 }
 
+/// On a special day only its own windows count, and without windows it is closed; its weekday has its windows on all other days.
+#[test]
+fn special_days_prevail() {
+    let mut index = opened(8);
+    index.record(0, 480, &[7]).unwrap();
+    let mut hours = Calendar { special: vec![(0, vec![60..120]), (1, vec![0..10]), (7, vec![])], ..Calendar::default() };
+    hours.week[0].push(480..1200);
+    index.install_calendar(&hours).unwrap();
+    for (day, minute) in [(0, 59), (0, 120), (0, 480), (1, 10), (1, 480), (7, 60), (7, 480), (8, 9), (14, 60)] {
+        assert_eq!(number(index.record(1, 1440 * day + minute, &[7])), 26, "day {day} minute {minute}");
+    }
+    for (day, minute) in [(0, 60), (0, 119), (1, 9), (14, 480)] {
+        assert_eq!(index.record(1, 1440 * day + minute, &[7]), update(1440 * day + minute));
+    }
+    assert_eq!(index.record(1, 7 * 1440 + 480, &[0]), update(7 * 1440 + 480), "a zero byte passes");
+}
+
 /// Each weekday, window and special day counts: a full calendar, whose windows are all apart.
 #[test]
 fn every_window_counts() {
@@ -312,7 +329,7 @@ fn every_window_counts() {
     index.install_calendar(&hours).unwrap();
     for day in 0..140 {
         for minute in 0..800 {
-            let open = minute % 100 == day % 7 || (70..134).contains(&day) && minute % 100 == day - 60;
+            let open = minute % 100 == if (70..134).contains(&day) { day - 60 } else { day % 7 };
             assert_eq!(number(index.record(0, 1440 * day + minute, &[7])) == 26, !open, "day {day} minute {minute}");
         }
     }

@@ -3,7 +3,7 @@ use mathlib.Core.Path.{_≡_, refl, ap, _∙_}
 use mathlib.Core.Logic.{_⊎_, inl, inr}
 use mathlib.Core.Bool.{Bool, true, false, _&&_, _||_, not, true≢false}
 use mathlib.Core.Option.{none, some}
-use mathlib.Core.List.{List, [], _∷_, _++_}
+use mathlib.Core.List.{List, [], _∷_}
 use Prim.Native.Nat.{ℕ, zero, suc, _+_, _-_, _*_, _%_, _≤_, _<_, min}
 use native.Mathlib.Nat.{zero-add}
 use native.Mathlib.Omega.{arith}
@@ -16,7 +16,7 @@ use Rattle.lists.proofs.Numbers.{bool-cases, eq-or-ne, decided, confirm, refute
 use Rattle.lists.proofs.Lists.{all-map, all-mem, all-at, count-from-at, count-from-length}
 use Rattle.lists.proofs.Counting.{all-count-from, not-mem-nil}
 use Rattle.lists.proofs.Maps.{map-all, getD-of-map}
-use Rattle.history.specs.Hours.{Window, Hours, Special, Calendar, windowAt, hoursAt, weekdayAt, specialAt, specialPlace, specialCount, mostWindows, mostSpecial, calendarWidth, calendarOf, minuteOf, dayOf, labelMinute, weekdayOf, covers, covered, specialOf, orNone, shut, weekdayWindows, windowsOf, openMinute, openCell, refusedOn, closedCell, ClosedAt, SomeClosed, windowTaken, hoursTaken, specialTaken, rises, daysAscend, calendarTaken, WindowTaken, HoursTaken, CalendarTaken}
+use Rattle.history.specs.Hours.{Window, Hours, Special, Calendar, windowAt, hoursAt, weekdayAt, specialAt, specialPlace, specialCount, mostWindows, mostSpecial, calendarWidth, calendarOf, minuteOf, dayOf, labelMinute, weekdayOf, covers, covered, specialOf, shut, weekdayWindows, windowsOf, openMinute, openCell, refusedOn, closedCell, ClosedAt, SomeClosed, windowTaken, hoursTaken, specialTaken, rises, daysAscend, calendarTaken, WindowTaken, HoursTaken, CalendarTaken}
 use Rattle.history.specs.Rules.{every}
 use Rattle.history.specs.HoursLaw.{LawOfDays, SomeCovers, wholeDay, LawOfOpening, AlwaysOpen, LawOfClosing}
 use Rattle.history.proofs.RulesLaws.{every-decides}
@@ -55,16 +55,6 @@ covered-decides minute (w ∷ ws) = step (bool-cases (covers minute w)) (covered
         rw e (confirm (record { window = w; member = here refl; from = q .0; below = q .1 }))
     step (inr e) d = rw e (decides-iff (covered minute ws) later (λ s. at-member e (s .window) (s .member) (s .from) (s .below)) d)
 
-pub covered-append : (minute : ℕ) (xs ys : List Window) → covered minute (xs ++ ys) ≡ (covered minute xs || covered minute ys)
-unfolding covered
-covered-append minute [] ys = refl
-covered-append minute (x ∷ xs) ys = step (covers minute x) (covered-append minute xs ys)
-  where
-    step : (t : Bool) → covered minute (xs ++ ys) ≡ (covered minute xs || covered minute ys)
-        → (t || covered minute (xs ++ ys)) ≡ ((t || covered minute xs) || covered minute ys)
-    step true e = refl
-    step false e = e
-
 covered-member : (minute : ℕ) (w : Window) (ws : List Window) → Mem w ws → w .from ≤ minute → minute < w .to → covered minute ws ≡ true
 covered-member minute w ws m f b = decided (covered minute ws) (covered-decides minute ws) (record { window = w; member = m; from = f; below = b })
 
@@ -85,13 +75,15 @@ special-found s (r ∷ rs) (pairs-cons a p) (there m) =
 
 -- ── open cells ──
 
-pub open-either : (c : Calendar) (cell : ℕ)
-    → openCell c cell
-    ≡ (covered (labelMinute (minuteOf cell)) (weekdayWindows c (dayOf (minuteOf cell)))
-    || covered (labelMinute (minuteOf cell)) (orNone (specialOf (dayOf (minuteOf cell)) (c .special))))
+pub open-special : (c : Calendar) (cell : ℕ) (ws : List Window) → specialOf (dayOf (minuteOf cell)) (c .special) ≡ some ws
+    → openCell c cell ≡ covered (labelMinute (minuteOf cell)) ws
 unfolding openMinute windowsOf
-open-either c cell =
-    covered-append (labelMinute (minuteOf cell)) (weekdayWindows c (dayOf (minuteOf cell))) (orNone (specialOf (dayOf (minuteOf cell)) (c .special)))
+open-special c cell ws e = rw e
+
+pub open-other : (c : Calendar) (cell : ℕ) → specialOf (dayOf (minuteOf cell)) (c .special) ≡ none
+    → openCell c cell ≡ covered (labelMinute (minuteOf cell)) (weekdayWindows c (dayOf (minuteOf cell)))
+unfolding openMinute windowsOf
+open-other c cell e = rw e
 
 -- the hours of a weekday, by their place
 pub weekday-at : (numbers : List ℕ) (day : ℕ) → weekdayWindows (calendarOf numbers) day ≡ weekdayAt numbers (weekdayOf day) .windows
@@ -105,11 +97,12 @@ pub empty-closes : (cell : ℕ) → openCell (calendarOf []) cell ≡ false
 unfolding openMinute windowsOf hoursAt covered specialOf countFrom calendarOf
 empty-closes cell = rw (weekday-at [] (dayOf (minuteOf cell)))
 
-pub always-opens : (c : Calendar) → length (c .week) ≡ 7 → All (λ h. Mem wholeDay (h .windows)) (c .week) → (cell : ℕ) → openCell c cell ≡ true
-always-opens c seven a cell =
+pub always-opens : (c : Calendar) → AlwaysOpen c → (cell : ℕ) → openCell c cell ≡ true
+unfolding specialOf
+always-opens c a cell =
     let day = dayOf (minuteOf cell) in
-    let m : Mem wholeDay (weekdayWindows c day) = all-at shut a (weekdayOf day) (omega arith) in
-    rw (open-either c cell, covered-member (labelMinute (minuteOf cell)) wholeDay (weekdayWindows c day) m (omega arith) (omega arith))
+    let m : Mem wholeDay (weekdayWindows c day) = all-at shut (a .whole) (weekdayOf day) (omega (arith, a .seven)) in
+    open-other c cell (rw (a .no-special)) ∙ covered-member (labelMinute (minuteOf cell)) wholeDay (weekdayWindows c day) m (omega arith) (omega arith)
 
 -- ── the numbers that a calendar is read from ──
 
@@ -137,7 +130,8 @@ pub law-of-opening : LawOfOpening
 law-of-opening =
     record {
       covers = covered-decides;
-      either = open-either;
+      special-day = open-special;
+      other-day = open-other;
       found = special-found;
       missed = special-missed;
       empty = empty-closes;
@@ -194,7 +188,7 @@ zeros-pass c first (suc n) = zeros-pass c (suc first) n
 pub always-passes : (c : Calendar) → AlwaysOpen c → (first : ℕ) (bytes : List ℕ) → closedCell c first bytes ≡ false
 unfolding closedCell
 always-passes c a first [] = refl
-always-passes c a first (b ∷ bs) = rw (always-opens c (a .seven) (a .whole) first, and-false (not (eqb b 0))) (always-passes c a (suc first) bs)
+always-passes c a first (b ∷ bs) = rw (always-opens c a first, and-false (not (eqb b 0))) (always-passes c a (suc first) bs)
   where
     and-false : (t : Bool) → (t && false) ≡ false
     and-false true = refl

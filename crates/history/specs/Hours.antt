@@ -3,7 +3,7 @@
 use mathlib.Core.Path.{_≡_}
 use mathlib.Core.Bool.{Bool, true, false, cond, not, _&&_, _||_}
 use mathlib.Core.Option.{Option, none, some}
-use mathlib.Core.List.{List, [], _∷_, _++_, map}
+use mathlib.Core.List.{List, [], _∷_, map}
 use Prim.Native.Nat.{ℕ, suc, _+_, _*_, _/_, _%_, _^_, _≤_, _<_, min}
 use lib.ListN.{length, getD}
 use lib.Dec.{leb, ltb, eqb}
@@ -132,10 +132,10 @@ unfoldable pub specialOf : (day : ℕ) → List Special → Option (List Window)
 specialOf day [] = none
 specialOf day (s ∷ ss) = cond (eqb (s .day) day) (some (s .hours .windows)) (specialOf day ss)
 
--- those windows, if any
-abbrev pub orNone : Option (List Window) → List Window
-orNone none = []
-orNone (some ws) = ws
+-- those windows, or others where there is no such day
+abbrev pub orElse : Option (List Window) → (others : List Window) → List Window
+orElse none others = others
+orElse (some ws) others = ws
 
 -- a day without windows
 abbrev pub shut : Hours
@@ -144,9 +144,9 @@ shut = record { stated = 0; windows = [] }
 abbrev pub weekdayWindows : Calendar → (day : ℕ) → List Window
 weekdayWindows c day = getD (c .week) (weekdayOf day) shut .windows
 
--- The windows that count on a day: those of its weekday and those of its special day. Item 8 changes this definition alone.
+-- The windows that count on a day: those of its special day alone, also where it has none; on any other day those of its weekday.
 unfoldable pub windowsOf : Calendar → (day : ℕ) → List Window
-windowsOf c day = weekdayWindows c day ++ orNone (specialOf day (c .special))
+windowsOf c day = orElse (specialOf day (c .special)) (weekdayWindows c day)
 
 -- a minute of a platform is open: some window of its day covers its label
 unfoldable pub openMinute : Calendar → (minute : ℕ) → Bool

@@ -71,11 +71,11 @@ boards =
       cells = 99 ∷ 100 ∷ 199 ∷ 200 ∷ 299 ∷ 300 ∷ 700 ∷ 799 ∷ 800 ∷ [];
       comes = false ∷ true ∷ true ∷ true ∷ true ∷ false ∷ true ∷ true ∷ false ∷ [];
     }
-    -- a special day adds its windows to those of its weekday, and to no other day; without windows it adds none
+    -- a special day has its own windows in place of those of its weekday, and no other day has them; without windows it is closed
     ∷ record {
       numbers = calendar (monday (480 to 1200 ∷ [])) 3 (special 0 (60 to 120 ∷ []) ∷ special 1 (0 to 10 ∷ []) ∷ special 7 [] ∷ []);
-      cells = 59 ∷ 60 ∷ 480 ∷ cellOn 1 9 ∷ cellOn 1 10 ∷ cellOn 1 480 ∷ cellOn 7 60 ∷ cellOn 7 480 ∷ cellOn 8 9 ∷ [];
-      comes = false ∷ true ∷ true ∷ true ∷ false ∷ false ∷ false ∷ true ∷ false ∷ [];
+      cells = 59 ∷ 60 ∷ 480 ∷ cellOn 1 9 ∷ cellOn 1 10 ∷ cellOn 1 480 ∷ cellOn 7 60 ∷ cellOn 7 480 ∷ cellOn 8 9 ∷ cellOn 14 480 ∷ [];
+      comes = false ∷ true ∷ false ∷ true ∷ false ∷ false ∷ false ∷ false ∷ false ∷ true ∷ [];
     }
     -- a special day past the count is not looked at
     ∷ record {
@@ -87,7 +87,7 @@ boards =
     ∷ record {
       numbers = calendar (monday (250 to 256 ∷ [])) 1 (special 2982616 (0 to 1 ∷ []) ∷ []);
       cells = (2 ^ 32 - 257) ∷ (2 ^ 32 - 256) ∷ (2 ^ 32 - 255) ∷ (2 ^ 32 - 7) ∷ (2 ^ 32 - 6) ∷ (2 ^ 32 - 1) ∷ (2 ^ 32) ∷ (2 ^ 32 + 250) ∷ (2 ^ 64 - 1) ∷ [];
-      comes = false ∷ true ∷ false ∷ false ∷ true ∷ true ∷ false ∷ true ∷ true ∷ [];
+      comes = false ∷ true ∷ false ∷ false ∷ false ∷ false ∷ false ∷ true ∷ false ∷ [];
     }
     -- the last weekday, and a special day of the largest number
     ∷ record {

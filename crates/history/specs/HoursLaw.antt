@@ -1,6 +1,6 @@
 -- What is proved of station hours: of the definitions in Hours, and of the calls that go by them. Statements alone: the proofs stand in proofs/.
 use mathlib.Core.Path.{_≡_}
-use mathlib.Core.Bool.{true, false, _||_}
+use mathlib.Core.Bool.{true, false}
 use mathlib.Core.Option.{none, some}
 use mathlib.Core.List.{List, [], _∷_}
 use Prim.Native.Nat.{ℕ, _+_, _*_, _%_, _^_, _≤_, _<_}
@@ -12,7 +12,7 @@ use Rattle.history.specs.Ledger.{Opening, Ledger, opened}
 use Rattle.history.specs.Results.{Result}
 use Rattle.history.specs.Refusals.{Answer, accepted, refused, recordAnswer}
 use Rattle.history.specs.Calls.{Call, recordCall, finishCall, calendarCall, answerTo, after, answers}
-use Rattle.history.specs.Hours.{Window, Hours, Special, Calendar, dayMinutes, weekdays, calendarWidth, calendarOf, minuteOf, dayOf, labelMinute, weekdayOf, covered, specialOf, orNone, weekdayWindows, openCell, closedCell, SomeClosed, calendarTaken, CalendarTaken}
+use Rattle.history.specs.Hours.{Window, Hours, Special, Calendar, dayMinutes, weekdays, calendarWidth, calendarOf, minuteOf, dayOf, labelMinute, weekdayOf, covered, specialOf, weekdayWindows, openCell, closedCell, SomeClosed, calendarTaken, CalendarTaken}
 
 -- ── days ──
 
@@ -49,31 +49,31 @@ pub record SomeCovers (minute : ℕ) (ws : List Window) : Type 0 where
 abbrev pub wholeDay : Window
 wholeDay = record { from = 0; to = dayMinutes }
 
-pub record LawOfOpening : Type 0 where
-  -- covered is by some window
-  pub covers : (minute : ℕ) (ws : List Window) → Decides (covered minute ws) (SomeCovers minute ws)
-  -- item 5: a window of the weekday, or one of the special day (item 8 changes this line)
-  pub either : (c : Calendar) (cell : ℕ)
-      → openCell c cell
-      ≡ (covered (labelMinute (minuteOf cell)) (weekdayWindows c (dayOf (minuteOf cell)))
-      || covered (labelMinute (minuteOf cell)) (orNone (specialOf (dayOf (minuteOf cell)) (c .special))))
-  -- of days that ascend, each is found by its number, and no other
-  pub found : (s : Special) (ss : List Special) → Ascending (λ s. s .day) ss → Mem s ss → specialOf (s .day) ss ≡ some (s .hours .windows)
-  pub missed : (day : ℕ) (ss : List Special) → All (λ s. s .day ≡ day → ⊥) ss → specialOf day ss ≡ none
-  -- no numbers: every cell is closed
-  pub empty : (cell : ℕ) → openCell (calendarOf []) cell ≡ false
-  -- [0, 1440) on each weekday: every cell is open
-  pub always : (c : Calendar) → length (c .week) ≡ weekdays → All (λ h. Mem wholeDay (h .windows)) (c .week) → (cell : ℕ) → openCell c cell ≡ true
-  -- what stands past the 64th special day means nothing
-  pub alike : (a b : List ℕ) → ((i : ℕ) → i < calendarWidth → getD a i 0 ≡ getD b i 0) → calendarOf a ≡ calendarOf b
-
--- ── refusals by a calendar ──
-
 -- all of every weekday open, and no special day
 pub record AlwaysOpen (c : Calendar) : Type 0 where
   pub seven : length (c .week) ≡ weekdays
   pub whole : All (λ h. Mem wholeDay (h .windows)) (c .week)
   pub no-special : c .special ≡ []
+
+pub record LawOfOpening : Type 0 where
+  -- covered is by some window
+  pub covers : (minute : ℕ) (ws : List Window) → Decides (covered minute ws) (SomeCovers minute ws)
+  -- On a special day its windows alone count, also where it has none; any other day is open by the windows of its weekday, as before item 8.
+  pub special-day : (c : Calendar) (cell : ℕ) (ws : List Window) → specialOf (dayOf (minuteOf cell)) (c .special) ≡ some ws
+      → openCell c cell ≡ covered (labelMinute (minuteOf cell)) ws
+  pub other-day : (c : Calendar) (cell : ℕ) → specialOf (dayOf (minuteOf cell)) (c .special) ≡ none
+      → openCell c cell ≡ covered (labelMinute (minuteOf cell)) (weekdayWindows c (dayOf (minuteOf cell)))
+  -- of days that ascend, each is found by its number, and no other
+  pub found : (s : Special) (ss : List Special) → Ascending (λ s. s .day) ss → Mem s ss → specialOf (s .day) ss ≡ some (s .hours .windows)
+  pub missed : (day : ℕ) (ss : List Special) → All (λ s. s .day ≡ day → ⊥) ss → specialOf day ss ≡ none
+  -- no numbers: every cell is closed
+  pub empty : (cell : ℕ) → openCell (calendarOf []) cell ≡ false
+  -- [0, 1440) on each weekday and no special day: every cell is open
+  pub always : (c : Calendar) → AlwaysOpen c → (cell : ℕ) → openCell c cell ≡ true
+  -- what stands past the 64th special day means nothing
+  pub alike : (a b : List ℕ) → ((i : ℕ) → i < calendarWidth → getD a i 0 ≡ getD b i 0) → calendarOf a ≡ calendarOf b
+
+-- ── refusals by a calendar ──
 
 pub record LawOfClosing : Type 0 where
   -- 26: some byte that is not 0, on a closed cell

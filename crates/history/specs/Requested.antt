@@ -142,7 +142,7 @@ labelBoards =
     }
     ∷ []
 
--- ── Item 5 ──
+-- ── Items 5 and 8 ──
 
 unfoldable pub hoursBoards : List Board
 hoursBoards =
@@ -164,6 +164,13 @@ hoursBoards =
       calls = calendarCall (calendar (monday (0 to 10 ∷ [])) 1 (special 1 (0 to 10 ∷ []) ∷ [])) ∷ op 1 1440 (7 ∷ []) ∷ calendarCall (0 ∷ 0 ∷ 0 ∷ []) ∷ op 1 0 (7 ∷ []) ∷ op 1 1441 (7 ∷ [])
           ∷ calendarCall (calendar noWeek 1 (special 0 (0 to 10 ∷ []) ∷ [])) ∷ calendarCall (1 ∷ 10 ∷ 10 ∷ []) ∷ op 1 9 (7 ∷ []) ∷ op 1 10 (7 ∷ []) ∷ [];
       cases = whatAnswers is answered (done! ∷ from! 1440 ∷ done! ∷ refused 26 ∷ refused 26 ∷ done! ∷ refused 27 ∷ from! 9 ∷ refused 26 ∷ []) ∷ [];
+    }
+    -- item 8, Mondays 480 to 1200 with three special days, the last one without windows: a known booking is refused there, and the Monday after is judged as before
+    ∷ record {
+      opening = on 8 ample;
+      calls = op 0 480 (7 ∷ []) ∷ calendarCall (calendar (monday (480 to 1200 ∷ [])) 3 (special 0 (60 to 120 ∷ []) ∷ special 1 (0 to 10 ∷ []) ∷ special 7 [] ∷ []))
+          ∷ op 1 480 (7 ∷ []) ∷ op 1 60 (7 ∷ []) ∷ op 1 1449 (7 ∷ []) ∷ op 1 1450 (7 ∷ []) ∷ op 1 10560 (7 ∷ []) ∷ op 1 10560 (0 ∷ []) ∷ op 1 20640 (7 ∷ []) ∷ [];
+      cases = whatAnswers is answered (from! 480 ∷ done! ∷ refused 26 ∷ from! 60 ∷ from! 1449 ∷ refused 26 ∷ refused 26 ∷ from! 10560 ∷ from! 20640 ∷ []) ∷ [];
     }
     -- the order: 2, 3 before 27; 8 before 26 before 9; finish keeps the calendar and refuses the next one
     ∷ record {

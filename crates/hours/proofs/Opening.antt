@@ -1,22 +1,18 @@
 -- Open cells: one step for each return of the reads. Assumes nothing.
 use mathlib.Core.Path.{_≡_, refl, sym, ap, _∙_}
 use mathlib.Core.Logic.{_⊎_, inl, inr}
-use mathlib.Core.Bool.{Bool, true, false, cond, _&&_, _||_, not}
+use mathlib.Core.Bool.{Bool, true, false, _&&_, _||_, not}
 use mathlib.Core.Option.{none}
-use mathlib.Core.List.{List, [], _∷_, _++_}
+use mathlib.Core.List.{List, [], _∷_}
 use Prim.Native.Nat.{ℕ, zero, suc, _+_, _-_, _*_, _%_, _^_, _≤_, _<_, min}
 use native.Mathlib.Omega.{arith}
-use native.Mathlib.Nat.{zero-add}
 use lib.ListN.{length, getD, drop, drop-of-length-le}
 use lib.Seq.{drop-cons}
 use lib.Dec.{leb, ltb, eqb}
 use borrow.Author.Needs.{needs}
 use borrow.Author.Tests.{lt-ltb, le-leb, eq-eqb, ne-eqb, leb-true, ltb-true}
-use Rattle.lists.specs.Lists.{countFrom}
-use Rattle.lists.proofs.Numbers.{bool-cases, and-left, and-right, or-true, eq-or-ne}
-use Rattle.lists.proofs.Lists.{count-from-at, count-from-length}
-use Rattle.lists.proofs.Maps.{getD-of-map}
-use Rattle.history.specs.Hours.{Window, Hours, Calendar, windowAt, hoursAt, weekdayAt, specialAt, specialPlace, calendarOf, mostWindows, mostSpecial, specialCount, dayOf, labelMinute, weekdayOf, minuteOf, covers, covered, specialOf, orNone, shut, weekdayWindows, windowsOf, openMinute, openCell, refusedOn, closedCell}
+use Rattle.lists.proofs.Numbers.{bool-cases, and-left, and-right, or-true}
+use Rattle.history.specs.Hours.{Window, Calendar, windowAt, hoursAt, specialAt, specialPlace, calendarOf, mostWindows, mostSpecial, specialCount, dayOf, labelMinute, minuteOf, covers, covered, specialOf, windowsOf, openMinute, openCell, refusedOn, closedCell}
 use Rattle.hours.specs.Reach.{untilOf, windowsFrom, specialFrom, SpecialStands, OpenFor, Reaches, Passes}
 use Rattle.history.proofs.HoursLaws.{weekday-at}
 use Rattle.hours.proofs.Rows.{rows-more, rows-none, rows-all}
@@ -111,52 +107,17 @@ pub ruleset standing = (special-start, special-more, special-found, special-none
 
 -- ── all windows of a day ──
 
--- of two lists of windows, the first one's window comes first
-pub until-first : (minute : ℕ) (xs ys : List Window) → (untilOf minute xs ≡ 0 → ⊥) → untilOf minute (xs ++ ys) ≡ untilOf minute xs
-unfolding untilOf
-until-first minute [] ys n = absurd (n refl)
-until-first minute (x ∷ xs) ys n = step (bool-cases (covers minute x)) (until-first minute xs ys)
-  where
-    step : (covers minute x ≡ true) ⊎ (covers minute x ≡ false) → ((untilOf minute xs ≡ 0 → ⊥) → untilOf minute (xs ++ ys) ≡ untilOf minute xs)
-        → cond (covers minute x) (x .to) (untilOf minute (xs ++ ys)) ≡ cond (covers minute x) (x .to) (untilOf minute xs)
-    step (inl e) rest = rw e
-    step (inr e) rest = rw e (rest (λ z. n (rw e z)))
+pub until-on-special : (numbers : List ℕ) (day minute place r : ℕ) → SpecialStands numbers day place → (place ≡ 0 → ⊥)
+    → r ≡ untilOf minute (hoursAt numbers place .windows) → r ≡ untilOf minute (windowsOf (calendarOf numbers) day)
+unfolding windowsOf
+until-on-special numbers day minute place r stands n e = rw (stands .present n) e
 
-pub until-second : (minute : ℕ) (xs ys : List Window) → untilOf minute xs ≡ 0 → untilOf minute (xs ++ ys) ≡ untilOf minute ys
-unfolding untilOf
-until-second minute [] ys z = refl
-until-second minute (x ∷ xs) ys z = step (bool-cases (covers minute x)) (until-second minute xs ys)
-  where
-    step : (covers minute x ≡ true) ⊎ (covers minute x ≡ false) → (untilOf minute xs ≡ 0 → untilOf minute (xs ++ ys) ≡ untilOf minute ys)
-        → cond (covers minute x) (x .to) (untilOf minute (xs ++ ys)) ≡ untilOf minute ys
-    step (inl e) rest =
-        let t : x .to ≡ 0 = rw e at z in
-        let l : minute < x .to = ltb-true minute (x .to) (and-right (leb (x .from) minute) (ltb minute (x .to)) e) in
-        absurd (omega arith)
-    step (inr e) rest = rw e (rest (rw e at z))
+pub until-on-weekday : (numbers : List ℕ) (day minute place r : ℕ) → SpecialStands numbers day place → place ≡ 0
+    → r ≡ untilOf minute (hoursAt numbers (17 * (day % 7)) .windows) → r ≡ untilOf minute (windowsOf (calendarOf numbers) day)
+unfolding windowsOf
+until-on-weekday numbers day minute place r stands z e = rw (stands .absent z, weekday-at numbers day) e
 
-module _ (numbers : List ℕ) (day minute weekday : ℕ) (w : weekday ≡ untilOf minute (hoursAt numbers (17 * (day % 7)) .windows)) where
-  before : untilOf minute (weekdayWindows (calendarOf numbers) day) ≡ weekday
-  before = ap (untilOf minute) (weekday-at numbers day) ∙ sym w
-
-  pub until-on-weekday : (weekday ≡ 0 → ⊥) → weekday ≡ untilOf minute (windowsOf (calendarOf numbers) day)
-  unfolding windowsOf
-  until-on-weekday n =
-      sym (until-first minute (weekdayWindows (calendarOf numbers) day) (orNone (specialOf day (calendarOf numbers .special))) (λ z. n (sym before ∙ z)) ∙ before)
-
-  after : weekday ≡ 0 → untilOf minute (windowsOf (calendarOf numbers) day) ≡ untilOf minute (orNone (specialOf day (calendarOf numbers .special)))
-  unfolding windowsOf
-  after z = until-second minute (weekdayWindows (calendarOf numbers) day) (orNone (specialOf day (calendarOf numbers .special))) (before ∙ z)
-
-  pub until-on-none : (place : ℕ) → SpecialStands numbers day place → weekday ≡ 0 → place ≡ 0 → 0 ≡ untilOf minute (windowsOf (calendarOf numbers) day)
-  unfolding untilOf
-  until-on-none place stands z n = sym (after z ∙ rw (stands .absent n))
-
-  pub until-on-special : (place r : ℕ) → SpecialStands numbers day place → weekday ≡ 0 → (place ≡ 0 → ⊥)
-      → r ≡ untilOf minute (hoursAt numbers place .windows) → r ≡ untilOf minute (windowsOf (calendarOf numbers) day)
-  until-on-special place r stands z n e = sym (after z ∙ rw (stands .present n, ← e))
-
-pub ruleset seeking = (until-on-weekday, until-on-none, until-on-special, needs)
+pub ruleset seeking = (until-on-special, until-on-weekday, needs)
 
 -- ── open cells ──
 

@@ -92,15 +92,11 @@ fn special_hours(calendar: &[u64], day: u64) -> usize
 fn until_on(calendar: &[u64], day: u64, minute: u64) -> u64
     ensures { λ r. ⌜ r ≡ untilOf minute (windowsOf (calendarOf (now (calendar .entry))) day) ⌝ }
 {
-    let weekday = until(calendar, HOURS_WIDTH * (day % WEEKDAYS) as usize, minute);
-    if weekday != 0 {
-        return weekday;
-    }
     let special = special_hours(calendar, day);
-    if special == 0 {
-        return 0;
+    if special != 0 {
+        return until(calendar, special, minute);
     }
-    until(calendar, special, minute)
+    until(calendar, HOURS_WIDTH * (day % WEEKDAYS) as usize, minute)
 }
 
 // The day of a minute, and the minute of the day that its label shows.
