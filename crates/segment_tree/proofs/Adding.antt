@@ -1,4 +1,4 @@
--- Steps of `build::add_location`: each return is the model's addLocation, or shows that the rows are spent. Assumes nothing.
+-- Adding a life at a node, by where it begins and ends there: the model's addLocation, or the rows are spent. Assumes nothing.
 use mathlib.Core.Path.{_≡_, refl, sym, _∙_}
 use mathlib.Core.Logic.{inl, inr}
 use mathlib.Core.Bool.{Bool, true, false, true≢false, false≢true, cond, not}
@@ -122,24 +122,23 @@ outcome-after t t₁ t₂ s T X Y r stands g o = record {
 
 -- ── the node itself ──
 
-pub add-covered : {t t₁ t₂ : List ℕ} {s : Spot} {life : Life} {link : ℕ} {q : Bool} → Reached t t₁ s link → (link ≡ 0 → ⊥)
-    → q ≡ covers (life .created) (life .destroyed) (s .lo) (s .hi) → q ≡ true → t₂ ≡ set t₁ (rowWidth * link + nodeEntries) (plusUpTo (countAt t₁ link) 1)
+pub add-covered : {t t₁ t₂ : List ℕ} {s : Spot} {life : Life} {link : ℕ} → Reached t t₁ s link → (link ≡ 0 → ⊥)
+    → covers (life .created) (life .destroyed) (s .lo) (s .hi) ≡ true → t₂ ≡ set t₁ (rowWidth * link + nodeEntries) (plusUpTo (countAt t₁ link) 1)
     → Added t t₂ s life true
-add-covered {t} {t₁} {t₂} {s} {life} {link} reached some asked covered is = record {
+add-covered {t} {t₁} {t₂} {s} {life} {link} reached some covered is = record {
   done = λ key n b T w few stands.
       let e = entered t t₁ s link T some reached stands in
       let own : length (entriesOf T) < most = omega (arith, fewer-in T) in
-      rw (add-here key b (life .created) (life .destroyed) (s .lo) (s .hi) T n (sym asked ∙ covered))
+      rw (add-here key b (life .created) (life .destroyed) (s .lo) (s .hi) T n covered)
       (enough (grown-trans t s T stands t₁ (made T) (e .grown) t₂ (listed key b T)
       (grown-entry t₁ s link (entriesOf T) (insert key b (entriesOf T)) (leftOf T) (rightOf T) (e .stands) (e .it) own (insert-length key b (entriesOf T)) t₂ is)));
 }
 
-pub add-narrowest : {t t₁ : List ℕ} {s : Spot} {life : Life} {link : ℕ} {q h : Bool} → Reached t t₁ s link → (link ≡ 0 → ⊥)
-    → q ≡ covers (life .created) (life .destroyed) (s .lo) (s .hi) → q ≡ false → h ≡ halves (s .lo) (s .hi) → not h ≡ true → Added t t₁ s life true
-add-narrowest {t} {t₁} {s} {life} {link} {q} {h} reached some asked uncovered wide none = record {
+pub add-narrowest : {t t₁ : List ℕ} {s : Spot} {life : Life} {link : ℕ} → Reached t t₁ s link → (link ≡ 0 → ⊥)
+    → covers (life .created) (life .destroyed) (s .lo) (s .hi) ≡ false → s .hi ≤ s .lo + 1 → Added t t₁ s life true
+add-narrowest {t} {t₁} {s} {life} {link} reached some uncovered small = record {
   done = λ key n b T w few stands.
-      let small : s .hi ≤ s .lo + 1 = ltb-false (s .lo + 1) (s .hi) (sym wide ∙ not-true h none) in
-      rw (add-narrow key b (life .created) (life .destroyed) (s .lo) (s .hi) T n (sym asked ∙ uncovered) small)
+      rw (add-narrow key b (life .created) (life .destroyed) (s .lo) (s .hi) T n uncovered small)
       (enough (entered t t₁ s link T some reached stands .grown));
 }
 
@@ -149,37 +148,12 @@ add-narrowest {t} {t₁} {s} {life} {link} {q} {h} reached some asked uncovered 
 abbrev pub middle : (lo hi : ℕ) → ℕ
 middle lo hi = lo + (hi - lo) / 2
 
-pub wide-of : (h : Bool) (lo hi : ℕ) → h ≡ halves lo hi → not h ≡ false → lo + 1 < hi
-wide-of h lo hi asked split = ltb-true (lo + 1) hi (sym asked ∙ not-false h split)
-
--- the middle of a node that has halves lies inside it, so both are narrower
-module _ (h : Bool) (lo hi : ℕ) (asked : h ≡ halves lo hi) (split : not h ≡ false) where
-  pub middle-fits : lo ≤ hi
-  middle-fits = omega (arith, wide-of h lo hi asked split)
-
-  pub left-narrower : {t : ℕ} → t ≡ hi - lo → middle lo hi - lo < t
-  left-narrower e = omega (arith, wide-of h lo hi asked split)
-
-  pub right-narrower : {t : ℕ} → t ≡ hi - lo → hi - middle lo hi < t
-  right-narrower e = omega (arith, wide-of h lo hi asked split)
-
-pub ruleset halving = (middle-fits, left-narrower, right-narrower)
-
 -- the node is reached, has halves, and is not covered
 pub record Parted (t t₁ : List ℕ) (s : Spot) (life : Life) (link : ℕ) : Type 0 where
   pub reached : Reached t t₁ s link
   pub some : link ≡ 0 → ⊥
   pub uncovered : covers (life .created) (life .destroyed) (s .lo) (s .hi) ≡ false
   pub wide : s .lo + 1 < s .hi
-
-pub parted : {t t₁ : List ℕ} {s : Spot} {life : Life} {link : ℕ} {q h : Bool} → Reached t t₁ s link → (link ≡ 0 → ⊥)
-    → q ≡ covers (life .created) (life .destroyed) (s .lo) (s .hi) → q ≡ false → h ≡ halves (s .lo) (s .hi) → not h ≡ false → Parted t t₁ s life link
-parted {s} {h} reached some asked uncovered wide split = record {
-  reached = reached;
-  some = some;
-  uncovered = sym asked ∙ uncovered;
-  wide = wide-of h (s .lo) (s .hi) wide split;
-}
 
 module _ (t t₁ : List ℕ) (s : Spot) (life : Life) (link : ℕ) (p : Parted t t₁ s life link) (key : ℕ → ℕ) (n b : ℕ) (T : Tree) (w : s .hi - s .lo ≤ 2 ^ n)
     (few : fullest T < most) (stands : Standing t s T) where
@@ -210,18 +184,18 @@ module _ (t t₁ : List ℕ) (s : Spot) (life : Life) (link : ℕ) (p : Parted t
   newRight : Tree
   newRight = addLocation key (deep .less) b c d m (s .hi) (rightOf T)
 
-  -- the left half, of the node as it was reached
-  left-outcome : (t₂ : List ℕ) (r : Bool) → Added t₁ t₂ (spot (s .kind) link nodeLeft (s .lo) (middle (s .lo) (s .hi))) life r
-      → (r ≡ true → linkAt t₂ s ≡ link) × Outcome t₁ t₂ s r (made T) (node (entriesOf T) newLeft (rightOf T))
+  -- the left half, whatever the right one is by then
+  left-outcome : (t₂ t₃ : List ℕ) (R : Tree) (r : Bool) → Standing t₂ s (node (entriesOf T) (leftOf T) R) → linkAt t₂ s ≡ link
+      → Added t₂ t₃ (spot (s .kind) link nodeLeft (s .lo) (middle (s .lo) (s .hi))) life r
+      → (r ≡ true → linkAt t₃ s ≡ link) × Outcome t₂ t₃ s r (node (entriesOf T) (leftOf T) R) (node (entriesOf T) newLeft R)
   unfolding newLeft nodeCount
-  left-outcome t₂ r a =
-      let e : Entered t t₁ s link T = node-reached in
-      let o : Outcome t₁ t₂ (spot (s .kind) link nodeLeft (s .lo) m) r (leftOf T) newLeft =
+  left-outcome t₂ t₃ R r there it a =
+      let o : Outcome t₂ t₃ (spot (s .kind) link nodeLeft (s .lo) m) r (leftOf T) newLeft =
       (rw is-mid at a) .done key (deep .less) b (leftOf T) (deep .left-width) (omega (arith, fewer-in T))
-      (left-stands t₁ t₂ s link m (entriesOf T) (leftOf T) (rightOf T) (e .stands) (e .it) wider refl) in (
-        λ y. grown-left t₁ t₂ s link m (entriesOf T) (leftOf T) (rightOf T) (e .stands) (e .it) wider refl newLeft (o .added y) .0,
+      (left-stands t₂ t₃ s link m (entriesOf T) (leftOf T) R there it wider refl) in (
+        λ y. grown-left t₂ t₃ s link m (entriesOf T) (leftOf T) R there it wider refl newLeft (o .added y) .0,
         record {
-          added = λ y. grown-left t₁ t₂ s link m (entriesOf T) (leftOf T) (rightOf T) (e .stands) (e .it) wider refl newLeft (o .added y) .1;
+          added = λ y. grown-left t₂ t₃ s link m (entriesOf T) (leftOf T) R there it wider refl newLeft (o .added y) .1;
           spent = λ z. omega (arith, o .spent z);
         },
       )
@@ -229,16 +203,18 @@ module _ (t t₁ : List ℕ) (s : Spot) (life : Life) (link : ℕ) (p : Parted t
   -- the right half, whatever the left one is by then
   right-outcome : (t₂ t₃ : List ℕ) (L : Tree) (r : Bool) → Standing t₂ s (node (entriesOf T) L (rightOf T)) → linkAt t₂ s ≡ link
       → Added t₂ t₃ (spot (s .kind) link nodeRight (middle (s .lo) (s .hi)) (s .hi)) life r
-      → Outcome t₂ t₃ s r (node (entriesOf T) L (rightOf T)) (node (entriesOf T) L newRight)
+      → (r ≡ true → linkAt t₃ s ≡ link) × Outcome t₂ t₃ s r (node (entriesOf T) L (rightOf T)) (node (entriesOf T) L newRight)
   unfolding newRight nodeCount
   right-outcome t₂ t₃ L r there it a =
       let o : Outcome t₂ t₃ (spot (s .kind) link nodeRight m (s .hi)) r (rightOf T) newRight =
       (rw is-mid at a) .done key (deep .less) b (rightOf T) (deep .right-width) (omega (arith, fewer-in T))
-      (right-stands t₂ t₃ s link m (entriesOf T) L (rightOf T) there it wider refl) in
-      record {
-        added = λ y. grown-right t₂ t₃ s link m (entriesOf T) L (rightOf T) there it wider refl newRight (o .added y) .1;
-        spent = λ z. omega (arith, o .spent z);
-      }
+      (right-stands t₂ t₃ s link m (entriesOf T) L (rightOf T) there it wider refl) in (
+        λ y. grown-right t₂ t₃ s link m (entriesOf T) L (rightOf T) there it wider refl newRight (o .added y) .0,
+        record {
+          added = λ y. grown-right t₂ t₃ s link m (entriesOf T) L (rightOf T) there it wider refl newRight (o .added y) .1;
+          spent = λ z. omega (arith, o .spent z);
+        },
+      )
 
   -- what the model makes of the node, by where the life begins and ends
   added-neither : m ≤ c → d ≤ m → addLocation key n b c d (s .lo) (s .hi) T ≡ made T
@@ -256,46 +232,67 @@ module _ (t t₁ : List ℕ) (s : Spot) (life : Life) (link : ℕ) (p : Parted t
   unfolding newLeft newRight
   added-both x y = deep .is ∙ rw (lt-ltb c m x, lt-ltb m d y)
 
-  -- the left half's nodes are needed, whatever the right one needs
-  nodes-left : c < m → nodeCount (node (entriesOf T) newLeft (rightOf T)) ≤ nodeCount (addLocation key n b c d (s .lo) (s .hi) T)
+  -- the nodes of either half are needed, whatever the other one needs
+  nodes-left : c < m → m < d → nodeCount (node (entriesOf T) newLeft (rightOf T)) ≤ nodeCount (addLocation key n b c d (s .lo) (s .hi) T)
   unfolding nodeCount newRight
-  nodes-left x =
-      elim (le-or-lt d m) [
-        | inl y ↦ rw (added-left x y) (omega arith)
-        | inr y ↦ rw (added-both x y) (omega (arith, nodes-kept key b c d (deep .less) m (s .hi) (rightOf T)))
-      ]
+  nodes-left x y = rw (added-both x y) (omega (arith, nodes-kept key b c d (deep .less) m (s .hi) (rightOf T)))
+
+  nodes-right : c < m → m < d → nodeCount (node (entriesOf T) (leftOf T) newRight) ≤ nodeCount (addLocation key n b c d (s .lo) (s .hi) T)
+  unfolding nodeCount newLeft
+  nodes-right x y = rw (added-both x y) (omega (arith, nodes-kept key b c d (deep .less) (s .lo) m (leftOf T)))
+
+  -- one half, of the node as it was reached
+  left-first : (t₂ : List ℕ) (r : Bool) → Added t₁ t₂ (spot (s .kind) link nodeLeft (s .lo) (middle (s .lo) (s .hi))) life r
+      → (r ≡ true → linkAt t₂ s ≡ link) × Outcome t t₂ s r T (node (entriesOf T) newLeft (rightOf T))
+  left-first t₂ r a =
+      let e : Entered t t₁ s link T = node-reached in
+      let o = left-outcome t₁ t₂ (rightOf T) r (e .stands) (e .it) a in (o .0, outcome-after t t₁ t₂ s T (made T) _ r stands (e .grown) (o .1))
+
+  right-first : (t₂ : List ℕ) (r : Bool) → Added t₁ t₂ (spot (s .kind) link nodeRight (middle (s .lo) (s .hi)) (s .hi)) life r
+      → (r ≡ true → linkAt t₂ s ≡ link) × Outcome t t₂ s r T (node (entriesOf T) (leftOf T) newRight)
+  right-first t₂ r a =
+      let e : Entered t t₁ s link T = node-reached in
+      let o = right-outcome t₁ t₂ (leftOf T) r (e .stands) (e .it) a in (o .0, outcome-after t t₁ t₂ s T (made T) _ r stands (e .grown) (o .1))
 
   done-neither : m ≤ c → d ≤ m → Outcome t t₁ s true T (addLocation key n b c d (s .lo) (s .hi) T)
   done-neither x y = rw (added-neither x y) (enough (node-reached .grown))
 
   done-right : (t₂ : List ℕ) (r : Bool) → m ≤ c → m < d → Added t₁ t₂ (spot (s .kind) link nodeRight (middle (s .lo) (s .hi)) (s .hi)) life r
       → Outcome t t₂ s r T (addLocation key n b c d (s .lo) (s .hi) T)
-  done-right t₂ r x y a =
-      let e : Entered t t₁ s link T = node-reached in
-      rw (added-right x y) (outcome-after t t₁ t₂ s T (made T) _ r stands (e .grown) (right-outcome t₁ t₂ (leftOf T) r (e .stands) (e .it) a))
+  done-right t₂ r x y a = rw (added-right x y) (right-first t₂ r a .1)
 
-  done-left : (t₂ : List ℕ) → c < m → d ≤ m → Added t₁ t₂ (spot (s .kind) link nodeLeft (s .lo) (middle (s .lo) (s .hi))) life true
-      → Outcome t t₂ s true T (addLocation key n b c d (s .lo) (s .hi) T)
-  done-left t₂ x y a = rw (added-left x y) (outcome-after t t₁ t₂ s T (made T) _ true stands (node-reached .grown) (left-outcome t₂ true a .1))
+  done-left : (t₂ : List ℕ) (r : Bool) → c < m → d ≤ m → Added t₁ t₂ (spot (s .kind) link nodeLeft (s .lo) (middle (s .lo) (s .hi))) life r
+      → Outcome t t₂ s r T (addLocation key n b c d (s .lo) (s .hi) T)
+  done-left t₂ r x y a = rw (added-left x y) (left-first t₂ r a .1)
 
-  done-spent : (t₂ : List ℕ) → c < m → Added t₁ t₂ (spot (s .kind) link nodeLeft (s .lo) (middle (s .lo) (s .hi))) life false
+  -- both halves: the first one takes the rows that are left, or the second follows
+  done-left-spent : (t₂ : List ℕ) → c < m → m < d → Added t₁ t₂ (spot (s .kind) link nodeLeft (s .lo) (middle (s .lo) (s .hi))) life false
       → Outcome t t₂ s false T (addLocation key n b c d (s .lo) (s .hi) T)
-  done-spent t₂ x a =
-      let o : Outcome t t₂ s false T (node (entriesOf T) newLeft (rightOf T)) =
-      outcome-after t t₁ t₂ s T (made T) _ false stands (node-reached .grown) (left-outcome t₂ false a .1) in
-      short (omega (arith, o .spent refl, nodes-left x))
+  done-left-spent t₂ x y a = short (omega (arith, left-first t₂ false a .1 .spent refl, nodes-left x y))
 
-  done-both : (t₂ t₃ : List ℕ) (r : Bool) → c < m → m < d → Added t₁ t₂ (spot (s .kind) link nodeLeft (s .lo) (middle (s .lo) (s .hi))) life true
+  done-right-spent : (t₂ : List ℕ) → c < m → m < d → Added t₁ t₂ (spot (s .kind) link nodeRight (middle (s .lo) (s .hi)) (s .hi)) life false
+      → Outcome t t₂ s false T (addLocation key n b c d (s .lo) (s .hi) T)
+  done-right-spent t₂ x y a = short (omega (arith, right-first t₂ false a .1 .spent refl, nodes-right x y))
+
+  done-left-right : (t₂ t₃ : List ℕ) (r : Bool) → c < m → m < d → Added t₁ t₂ (spot (s .kind) link nodeLeft (s .lo) (middle (s .lo) (s .hi))) life true
       → Added t₂ t₃ (spot (s .kind) link nodeRight (middle (s .lo) (s .hi)) (s .hi)) life r
       → Outcome t t₃ s r T (addLocation key n b c d (s .lo) (s .hi) T)
-  done-both t₂ t₃ r x y a z =
-      let e : Entered t t₁ s link T = node-reached in
-      let l = left-outcome t₂ true a in
+  done-left-right t₂ t₃ r x y a z =
+      let l = left-first t₂ true a in
       let half : Tree = node (entriesOf T) newLeft (rightOf T) in
-      let g : Grown t t₂ s T half = grown-trans t s T stands t₁ (made T) (e .grown) t₂ half (l .1 .added refl) in
-      rw (added-both x y) (outcome-after t t₂ t₃ s T half _ r stands g (right-outcome t₂ t₃ newLeft r (standing-grown t s T stands t₂ half g) (l .0 refl) z))
+      let g : Grown t t₂ s T half = l .1 .added refl in
+      rw (added-both x y) (outcome-after t t₂ t₃ s T half _ r stands g (right-outcome t₂ t₃ newLeft r (standing-grown t s T stands t₂ half g) (l .0 refl) z .1))
 
--- ── the returns below the node ──
+  done-right-left : (t₂ t₃ : List ℕ) (r : Bool) → c < m → m < d → Added t₁ t₂ (spot (s .kind) link nodeRight (middle (s .lo) (s .hi)) (s .hi)) life true
+      → Added t₂ t₃ (spot (s .kind) link nodeLeft (s .lo) (middle (s .lo) (s .hi))) life r
+      → Outcome t t₃ s r T (addLocation key n b c d (s .lo) (s .hi) T)
+  done-right-left t₂ t₃ r x y a z =
+      let l = right-first t₂ true a in
+      let half : Tree = node (entriesOf T) (leftOf T) newRight in
+      let g : Grown t t₂ s T half = l .1 .added refl in
+      rw (added-both x y) (outcome-after t t₂ t₃ s T half _ r stands g (left-outcome t₂ t₃ newRight r (standing-grown t s T stands t₂ half g) (l .0 refl) z .1))
+
+-- ── below the node ──
 
 module _ {t t₁ : List ℕ} {s : Spot} {life : Life} {link : ℕ} (p : Parted t t₁ s life link) where
   mid-is : middle (s .lo) (s .hi) ≡ mid (s .lo) (s .hi)
@@ -312,25 +309,35 @@ module _ {t t₁ : List ℕ} {s : Spot} {life : Life} {link : ℕ} (p : Parted t
     done = λ key n b T w few stands. done-right t t₁ s life link p key n b T w few stands t₂ r (omega (arith, mid-is)) (omega (arith, mid-is)) a;
   }
 
-  pub add-left : {t₂ : List ℕ} {q : Bool} → life .created < middle (s .lo) (s .hi) → life .destroyed ≤ middle (s .lo) (s .hi)
-      → Added t₁ t₂ (spot (s .kind) link nodeLeft (s .lo) (middle (s .lo) (s .hi))) life q → not q ≡ false → Added t t₂ s life true
-  add-left {t₂} {q} x y a e = record {
-    done = λ key n b T w few stands.
-        done-left t t₁ s life link p key n b T w few stands t₂ (omega (arith, mid-is)) (omega (arith, mid-is)) (rw (not-false q e) at a);
+  pub add-left : {t₂ : List ℕ} {r : Bool} → life .created < middle (s .lo) (s .hi) → life .destroyed ≤ middle (s .lo) (s .hi)
+      → Added t₁ t₂ (spot (s .kind) link nodeLeft (s .lo) (middle (s .lo) (s .hi))) life r → Added t t₂ s life r
+  add-left {t₂} {r} x y a = record {
+    done = λ key n b T w few stands. done-left t t₁ s life link p key n b T w few stands t₂ r (omega (arith, mid-is)) (omega (arith, mid-is)) a;
   }
 
-  pub add-left-spent : {t₂ : List ℕ} {q : Bool} → life .created < middle (s .lo) (s .hi)
-      → Added t₁ t₂ (spot (s .kind) link nodeLeft (s .lo) (middle (s .lo) (s .hi))) life q → not q ≡ true → Added t t₂ s life false
-  add-left-spent {t₂} {q} x a e = record {
-    done = λ key n b T w few stands. done-spent t t₁ s life link p key n b T w few stands t₂ (omega (arith, mid-is)) (rw (not-true q e) at a);
-  }
+  module _ (x : life .created < middle (s .lo) (s .hi)) (y : middle (s .lo) (s .hi) < life .destroyed) {t₂ : List ℕ} {q : Bool} where
+    module _ (a : Added t₁ t₂ (spot (s .kind) link nodeLeft (s .lo) (middle (s .lo) (s .hi))) life q) where
+      pub add-left-spent : not q ≡ true → Added t t₂ s life false
+      add-left-spent e = record {
+        done = λ key n b T w few stands.
+            done-left-spent t t₁ s life link p key n b T w few stands t₂ (omega (arith, mid-is)) (omega (arith, mid-is)) (rw (not-true q e) at a);
+      }
 
-  pub add-both : {t₂ t₃ : List ℕ} {q r : Bool} → life .created < middle (s .lo) (s .hi) → middle (s .lo) (s .hi) < life .destroyed
-      → Added t₁ t₂ (spot (s .kind) link nodeLeft (s .lo) (middle (s .lo) (s .hi))) life q → not q ≡ false
-      → Added t₂ t₃ (spot (s .kind) link nodeRight (middle (s .lo) (s .hi)) (s .hi)) life r → Added t t₃ s life r
-  add-both {t₂} {t₃} {q} {r} x y a e z = record {
-    done = λ key n b T w few stands.
-        done-both t t₁ s life link p key n b T w few stands t₂ t₃ r (omega (arith, mid-is)) (omega (arith, mid-is)) (rw (not-false q e) at a) z;
-  }
+      pub add-left-right : {t₃ : List ℕ} {r : Bool} → not q ≡ false → Added t₂ t₃ (spot (s .kind) link nodeRight (middle (s .lo) (s .hi)) (s .hi)) life r → Added t t₃ s life r
+      add-left-right {t₃} {r} e z = record {
+        done = λ key n b T w few stands.
+            done-left-right t t₁ s life link p key n b T w few stands t₂ t₃ r (omega (arith, mid-is)) (omega (arith, mid-is)) (rw (not-false q e) at a) z;
+      }
 
-pub ruleset adding = (add-spent, add-covered, add-narrowest, parted, add-neither, add-right, add-left, add-left-spent, add-both)
+    module _ (a : Added t₁ t₂ (spot (s .kind) link nodeRight (middle (s .lo) (s .hi)) (s .hi)) life q) where
+      pub add-right-spent : not q ≡ true → Added t t₂ s life false
+      add-right-spent e = record {
+        done = λ key n b T w few stands.
+            done-right-spent t t₁ s life link p key n b T w few stands t₂ (omega (arith, mid-is)) (omega (arith, mid-is)) (rw (not-true q e) at a);
+      }
+
+      pub add-right-left : {t₃ : List ℕ} {r : Bool} → not q ≡ false → Added t₂ t₃ (spot (s .kind) link nodeLeft (s .lo) (middle (s .lo) (s .hi))) life r → Added t t₃ s life r
+      add-right-left {t₃} {r} e z = record {
+        done = λ key n b T w few stands.
+            done-right-left t t₁ s life link p key n b T w few stands t₂ t₃ r (omega (arith, mid-is)) (omega (arith, mid-is)) (rw (not-false q e) at a) z;
+      }

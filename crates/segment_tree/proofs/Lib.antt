@@ -2,6 +2,7 @@ pub mod NodeRows
 pub mod Growing
 pub mod Reaching
 pub mod Adding
+pub mod Ways
 pub mod AddingRows
 pub mod Running
 pub mod Shapes
@@ -10,6 +11,7 @@ pub mod Presence
 pub mod Sorted
 pub mod Writing
 pub mod WritingDown
+pub mod WritingWays
 pub mod WritingAll
 pub mod SortingRuns
 pub mod Closing

@@ -1,4 +1,4 @@
--- The returns of `close::write_entry` and `close::write_location`: the way of addLocation through nodes that are all there. Assumes nothing.
+-- Writing a block at a node, by where its life begins and ends there: the way of addLocation through nodes that are all there. Assumes nothing.
 use mathlib.Core.Path.{_≡_, refl, sym, _∙_}
 use mathlib.Core.Logic.{inr}
 use mathlib.Core.Bool.{Bool, true, false, not, _&&_}
@@ -20,7 +20,7 @@ use Rattle.segment_table.specs.Closed.{leftAt, rightAt, firstAt, firstCellIn}
 use Rattle.segment_tree.specs.Count.{Life, spot, Outside}
 use Rattle.segment_tree.specs.Runs.{LikeButRuns}
 use Rattle.segment_tree.specs.Fill.{Fillable, FillAt, Roomy, FindsNodes, Filled, Written, WroteEntry}
-use Rattle.segment_tree.proofs.Adding.{middle, wide-of, Deeper, deeper-of}
+use Rattle.segment_tree.proofs.Adding.{middle, Deeper, deeper-of}
 use Rattle.segment_tree.proofs.Presence.{new-hole, none-new, new-none-count, Below, new-below}
 use Rattle.segment_tree.proofs.Writing.{untouched-all, beyond-all, like-self, like-trans, fillable-like, wrote-like, wrote-long, filled-entry, filled-left, filled-right, filled-trans}
 
@@ -65,24 +65,23 @@ module _ {t es : List ℕ} {link lo hi b cell : ℕ} {life : Life} where
   write-none z =
       written t es t es link lo hi life b cell (like-self t) refl refl (λ blocks s kind n xs l r w f is g none room. absurd (omega (arith, g .0 .row .some)))
 
-  module _ (some : link ≡ 0 → ⊥) {q : Bool} (asked : q ≡ covers (life .created) (life .destroyed) lo hi) where
-    pub write-covered : {t′ es′ : List ℕ} → q ≡ true → WroteEntry t es t′ es′ link b cell → Written t es t′ es′ link lo hi life b cell
+  module _ (some : link ≡ 0 → ⊥) where
+    pub write-covered : {t′ es′ : List ℕ} → covers (life .created) (life .destroyed) lo hi ≡ true → WroteEntry t es t′ es′ link b cell → Written t es t′ es′ link lo hi life b cell
     unfolding Roomy
-    write-covered {t′} {es′} yes′ wrote =
+    write-covered {t′} {es′} covered wrote =
         let long : (length t′ ≡ length t) × (length es′ ≡ length es) = wrote-long t es t′ es′ link b cell some wrote in
         written t es t′ es′ link lo hi life b cell (wrote-like t es t′ es′ link b cell some wrote) (long .0) (long .1)
         (λ blocks s kind n xs l r w f is g none room.
         let here : addLocation (λ _. 0) n b (life .created) (life .destroyed) lo hi (node xs l r) ≡ node (insert (λ _. 0) b xs) l r =
-        add-here (λ _. 0) b (life .created) (life .destroyed) lo hi (node xs l r) n (sym asked ∙ yes′) in
+        add-here (λ _. 0) b (life .created) (life .destroyed) lo hi (node xs l r) n covered in
         let fits : Roomy s link (node (insert (λ _. 0) b xs) l r) = rw here at room in
         rw here (filled-entry t es t′ es′ link b cell some wrote blocks s kind lo hi xs l r f g (omega (arith, insert-length (λ _. 0) b xs, fits .0)) is))
 
-    pub write-narrow : {h : Bool} → q ≡ false → h ≡ halves lo hi → not h ≡ true → Written t es t es link lo hi life b cell
-    write-narrow {h} no′ wide z =
+    pub write-narrow : covers (life .created) (life .destroyed) lo hi ≡ false → hi ≤ lo + 1 → Written t es t es link lo hi life b cell
+    write-narrow misses small =
         written t es t es link lo hi life b cell (like-self t) refl refl
         (λ blocks s kind n xs l r w f is g none room.
-        let small : hi ≤ lo + 1 = ltb-false (lo + 1) hi (sym wide ∙ not-true h z) in
-        unchanged blocks s t es kind link lo hi (node xs l r) _ (add-narrow (λ _. 0) b (life .created) (life .destroyed) lo hi (node xs l r) n (sym asked ∙ no′) small) g)
+        unchanged blocks s t es kind link lo hi (node xs l r) _ (add-narrow (λ _. 0) b (life .created) (life .destroyed) lo hi (node xs l r) n misses small) g)
 
 -- ── its halves ──
 
@@ -90,9 +89,6 @@ module _ {t es : List ℕ} {link lo hi b cell : ℕ} {life : Life} where
 pub record Split (link lo hi : ℕ) (life : Life) : Type 0 where
   pub uncovered : covers (life .created) (life .destroyed) lo hi ≡ false
   pub wide : lo + 1 < hi
-
-pub split : {link lo hi : ℕ} {life : Life} {q h : Bool} → q ≡ covers (life .created) (life .destroyed) lo hi → q ≡ false → h ≡ halves lo hi → not h ≡ false → Split link lo hi life
-split {link} {lo} {hi} {life} {q} {h} asked no′ wide z = record { uncovered = sym asked ∙ no′; wide = wide-of h lo hi wide z }
 
 module _ (link lo hi : ℕ) (life : Life) (b cell : ℕ) (p : Split link lo hi life) (blocks s : List ℕ) (kind n : ℕ) (xs : List ℕ) (l r : Tree) (w : hi - lo ≤ 2 ^ n)
     (is : firstCellIn blocks b ≡ cell) (none : newNodes n (life .created) (life .destroyed) lo hi (node xs l r) ≡ 0) where
@@ -123,16 +119,17 @@ module _ (link lo hi : ℕ) (life : Life) (b cell : ℕ) (p : Split link lo hi l
   newRight : Tree
   newRight = addLocation (λ _. 0) (deep .less) b c d m hi r
 
-  left-filled : (t es t₁ es₁ : List ℕ) (q : ℕ) → Fillable s t es → FillAt blocks s t es kind link lo hi (node xs l r) → q ≡ leftAt t link → c < m
+  -- a half, whatever the other one is by then
+  left-filled : (t es t₁ es₁ : List ℕ) (X : Tree) (q : ℕ) → Fillable s t es → FillAt blocks s t es kind link lo hi (node xs l X) → q ≡ leftAt t link → c < m
       → Written t es t₁ es₁ q lo (middle lo hi) life b cell → Roomy s (leftAt s link) newLeft
-      → Filled blocks s t es t₁ es₁ kind link lo hi (node xs l r) (node xs newLeft r)
+      → Filled blocks s t es t₁ es₁ kind link lo hi (node xs l X) (node xs newLeft X)
   unfolding newLeft FillAt
-  left-filled t es t₁ es₁ q f g read go a room =
+  left-filled t es t₁ es₁ X q f g read go a room =
       let at : q ≡ leftAt s link = read ∙ f .like .same link nodeLeft (omega arith) (inr (omega arith)) in
       let both : (halves lo hi && ltb c m) ≡ true = and-both (halves lo hi) (ltb c m) (lt-ltb (lo + 1) hi wider) (lt-ltb c m go) in
       let done : Filled blocks s t es t₁ es₁ kind q lo m l newLeft =
       (rw is-mid at a) .done blocks s kind (deep .less) l (deep .left-width) f is (rw at (g .1)) (new-none-count b (deep .less) c d lo m l (there .left both)) (rw at room) in
-      filled-left blocks s t es t₁ es₁ kind link lo hi xs l r wider g newLeft (rw at at done)
+      filled-left blocks s t es t₁ es₁ kind link lo hi xs l X wider g newLeft (rw at at done)
 
   right-filled : (t es t₁ es₁ : List ℕ) (X : Tree) (q : ℕ) → Fillable s t es → FillAt blocks s t es kind link lo hi (node xs X r) → q ≡ rightAt t link → m < d
       → Written t es t₁ es₁ q (middle lo hi) hi life b cell → Roomy s (rightAt s link) newRight
@@ -187,21 +184,34 @@ module _ {t es : List ℕ} {link lo hi b cell : ℕ} {life : Life} (p : Split li
       written t es t₁ es₁ link lo hi life b cell (a .like) (a .nodes-long) (a .entries-long)
       (λ blocks s kind n xs l r w f is g none room.
       let z = is-left link lo hi life b cell p blocks s kind n xs l r w is none (omega (arith, split-mid link lo hi life p)) (omega (arith, split-mid link lo hi life p)) in
-      rw z (left-filled link lo hi life b cell p blocks s kind n xs l r w is none t es t₁ es₁ q f g read (omega (arith, split-mid link lo hi life p)) a ((rw z at room) .1)))
+      rw z (left-filled link lo hi life b cell p blocks s kind n xs l r w is none t es t₁ es₁ r q f g read (omega (arith, split-mid link lo hi life p)) a ((rw z at room) .1)))
 
-  pub write-both : {t₁ es₁ t₂ es₂ : List ℕ} {q u : ℕ} → life .created < middle lo hi → middle lo hi < life .destroyed → q ≡ leftAt t link
-      → Written t es t₁ es₁ q lo (middle lo hi) life b cell → u ≡ rightAt t₁ link → Written t₁ es₁ t₂ es₂ u (middle lo hi) hi life b cell
-      → Written t es t₂ es₂ link lo hi life b cell
-  unfolding Roomy
-  write-both {t₁} {es₁} {t₂} {es₂} {q} {u} x y read a read₂ a₂ =
-      written t es t₂ es₂ link lo hi life b cell (like-trans t t₁ t₂ (a .like) (a₂ .like)) (a₂ .nodes-long ∙ a .nodes-long) (a₂ .entries-long ∙ a .entries-long)
-      (λ blocks s kind n xs l r w f is g none room.
-      let z = is-both link lo hi life b cell p blocks s kind n xs l r w is none (omega (arith, split-mid link lo hi life p)) (omega (arith, split-mid link lo hi life p)) in
-      let rooms = rw z at room in
-      let first = left-filled link lo hi life b cell p blocks s kind n xs l r w is none t es t₁ es₁ q f g read (omega (arith, split-mid link lo hi life p)) a (rooms .1) in
-      let f₁ : Fillable s t₁ es₁ = fillable-like s t es t₁ es₁ f (a .like) (a .nodes-long) (a .entries-long) in
-      rw z
-      (filled-trans blocks s t es t₁ es₁ t₂ es₂ kind link lo hi _ _ _ first
-      (right-filled link lo hi life b cell p blocks s kind n xs l r w is none t₁ es₁ t₂ es₂ _ u f₁ (first .here) read₂ (omega (arith, split-mid link lo hi life p)) a₂ (rooms .2))))
+  module _ {t₁ es₁ t₂ es₂ : List ℕ} {q u : ℕ} (x : life .created < middle lo hi) (y : middle lo hi < life .destroyed) where
+    pub write-both : q ≡ leftAt t link → Written t es t₁ es₁ q lo (middle lo hi) life b cell → u ≡ rightAt t₁ link → Written t₁ es₁ t₂ es₂ u (middle lo hi) hi life b cell
+        → Written t es t₂ es₂ link lo hi life b cell
+    unfolding Roomy
+    write-both read a read₂ a₂ =
+        written t es t₂ es₂ link lo hi life b cell (like-trans t t₁ t₂ (a .like) (a₂ .like)) (a₂ .nodes-long ∙ a .nodes-long) (a₂ .entries-long ∙ a .entries-long)
+        (λ blocks s kind n xs l r w f is g none room.
+        let z = is-both link lo hi life b cell p blocks s kind n xs l r w is none (omega (arith, split-mid link lo hi life p)) (omega (arith, split-mid link lo hi life p)) in
+        let rooms = rw z at room in
+        let first = left-filled link lo hi life b cell p blocks s kind n xs l r w is none t es t₁ es₁ r q f g read (omega (arith, split-mid link lo hi life p)) a (rooms .1) in
+        let f₁ : Fillable s t₁ es₁ = fillable-like s t es t₁ es₁ f (a .like) (a .nodes-long) (a .entries-long) in
+        rw z
+        (filled-trans blocks s t es t₁ es₁ t₂ es₂ kind link lo hi _ _ _ first
+        (right-filled link lo hi life b cell p blocks s kind n xs l r w is none t₁ es₁ t₂ es₂ _ u f₁ (first .here) read₂ (omega (arith, split-mid link lo hi life p)) a₂ (rooms .2))))
 
-pub ruleset writing-down = (write-none, write-covered, write-narrow, split, write-neither, write-right, write-left, write-both)
+    -- the right half first
+    pub write-back : u ≡ rightAt t link → Written t es t₁ es₁ u (middle lo hi) hi life b cell → q ≡ leftAt t₁ link → Written t₁ es₁ t₂ es₂ q lo (middle lo hi) life b cell
+        → Written t es t₂ es₂ link lo hi life b cell
+    unfolding Roomy
+    write-back read a read₂ a₂ =
+        written t es t₂ es₂ link lo hi life b cell (like-trans t t₁ t₂ (a .like) (a₂ .like)) (a₂ .nodes-long ∙ a .nodes-long) (a₂ .entries-long ∙ a .entries-long)
+        (λ blocks s kind n xs l r w f is g none room.
+        let z = is-both link lo hi life b cell p blocks s kind n xs l r w is none (omega (arith, split-mid link lo hi life p)) (omega (arith, split-mid link lo hi life p)) in
+        let rooms = rw z at room in
+        let first = right-filled link lo hi life b cell p blocks s kind n xs l r w is none t es t₁ es₁ l u f g read (omega (arith, split-mid link lo hi life p)) a (rooms .2) in
+        let f₁ : Fillable s t₁ es₁ = fillable-like s t es t₁ es₁ f (a .like) (a .nodes-long) (a .entries-long) in
+        rw z
+        (filled-trans blocks s t es t₁ es₁ t₂ es₂ kind link lo hi _ _ _ first
+        (left-filled link lo hi life b cell p blocks s kind n xs l r w is none t₁ es₁ t₂ es₂ _ q f₁ (first .here) read₂ (omega (arith, split-mid link lo hi life p)) a₂ (rooms .1))))

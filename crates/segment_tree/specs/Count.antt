@@ -5,7 +5,7 @@ use mathlib.Core.List.{List}
 use Prim.Native.Nat.{ℕ, zero, suc, _+_, _-_, _*_, _/_, _^_, _≤_, _<_, max}
 use lib.ListN.{length, set}
 use Rattle.history.specs.Lent.{rowWidth, nodeHead}
-use Rattle.history.specs.Tree.{Tree, hole, node, mid, addLocation, nodeCount, entryCount}
+use Rattle.history.specs.Tree.{Tree, hole, node, mid, covers, addLocation, nodeCount, entryCount}
 use Rattle.tables.specs.Columns.{column, nodeMin, nodeMax, nodeLeft, nodeRight, nodeKind, nodesCount}
 use Rattle.tables.specs.Sums.{most}
 use Rattle.segment_table.specs.Closed.{nodesUsed, leftAt, rightAt, countAt}
@@ -137,6 +137,23 @@ pub record Added (nodes nodes′ : List ℕ) (s : Spot) (life : Life) (room : Bo
   pub done : (key : ℕ → ℕ) (levels block : ℕ) (T : Tree) → s .hi - s .lo ≤ 2 ^ levels → fullest T < most → Standing nodes s T
       → Outcome nodes nodes′ s room T (addLocation key levels block (life .created) (life .destroyed) (s .lo) (s .hi) T)
 
+-- ── lives of which a part is known ──
+
+-- it covers [lo, hi)
+pub record Whole (lo hi : ℕ) (life : Life) : Type 0 where
+  pub from : life .created ≤ lo
+  pub to : hi ≤ life .destroyed
+
+-- it begins at c and covers what comes up to hi
+pub record Suffix (c hi : ℕ) (life : Life) : Type 0 where
+  pub from : life .created ≡ c
+  pub to : hi ≤ life .destroyed
+
+-- it covers what comes from lo on and ends at d
+pub record Prefix (lo d : ℕ) (life : Life) : Type 0 where
+  pub from : life .created ≤ lo
+  pub to : life .destroyed ≡ d
+
 -- ── one node ──
 
 -- the table with a new node there
@@ -151,3 +168,26 @@ pub data Reached (nodes nodes′ : List ℕ) (s : Spot) (link : ℕ) : Type 0 wh
   was-there : (link ≡ 0 → ⊥) → link ≡ linkAt nodes s → nodes′ ≡ nodes → Reached nodes nodes′ s link
   new-row : linkAt nodes s ≡ 0 → nodesUsed nodes < rowsIn nodes → link ≡ nodesUsed nodes + 1 → nodes′ ≡ withNode nodes s → Reached nodes nodes′ s link
   no-row : linkAt nodes s ≡ 0 → rowsIn nodes ≤ nodesUsed nodes → link ≡ 0 → nodes′ ≡ nodes → Reached nodes nodes′ s link
+
+-- ── at a node that is reached ──
+
+-- whatever led to the node [lo, hi) of a link, which was reached last
+pub record AddedAt (nodes nodes′ : List ℕ) (kind link lo hi : ℕ) (life : Life) (room : Bool) : Type 0 where
+  pub from : (before : List ℕ) (parent col : ℕ) → Reached before nodes (spot kind parent col lo hi) link → Added before nodes′ (spot kind parent col lo hi) life room
+
+-- and whatever the rest of the life is
+pub record AddedFor (nodes nodes′ : List ℕ) (kind link lo hi : ℕ) (room : Bool) (of : Life → Type 0) : Type 0 where
+  pub each : (life : Life) → of life → AddedAt nodes nodes′ kind link lo hi life room
+
+-- at a spot, of every life that covers the node there
+pub record AddedWhole (nodes nodes′ : List ℕ) (s : Spot) (room : Bool) : Type 0 where
+  pub each : (life : Life) → Whole (s .lo) (s .hi) life → Added nodes nodes′ s life room
+
+-- there is a node, and the life begins in its left half, ends in its right one, and does not cover it
+pub record Splits (link lo m hi : ℕ) (life : Life) : Type 0 where
+  pub some : link ≡ 0 → ⊥
+  pub uncovered : covers (life .created) (life .destroyed) lo hi ≡ false
+  pub wide : lo + 1 < hi
+  pub middle : m ≡ lo + (hi - lo) / 2
+  pub begins : life .created < m
+  pub ends : m < life .destroyed

@@ -15,7 +15,7 @@ use Rattle.segment_table.specs.Closed.{Tables, Closed, nodesUsed, leftAt, right
 use Rattle.segment_table.specs.Alone.{TreeAlone}
 use Rattle.entry_sort.specs.Rows.{sortRows}
 use Rattle.entry_sort.specs.Contracts.{entryRows}
-use Rattle.segment_tree.specs.Count.{rowsIn, entriesTo, allEntries, CountRow, Life, spot, Outside}
+use Rattle.segment_tree.specs.Count.{rowsIn, entriesTo, allEntries, CountRow, Life, spot, Outside, Whole}
 use Rattle.segment_tree.specs.Runs.{LikeButRuns, AssignedRuns}
 use Rattle.segment_tree.specs.Lives.{lifeOf, blockLife, Counted, entryRowsIn}
 
@@ -87,6 +87,14 @@ pub record Written (nodes entries nodes′ entries′ : List ℕ) (link lo hi : 
       → FillAt blocks s nodes entries kind link lo hi T → FindsNodes levels b life lo hi T
       → Roomy s link (addLocation (λ _. 0) levels b (life .created) (life .destroyed) lo hi T)
       → Filled blocks s nodes entries nodes′ entries′ kind link lo hi T (addLocation (λ _. 0) levels b (life .created) (life .destroyed) lo hi T)
+
+-- the same, whatever the rest of the life is
+pub record WrittenFor (nodes entries nodes′ entries′ : List ℕ) (link lo hi b cell : ℕ) (of : Life → Type 0) : Type 0 where
+  pub each : (life : Life) → of life → Written nodes entries nodes′ entries′ link lo hi life b cell
+
+-- in a node that the life covers, whichever that is
+pub record WrittenWhole (nodes entries nodes′ entries′ : List ℕ) (link b cell : ℕ) : Type 0 where
+  pub each : (lo hi : ℕ) → WrittenFor nodes entries nodes′ entries′ link lo hi b cell (Whole lo hi)
 
 -- the next free place of the run, one further
 abbrev pub withNext : (nodes : List ℕ) (link : ℕ) → List ℕ

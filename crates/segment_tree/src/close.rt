@@ -2,9 +2,10 @@
 use tables::block;
 use tables::entry;
 use tables::node;
-ghost use Rattle.segment_tree.specs.Count.{aLife};
+ghost use Prim.Native.Nat.{_<_};
+ghost use Rattle.segment_tree.specs.Count.{aLife, Suffix, Prefix, Splits};
 ghost use Rattle.segment_tree.specs.Runs.{AssignedRuns};
-ghost use Rattle.segment_tree.specs.Fill.{WroteEntry, Written, WrittenAll, ClosedRuns, lentTables, ClosedTree};
+ghost use Rattle.segment_tree.specs.Fill.{WroteEntry, Written, WrittenFor, WrittenWhole, WrittenAll, ClosedRuns, lentTables, ClosedTree};
 
 // Gives each of the rows 1 to n its run, in row order, and returns how many entries they have. The counts stay, so that runs can be given out
 // again when they are filled.
@@ -33,47 +34,159 @@ fn write_entry(nodes: &mut [u64], entries: &mut [u64], link: u64, b: u64, cell: 
     tables::put(nodes, link, node::FIRST, tables::plus(row, 1));
 }
 
-// Writes block b with the life [created, destroyed) into the nodes below the node [min, max) of `link` that list it. It goes the way of
-// `build::add_location`, as deep.
-fn write_location(
+// Block b in the node of `link`, if there is one.
+fn write_whole(nodes: &mut [u64], entries: &mut [u64], link: u64, b: u64, cell: u64)
+    ensures { λ _. ⌜ WrittenWhole (now (nodes .entry)) (now (entries .entry)) (now (nodes .exit)) (now (entries .exit)) link b cell ⌝ }
+{
+    if link != 0 {
+        write_entry(nodes, entries, link, b, cell);
+    }
+}
+
+// Writes block b into the nodes below the node [min, max) of `from` that list it, where its life begins before `max` and lasts to there. It goes the way of
+// `build::add_suffix`, as far.
+fn write_suffix(
+    nodes: &mut [u64],
+    entries: &mut [u64],
+    from: u64,
+    min: u64,
+    max: u64,
+    created: u64,
+    b: u64,
+    cell: u64,
+)
+    requires { ⌜ created < max ⌝ }
+    ensures { λ _. ⌜ WrittenFor (now (nodes .entry)) (now (entries .entry)) (now (nodes .exit)) (now (entries .exit)) from min max b cell (Suffix created max) ⌝ }
+{
+    let mut link = from;
+    let mut lo = min;
+    let mut hi = max;
+    while link != 0 {
+        if created <= lo {
+            write_entry(nodes, entries, link, b, cell);
+            return;
+        }
+        let mid = lo + (hi - lo) / 2;
+        let right = tables::get(nodes, link, node::RIGHT);
+        if created < mid {
+            write_whole(nodes, entries, right, b, cell);
+            link = tables::get(nodes, link, node::LEFT);
+            hi = mid;
+        } else {
+            link = right;
+            lo = mid;
+        }
+    }
+}
+
+// The same where its life ends behind `min` and lasts from there: the way of `build::add_prefix`.
+fn write_prefix(
+    nodes: &mut [u64],
+    entries: &mut [u64],
+    from: u64,
+    min: u64,
+    max: u64,
+    destroyed: u64,
+    b: u64,
+    cell: u64,
+)
+    requires { ⌜ min < destroyed ⌝ }
+    ensures { λ _. ⌜ WrittenFor (now (nodes .entry)) (now (entries .entry)) (now (nodes .exit)) (now (entries .exit)) from min max b cell (Prefix min destroyed) ⌝ }
+{
+    let mut link = from;
+    let mut lo = min;
+    let mut hi = max;
+    while link != 0 {
+        if hi <= destroyed {
+            write_entry(nodes, entries, link, b, cell);
+            return;
+        }
+        let mid = lo + (hi - lo) / 2;
+        let left = tables::get(nodes, link, node::LEFT);
+        if mid < destroyed {
+            write_whole(nodes, entries, left, b, cell);
+            link = tables::get(nodes, link, node::RIGHT);
+            lo = mid;
+        } else {
+            link = left;
+            hi = mid;
+        }
+    }
+}
+
+// Writes block b into the two halves of the node of `link`, [min, mid) and [mid, max), where its life begins in the first and ends in the second.
+fn write_both(
     nodes: &mut [u64],
     entries: &mut [u64],
     link: u64,
     min: u64,
+    mid: u64,
     max: u64,
     created: u64,
     destroyed: u64,
     b: u64,
     cell: u64,
 )
+    requires { ⌜ Splits link min mid max (aLife created destroyed) ⌝ }
     ensures { λ _. ⌜ Written (now (nodes .entry)) (now (entries .entry)) (now (nodes .exit)) (now (entries .exit)) link min max (aLife created destroyed) b cell ⌝ }
 {
-    if link == 0 {
-        return;
-    }
-    if crate::covers_node(created, destroyed, min, max) {
-        write_entry(nodes, entries, link, b, cell);
-        return;
-    }
-    if !crate::has_halves(min, max) {
-        return;
-    }
-    let mid = min + (max - min) / 2;
-    if mid <= created {
-        if destroyed <= mid {
+    let left = tables::get(nodes, link, node::LEFT);
+    write_suffix(nodes, entries, left, min, mid, created, b, cell);
+    let right = tables::get(nodes, link, node::RIGHT);
+    write_prefix(nodes, entries, right, mid, max, destroyed, b, cell);
+}
+
+// Writes block b with the life [created, destroyed) into the nodes of the tree at `root` that list it. It goes the way of `build::add_location`.
+fn write_location(
+    nodes: &mut [u64],
+    entries: &mut [u64],
+    root: u64,
+    end: u64,
+    created: u64,
+    destroyed: u64,
+    b: u64,
+    cell: u64,
+)
+    ensures { λ _. ⌜ Written (now (nodes .entry)) (now (entries .entry)) (now (nodes .exit)) (now (entries .exit)) root 0 end (aLife created destroyed) b cell ⌝ }
+{
+    let mut link = root;
+    let mut lo = 0;
+    let mut hi = end;
+    while link != 0 {
+        if crate::covers_node(created, destroyed, lo, hi) {
+            write_entry(nodes, entries, link, b, cell);
             return;
         }
-        let right = tables::get(nodes, link, node::RIGHT);
-        write_location(nodes, entries, right, mid, max, created, destroyed, b, cell);
-        return;
+        if !crate::has_halves(lo, hi) {
+            return;
+        }
+        let mid = lo + (hi - lo) / 2;
+        if created < mid {
+            if mid < destroyed {
+                write_both(
+                    nodes,
+                    entries,
+                    link,
+                    lo,
+                    mid,
+                    hi,
+                    created,
+                    destroyed,
+                    b,
+                    cell,
+                );
+                return;
+            }
+            link = tables::get(nodes, link, node::LEFT);
+            hi = mid;
+        } else {
+            if destroyed <= mid {
+                return;
+            }
+            link = tables::get(nodes, link, node::RIGHT);
+            lo = mid;
+        }
     }
-    let left = tables::get(nodes, link, node::LEFT);
-    write_location(nodes, entries, left, min, mid, created, destroyed, b, cell);
-    if destroyed <= mid {
-        return;
-    }
-    let right = tables::get(nodes, link, node::RIGHT);
-    write_location(nodes, entries, right, mid, max, created, destroyed, b, cell);
 }
 
 // Writes the blocks 1 to n into the tree at `root`, in recorded order: blocks that follow one another live at about the same ticks, so that they meet
@@ -87,7 +200,7 @@ fn write_blocks(nodes: &mut [u64], entries: &mut [u64], blocks: &[u64], n: u64, 
         let cell = block::get(blocks, link, block::FIRST);
         let created = block::get(blocks, link, block::CREATED);
         let destroyed = block::get(blocks, link, block::DESTROYED);
-        write_location(nodes, entries, root, 0, end, created, destroyed, j, cell);
+        write_location(nodes, entries, root, end, created, destroyed, j, cell);
         j += 1;
     }
 }
