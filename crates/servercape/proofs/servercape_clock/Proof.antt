@@ -7,4 +7,4 @@ use Rattle.servercape.proofs.servercape_clock.Tie as tie
 
 pub servercape-clock-spec : {M : Type 1} → statement M
 servercape-clock-spec =
-    tie.close (tie.spec (λ c κs. search needs) (λ c. search needs) (λ c. search needs) (λ c. search needs) (λ c. search (answer-0 toldOf, numbers)) (λ c. search needs) (λ c. search (answer-n toldOf, numbers)))
+    tie.close (tie.spec (λ c κs. search needs) (λ c. search needs) (λ c. search needs) (λ c. search (answer-0 toldOf, numbers)) (λ c. search (answer-n toldOf, numbers)))
