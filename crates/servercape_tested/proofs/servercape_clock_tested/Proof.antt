@@ -6,4 +6,4 @@ use Rattle.servercape_tested.proofs.servercape_clock_tested.Tie as tie
 
 pub servercape-clock-tested-spec : {M : Type 1} → statement M
 servercape-clock-tested-spec =
-    tie.close (tie.spec (λ c κs. search needs) (λ c κs. search needs) (λ c. search needs) (λ c. search needs) (λ c. search needs) (λ c. search numbering) (λ c. search needs) (λ c. search numbering))
+    tie.close (tie.spec (λ c κs. search needs) (λ c κs. search needs) (λ c. search needs) (λ c. search needs) (λ c. search numbering) (λ c. search numbering))
