@@ -91,9 +91,9 @@ uint64_t servercape_finish(
     uint64_t *nodes, size_t nodes_length,
     uint64_t *entries, size_t entries_length);
 
-/* Installs a calendar into an open index, in place of the one before; until the first, every cell is open. Day 0 is a Monday and a day has 1,440 minutes. A
-   cell is open if a window [from, to), in minutes of the day, of its weekday covers it; on a special day only the windows of that day count, and without any
-   it is closed. The numbers are: seven times a count of windows and eight pairs from, to, Monday first; a count of special days; as many times a day number, a
+/* Installs a calendar into an open index, in place of the one before; until the first, every cell is open. Day 0 is a Monday, and which day a cell falls on
+   and what the clock shows then go by the list of days (servercape_install_days). A cell is open if a window [from, to), in minutes of the day as the clock
+   shows them, of its weekday covers it; on a special day only the windows of that day count, and without any it is closed. The numbers are: seven times a count of windows and eight pairs from, to, Monday first; a count of special days; as many times a day number, a
    count and eight pairs. A number past the slice's end is 0, pairs past a count are not looked at, and nothing is read past the 64th special day, 1,272 numbers
    in all.
    Refusals 2, 3, 27: from >= to, to above 1440, more than eight windows or 64 special days, or special days that do not ascend. */
@@ -104,6 +104,20 @@ uint64_t servercape_install_calendar(
     const uint64_t *nodes, size_t nodes_length,
     const uint64_t *entries, size_t entries_length,
     const uint64_t *calendar, size_t calendar_length);
+
+/* Installs a list of days that have 1,380 or 1,500 minutes, into an open or a closed index, in place of the one before; every other day has 1,440, and until
+   the first list all have. The numbers are pairs, a day and its minutes, ascending by day, at most 64; an empty list takes the one before back. Minutes count
+   elapsed time: a day starts where the one before ends, so a listed day moves all later ones. On a short day the clock goes from 01:59 to 03:00, on a long one it
+   shows 02:00 to 02:59 twice. For operators in Central European Time these are the last Sundays of March and October: with day 0 on a Monday of your choice, a
+   date's number is how many days it lies after that Monday. What is booked already stays, and no file holds the list.
+   Refusals 2, 28: days that do not ascend, more than 64, or one of another length; a last day without its minutes has 0 of them. */
+uint64_t servercape_install_days(
+    const uint64_t *pieces, size_t pieces_length,
+    uint64_t *blocks, size_t blocks_length,
+    const uint8_t *store, size_t store_length,
+    const uint64_t *nodes, size_t nodes_length,
+    const uint64_t *entries, size_t entries_length,
+    const uint64_t *days, size_t days_length);
 
 /* The block of a number, from 0 in recorded order. Its bytes are store[offset] to store[offset + length - 1]. It is live from tick `created`
    up to, and not including, `destroyed`.
@@ -204,8 +218,8 @@ uint64_t servercape_write(
     uint8_t *out, size_t out_length,
     uint64_t *written);
 
-/* Loads a finished index from a file, from position `at` on; `next` is the position after it. The tables need not be opened. After refusals 21 to 24
-   the tables hold zeros.
+/* Loads a finished index from a file, from position `at` on; `next` is the position after it. The tables need not be opened. It has no list of days: install
+   it anew. After refusals 21 to 24 the tables hold zeros.
    Refusals 17 to 24. */
 uint64_t servercape_load(
     uint64_t *pieces, size_t pieces_length,
@@ -216,8 +230,15 @@ uint64_t servercape_load(
     const uint8_t *file, size_t file_length,
     uint64_t at, uint64_t *next);
 
-/* The clock label of a cell: hours times 100 plus minutes. */
-uint64_t servercape_clock(uint64_t cell);
+/* The clock label of a cell of an open or a closed index, by its list of days: hours times 100 plus minutes.
+   Refusal 2. */
+uint64_t servercape_clock(
+    const uint64_t *pieces, size_t pieces_length,
+    const uint64_t *blocks, size_t blocks_length,
+    const uint8_t *store, size_t store_length,
+    const uint64_t *nodes, size_t nodes_length,
+    const uint64_t *entries, size_t entries_length,
+    uint64_t cell, uint64_t *label);
 
 #ifdef __cplusplus
 }

@@ -10,7 +10,7 @@
      an accepted open      leaves 1, an accepted finish 2, an accepted load 2: open and load where each table holds its head, as one of servercape_length does;
      a load refused 21 to 24
                            leaves 0, since the tables hold zeros;
-     any other call        leaves it as it was: a record, servercape_record_all, a calendar, a read, a call that was refused.
+     any other call        leaves it as it was: a record, servercape_record_all, a calendar, a list of days, a read, a call that was refused.
 
    With a state that is true each call is proved to be the one of servercape.h that it is named after: the same number, the same values, the same bytes in every
    slice. With any other number as its state, or tables that something else has changed, the answer means nothing: it may be accepted and wrong, and a record may
@@ -117,6 +117,12 @@ uint64_t servercape_write_tested(
     const uint64_t *entries, size_t entries_length,
     uint8_t *out, size_t out_length,
     uint64_t *written);
+
+/* servercape_clock. */
+uint64_t servercape_clock_tested(
+    uint64_t state,
+    const uint64_t *blocks, size_t blocks_length,
+    uint64_t cell, uint64_t *label);
 
 #ifdef __cplusplus
 }

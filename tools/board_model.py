@@ -7,7 +7,7 @@ What is lent is counted in rows, the scratch in numbers; a table of -1 rows cann
 
 Of the requests: `touching TICK START END ROOM`, whose answer is the count and the numbers, and `next TICK CELL` and `last TICK CELL`, with a number or `missing`;
 record answers `read`, or `update` with the lowest cell that was unknown or had another byte, and is refused 2 with a scratch of fewer than eight numbers; `calendar
-NUMBERS` installs the calendar of these numbers, with commas between them, and answers `installed`.
+NUMBERS` and `days NUMBERS` install the calendar and the list of days of these numbers, with commas between them, and answer `installed`.
 
 Two more are our own. `scratch NUMBERS` lends another scratch from there on. `damaged AT BY FROM TO HEX` loads a file into the tables of the load before, once
 for each place from FROM up to TO: cut at that place where BY is 0, else with the byte there raised by BY. Its answer is `NUMBER*MANY` for each run of files
@@ -15,12 +15,12 @@ that come out alike, refused with that number, or 0 for those that are taken.
 """
 import struct
 
+from days_model import Days
 from hours_model import Calendar
 
 WORD = 1 << 64
 MOST_END = 1 << 63
 MINUTES = 1 << 32
-DAY = 1440
 LEAST_SCRATCH = 8
 
 
@@ -235,7 +235,7 @@ def damaged_at(file, place, by):
 # ── the index ──
 
 # The calls whose last word is bytes, or numbers with commas.
-BYTES_LAST = ("record", "load", "damaged", "calendar")
+BYTES_LAST = ("record", "load", "damaged", "calendar", "days")
 
 
 def listed(word):
@@ -244,7 +244,7 @@ def listed(word):
 
 
 class Model:
-    """One index. `state` is None where there is none, or no room for its heads: then each call but open, load and clock is refused 2."""
+    """One index. `state` is None where there is none, or no room for its heads: then each call but open and load is refused 2."""
 
     def __init__(self):
         self.state = None
@@ -263,7 +263,7 @@ class Model:
         self.rows = {"pieces": pieces, "scratch": scratch, "blocks": blocks, "store": store, "nodes": nodes, "entries": entries}
         self.end, self.kind, self.state = end, kind, self.headed("open")
         self.pieces, self.blocks, self.root = [], [], None
-        self.last_tick, self.used, self.hours = 0, 0, None
+        self.last_tick, self.used, self.hours, self.day_list = 0, 0, None, Days([])
         return ["ok"]
 
     def headed(self, state):
@@ -309,7 +309,7 @@ class Model:
         refuse(6, first + len(data) > WORD - 1)
         refuse(7, tick >= self.end)
         refuse(8, tick < self.last_tick)
-        refuse(26, self.hours is not None and any(byte and not self.hours.is_open(first + i) for i, byte in enumerate(data)))
+        refuse(26, self.hours is not None and any(byte and not self.hours.is_open(*self.day_list.place(first + i)) for i, byte in enumerate(data)))
         cell = self.first_change(first, data)
         if cell is None:
             self.last_tick = tick
@@ -342,6 +342,14 @@ class Model:
         self.hours = hours
         return ["installed"]
 
+    def days(self, word):
+        """Of an open or a closed index."""
+        days = Days(listed(word))
+        refuse(2, self.state is None)
+        refuse(28, not days.taken())
+        self.day_list = days
+        return ["installed"]
+
     def load(self, at, blocks, store, nodes, entries, word):
         rows = {"blocks": blocks, "store": store, "nodes": nodes, "entries": entries}
         if self.rows is None or self.rows | rows != self.rows:
@@ -359,7 +367,7 @@ class Model:
         end = root.high if root else 0
         refuse_rules(end, found, root)
         self.end, self.kind, self.state = end, kind, self.headed("loaded")
-        self.pieces, self.blocks, self.root = [], found, root
+        self.pieces, self.blocks, self.root, self.day_list = [], found, root, Days([])
         return [fields.at, end, kind, len(found)]
 
     def damaged(self, at, by, start, end, word):
@@ -440,5 +448,7 @@ class Model:
         return [hexed(file)]
 
     def clock(self, cell):
-        minute = cell % MINUTES % DAY
+        """Of an open or a closed index."""
+        refuse(2, self.state is None)
+        _, minute = self.day_list.place(cell)
         return [minute // 60 * 100 + minute % 60]

@@ -1,8 +1,8 @@
 """Station hours (docs/RULES.md) as a plain model: a calendar made of the numbers that install takes.
 
-Seven times a count and eight pairs from, to, Monday first; a count; as many times a day, a count and eight pairs. A number past the end is 0.
+Seven times a count and eight pairs from, to, Monday first; a count; as many times a day, a count and eight pairs. A number past the end is 0. Which day and minute
+a cell has is days_model.py's.
 """
-MINUTES = 1 << 32
 DAY = 1440
 WEEK = 7
 MOST_WINDOWS, MOST_SPECIAL = 8, 64
@@ -30,8 +30,8 @@ class Calendar:
         days = [day for day, _ in self.special]
         return not self.many and all(a < b <= DAY for a, b in windows) and all(a < b for a, b in zip(days, days[1:]))
 
-    def is_open(self, cell):
-        day, minute = divmod(cell % MINUTES, DAY)
+    def is_open(self, day, minute):
+        """Whether a day is open at the minute that its label shows."""
         special = [hours for number, hours in self.special if number == day]
         windows = special[0] if special else self.week[day % WEEK]
         return any(start <= minute < end for start, end in windows)

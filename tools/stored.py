@@ -2,7 +2,7 @@
 """Makes the stored list that the program `replay` plays: calls with their answers, as its standard input.
 
   stored.py make VECTORS FILE [ORACLE]   from the oracle's list, the boards of marked.txt and the own cases (stored_cases.py, _touching, _changes, _scratch,
-                                         _hours)
+                                         _hours, _days)
   stored.py show FILE [CASE]             the list, or one case of it, in words; cases count from 1
   stored.py spoil VECTORS FILE           the same cases, each up to a call whose answer is changed: replay must say that one of each differs
   stored.py --test                       tries itself: the model gives every answer of marked.txt, and rows are read as they were written
@@ -19,9 +19,10 @@ from board_oracle import compare
 from stored_cases import Dice, own_cases
 from stored_changes import change_cases
 from stored_rows import (
-    BLOCK, CALENDAR, CASE, CELLS, CLOCK, DAMAGED, FIND, FINISH, LAST, LOAD, NEXT, OPEN, OWN, PART, RECORD, SCRATCH, TOUCHING, WRITE, Part, line, number, read_number, row,
-    rows_of
+    BLOCK, CALENDAR, CASE, CELLS, CLOCK, DAMAGED, DAYS, FIND, FINISH, LAST, LOAD, NEXT, OPEN, OWN, PART, RECORD, SCRATCH, TOUCHING, WRITE, Part, line, number, read_number,
+    row, rows_of
 )
+from stored_days import days_cases
 from stored_hours import hours_cases
 from stored_scratch import scratch_cases
 from stored_touching import touching_cases
@@ -32,11 +33,16 @@ MARKED = os.path.join(os.path.dirname(os.path.abspath(__file__)), "marked.txt")
 PIECE_HEAD, BLOCK_HEAD, NODE_HEAD, ENTRY_HEAD = 8, 2048, 8, 8
 ROW, ENTRY_ROW = 8, 2
 
-# What the program has room for: rows of each table, bytes of store, numbers of a scratch, places of an answer, cells, bytes of a file, numbers of a calendar.
+# What the program has room for: rows of each table, bytes of store, numbers of a scratch, places of an answer, cells, bytes of a file, numbers of a calendar
+# or of a list of days.
 PIECES, BLOCKS, STORE, NODES, ENTRIES = 64, 256, 4103, 4096, 8195
 SCRATCH_MOST = ROW * PIECES + 7
 ANSWER, WINDOW, FILE = 64, 64, 16384
-CALENDAR_MOST = 1300
+INSTALLED_MOST = 1300
+
+
+# An index of which clock labels are asked alone.
+CLOCK_OPENS = "open 8 1 1 8 1 1 1 1".split()
 
 
 class LeftOut(Exception):
@@ -108,11 +114,18 @@ class Case:
         start, length = self.bytes(words[2])
         return RECORD, [int(words[0]), int(words[1]), start, length] + ([1, int(answer[1])] if answer[:1] == ["update"] else [])
 
-    def calendar(self, words, answer):
-        numbers = listed(words[0])
-        fits(len(numbers), CALENDAR_MOST)
+    def installed(self, word):
+        """Numbers in the pool, and how many they are."""
+        numbers = listed(word)
+        fits(len(numbers), INSTALLED_MOST)
         data = b"".join(map(number, numbers))
-        return CALENDAR, [self.part.place(data), len(data), len(numbers)]
+        return [self.part.place(data), len(data), len(numbers)]
+
+    def calendar(self, words, answer):
+        return CALENDAR, self.installed(words[0])
+
+    def days(self, words, answer):
+        return DAYS, self.installed(words[0])
 
     def finish(self, words, answer):
         return FINISH, list(map(int, answer))
@@ -237,11 +250,17 @@ def lent_now(call):
     return call[:3] + [str(min(int(call[3]), int(call[4]))), str(LEAST_SCRATCH)] + call[5:]
 
 
+def opened_now(case):
+    """A case of the oracle's list, which is older than request 6: by it a label was asked of no index. So one is opened first, and every answer stays."""
+    (first, *_), _ = case[0]
+    return ([(CLOCK_OPENS, ["ok"])] if first == "clock" else []) + case
+
+
 def oracle_cases(path):
     """The cases of the oracle's list with the model's cells: the list says of an update only that it is one."""
     cases = []
     for listed in vector_cases(path):
-        case = [(lent_now(call), answer) for call, answer in listed]
+        case = [(lent_now(call), answer) for call, answer in opened_now(listed)]
         own = modelled([call for call, _ in case])
         cases.append([(call, said if answer == ["update"] == said[:1] else answer) for (call, answer), (_, said) in zip(case, own)])
     return cases
@@ -267,7 +286,7 @@ def tell(stored, vectors, whole):
 
 
 def own_lists():
-    return [(name, [list(map(str, call)) for call in calls]) for name, calls in own_cases() + touching_cases() + change_cases() + scratch_cases() + hours_cases()]
+    return [(name, [list(map(str, call)) for call in calls]) for name, calls in own_cases() + touching_cases() + change_cases() + scratch_cases() + hours_cases() + days_cases()]
 
 
 def put_out(vectors, own, out):
@@ -315,7 +334,7 @@ def changed(dice, call, answer):
     other = ["refused", str(1 + (int(answer[1]) + dice.below(23)) % 24 if answer[0] == "refused" else dice.among(1, 24))]
     place = dice.below(len(answer))
     word, words = answer[place], list(answer)
-    if answer[0] == "refused" or word in ("ok", "installed", "-") or (call != "clock" and dice.below(5) == 0):
+    if answer[0] == "refused" or word in ("ok", "installed", "-") or dice.below(5) == 0:
         return other
     if call in ("next", "last") and (word == "missing" or dice.below(2)):
         return ["0" if word == "missing" else "missing"]
@@ -374,7 +393,7 @@ def test():
     lines = [line(*r) for start in range(0, len(stored.bytes()), PART) for r in rows_of(stored.bytes()[start:start + PART])]
     assert lines.count("own case") == len(marked) and len(lines) == len(marked) + sum(map(len, marked))
     said = {n for case in marked for _, answer in case for n in answer[1:] if answer[0] == "refused"}
-    assert said == {str(n) for n in [*range(1, 25), 26, 27]}, "marked.txt has the edge of each refusal"
+    assert said == {str(n) for n in [*range(1, 25), 26, 27, 28]}, "marked.txt has the edge of each refusal"
     assert [run_of(word) for word in broken(Dice(1), ["17*5"])] != [(17, 5)]
     print("stored: ok")
 

@@ -277,5 +277,5 @@ def own_cases():
     # bookings that come in ascending order make a list of a tree that is not balanced; the dice are its own, so that the cases above stay
     ascending = [["record", n, 10 * n, f"{n + 1:02x}" * 2] for n in range(33)]
     cases.append(board_case("ascending-33", Dice(33), 64, 1, ascending))
-    cases.append(("clock", [["clock", m] for m in list(range(0, 1440, 37)) + [MINUTES - 1, MINUTES, 7 * MINUTES + 1439, WORD - 1]]))
+    cases.append(("clock", [["open", 8, 1, *WIDE]] + [["clock", m] for m in list(range(0, 1440, 37)) + [MINUTES - 1, MINUTES, 7 * MINUTES + 1439, WORD - 1]]))
     return cases + list(damaged())

@@ -8,13 +8,13 @@ says where they start. A case stands in one part. A row `damaged` is a load for 
 
 Block numbers that a call lists are bytes in the pool, `length` of them. `touching` has its columns where `find` has them; in place of the nodes visited it has
 0. `next` and `last` have `found`, 1 or 0, and the number, 0 where it is missing. `record` has `updated`, 1 and the cell of an update, 0 and 0 of a read. The
-numbers of a calendar stand in the pool as numbers stand in a row, `count` of them. Of a refused call what must come is 0.
+numbers of a calendar and of a list of days stand in the pool as numbers stand in a row, `count` of them. Of a refused call what must come is 0.
 """
 from board_model import WORD, hexed
 
 PART = 65536
 
-CASE, OWN, OPEN, RECORD, FINISH, BLOCK, FIND, CELLS, WRITE, LOAD, CLOCK, SCRATCH, DAMAGED, TOUCHING, NEXT, LAST, CALENDAR = range(1, 18)
+CASE, OWN, OPEN, RECORD, FINISH, BLOCK, FIND, CELLS, WRITE, LOAD, CLOCK, SCRATCH, DAMAGED, TOUCHING, NEXT, LAST, CALENDAR, DAYS = range(1, 19)
 
 # The columns from 2 on; crates/replay/src names them too. `@` is where bytes start.
 LENT = ["pieces", "scratch", "blocks", "store", "nodes", "entries"]
@@ -36,6 +36,7 @@ COLUMNS = {
     NEXT: ["next", "tick", "cell", "found", "number"],
     LAST: ["last", "tick", "cell", "found", "number"],
     CALENDAR: ["calendar", "@numbers", "length", "count"],
+    DAYS: ["days", "@numbers", "length", "count"],
 }
 
 

@@ -40,9 +40,10 @@ int main(void)
     must(servercape_touching(TABLES, 6, 101, 103, numbers, 32, &count)); /* at tick 6, who holds cell 101 or 102? */
 
     for (uint64_t k = 0; k < count; k++) {
-        uint64_t kind, first, length, created, destroyed, offset;
+        uint64_t kind, first, length, created, destroyed, offset, label;
         must(servercape_block(TABLES, numbers[k], &kind, &first, &length, &created, &destroyed, &offset));
-        printf("%strain %d at %04" PRIu64 " for %" PRIu64 " min", k ? ", " : "", store[offset], servercape_clock(first), length);
+        must(servercape_clock(TABLES, first, &label));
+        printf("%strain %d at %04" PRIu64 " for %" PRIu64 " min", k ? ", " : "", store[offset], label, length);
     }
     printf("\n");
     free(pieces), free(blocks), free(nodes), free(entries);

@@ -428,6 +428,87 @@ static void station_hours(struct lent x)
     not_installed("not well formed", x, numbers, 120, 2);
 }
 
+/* The clock label of a cell. */
+static void label(const char *what, struct lent x, uint64_t cell, uint64_t want)
+{
+    uint64_t told = 77;
+    same(what, servercape_clock(TABLES(x), cell, &told), 0);
+    same("its label", told, want);
+}
+
+/* A list of days is refused, and nothing changes. */
+static void no_days(const char *what, struct lent x, const uint64_t *days, size_t length, uint64_t number)
+{
+    uint64_t before = sum_of(x);
+    same(what, servercape_install_days(TABLES(x), days, length), number);
+    same("kept tables", sum_of(x), before);
+}
+
+/* Each fault of 28; 64 days are taken, and an empty list takes them back. */
+static void days_refused(struct lent x)
+{
+    uint64_t many[130];
+    for (uint64_t k = 0; k < 65; k++)
+        many[2 * k] = k, many[2 * k + 1] = 1380;
+    no_days("a day of 1440 minutes", x, (const uint64_t[]){0, 1440}, 2, 28);
+    no_days("a day of 1379 minutes", x, (const uint64_t[]){0, 1500, 1, 1379}, 4, 28);
+    no_days("a day twice", x, (const uint64_t[]){3, 1380, 3, 1500}, 4, 28);
+    no_days("days that fall", x, (const uint64_t[]){4, 1380, 3, 1500}, 4, 28);
+    no_days("a day without its minutes", x, (const uint64_t[]){3, 1380, 4}, 3, 28);
+    no_days("65 days", x, many, 130, 28);
+    label("the list before still stands", x, 180, 200);
+    same("64 days", servercape_install_days(TABLES(x), many, 128), 0);
+    label("the last of them", x, 63 * 1380 + 120, 300);
+    label("the day after", x, 64 * 1380, 0);
+    same("an empty list", servercape_install_days(TABLES(x), many, 0), 0);
+    label("every day has 1440 minutes again", x, 180, 300);
+}
+
+/* A short and a long day at each edge, hours by the list, on an open, a finished and a loaded index. */
+static void listed_days(struct lent x)
+{
+    static const uint64_t short_day[] = {0, 1380}, long_day[] = {0, 1500}, hours[] = {1, 120, 180};
+    struct lent y = lend(8, 16, 64, 16, 32);
+    uint8_t file[1024];
+    uint64_t written = 0, next = 0, told = 77;
+    same("open", servercape_open(TABLES(x), 8, 1), 0);
+    label("without a list", x, (UINT64_C(7) << 32) + 3 * 1440 + 605, 1005);
+    same("a short day", servercape_install_days(TABLES(x), short_day, 2), 0);
+    label("up to 01:59", x, 119, 159);
+    label("then 03:00", x, 120, 300);
+    label("its last minute", x, 1379, 2359);
+    label("day 1", x, 1380, 0);
+    label("a platform's last minute", x, UINT32_MAX, 515);
+    label("another platform", x, (UINT64_C(9) << 32) + 120, 300);
+    same("hours from 02:00 to 03:00", servercape_install_calendar(TABLES(x), hours, 3), 0);
+    record("no minute of the short day", x, 1, 119, (const uint8_t[]){0, 7}, 2, refusal(26));
+    same("a long day", servercape_install_days(TABLES(x), long_day, 2), 0);
+    record("both passes", x, 1, 178, (const uint8_t[]){7, 7, 7, 7}, 4, update(178));
+    record("the minute after", x, 1, 239, (const uint8_t[]){7, 7}, 2, refusal(26));
+    label("the end of the first pass", x, 179, 259);
+    label("the second", x, 180, 200);
+    label("its end", x, 239, 259);
+    label("after it", x, 240, 300);
+    label("its last minute", x, 1499, 2359);
+    label("day 1", x, 1500, 0);
+    same("finish", servercape_finish(TABLES(x)), 0);
+    label("finish keeps the list", x, 180, 200);
+    same("a finished index takes another", servercape_install_days(TABLES(x), short_day, 2), 0);
+    label("by that", x, 120, 300);
+    same("and another", servercape_install_days(TABLES(x), long_day, 2), 0);
+    days_refused(x);
+    same("write", servercape_write(TABLES(x), file, sizeof file, &written), 0);
+    same("load", servercape_load(TABLES(y), file, written, 0, &next), 0);
+    label("a loaded index has none", y, 180, 300);
+    same("and takes one", servercape_install_days(TABLES(y), long_day, 2), 0);
+    label("by that", y, 180, 200);
+    x.blocks[servercape_length(SERVERCAPE_BLOCKS, 0) - 8] = 9;
+    no_days("not well formed", x, (const uint64_t[]){0, 1440}, 2, 2);
+    same("clock, not well formed", servercape_clock(TABLES(x), 0, &told), 2);
+    same("kept label", told, 77);
+    give_back(y);
+}
+
 static void without_blocks(struct lent x)
 {
     uint64_t count = 77;
@@ -496,8 +577,8 @@ int main(void)
     scratch();
     record_all();
     station_hours(x);
+    listed_days(x);
     without_blocks(x);
-    same("clock", servercape_clock((UINT64_C(7) << 32) + 3 * 1440 + 605), 1005);
     give_back(x);
     printf("C: %d checks, %d wrong\n", checks, wrong);
     return wrong != 0;

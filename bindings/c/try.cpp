@@ -54,6 +54,9 @@ void play(Tables &x)
     same("open", call(servercape_open, x, std::uint64_t{8}, std::uint8_t{1}), 0);
     same("hours, Mondays from 01:30 to 02:00", call(servercape_install_calendar, x, hours.data(), hours.size()), 0);
     same("no hours", call(servercape_install_calendar, x, reversed.data(), reversed.size()), 27);
+    const Numbers short_day = {0, 1380}, whole_day = {0, 1440};
+    same("a short day", call(servercape_install_days, x, short_day.data(), short_day.size()), 0);
+    same("no list of days", call(servercape_install_days, x, whole_day.data(), whole_day.size()), 28);
     record(x, 1, 100, {7, 7, 7}, 1, 100);
     record(x, 3, 102, {9, 9, 9}, 1, 102);
     record(x, 5, 100, {7, 7}, 0, 0);
@@ -101,7 +104,11 @@ int main()
     same("load", call(servercape_load, y, static_cast<const std::uint8_t *>(file.data()), file.size(), std::uint64_t{0}, &next), 0);
     same("behind it", next, file.size());
     read(y);
-    same("clock", servercape_clock(1432), 2352);
+    std::uint64_t label = 77;
+    same("clock", call(servercape_clock, x, std::uint64_t{1379}, &label), 0);
+    same("the last minute of the short day", label, 2359);
+    same("clock of the loaded index", call(servercape_clock, y, std::uint64_t{1432}, &label), 0);
+    same("without a list", label, 2352);
     std::printf("%d checks, %d wrong\n", checks, wrong);
     return wrong != 0;
 }

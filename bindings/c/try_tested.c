@@ -75,6 +75,8 @@ static void same_reads(struct lent x, uint64_t state, struct asked q)
     same_answers("block", a, b);
     same("write", servercape_write_tested(state, BLOCKS(x), STORE(x), TREE(x), a.file, bytes, &v[0]), servercape_write(TABLES(x), b.file, bytes, &w[0]));
     same_answers("write", a, b);
+    same("clock", servercape_clock_tested(state, BLOCKS(x), q.start, &v[1]), servercape_clock(TABLES(x), q.start, &w[1]));
+    same_answers("clock", a, b);
     drop_answers(a);
     drop_answers(b);
 }
@@ -172,6 +174,42 @@ static void with_hours(void)
     give_back(y);
 }
 
+/* The label of each minute of some days by both calls. */
+static void same_labels(struct lent x, uint64_t state)
+{
+    same("the state", servercape_state(TABLES(x)), state);
+    for (uint64_t cell = 0; cell < 5 * 1440; cell++) {
+        uint64_t v = 77, w = 77;
+        same("clock", servercape_clock_tested(state, BLOCKS(x), cell, &v), servercape_clock(TABLES(x), cell, &w));
+        same("its label", v, w);
+    }
+}
+
+/* A short day, then a long one, with all days open but for the hour from 02:00 on. */
+static void with_days(void)
+{
+    static const uint64_t days[] = {0, 1380, 2, 1500}, fewer[] = {1, 1500}, hours[] = {2, 0, 120, 180, 1440};
+    struct lent x = lend(8, 32, 64, 64, 64), y = lend(8, 32, 64, 64, 64);
+    same("open", servercape_open(TABLES(x), 8, 1) + servercape_open(TABLES(y), 8, 1), 0);
+    same("hours", servercape_install_calendar(TABLES(x), hours, 5) + servercape_install_calendar(TABLES(y), hours, 5), 0);
+    same("days", servercape_install_days(TABLES(x), days, 4) + servercape_install_days(TABLES(y), days, 4), 0);
+    same_labels(x, SERVERCAPE_OPEN);
+    same_record(x, y, SERVERCAPE_OPEN, 6, 118, "1234", 8);
+    same_record(x, y, SERVERCAPE_OPEN, 6, 1378, "12", 8);
+    same_record(x, y, SERVERCAPE_OPEN, 6, 1379, "12", 8);
+    same("other days", servercape_install_days(TABLES(x), fewer, 2) + servercape_install_days(TABLES(y), fewer, 2), 0);
+    same_record(x, y, SERVERCAPE_OPEN, 6, 118, "1234", 8);
+    same_record(x, y, SERVERCAPE_OPEN, 6, 1378, "12", 8);
+    same_labels(x, SERVERCAPE_OPEN);
+    same("finish", servercape_finish(TABLES(x)) + servercape_finish(TABLES(y)), 0);
+    same_labels(x, SERVERCAPE_CLOSED);
+    same("days of a finished index", servercape_install_days(TABLES(x), days, 4), 0);
+    same_labels(x, SERVERCAPE_CLOSED);
+    same_all_reads(x, SERVERCAPE_CLOSED);
+    give_back(x);
+    give_back(y);
+}
+
 /* ── with states that are false ── */
 
 /* The head of the block table: its last eight numbers. */
@@ -196,8 +234,9 @@ static struct lent full_tables(void)
     return x;
 }
 
-/* Every way to spoil them: none; links that lead back or to one row; counts and offsets that no table has; garbage; a calendar of more than there is room for. */
-enum { WAYS = 14, CALENDAR = 32, SPECIAL = CALENDAR + 120 };
+/* Every way to spoil them: none; links that lead back or to one row; counts and offsets that no table has; garbage; a calendar and a list of days of more than
+   there is room for; days that fall, or have no minutes. */
+enum { WAYS = 17, CALENDAR = 32, SPECIAL = CALENDAR + 120, DAYS = 1305 };
 
 static void spoil(struct lent x, int way)
 {
@@ -228,6 +267,12 @@ static void spoil(struct lent x, int way)
         memset(x.pieces, GARBAGE, 8 * x.pieces_length), memset(x.blocks, GARBAGE, 8 * x.blocks_length), memset(x.nodes, GARBAGE, 8 * x.nodes_length);
     if (way == 13)
         x.blocks[CALENDAR] = 1, x.blocks[CALENDAR + 1] = x.blocks[SPECIAL] = x.blocks[SPECIAL + 2] = HUGE_COUNT;
+    if (way == 14)
+        x.blocks[DAYS] = HUGE_COUNT;
+    for (uint64_t k = 0; way == 15 && k < 64; k++)
+        x.blocks[CALENDAR] = 1, x.blocks[DAYS] = 64, x.blocks[DAYS + 1 + 2 * k] = UINT64_MAX - k, x.blocks[DAYS + 2 + 2 * k] = HUGE_COUNT;
+    for (uint64_t k = 0; way == 16 && k < 64; k++)
+        x.blocks[CALENDAR] = 1, x.blocks[DAYS] = 64, x.blocks[DAYS + 1 + 2 * k] = 64 - k, x.blocks[DAYS + 2 + 2 * k] = 0;
 }
 
 /* Every call with a state, whatever it answers; no read changes a table. */
@@ -250,6 +295,8 @@ static void every_call(struct lent x, uint64_t state, struct asked q)
         if (servercape_block_tested(state, BLOCKS(x), STORE(x), k, &v[0], &v[1], &v[2], &v[3], &v[4], &v[5]) == 0)
             same("its bytes lie in the store", v[2] <= x.store_length && v[5] <= x.store_length - v[2], 1);
     servercape_write_tested(state, BLOCKS(x), STORE(x), TREE(x), a.file, FILE_BYTES, &v[0]);
+    servercape_clock_tested(state, BLOCKS(x), q.start, &v[0]);
+    servercape_clock_tested(state, BLOCKS(x), 7 * 1440 + q.end, &v[0]);
     same_tables(x, before);
     servercape_record_tested(state, x.pieces, x.pieces_length, BLOCKS(x), STORE(x), x.scratch, 8, q.tick, q.start, (const uint8_t *)"12345", 5, &v[0], &v[1]);
     servercape_record_tested(state, x.pieces, x.pieces_length, BLOCKS(x), STORE(x), x.scratch, 8, q.tick, 100, (const uint8_t *)"777", 3, &v[0], &v[1]);
@@ -280,6 +327,7 @@ int main(void)
     alarm(60);
     with_true_states();
     with_hours();
+    with_days();
     with_false_states();
     printf("C, calls after one test: %d checks, %d wrong\n", checks, wrong);
     return wrong != 0;

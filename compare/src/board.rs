@@ -1,5 +1,6 @@
 //! A plain reading of the rules: pieces in a list, every cell looked at by itself. It says what the calls must answer, and which operations meet
 //! D1 or D2, where the Rust does something else.
+use crate::days::{self, List};
 use crate::hours;
 use crate::tree::Tree;
 use servercape::{Calendar, Recorded, Room};
@@ -74,11 +75,12 @@ pub struct Board {
     last: u64,
     used: u64,
     hours: Option<Calendar>,
+    days: List,
 }
 
 impl Board {
     pub fn open(end: u64, kind: u64, room: Room) -> Board {
-        Board { end, kind, room, pieces: vec![], blocks: vec![], last: 0, used: 0, hours: None }
+        Board { end, kind, room, pieces: vec![], blocks: vec![], last: 0, used: 0, hours: None, days: vec![] }
     }
 
     /// The byte of a cell, if it is known.
@@ -172,7 +174,7 @@ impl Board {
 
     /// Whether a byte that is not 0 falls on a cell that the calendar closes.
     fn outside(&self, op: &Op) -> bool {
-        let closed = |hours: &Calendar| op.bytes.iter().zip(op.first..).any(|(byte, cell)| *byte != 0 && !hours::open(hours, cell));
+        let closed = |hours: &Calendar| op.bytes.iter().zip(op.first..).any(|(byte, cell)| *byte != 0 && !hours::open(hours, &self.days, cell));
         self.hours.as_ref().is_some_and(closed)
     }
 
@@ -183,6 +185,20 @@ impl Board {
         }
         self.hours = Some(calendar.clone());
         0
+    }
+
+    /// Installs a list of days, open or finished: 0, or the number of the refusal.
+    pub fn install_days(&mut self, list: &List) -> u64 {
+        if !days::taken(list) {
+            return 28;
+        }
+        self.days = list.clone();
+        0
+    }
+
+    /// The list of days that counts.
+    pub fn days(&self) -> &List {
+        &self.days
     }
 
     /// What finish leaves: the blocks and their tree, or the number of the refusal.

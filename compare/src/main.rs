@@ -6,6 +6,7 @@
 //!
 //! The Rust is looked for in the folder that ORACLE names, or else beside the repository, in ../shared/oracle.
 mod board;
+mod days;
 mod file;
 mod files;
 mod hours;
@@ -30,7 +31,7 @@ struct Extent {
     /// Lists of each size, for each table and each of one less, as many, one more.
     tight: u64,
     random: u64,
-    /// Lists with calendars.
+    /// Lists with calendars and lists of days.
     hours: u64,
     /// Copies of good files, most of them damaged.
     files: usize,
@@ -115,7 +116,7 @@ fn main() -> ExitCode {
         let room = GOOD - good.len();
         good.extend(files.into_iter().filter(|f| !f.is_empty() && f.len() <= LONGEST).take(room));
     }
-    println!("Lists with calendars: {} lists", extent.hours);
+    println!("Lists with calendars and days: {} lists", extent.hours);
     hours::compare(&mut Random::new(seed ^ 0x40EA5), extent.hours, &mut tally);
     let mut random = Random::new(seed ^ 0xF11E);
     println!("Copies of {} good files, as they are or damaged: {} files", good.len(), extent.files);

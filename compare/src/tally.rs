@@ -11,8 +11,8 @@ pub struct Tally {
 }
 
 /// The answers of a list, by the first words of what is said of them: a difference can be put into each.
-const KINDS: [&str; 15] = [
-    "install", "hours", "record", "short scratch", "closed index", "change", "finish", "blocks", "find", "visited", "touching", "next block", "last block", "cells", "file",
+const KINDS: [&str; 18] = [
+    "install", "hours", "days", "clock", "day of", "record", "short scratch", "closed index", "change", "finish", "blocks", "find", "visited", "touching", "next block", "last block", "cells", "file",
 ];
 
 /// How many differences are printed in full.

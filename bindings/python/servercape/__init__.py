@@ -6,8 +6,9 @@
     for number in index.touching(1, 90, 101):
         print(index.block(number))
 """
-from .index import Block, Found, Index, Kind, Operation, clock
+from .days import Days
+from .index import Block, Found, Index, Kind, Operation
 from .places import Place
 from .refusal import WORDS, Refused
 
-__all__ = ["Block", "Found", "Index", "Kind", "Operation", "Place", "Refused", "WORDS", "clock"]
+__all__ = ["Block", "Days", "Found", "Index", "Kind", "Operation", "Place", "Refused", "WORDS"]

@@ -3,7 +3,9 @@ import struct
 from typing import NamedTuple
 
 from .boardfile import FRONT, MARK, START, Fault, statement
+from .days import REGULAR, Days
 from .index import Operation
+from .places import Place
 
 BOM = b"\xef\xbb\xbf"
 FIELDS = struct.Struct("<2sQQH")
@@ -22,13 +24,20 @@ class Bookings(NamedTuple):
         return f"{self.unit} {self.places[number]}"
 
 
-def read_bookings(data: bytes) -> Bookings:
-    """Reads either form. What is binary has a zero in its end tick or kind, or a mark behind them; no text has. Raises `Fault`."""
+def read_bookings(data: bytes, days: Days = REGULAR) -> Bookings:
+    """Reads either form. What is binary has a zero in its end tick or kind, or a mark behind them; no text has. Days and clock times of a text go by a list of days.
+    Raises `Fault`."""
     binary = b"\0" in data[:START] or data[START:START + len(MARK)] == MARK
-    return read_binary(data) if binary else read_text(data)
+    return read_binary(data) if binary else read_text(data, days)
 
 
-def read_text(data: bytes) -> Bookings:
+def moved(booking: tuple[int, int, bytes], days: Days) -> tuple[int, int, bytes]:
+    """A booking by platform, day and clock time, which was read as if every day had 1,440 minutes."""
+    tick, cell, data = booking
+    return tick, Place.of(cell).moved(days).cell, data
+
+
+def read_text(data: bytes, days: Days) -> Bookings:
     board: dict = {"bookings": []}
     places: list[int] = []
     for at, line in enumerate(data.removeprefix(BOM).split(b"\n"), 1):
@@ -36,12 +45,14 @@ def read_text(data: bytes) -> Bookings:
             words = line.decode("utf-8").partition("#")[0].split()
             if words:
                 statement(board, words)
+            if len(board["bookings"]) > len(places):
+                places.append(at)
+                if days.listed and words[2] == "platform":
+                    board["bookings"][-1] = moved(board["bookings"][-1], days)
         except UnicodeDecodeError:
             raise Fault(f"line {at}: this is no text in UTF-8") from None
         except Fault as fault:
             raise Fault(f"line {at}: {fault}") from None
-        if len(board["bookings"]) > len(places):
-            places.append(at)
     for name in ("end", "kind"):
         if name not in board:
             raise Fault(f"there is no {name}")

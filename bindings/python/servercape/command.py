@@ -4,10 +4,13 @@ import json
 import os
 import sys
 from collections.abc import Callable, Iterable, Iterator
+from datetime import date
+from functools import cache, partial
 from pathlib import Path
 
 from .boardfile import Fault, number
 from .bookings import Bookings, read_bookings
+from .days import REGULAR, Days
 from .index import Index
 from .listing import BLOCK_COLUMNS, CELL_COLUMNS, Row, block_row, block_words, cell_row, cell_words, show
 from .picture import picture
@@ -25,10 +28,13 @@ LONG = 1 << 20
 STATUS = "Exit status: 0 done, 1 refused, 2 wrong usage, 3 reading or writing failed."
 WINDOW = """The window has the cells from --from up to, and not including, --to: numbers
 of cells, or with --platform a day and a clock time, as 'monday 23:50', or
-'tuesday+1 00:10' for one week later. What is left out is the first cell, or
-the end."""
+'tuesday+1 00:10' for one week later; of a time that comes twice the first is
+meant. What is left out is the first cell, or the end."""
+LISTED = """Days and clock times go by the list that --days names; a file holds none, and
+without it every day has 1,440 minutes."""
 CALENDAR = """it must be JSON, {"week": DAYS, "special": SPECIAL}: DAYS are seven lists of windows, Monday first, SPECIAL is a list of [DAY, WINDOWS], and a \
 window is [FROM, TO], in minutes of the day"""
+LIST = "it must be JSON, a list of [DAY, MINUTES], ascending by day"
 TICK = "Without --tick the board is read at its last tick."
 
 
@@ -71,8 +77,31 @@ def write_file(name: str, data: bytes) -> None:
             raise
 
 
+@cache
+def read_days(name: str | None) -> Days:
+    """The list of days of a file."""
+    if name is None:
+        return REGULAR
+    try:
+        return Days(json.loads(read_file(name)))
+    except Refused as refused:
+        raise Fault(f"the days {name}: {refused}") from None
+    except (TypeError, ValueError):
+        raise Fault(f"the days {name}: {LIST}") from None
+
+
+def install_days(index: Index, name: str | None) -> None:
+    """Installs the list of days of a file."""
+    try:
+        index.install_days(read_days(name))
+    except (TypeError, ValueError):
+        raise Fault(f"the days {name}: {LIST}") from None
+
+
 def loaded(options: argparse.Namespace) -> Index:
-    return Index.load(read_file(options.file), options.at)[0]
+    index = Index.load(read_file(options.file), options.at)[0]
+    install_days(index, options.days)
+    return index
 
 
 def boards(data: bytes) -> Iterator[tuple[int, int, Index]]:
@@ -89,6 +118,8 @@ def boards(data: bytes) -> Iterator[tuple[int, int, Index]]:
 
 def window(options: argparse.Namespace) -> tuple[int, int]:
     """The cells of a window; what cannot be read is wrong usage."""
+    days = read_days(options.days)
+
     def cell(text: str | None, otherwise: int) -> int:
         if text is None:
             return otherwise
@@ -96,7 +127,7 @@ def window(options: argparse.Namespace) -> tuple[int, int]:
             return number(text, 64, "the cell")
         if len(text.split()) != 2:
             raise Fault(f"'{text}' is no time: with --platform, write a day and a clock time, as 'monday 23:50'")
-        return Place.at(options.platform, *text.split()).cell
+        return Place.at(options.platform, *text.split(), days).cell
 
     first, behind = (0, MOST_CELL) if options.platform is None else (Place(options.platform, 0).cell, Place(options.platform, MINUTES).cell)
     try:
@@ -140,8 +171,9 @@ def build(options: argparse.Namespace) -> int:
     data = read_file(options.file)
     progress = Progress(len(data))
     progress.say("reading the list")
-    bookings = read_bookings(data)
+    bookings = read_bookings(data, read_days(options.days))
     index = Index.open(bookings.end_tick, bookings.kind)
+    install_days(index, options.days)
     if options.calendar is not None:
         install(index, options.calendar)
     refused = record(bookings, index, options.file, progress)
@@ -160,7 +192,12 @@ def build(options: argparse.Namespace) -> int:
 
 
 def list_blocks(index: Index, numbers: Iterable[int], options: argparse.Namespace) -> int:
-    show((block_row(n, index.block(n)) for n in numbers), BLOCK_COLUMNS, options.form, block_words, sys.stdout)
+    def rows() -> Iterator[Row]:
+        for n in numbers:
+            block = index.block(n)
+            yield block_row(n, block, index.clock(block.first))
+
+    show(rows(), BLOCK_COLUMNS, options.form, partial(block_words, days=index.days), sys.stdout)
     return DONE
 
 
@@ -188,9 +225,10 @@ def cells(options: argparse.Namespace) -> int:
 
     def rows() -> Iterator[Row]:
         for part in range(start, end, MANY):
-            yield from map(cell_row, range(part, end), index.cells(at_tick, part, min(part + MANY, end)))
+            for cell, byte in zip(range(part, end), index.cells(at_tick, part, min(part + MANY, end))):
+                yield cell_row(cell, byte, index.clock(cell))
 
-    show(rows(), CELL_COLUMNS, options.form, cell_words, sys.stdout)
+    show(rows(), CELL_COLUMNS, options.form, partial(cell_words, days=index.days), sys.stdout)
     return DONE
 
 
@@ -232,6 +270,14 @@ def explain(options: argparse.Namespace) -> int:
     return DONE
 
 
+def days(options: argparse.Namespace) -> int:
+    if options.monday.weekday() != 0:
+        options.parser.error(f"{options.monday} is no Monday")
+    listed = Days.central_european(options.monday, range(options.first, options.last + 1))
+    print("[" + ",".join(f"\n  [{day}, {minutes}]" for day, minutes in listed) + "\n]")
+    return DONE
+
+
 def draw(options: argparse.Namespace) -> int:
     cells, index = window(options), loaded(options)
     sys.stdout.write(picture(index, *cells, Path(options.file).name))
@@ -252,6 +298,23 @@ def platform(word: str) -> int:
     if natural(word) >= MINUTES:
         raise argparse.ArgumentTypeError("a platform is below 2^32")
     return natural(word)
+
+
+def day_zero(word: str) -> date:
+    try:
+        return date.fromisoformat(word)
+    except ValueError:
+        raise argparse.ArgumentTypeError(f"'{word}' is no date: write it as 2024-01-01") from None
+
+
+def year(word: str) -> int:
+    if not 1 <= natural(word) <= 9999:
+        raise argparse.ArgumentTypeError("a year is from 1 to 9999")
+    return natural(word)
+
+
+def add_days(parser: argparse.ArgumentParser) -> None:
+    parser.add_argument("--days", metavar="LIST", help="days of 23 and 25 hours, as `servercape days` makes them")
 
 
 def add_window(parser: argparse.ArgumentParser) -> None:
@@ -277,18 +340,20 @@ def add_at(parser: argparse.ArgumentParser) -> None:
 
 # A command: what it does, an example, what runs it, and its options.
 COMMANDS: dict[str, tuple[str, str, Callable[[argparse.Namespace], int], list[Callable[[argparse.ArgumentParser], None]]]] = {
-    "build": ("make the file of a board from a list of bookings, readable or binary", "build examples/midnight.txt -o midnight.index", build, []),
-    "blocks": ("list all blocks, in recorded order", "blocks midnight.index --human", blocks, [add_at, add_form]),
+    "build": ("make the file of a board from a list of bookings, readable or binary", "build examples/midnight.txt -o midnight.index", build, [add_days]),
+    "blocks": ("list all blocks, in recorded order", "blocks midnight.index --human", blocks, [add_at, add_days, add_form]),
     "find": ("list the blocks that are live at a tick and start in a window", "find midnight.index --tick 3 --from 0 --to 1440", find,
-             [add_at, add_tick, add_form]),
+             [add_at, add_tick, add_days, add_form]),
     "touching": ("list the blocks that are live at a tick and hold a cell of a window: the bookings in conflict with it",
-                 "touching midnight.index --tick 3 --platform 0 --from 'tuesday 00:00' --to 'tuesday 00:10'", touching, [add_at, add_tick, add_form]),
+                 "touching midnight.index --tick 3 --platform 0 --from 'tuesday 00:00' --to 'tuesday 00:10'", touching,
+                 [add_at, add_tick, add_days, add_form]),
     "cells": ("read each cell of a window at a tick", "cells midnight.index --platform 1 --from 'monday 23:50' --to 'tuesday 00:10' --human", cells,
-              [add_at, add_tick, add_form]),
+              [add_at, add_tick, add_days, add_form]),
     "info": ("say what stands in a file", "info midnight.index --human", info, [add_form]),
     "verify": ("test a file whole, with the loader's rules", "verify midnight.index", verify, []),
     "explain": ("say what a refusal's number means, or all of them", "explain 8", explain, []),
-    "picture": ("draw the board as a page for a browser", "picture midnight.index > board.html", draw, [add_at, add_window]),
+    "days": ("list the days of 23 and 25 hours of some years, by the clock changes of Central European Time", "days 2024-01-01 2024 2055 > days.json", days, []),
+    "picture": ("draw the board as a page for a browser", "picture midnight.index > board.html", draw, [add_at, add_window, add_days]),
 }
 
 
@@ -302,11 +367,17 @@ def make_parser() -> argparse.ArgumentParser:
             about += f"\n\n{WINDOW}"
         if add_tick in additions:
             about += f"\n{TICK}"
+        if add_days in additions:
+            about += f"\n\n{LISTED}"
         command = commands.add_parser(name, help=words, description=about, epilog=f"Example: servercape {example}\n\n{STATUS}", allow_abbrev=False,
                                       formatter_class=argparse.RawDescriptionHelpFormatter)
-        command.set_defaults(run=run, parser=command, file="refusals")
+        command.set_defaults(run=run, parser=command, file=name)
         if name == "explain":
-            command.add_argument("number", type=natural, nargs="?", metavar="NUMBER", help="from 1 to 27, without 25")
+            command.add_argument("number", type=natural, nargs="?", metavar="NUMBER", help="from 1 to 28, without 25")
+        elif name == "days":
+            command.add_argument("monday", type=day_zero, metavar="MONDAY", help="the date of day 0, as 2024-01-01")
+            command.add_argument("first", type=year, metavar="FIRST", help="the first year")
+            command.add_argument("last", type=year, metavar="LAST", help="the last year; 32 are 64 days, the most of a list")
         else:
             command.add_argument("file", metavar="BOOKINGS" if name == "build" else "FILE", help="a file, or - for standard input")
         if name == "build":

@@ -5,6 +5,7 @@ from collections.abc import Callable, Iterable, Iterator
 from enum import IntEnum
 from typing import NamedTuple
 
+from .days import Days, numbers
 from .hours import Windows, calendar
 from .library import library
 from .refusal import Refused, accepted
@@ -15,8 +16,10 @@ PIECES, BLOCKS, STORE, NODES, ENTRIES, SCRATCH = range(6)
 # What `servercape_state` says of tables.
 NOT_WELL_FORMED, OPEN, CLOSED = range(3)
 
-# Where counts stand (docs/LAYOUT.md): in the heads of pieces, nodes and entries, and in the last eight numbers of the head of the blocks.
+# Where counts stand (docs/LAYOUT.md): in the heads of pieces, nodes and entries, and in the last eight numbers of the head of the blocks. The list of days stands
+# in the front of that head, a count and then pairs.
 PIECE_COUNT, NODE_COUNT, ENTRY_COUNT = 1, 5, 0
+DAY_COUNT = 1305
 END, KIND, COUNT, USED, LAST = (library.length(BLOCKS, 0)[0] - 8 + column for column in (1, 2, 3, 4, 5))
 
 NO_ROOM_FOR_NODES, NO_ROOM_FOR_ENTRIES, OUTSIDE, EXCEEDS, NO_ROOM_FOR_FILE = 12, 13, 15, 16, 20
@@ -238,6 +241,12 @@ class Index:
         windows it is closed. Day 0 is a Monday. Refusals 3, 27."""
         accepted(*library.install_calendar(*self._tables, calendar(week, special)))
 
+    def install_days(self, listed: Iterable[tuple[int, int]]) -> None:
+        """Installs a list of days in place of the one before, into an open or a finished index: pairs of a day's number and its minutes, 1,380 or 1,500, ascending by
+        day, at most 64. All other days have 1,440, and an empty list takes the one before back. Clock labels and station hours go by it; what is booked already
+        stays. `Days` makes such a list. Refusal 28."""
+        accepted(*library.install_days(*self._tables, numbers(listed)))
+
     def finish(self) -> None:
         """Finishes the index: it can be read from now on, and takes no more operations. Refusal 3."""
         blocks, pieces = self.block_count, self._pieces[PIECE_COUNT]
@@ -332,7 +341,17 @@ class Index:
         accepted(number)
         return memoryview(out)[:written].tobytes()
 
+    # ── days ──
 
-def clock(cell: int) -> int:
-    """The clock label of a cell: hours times 100 plus minutes."""
-    return library.clock(cell)[0]
+    @property
+    def days(self) -> Days:
+        """The list of days that is installed."""
+        count = self._blocks[DAY_COUNT]
+        pairs = self._blocks[DAY_COUNT + 1:DAY_COUNT + 1 + 2 * count]
+        return Days(zip(pairs[0::2], pairs[1::2]))
+
+    def clock(self, cell: int) -> int:
+        """The clock label of a cell by the list of days, of an open or a finished index: hours times 100 plus minutes."""
+        number, label = library.clock_tested(self._state, self._blocks, cell)
+        accepted(number)
+        return label

@@ -15,8 +15,8 @@ SIGNATURES = {
     "record_all": "ssssss" "bso",
     "finish": "sssss",
     "install_calendar": "sssss" "s",
+    "install_days": "sssss" "s",
     "load": "sssss" "bno",
-    "clock": "n",
     "state": "sssss",
     "record_tested": "nssss" "nnboo",
     "block_tested": "nss" "noooooo",
@@ -26,6 +26,7 @@ SIGNATURES = {
     "last_tested": "nsss" "nnoo",
     "read_cells_tested": "nssss" "nnnss",
     "write_tested": "nssss" "so",
+    "clock_tested": "ns" "no",
 }
 TYPES = {"s": [c_void_p, c_size_t], "b": [c_char_p, c_size_t], "n": [c_uint64], "k": [c_uint8], "o": [POINTER(c_uint64)]}
 MOST = {"n": (1 << 64) - 1, "k": 255}

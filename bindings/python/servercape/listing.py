@@ -5,7 +5,8 @@ from collections.abc import Callable, Iterable, Sequence
 from typing import TextIO
 
 from .boardfile import words_of
-from .index import Block, clock
+from .days import Days
+from .index import Block
 from .places import Place
 
 Value = int | str | None
@@ -15,13 +16,13 @@ BLOCK_COLUMNS = ("block", "cell", "n", "from", "to", "clock", "bytes")
 CELL_COLUMNS = ("cell", "clock", "byte")
 
 
-def block_row(number: int, block: Block) -> Row:
+def block_row(number: int, block: Block, label: int) -> Row:
     return dict(zip(BLOCK_COLUMNS, (
-        number, block.first, len(block.bytes), block.created, block.destroyed, f"{clock(block.first):04}", block.bytes.hex())))
+        number, block.first, len(block.bytes), block.created, block.destroyed, f"{label:04}", block.bytes.hex())))
 
 
-def cell_row(cell: int, byte: int | None) -> Row:
-    return dict(zip(CELL_COLUMNS, (cell, f"{clock(cell):04}", None if byte is None else f"{byte:02x}")))
+def cell_row(cell: int, byte: int | None, label: int) -> Row:
+    return dict(zip(CELL_COLUMNS, (cell, f"{label:04}", None if byte is None else f"{byte:02x}")))
 
 
 def trains(data: bytes) -> str:
@@ -31,15 +32,15 @@ def trains(data: bytes) -> str:
     return f"trains {' '.join(words)}" if len(words) > 1 else "free" if name == "00" else f"train {name}"
 
 
-def block_words(row: Row) -> str:
+def block_words(row: Row, days: Days) -> str:
     first, last = Place.of(row["cell"]), Place.of(row["cell"] + row["n"] - 1)
-    return (f"block {row['block']}: {trains(bytes.fromhex(row['bytes']))} at platform {first.platform} from {first.time} to {last.time}, {row['n']} min, "
-            f"live from tick {row['from']} up to {row['to']}")
+    return (f"block {row['block']}: {trains(bytes.fromhex(row['bytes']))} at platform {first.platform} from {first.time_by(days)} to {last.time_by(days)}, "
+            f"{row['n']} min, live from tick {row['from']} up to {row['to']}")
 
 
-def cell_words(row: Row) -> str:
+def cell_words(row: Row, days: Days) -> str:
     place = Place.of(row["cell"])
-    return f"platform {place.platform} {place.time}: {'no booking' if row['byte'] is None else trains(bytes.fromhex(row['byte']))}"
+    return f"platform {place.platform} {place.time_by(days)}: {'no booking' if row['byte'] is None else trains(bytes.fromhex(row['byte']))}"
 
 
 def show(rows: Iterable[Row], columns: Sequence[str], form: str, words: Callable[[Row], str], out: TextIO) -> None:

@@ -31,6 +31,7 @@ WORDS: dict[int, tuple[str, ...]] = {
     26: ("the booking has a byte other than 0 in a minute at which the station is closed",),
     27: ("the calendar is wrong: a window does not end after it starts, or ends above minute 1440 of the day, a day has more than 8 windows, there are more than "
          "64 special days, or they do not ascend",),
+    28: ("the list of days is wrong: there are more than 64, they do not ascend, or one has another length than 1380 or 1500 minutes",),
 }
 
 

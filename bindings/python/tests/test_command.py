@@ -90,6 +90,46 @@ class Build(Command):
             self.assertIn(f"-: the calendar {hours}: {words}", errors)
         self.assertEqual(self.build("end 8\nkind memory\n", "--calendar", self.folder / "none")[0], BROKEN)
 
+    def test_days(self):
+        """Times of the list and labels of the board go by the days, hours too; the file holds no list."""
+        days, made = EXAMPLES / "days.json", self.folder / "made"
+        self.assertEqual(run("days", "2024-01-01", 2024, 2055)[:2], (DONE, days.read_text("utf-8")))
+        self.assertEqual(run("build", EXAMPLES / "night.txt", "--days", days, "-o", made), (DONE, "", ""))
+        lines = [line.split(", live")[0] for line in run("blocks", made, "--days", days, "--human")[1].splitlines()]
+        self.assertEqual(lines, [
+            "block 0: train 07 at platform 2 from sunday+12 01:50 to sunday+12 03:09, 20 min",
+            "block 1: train 08 at platform 2 from sunday+42 02:50 to sunday+42 03:09, 80 min",
+            "block 2: train 09 at platform 3 from monday+43 00:10 to monday+43 00:19, 10 min",
+        ])
+        labels = lambda *more: [line.split()[5] for line in run("blocks", made, *more)[1].splitlines()[1:]]
+        self.assertEqual((labels("--days", days), labels()), (["0150", "0250", "0010"], ["0150", "0150", "0010"]))
+        window = ("--platform", 2, "--from", "sunday+42 02:00", "--to", "sunday+42 03:00", "--json")
+        self.assertEqual(len(json.loads(run("cells", made, *window, "--days", days)[1])), 120)
+        self.assertEqual([row["block"] for row in json.loads(run("touching", made, *window, "--days", days)[1])], [1])
+        status, _, errors = run("cells", made, "--platform", 2, "--from", "sunday+12 02:30", "--to", "sunday+12 03:00", "--days", days)
+        self.assertEqual(status, USAGE)
+        self.assertIn("02:30 is no time of day 90: the clock goes from 01:59 to 03:00 then", errors)
+        status, _, errors = self.build("end 8\nkind memory\nat 1 platform 2 sunday+12 02:30 bytes 07\n", "--days", days)
+        self.assertEqual((status, "-: line 3: 02:30 is no time of day 90" in errors), (REFUSED, True))
+        # every day is open from 02:00 to 03:00: on the long day that is both passes
+        hours = self.folder / "hours.json"
+        hours.write_text(json.dumps({"week": [[[120, 180]]] * 7}), "utf-8")
+        long = "end 8\nkind memory\nat 1 platform 2 sunday+42 02:00 bytes 07*120\n"
+        self.assertEqual(self.build(long, "--days", days, "--calendar", hours), (DONE, "", ""))
+        self.assertIn("line 3: refused 26", self.build(long, "--calendar", hours)[2])
+
+    def test_bad_days(self):
+        days = self.folder / "days.json"
+        for text, words in (("{", "it must be JSON"), ("{}]", "it must be JSON"), ("[5]", "it must be JSON"), ("[[1]]", "it must be JSON"), ("5", "it must be JSON"), ("\udcff", "it must be JSON"),
+                            ("[[-1, 1380]]", "it must be JSON"), ("[[1, 1440]]", "refused 28: the list of days is wrong"), ("[[1, 1380], [1, 1500]]", "refused 28: the list of days is wrong")):
+            days.write_text(text, "utf-8", "surrogateescape")
+            status, output, errors = self.build("end 8\nkind memory\nat 1 cell 2 bytes 00\n", "--days", days)
+            self.assertEqual((status, output), (REFUSED, ""), text)
+            self.assertIn(f"-: the days {days}: {words}", errors)
+        self.assertEqual(self.build("end 8\nkind memory\n", "--days", self.folder / "none")[0], BROKEN)
+        self.assertIn("refused 28", run("days", "2024-01-01", 2024, 2056)[2])
+        self.assertEqual(run("days", "2024-01-01", 2024, 2023)[1], "[\n]\n")
+
     def test_records_of_a_binary_list(self):
         bookings = [(3, 1, b"\7"), (2, 1, b"\7")]
         status, _, errors = self.build(boardfile.write_input({"end": 8, "kind": 1, "bookings": bookings}))
@@ -235,14 +275,15 @@ class Reads(Command):
     def test_explain(self):
         self.assertEqual(run("explain", 8), (DONE, "8: the booking's tick is below the last accepted one\n", ""))
         self.assertEqual(run("explain", 26)[1], "26: the booking has a byte other than 0 in a minute at which the station is closed\n")
-        self.assertEqual(len(run("explain")[1].splitlines()), 27)
+        self.assertEqual(len(run("explain")[1].splitlines()), 28)
 
 
 class Usage(Command):
     def test_wrong(self):
         for words in ((), ("check",), ("explain", 0), ("explain", 25), ("build", "x"), ("find", "x", "--tick", "-1"), ("find", "x", "--tick", 1 << 64),
                       ("find", "x", "--from", "monday 23:50"), ("find", "x", "--platform", 1, "--from", "someday 00:00"), ("cells", "x"),
-                      ("find", "x", "--platform", 1 << 32), ("find", "x", "--platform", 1, "--to", 7), ("blocks", "x", "--csv", "--json"), ("blocks", "x", "y")):
+                      ("find", "x", "--platform", 1 << 32), ("find", "x", "--platform", 1, "--to", 7), ("blocks", "x", "--csv", "--json"), ("blocks", "x", "y"),
+                      ("days",), ("days", "2024-01-02", 2024, 2025), ("days", "2024-01", 2024, 2025), ("days", "2024-01-01", 0, 2025), ("days", "2024-01-01", 2024)):
             status, output, errors = run(*words)
             self.assertEqual((status, output), (USAGE, ""), words)
             self.assertIn("usage: servercape", errors)
@@ -250,7 +291,7 @@ class Usage(Command):
     def test_help(self):
         status, output, _ = run("--help")
         self.assertEqual(status, DONE)
-        for name in ("build", "blocks", "find", "touching", "cells", "info", "verify", "explain", "picture"):
+        for name in ("build", "blocks", "find", "touching", "cells", "info", "verify", "explain", "days", "picture"):
             self.assertIn(f"    {name} ", output)
             status, text, _ = run(name, "--help")
             self.assertEqual(status, DONE)
@@ -259,7 +300,7 @@ class Usage(Command):
 
     def test_examples_of_help_run(self):
         (self.folder / "examples").symlink_to(EXAMPLES)
-        for name in ("build", "blocks", "find", "touching", "cells", "info", "verify", "explain", "picture"):
+        for name in ("build", "blocks", "find", "touching", "cells", "info", "verify", "explain", "days", "picture"):
             text = run(name, "--help")[1]
             example = next(line for line in text.splitlines() if line.startswith("Example: ")).removeprefix("Example: servercape")
             done = subprocess.run(COMMAND + example, shell=True, cwd=self.folder, capture_output=True)

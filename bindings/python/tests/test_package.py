@@ -5,6 +5,7 @@ import random
 import re
 import typing
 import unittest
+from datetime import date
 
 from support import ROOT
 
@@ -12,7 +13,8 @@ import board_model
 import servercape
 from servercape.hours import calendar
 from servercape.library import library
-from servercape import WORDS, Block, Index, Kind, Operation, Place, Refused, clock
+from servercape import WORDS, Block, Days, Index, Kind, Operation, Place, Refused
+from servercape.boardfile import Fault
 
 LISTING = [Operation(1, 100, b"\7\7\7"), Operation(3, 102, b"\t\t\t"), Operation(5, 100, b"\7\7"), Operation(6, 103, b"\4")]
 ROOM = 1 << 40
@@ -50,6 +52,12 @@ def random_calendar(dice) -> tuple:
     return [random_windows(dice) for _ in range(7)], [(day, random_windows(dice)) for day in days]
 
 
+def random_days(dice) -> list[tuple[int, int]]:
+    """Around the cells of the operations, where no day lies, and now and then a fault of 28."""
+    days = sorted(dice.sample([0, 1, 2, 7, 8, (1 << 32) // 1440, (1 << 64) - 1], dice.randrange(5)), reverse=dice.randrange(15) == 0)
+    return [(day, dice.choice([1380, 1500] * 9 + [1440])) for day in days]
+
+
 class Played:
     """The model with the package's shapes of answers; it has room for all."""
 
@@ -79,6 +87,12 @@ class Played:
     def calendar(self, week, special):
         return self.shaped(lambda given: None, "calendar", ",".join(map(str, calendar(week, special))))
 
+    def days(self, listed):
+        return self.shaped(lambda given: None, "days", ",".join(str(number) for pair in listed for number in pair) or "-")
+
+    def clock(self, cell):
+        return self.shaped(lambda given: given[0], "clock", cell)
+
     def near(self, name, tick, cell):
         return self.shaped(lambda given: None if given[0] == "missing" else given[0], name, tick, cell)
 
@@ -98,6 +112,9 @@ class Model(unittest.TestCase):
             if dice.randrange(2):
                 hours = random_calendar(dice)
                 self.assertEqual(answer(lambda: index.install_calendar(*hours)), model.calendar(*hours))
+            if dice.randrange(2):
+                listed = random_days(dice)
+                self.assertEqual(answer(lambda: index.install_days(listed)), model.days(listed))
             operations = [random_operation(dice) for _ in range(dice.randrange(12))]
             want = [model.record(*operation) for operation in operations]
             if dice.randrange(2):
@@ -110,6 +127,9 @@ class Model(unittest.TestCase):
         index.finish()
         self.assertEqual(list(board.blocks()), list(index.blocks()))
         model.call("finish")
+        self.compare(dice, index, model)
+        listed = random_days(dice)
+        self.assertEqual(answer(lambda: index.install_days(listed)), model.days(listed))  # of a finished index too
         self.compare(dice, index, model)
         self.assertEqual(answer(lambda: index.record(13, 1, b"x")), Refused(3))
         self.assertEqual(answer(index.finish), Refused(3))
@@ -126,6 +146,10 @@ class Model(unittest.TestCase):
             self.assertEqual(answer(lambda: index.cells(*asked)), model.cells(*asked))
             self.assertEqual(answer(lambda: index.next(*asked[:2])), model.near("next", *asked[:2]))
             self.assertEqual(answer(lambda: index.last(*asked[:2])), model.near("last", *asked[:2]))
+            for cell in (asked[1], dice.randrange(5000), dice.randrange(1 << 32), dice.randrange(1 << 64), (1 << 32) - 1 - dice.randrange(300)):
+                label = index.clock(cell)
+                shown = index.days.place(cell % (1 << 32))[1]
+                self.assertEqual((label, shown // 60 * 100 + shown % 60), (model.clock(cell), label))
         for number in range(30):
             self.assertEqual(answer(lambda: index.block(number)), model.block(number))
 
@@ -214,6 +238,70 @@ class Hours(unittest.TestCase):
         self.assertEqual(index.record(0, 0, b"a"), 0)
 
 
+class ListedDays(unittest.TestCase):
+    def test_labels(self):
+        index = Index.open(8)
+        labels = lambda index: [index.clock(cell) for cell in (119, 120, 179, 180, 239, 240, 1379, 1380, 1499, 1500)]
+        self.assertEqual(labels(index), [159, 200, 259, 300, 359, 400, 2259, 2300, 59, 100])
+        index.install_days([(0, 1380)])
+        self.assertEqual(labels(index), [159, 300, 359, 400, 459, 500, 2359, 0, 159, 200])
+        self.assertEqual(index.clock((1 << 32) - 1), 515)
+        index.install_days([(0, 1500)])
+        long = [159, 200, 259, 200, 259, 300, 2159, 2200, 2359, 0]
+        self.assertEqual(labels(index), long)
+        self.assertEqual(answer(lambda: index.install_days([(0, 1440)])), Refused(28))  # the list before still counts
+        index.record(1, 100, b"a")
+        copy = index.copy()
+        index.finish()
+        self.assertEqual((labels(index), labels(copy), index.days), (long, long, Days([(0, 1500)])))
+        index.install_days([])
+        self.assertEqual((labels(index)[3], index.days, labels(copy)), (300, Days(), long))
+        loaded = Index.load(index.write())[0]
+        self.assertEqual((loaded.days, loaded.clock(180)), (Days(), 300))  # a file holds no list
+        loaded.install_days(copy.days)
+        self.assertEqual(labels(loaded), long)
+        self.assertEqual(library.state(*loaded._tables), (loaded._state,))
+
+    def test_hours_go_by_what_the_clock_shows(self):
+        index = Index.open(8)
+        index.install_calendar([[(120, 180)]] * 7)
+        index.install_days([(0, 1380), (1, 1500)])
+        answers = index.record_all((1, cell, b"a") for cell in range(3 * 1440))
+        taken = [cell for cell, given in enumerate(answers) if given != Refused(26)]
+        self.assertEqual(taken, [*range(1500, 1620), *range(3000, 3060)])  # none on the short day, both passes on the long one
+
+    def test_days_and_times(self):
+        for listed in ([], [(0, 1380)], [(0, 1500), (1, 1500), (5, 1380)], [(day, 1500) for day in range(64)], [((1 << 64) - 1, 1380)]):
+            days = Days(listed)
+            for minute in (*range(0, 12000), *range(90000, 99000), (1 << 32) - 1):
+                day, shown = days.place(minute)
+                self.assertTrue(days.start(day) <= minute < days.start(day + 1) and 0 <= shown < 1440)
+                first = days.minute(day, shown)
+                self.assertIn(minute - first, (0, 60) if dict(listed).get(day) == 1500 else (0,))
+        days = Days([(0, 1380), (6, 1500)])
+        self.assertEqual((Place.at(2, "monday", "03:00", days).minute, Place.at(2, "sunday", "02:30", days).minute, Place.at(0, "monday+1", "00:00", days).minute), (120, 8730, 10080))
+        self.assertEqual((Place(2, 120).time_by(days), Place(2, 8790).time_by(days), Place(2, 1380).time_by(days)), ("monday 03:00", "sunday 02:30", "tuesday 00:00"))
+        self.assertRaisesRegex(Fault, "02:30 is no time of day 0", Place.at, 0, "monday", "02:30", days)
+        self.assertEqual((Place.at(0, "tuesday", "02:30", days).time, Place(0, 8640).time), ("tuesday 01:30", "sunday 00:00"))
+
+    def test_dates(self):
+        days = Days.central_european(date(2024, 1, 1), range(2024, 2027))
+        self.assertEqual(days.listed, [(90, 1380), (300, 1500), (454, 1380), (664, 1500), (818, 1380), (1028, 1500)])
+        self.assertEqual(list(Days.central_european(date(2025, 6, 2), [2026, 2024, 2025])), [(day - 518, minutes) for day, minutes in days.listed[3:]])
+        self.assertEqual(len(list(Days.central_european(date(2024, 1, 1), range(2024, 2056)))), 64)
+        self.assertEqual(answer(lambda: Days.central_european(date(2024, 1, 1), range(2024, 2057))), Refused(28))
+        self.assertRaises(ValueError, Days.central_european, date(2024, 1, 2), [2024])
+        self.assertEqual((repr(Days([(3, 1380)])), hash(Days()), Days() == Days([(3, 1380)])), ("Days([(3, 1380)])", hash(Days([])), False))
+
+    def test_no_such_list(self):
+        index = Index.open(8)
+        for listed in ([(-1, 1380)], [(1 << 64, 1380)], [(1, 2, 3)]):
+            self.assertRaises(ValueError, index.install_days, listed)
+        for listed in ([5], 5, [("0", 1380)]):
+            self.assertRaises(TypeError, index.install_days, listed)
+        self.assertEqual(index.days, Days())
+
+
 class Refusals(unittest.TestCase):
     def test_each(self):
         index = Index.open(8)
@@ -226,6 +314,8 @@ class Refusals(unittest.TestCase):
                  (3, lambda: closed.install_calendar([[]] * 7)), (27, lambda: index.install_calendar([[(5, 5)]] * 7)),
                  (27, lambda: index.install_calendar([[(0, 1441)]] * 7)), (27, lambda: index.install_calendar([[(0, 1)] * 9] * 7)),
                  (27, lambda: index.install_calendar([[]] * 7, [(3, []), (3, [])])), (27, lambda: index.install_calendar([[]] * 7, [(day, []) for day in range(65)])),
+                 (28, lambda: index.install_days([(0, 1440)])), (28, lambda: closed.install_days([(3, 1380), (3, 1500)])), (28, lambda: Days([(4, 1380), (3, 1500)])),
+                 (28, lambda: index.install_days((day, 1380) for day in range(65))), (2, lambda: Index().install_days([])), (2, lambda: Index().clock(0)),
                  (15, lambda: closed.cells(1, 2, 1)), (15, lambda: closed.block(6)), (17, lambda: Index.load(b"")), (17, lambda: Index.load(b"", 9))]
         for number, run in cases:
             with self.subTest(number=number):
@@ -238,7 +328,7 @@ class Refusals(unittest.TestCase):
             index.cells(1, 0, (1 << 64) - 1)
 
     def test_words(self):
-        self.assertEqual(list(WORDS), [*range(1, 25), 26, 27])
+        self.assertEqual(list(WORDS), [*range(1, 25), 26, 27, 28])
         self.assertEqual(str(Refused(8)), "refused 8: the booking's tick is below the last accepted one")
         with self.assertRaisesRegex(Refused, "15: there is no block of that number"):
             finished(LISTING).block(6)
@@ -276,7 +366,7 @@ class Values(unittest.TestCase):
     def test_places(self):
         place = Place.at(2, "tuesday+1", "23:52")
         self.assertEqual((Place.of(place.cell), place.time), (place, "tuesday+1 23:52"))
-        self.assertEqual(clock(place.cell), 2352)
+        self.assertEqual(Index.open(8).clock(place.cell), 2352)
 
     def test_types(self):
         """Every public name has types."""

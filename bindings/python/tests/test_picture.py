@@ -3,6 +3,7 @@ Node.js is."""
 import html.parser
 import json
 import random
+import re
 import shutil
 import subprocess
 import tempfile
@@ -93,13 +94,14 @@ class Script(Page):
             self.assertEqual(sorted(each["block"] for each in shown["rectangles"]), numbers, f"tick {tick}")
             self.assertEqual((shown["tick"], shown["count"].partition(" ")[0]), (str(tick), str(len(numbers))))
             for each in shown["rectangles"]:
-                self.told(index.block(each["block"]), each)
+                self.told(index, index.block(each["block"]), each)
             self.apart(shown["rectangles"])
 
-    def told(self, block, each) -> None:
-        """The tooltip has train, clock times and life."""
-        first, last = Place.of(block.first), Place.of(block.end - 1)
-        for words in (f"platform {first.platform}\n", f"{first.time} to {last.time}", f"from tick {block.created} up to {block.destroyed}"):
+    def told(self, index: Index, block, each) -> None:
+        """The tooltip has train, clock times by the list of days, and life."""
+        first, last = (Place.of(cell) for cell in (block.first, block.end - 1))
+        times = f"{first.time_by(index.days)} to {last.time_by(index.days)}"
+        for words in (f"platform {first.platform}\n", times, f"from tick {block.created} up to {block.destroyed}"):
             self.assertIn(words, each["tip"])
         self.assertIn("free" if set(block.bytes) == {0} else f"{block.bytes[0]:02x}", each["tip"])
 
@@ -121,6 +123,29 @@ class Script(Page):
         index.record_all((tick, (dice.randrange(4) << 32) + dice.randrange(300), bytes([dice.randrange(9)]) * 30) for tick in ticks)
         index.finish()
         self.compare(index, sorted({0, (1 << 63) - 1, *ticks, *(tick - 1 for tick in ticks), *(tick + 1 for tick in ticks)}))
+
+    def test_listed_days(self):
+        """Clock times and midnights go by the list."""
+        dice = random.Random(28)
+        for listed in ([(0, 1380)], [(0, 1500), (1, 1380)], [(day, dice.choice([1380, 1500])) for day in range(64)], [((1 << 64) - 1, 1380)]):
+            index = Index.open(40)
+            index.install_days(listed)
+            spots = [100, 1370, 1490, 2700, *(dice.randrange(100_000) for _ in range(20))]
+            index.record_all((tick, (tick % 5 << 32) + spot, bytes([tick + 1]) * dice.choice([10, 100, 1500])) for tick, spot in enumerate(spots))
+            index.finish()
+            self.compare(index, (0, 3, 39))
+
+    def test_axis_of_a_short_and_of_a_long_day(self):
+        for minutes, wanted in ((1380, ["01:40", "01:50", "03:00", "03:10"]), (1500, ["02:40", "02:50", "02:00", "02:10"])):
+            index = Index.open(8)
+            index.record(1, 100 if minutes == 1380 else 160, bytes([7]) * 40)
+            index.finish()
+            index.install_days([(0, minutes)])
+            self.draw(index)
+            drawn = subprocess.run(["node", TESTS / "dom.js", "--svg", self.page, "1"], capture_output=True, text=True, check=True).stdout
+            times = re.findall(r">(\d\d:\d\d)<", drawn)
+            self.assertEqual([time for time in times if time in wanted], wanted)
+            self.assertNotIn("02:00" if minutes == 1380 else "03:00", times)
 
     def test_no_blocks_and_ticks_past_the_end(self):
         index = board_of("listing.txt")

@@ -2,9 +2,9 @@
 use alloc::vec::Vec;
 use core::ops::Range;
 
-/// When a station is open. A window is some minutes of a day, from 0 up to 1440. Day 0 is a Monday, and [`Days::day`](crate::Days::day) gives the day of a cell. A
-/// cell is open if a window of its weekday covers its minute of the day; on a special day only the windows of that day count. The default has no windows: every
-/// cell is closed.
+/// When a station is open. A window is some minutes of a day as the clock shows them, from 0 up to 1440. Day 0 is a Monday, and
+/// [`Index::day`](crate::Index::day) gives the day of a cell. A cell is open if a window of its weekday covers what the clock shows then; on a special day only the
+/// windows of that day count. The default has no windows: every cell is closed.
 ///
 /// ```
 /// use servercape::{Calendar, Index, Kind, Refusal, Room};

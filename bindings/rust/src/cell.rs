@@ -1,5 +1,4 @@
-//! Cells, and the days that their minutes fall on.
-use crate::raw;
+//! Cells.
 use core::{fmt, ops::Range};
 
 /// A platform in a minute. Calls take and give the number of a cell: the platform is its upper 32 bits, the minute its lower 32. Minute 0 is a Monday 00:00.
@@ -60,62 +59,5 @@ impl From<Cell> for u64 {
 impl fmt::Display for Cell {
     fn fmt(&self, f: &mut fmt::Formatter) -> fmt::Result {
         write!(f, "platform {} minute {}", self.platform(), self.minute())
-    }
-}
-
-/// How long the days are, which says what day and what clock time a cell has. Here every day has 1,440 minutes.
-///
-/// ```
-/// use servercape::{Cell, Days};
-///
-/// let cell = Cell::new(2, 1440 + 102).number();
-/// assert_eq!(Days::regular().day(cell), 1, "the Tuesday after minute 0");
-/// assert_eq!(Days::regular().label(cell).to_string(), "01:42");
-/// ```
-#[derive(Clone, PartialEq, Eq, Debug, Default)]
-pub struct Days(());
-
-impl Days {
-    /// Every day has 1,440 minutes.
-    pub const fn regular() -> Days {
-        Days(())
-    }
-
-    /// The day that a cell falls on, from 0, which is a Monday.
-    pub fn day(&self, cell: u64) -> u64 {
-        u64::from(Cell(cell).minute() / 1440)
-    }
-
-    /// The clock time of a cell.
-    pub fn label(&self, cell: u64) -> Label {
-        // SAFETY: the call takes a number and gives one.
-        Label(unsafe { raw::servercape_clock(cell) })
-    }
-}
-
-/// A clock time. It is printed as `01:42`.
-#[derive(Clone, Copy, PartialEq, Eq, PartialOrd, Ord, Hash, Debug)]
-pub struct Label(u64);
-
-impl Label {
-    /// Hours times 100 plus minutes, as the call for C has it.
-    pub const fn number(self) -> u64 {
-        self.0
-    }
-
-    /// From 0 to 23.
-    pub const fn hour(self) -> u64 {
-        self.0 / 100
-    }
-
-    /// From 0 to 59.
-    pub const fn minute(self) -> u64 {
-        self.0 % 100
-    }
-}
-
-impl fmt::Display for Label {
-    fn fmt(&self, f: &mut fmt::Formatter) -> fmt::Result {
-        write!(f, "{:02}:{:02}", self.hour(), self.minute())
     }
 }

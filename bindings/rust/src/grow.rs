@@ -129,6 +129,11 @@ impl GrowingIndex {
         self.0.install_calendar(calendar)
     }
 
+    /// Installs a list of days, as [`Index::install_days`]. Refusals 2, 28.
+    pub fn install_days(&mut self, list: &[(u64, u64)]) -> Result<(), Refusal> {
+        self.0.install_days(list)
+    }
+
     /// Finishes the index, as [`Index::finish`]. Refusal 3.
     pub fn finish(&mut self) -> Result<(), Refusal> {
         // finish goes over all rows, so what it needs is counted first, and is tried once

@@ -1,5 +1,5 @@
 //! What the tables tell of an index besides its answers: the columns are those of docs/LAYOUT.md in the repository.
-use crate::{raw, room, Index, Kind, Room};
+use crate::{days::MOST, raw, room, Days, Index, Kind, Room};
 
 /// A row of pieces or blocks has eight numbers. Of the block table's head the last eight are such a row.
 const ROW: usize = 8;
@@ -8,6 +8,9 @@ const KIND: usize = 2;
 const BLOCKS: usize = 3;
 const USED: usize = 4;
 const LAST: usize = 5;
+
+/// The list of days in the front of the block table's head: a count, then pairs.
+const DAYS: usize = 1305;
 
 /// Where the counts of pieces, nodes and entries stand in their tables.
 const PIECES: usize = 1;
@@ -52,6 +55,14 @@ impl Head<'_> {
 }
 
 impl Index {
+    /// The list of days that is installed; none of an empty index.
+    pub fn days(&self) -> Days {
+        let (count, pairs) = (self.blocks[DAYS] as usize, self.blocks[DAYS + 1..].chunks_exact(2));
+        let mut list = [(0, 0); MOST];
+        let listed = list.iter_mut().zip(pairs).take(count).map(|(day, pair)| *day = (pair[0], pair[1])).count();
+        Days::new(&list[..listed]).unwrap_or_default()
+    }
+
     /// When each block is live, and each piece up to the end tick.
     pub(crate) fn lives(&self) -> impl Iterator<Item = (u64, u64)> + '_ {
         let (head, used) = (Head::of(self), self.used());

@@ -1,5 +1,5 @@
 //! An index and its tables: opening, recording, finishing, files.
-use crate::{head::Head, raw, room, tested, Calendar, Days, Kind, Label, Refusal, Room};
+use crate::{days, head::Head, raw, room, tested, Calendar, Days, Kind, Label, Refusal, Room};
 use alloc::vec::Vec;
 use core::fmt;
 
@@ -207,14 +207,21 @@ impl Index {
         self.room
     }
 
-    /// The day that a cell falls on, from 0, which is a Monday.
+    /// The day that a cell falls on, from 0, which is a Monday, by the list of days that is installed.
     pub fn day(&self, cell: u64) -> u64 {
-        Days::regular().day(cell)
+        self.days().day(cell)
     }
 
-    /// The clock time of a cell.
+    /// The clock time of a cell by the list of days that is installed. Refusal 2 of an empty one.
+    pub fn clock(&self, cell: u64) -> Result<Label, Refusal> {
+        let mut label = 0;
+        Refusal::unless_zero(unsafe { after_test!(servercape_clock_tested, self, blocks; cell, &mut label) })?;
+        Ok(Label(label))
+    }
+
+    /// The same, which an empty one has too: every day has 1,440 minutes there.
     pub fn label(&self, cell: u64) -> Label {
-        Days::regular().label(cell)
+        self.clock(cell).unwrap_or_else(|_| Days::regular().label(cell))
     }
 
     // ── recording ──
@@ -266,6 +273,20 @@ impl Index {
         // accepted or refused, the state stays as it was
         Refusal::unless_zero(unsafe {
             call!(servercape_install_calendar, self, as_ptr as_mut_ptr as_ptr as_ptr as_ptr, numbers.as_ptr(), numbers.len())
+        })
+    }
+
+    /// Installs a list of days in place of the one before, in an open or a finished index: each with its minutes, 1,380 or 1,500, ascending by day, at most 64. All
+    /// other days have 1,440, and an empty list takes the one before back. Labels and station hours go by it; what is booked already stays. [`Days`] makes such a
+    /// list. Refusals 2, 28.
+    pub fn install_days(&mut self, list: &[(u64, u64)]) -> Result<(), Refusal> {
+        // one more than there may be says that there are too many
+        let mut numbers = [0; 2 * (days::MOST + 1)];
+        let pairs = numbers.chunks_exact_mut(2).zip(list);
+        let count = pairs.map(|(pair, &(day, minutes))| pair.copy_from_slice(&[day, minutes])).count();
+        // accepted or refused, the state stays as it was
+        Refusal::unless_zero(unsafe {
+            call!(servercape_install_days, self, as_ptr as_mut_ptr as_ptr as_ptr as_ptr, numbers.as_ptr(), 2 * count)
         })
     }
 

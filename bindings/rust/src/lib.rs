@@ -74,6 +74,20 @@
 //! # Ok::<(), servercape::Refusal>(())
 //! ```
 //!
+//! Where trains run through the clock change, days of 23 and 25 hours are installed ([`Days`]), into an open or a finished board: labels and station hours go by
+//! them. A file does not hold them.
+//!
+//! ```
+//! use servercape::{Cell, Days, GrowingIndex, Kind};
+//!
+//! let mut board = GrowingIndex::open(1_000_000, Kind::Memory)?;
+//! let days = Days::central_european((2024, 1, 1), 2024..=2055).expect("day 0 is a Monday");
+//! board.install_days(days.list())?;
+//! let long = days.start(300); // day 300 is Sunday, 27 October 2024
+//! assert_eq!([long + 179, long + 180].map(|cell| board.label(cell).to_string()), ["02:59", "02:00"]);
+//! # Ok::<(), servercape::Refusal>(())
+//! ```
+//!
 //! # The archive
 //!
 //! It writes finished boards to files, and loads them again. Several may stand in one file, one behind the other.
@@ -112,6 +126,7 @@ extern crate alloc;
 
 mod calendar;
 mod cell;
+mod days;
 mod grow;
 mod head;
 mod index;
@@ -126,7 +141,8 @@ mod same;
 pub mod tested;
 
 pub use calendar::Calendar;
-pub use cell::{Cell, Days, Label};
+pub use cell::Cell;
+pub use days::{Days, Label};
 pub use grow::GrowingIndex;
 pub use index::{put_operation, Index, Opening, Played, Recorded, State};
 pub use kind::{Kind, NoSuchKind};

@@ -72,6 +72,16 @@ extern "C" {
         calendar: *const u64, calendar_length: usize,
     ) -> u64;
 
+    /// Installs a list of days.
+    pub fn servercape_install_days(
+        pieces: *const u64, pieces_length: usize,
+        blocks: *mut u64, blocks_length: usize,
+        store: *const u8, store_length: usize,
+        nodes: *const u64, nodes_length: usize,
+        entries: *const u64, entries_length: usize,
+        days: *const u64, days_length: usize,
+    ) -> u64;
+
     /// The block of a number.
     pub fn servercape_block(
         pieces: *const u64, pieces_length: usize,
@@ -176,5 +186,12 @@ extern "C" {
     ) -> u64;
 
     /// The clock label of a cell: hours times 100 plus minutes.
-    pub fn servercape_clock(cell: u64) -> u64;
+    pub fn servercape_clock(
+        pieces: *const u64, pieces_length: usize,
+        blocks: *const u64, blocks_length: usize,
+        store: *const u8, store_length: usize,
+        nodes: *const u64, nodes_length: usize,
+        entries: *const u64, entries_length: usize,
+        cell: u64, label: &mut u64,
+    ) -> u64;
 }

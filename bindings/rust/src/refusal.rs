@@ -11,7 +11,7 @@ pub enum Refusal {
     Opening,
     /// 2, any call: the tables hold no index, since a load into them was refused; or the scratch lent to record has fewer than eight numbers.
     NotWellFormed,
-    /// 3, record, finish and install: the index is finished or loaded, and takes no more.
+    /// 3, record, finish and install of a calendar: the index is finished or loaded, and takes no more.
     Closed,
     /// 4, every read: the index is still open. Finish it, or a clone of it.
     StillOpen,
@@ -61,6 +61,8 @@ pub enum Refusal {
     OutsideHours,
     /// 27, install: the calendar has an empty or reversed window, one that ends above 1440, too many windows or special days, or special days that do not ascend.
     WrongCalendar,
+    /// 28, install: the list has more than 64 days, days that do not ascend, or one of another length than 1380 or 1500 minutes.
+    WrongDays,
     /// A number that this crate has no name for: the library is newer.
     Other(u64),
 }
@@ -68,10 +70,10 @@ pub enum Refusal {
 use Refusal::*;
 
 /// By number, of which 25 is given by no call; of the two of 15 the one that most calls mean.
-const NUMBERED: [Refusal; 27] = [
+const NUMBERED: [Refusal; 28] = [
     Opening, NotWellFormed, Closed, StillOpen, NoCells, PastLastCell, RecordAtEnd, TickGoesBack, NoRoomForPieces, NoRoomForBlocks, NoRoomForBytes,
     NoRoomForNodes, NoRoomForEntries, ReadAtEnd, WindowReversed, NoRoomForAnswer, FileCut, FileKind, FilePresence, NoRoomForFile, FileTree, FileBlock,
-    FileEntry, FileOverlap, Other(25), OutsideHours, WrongCalendar,
+    FileEntry, FileOverlap, Other(25), OutsideHours, WrongCalendar, WrongDays,
 ];
 
 impl Refusal {
@@ -143,6 +145,7 @@ impl Refusal {
                 "the calendar is wrong: a window does not end after it starts, or ends above minute 1440 of the day, a day has more than 8 windows, there are \
                  more than 64 special days, or they do not ascend"
             }
+            WrongDays => "the list of days is wrong: there are more than 64, they do not ascend, or one has another length than 1380 or 1500 minutes",
             Other(_) => "refused for a reason that this crate does not know",
         }
     }

@@ -1,6 +1,6 @@
 //! Every method answers as the public call of its name, which tests the tables: the same number, the same values, the same slices and tables. Tried on
 //! indices that were opened, finished, loaded and refused.
-use crate::{put_operation, raw, tested, Calendar, Index, Kind, Played, Recorded, Refusal, Room};
+use crate::{put_operation, raw, tested, Calendar, Days, Index, Kind, Played, Recorded, Refusal, Room};
 
 /// A public call that writes to none of the tables.
 macro_rules! public {
@@ -74,6 +74,18 @@ fn hours() -> Calendar {
     hours
 }
 
+/// Lists of days that are taken: no day; short and long ones at the start; as many as there may be; such that no minute reaches.
+fn lists_of_days() -> [Vec<(u64, u64)>; 6] {
+    [
+        vec![],
+        vec![(0, 1380)],
+        vec![(0, 1500), (2, 1380), (3, 1500)],
+        (0..64).map(|day| (day, if day % 3 == 0 { 1500 } else { 1380 })).collect(),
+        (0..64).map(|k| (2_982_570 + k, 1380)).collect(),
+        vec![(1, 1500), (1 << 40, 1380), (u64::MAX, 1500)],
+    ]
+}
+
 /// Indices of every state, each as some call has left it, accepted or refused.
 fn indices() -> Vec<(&'static str, Index)> {
     let room = Room::even(4096);
@@ -99,6 +111,14 @@ fn indices() -> Vec<(&'static str, Index)> {
     finished_with_hours.finish().unwrap();
     let mut loaded_over_hours = with_hours.clone();
     loaded_over_hours.reload(&file, 0).unwrap();
+    let mut with_days = with_hours.clone();
+    with_days.install_days(&lists_of_days()[2]).unwrap();
+    let mut finished_with_days = with_days.clone();
+    finished_with_days.finish().unwrap();
+    let mut days_of_a_finished = finished(30);
+    days_of_a_finished.install_days(&lists_of_days()[3]).unwrap();
+    let mut loaded_over_days = with_days.clone();
+    loaded_over_days.reload(&file, 0).unwrap();
     vec![
         ("not opened", Index::lend(room).unwrap()),
         ("opened", played(room, 0)),
@@ -112,6 +132,10 @@ fn indices() -> Vec<(&'static str, Index)> {
         ("with station hours", with_hours),
         ("finished, with station hours", finished_with_hours),
         ("loaded over station hours", loaded_over_hours),
+        ("with days", with_days),
+        ("finished, with days", finished_with_days),
+        ("days of a finished index", days_of_a_finished),
+        ("loaded over days", loaded_over_days),
         ("finish refused", full),
         ("load refused before anything was written", cut),
         ("load refused after that", zeroed),
@@ -236,6 +260,28 @@ fn same_file(what: &str, index: &Index) {
     }
 }
 
+/// Cells around the places at which days start and labels jump, some in between, and those around the end of a platform.
+fn minutes() -> impl Iterator<Item = u64> {
+    let starts = [0, 1380, 1440, 1500, 2760, 2820, 2880, 2940, 3000, 4320];
+    let around = starts.into_iter().flat_map(|start| [0, 1, 119, 120, 179, 180, 239, 240, 1379].map(|into| start + into));
+    around.chain((0..60).map(|k| k * 71_583_000)).chain(((1 << 32) - 600..(1 << 32) + 600).step_by(43))
+}
+
+/// The label that the public call gives, and the one that the list of the index gives.
+fn same_labels(what: &str, index: &Index) {
+    let days = index.days();
+    for cell in minutes().chain(EDGES) {
+        let mut label = 7777;
+        let by = public!(raw::servercape_clock, index, cell, &mut label);
+        let clock = index.clock(cell);
+        assert_eq!(number(&clock), by, "{what}: clock of {cell}");
+        assert!(clock.is_ok() || label == 7777, "{what}: the label stays");
+        assert!(clock.is_err() || clock.is_ok_and(|clock| clock.number() == label), "{what}: clock of {cell}");
+        assert!(clock.is_err() || days.label(cell).number() == label, "{what}: the label of {cell} by {days:?}");
+        assert!(index.label(cell) == days.label(cell) && index.day(cell) == days.day(cell), "{what}: the day of {cell}");
+    }
+}
+
 #[test]
 fn reads() {
     for (what, index) in indices() {
@@ -247,6 +293,7 @@ fn reads() {
         same_neighbours(what, &index);
         same_cells(what, &index);
         same_file(what, &index);
+        same_labels(what, &index);
         same_tables(what, &index, &before);
     }
 }
@@ -343,6 +390,35 @@ fn installs() {
             for cell in 0..CELLS {
                 let (by, recorded) = public_record(&mut other, &[0; 8], END - 1, cell, &[cell as u8 % 3]);
                 let answer = one.record(END - 1, cell, &[cell as u8 % 3]);
+                assert_eq!(number(&answer), by, "{what}: record at {cell}");
+                assert!(answer.is_err() || answer == Ok(recorded), "{what}: record at {cell}");
+            }
+            same_tables(what, &one, &other);
+        }
+    }
+}
+
+/// As the call with the list's numbers, taken or refused; and what the index says of its list.
+#[test]
+fn installs_of_days() {
+    let wrong = [vec![(0, 1440)], vec![(3, 1380), (3, 1500)], vec![(4, 1380), (3, 1500)], (0..65).map(|day| (day, 1380)).collect(), (0..99).map(|day| (day, 1500)).collect()];
+    for (what, index) in indices() {
+        for list in lists_of_days().into_iter().chain(wrong.clone()) {
+            let numbers: Vec<u64> = list.iter().flat_map(|&(day, minutes)| [day, minutes]).collect();
+            let (mut one, mut other) = (index.clone(), index.clone());
+            let by = writes!(raw::servercape_install_days, other, as_ptr as_ptr, numbers.as_ptr(), numbers.len());
+            assert_eq!(number(&one.install_days(&list)), by, "{what}: install {list:?}");
+            same_tables(what, &one, &other);
+            let taken = Days::new(&list);
+            assert_eq!(by == 28, taken.is_err() && one.state != tested::SERVERCAPE_NOT_WELL_FORMED, "{what}: {list:?} refused");
+            assert_eq!(one.days(), if by == 0 { taken.unwrap() } else { index.days() }, "{what}: the list");
+            same_labels(what, &one);
+            // a day without its minutes
+            let by = writes!(raw::servercape_install_days, other, as_ptr as_ptr, [9].as_ptr(), 1);
+            assert_eq!(by, if one.state == tested::SERVERCAPE_NOT_WELL_FORMED { 2 } else { 28 }, "{what}: an odd list");
+            for cell in (100..260).step_by(7).chain((1_300..1_560).step_by(5)) {
+                let (by, recorded) = public_record(&mut other, &[0; 8], END - 1, cell, &[1]);
+                let answer = one.record(END - 1, cell, &[1]);
                 assert_eq!(number(&answer), by, "{what}: record at {cell}");
                 assert!(answer.is_err() || answer == Ok(recorded), "{what}: record at {cell}");
             }

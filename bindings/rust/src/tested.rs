@@ -102,4 +102,11 @@ extern "C" {
         out: *mut u8, out_length: usize,
         written: &mut u64,
     ) -> u64;
+
+    /// [`servercape_clock`](crate::raw::servercape_clock) after the test.
+    pub fn servercape_clock_tested(
+        state: u64,
+        blocks: *const u64, blocks_length: usize,
+        cell: u64, label: &mut u64,
+    ) -> u64;
 }

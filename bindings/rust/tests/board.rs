@@ -131,6 +131,24 @@ fn through_midnight() {
     assert_eq!([1432, 1445].map(|cell| Days::regular().label(cell).to_string()), ["23:52", "00:05"]);
 }
 
+/// Day 0 is short, then long: by the label up to the minute at which the clock jumps, and behind it.
+#[test]
+fn a_short_and_a_long_day() {
+    let mut index = opened(8);
+    let labels = |index: &Index, cells: [u64; 8]| cells.map(|cell| index.clock(cell).unwrap().number());
+    index.install_days(&[(0, 1380)]).unwrap();
+    assert_eq!(labels(&index, [0, 119, 120, 1379, 1380, 2819, 2820, u64::MAX]), [0, 159, 300, 2359, 0, 2359, 0, 515]);
+    index.install_days(&[(0, 1500)]).unwrap();
+    assert_eq!(labels(&index, [119, 179, 180, 239, 240, 1499, 1500, u64::MAX]), [159, 259, 200, 259, 300, 2359, 0, 315]);
+    assert_eq!((number(index.install_days(&[(0, 1440)])), number(index.install_days(&[(1, 1380), (0, 1500)]))), (28, 28));
+    // Mondays from 03:00 on
+    index.install_calendar(&Calendar { week: std::array::from_fn(|weekday| if weekday == 0 { vec![180..1440] } else { vec![] }), special: vec![] }).unwrap();
+    assert_eq!((number(index.record(0, 239, &[1])), index.record(0, 240, &[1])), (26, update(240)));
+    index.finish().unwrap();
+    index.install_days(&[(1, 1380), (2, 1500), (5, 1380)]).unwrap();
+    assert_eq!(labels(&index, [1440, 1559, 1560, 2820, 3000, 4320, 8579, 8580]), [0, 159, 300, 0, 200, 0, 2359, 0]);
+}
+
 #[test]
 fn touching_goes_by_cells() {
     let index = listing();

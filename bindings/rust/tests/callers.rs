@@ -37,7 +37,7 @@ fn closed() -> Index {
 
 #[test]
 fn a_refusal_has_number_and_words() {
-    for number in (1..=24).chain([26, 27]) {
+    for number in (1..=24).chain([26, 27, 28]) {
         let refusal = Refusal::of(number).unwrap();
         assert_eq!(refusal.number(), number);
         let words = refusal.to_string();
@@ -72,6 +72,75 @@ fn station_hours_have_names() {
     assert_eq!(board.record(0, 0, &[7]).map(Recorded::cell), Ok(Some(0)));
     board.finish().unwrap();
     assert_eq!(board.install_calendar(&Calendar::default()), Err(Refusal::Closed));
+}
+
+#[test]
+fn days_have_names() {
+    let mut board = GrowingIndex::open(END, Kind::Memory).unwrap();
+    assert_eq!(board.install_days(&[(0, 1440)]), Err(Refusal::WrongDays));
+    board.install_days(&[(0, 1380), (1, 1500)]).unwrap();
+    let labels = |board: &Index| [119, 120, 1380, 1380 + 180].map(|cell| board.label(cell).to_string());
+    let listed = ["01:59", "03:00", "00:00", "02:00"];
+    assert_eq!(labels(&board), listed);
+    assert_eq!((board.days().list(), board.day(1379), board.day(1380)), (&[(0, 1380), (1, 1500)][..], 0, 1));
+    // tables that grow keep the list, and so do a clone and a finished board
+    for tick in 0..500 {
+        board.record(tick, 40 * tick, &[7; 5]).unwrap();
+    }
+    let now = board.finished().unwrap();
+    assert_eq!((labels(&board), labels(&now)), (listed.map(String::from), listed.map(String::from)));
+    // station hours go by what the clock shows: no minute of the short day is between 02:00 and 03:00, on the long one both passes are
+    let mut hours = Calendar::default();
+    hours.week = std::array::from_fn(|_| vec![120..180]);
+    board.install_calendar(&hours).unwrap();
+    assert!((0..1380).all(|cell| board.record(500, cell, &[9]) == Err(Refusal::OutsideHours)));
+    assert_eq!(board.record(500, 1380 + 120, &[9; 120]).map(Recorded::cell), Ok(Some(1500)));
+    assert_eq!(board.record(500, 1380 + 119, &[9]), Err(Refusal::OutsideHours));
+    assert_eq!(board.record(500, 1380 + 240, &[9]), Err(Refusal::OutsideHours));
+    // a finished board takes another list, and a file holds none
+    board.finish().unwrap();
+    board.install_days(&[(0, 1500)]).unwrap();
+    assert_eq!((board.label(180).number(), board.install_days(&[(5, 1380), (5, 1380)])), (200, Err(Refusal::WrongDays)));
+    let (mut loaded, _) = Index::load(&board.write().unwrap(), 0).unwrap();
+    assert_eq!((loaded.days(), loaded.label(180).number()), (Days::regular(), 300));
+    loaded.install_days(board.days().list()).unwrap();
+    assert_eq!((loaded.days(), loaded.label(180)), (board.days(), board.label(180)));
+    board.reopen(END, Kind::Memory).unwrap();
+    assert_eq!((board.days(), board.clock(180).map(|label| label.number())), (Days::regular(), Ok(300)));
+    // a load that is refused 22 leaves no index, and the clock is refused 2
+    let mut file = loaded.write().unwrap();
+    file.copy_within(9 + 25..9 + 33, 9 + 17);
+    assert_eq!((number(loaded.reload(&file, 0)), loaded.clock(180), loaded.label(180).number()), (22, Err(Refusal::NotWellFormed), 300));
+    assert_eq!(loaded.install_days(&[]), Err(Refusal::NotWellFormed));
+}
+
+#[test]
+fn clock_changes_by_date() {
+    let days = Days::central_european((2024, 1, 1), 2024..=2026).unwrap();
+    // 31 March and 27 October 2024, 30 March and 26 October 2025, 29 March and 25 October 2026
+    assert_eq!(days.list(), [(90, 1380), (300, 1500), (454, 1380), (664, 1500), (818, 1380), (1028, 1500)]);
+    assert!(days.list().iter().all(|(day, _)| day % 7 == 6), "Sundays");
+    let later = Days::central_european((2025, 6, 2), 2024..=2026).unwrap();
+    assert_eq!(later.list(), days.list()[3..].iter().map(|(day, minutes)| (day - 518, *minutes)).collect::<Vec<_>>(), "what lies before day 0 is left out");
+    assert_eq!(Days::central_european((2024, 1, 1), 2024..=2055).unwrap().list().len(), 64);
+    assert_eq!(Days::central_european((2024, 1, 1), 2024..=2056), None, "66 changes");
+    assert!([(2024, 1, 2), (2024, 0, 1), (2024, 13, 1), (2023, 2, 29), (2024, 4, 31), (0, 1, 3)].iter().all(|&monday| Days::central_european(monday, 2024..=2024).is_none()));
+    assert_eq!(Days::central_european((2024, 2, 26), 2024..=2024).unwrap().list(), [(34, 1380), (244, 1500)]);
+    assert_eq!(Days::central_european((1900, 2, 26), 1900..=1900).unwrap().list(), [(27, 1380), (244, 1500)], "1900 had no leap day");
+    assert_eq!(format!("{:?}", Days::new(&[(3, 1380)]).unwrap()), "Days([(3, 1380)])");
+}
+
+/// The day that starts at a minute or before, and the one after it starts behind.
+#[test]
+fn days_start_after_those_before() {
+    for list in [vec![], vec![(0, 1500)], vec![(0, 1380), (1, 1380), (5, 1500)], (0..64).map(|k| (2 * k, 1500)).collect(), vec![(u64::MAX, 1380)]] {
+        let days = Days::new(&list).unwrap();
+        for minute in (0..200_000).chain([u32::MAX]) {
+            let (cell, day) = (Cell::new(3, minute).number(), days.day(minute.into()));
+            assert!(days.day(cell) == day && days.start(day) <= minute.into() && u64::from(minute) < days.start(day + 1), "{days:?}: {minute}");
+        }
+        assert_eq!(days.start(u64::MAX), u64::MAX, "it stops there");
+    }
 }
 
 #[test]

@@ -55,8 +55,14 @@ fn as_much_as_the_answer() {
     refused(27, || index.install_calendar(&wrong));
     assert_eq!(asked(|| index.install_calendar(&Calendar::default())), (0, Ok(())));
     refused(26, || index.record(600, 0, &[7]));
+    refused(28, || index.install_days(&[(0, 1440)]));
+    assert_eq!(asked(|| index.install_days(&[(0, 1380)])), (0, Ok(())));
     index.finish().unwrap();
     refused(3, || index.install_calendar(&wrong));
+    let many: Vec<(u64, u64)> = (0..65).map(|day| (day, 1500)).collect();
+    refused(28, || index.install_days(&many));
+    assert_eq!(asked(|| index.install_days(&many[1..])), (0, Ok(())));
+    assert_eq!(asked(|| (index.label(0).number(), index.day(0))), (0, (0, 0)));
     let window = 0..u64::MAX;
     refused(14, || index.cells(1000, window.clone()));
     refused(14, || index.find(1000, window.clone()));

@@ -6,6 +6,7 @@ use native.Mathlib.Numerals.{add-one}
 use native.Mathlib.Omega.{arith}
 use lib.ListN.{length, getD, take}
 use lib.Seq.{take-suc, take-all}
+use Rattle.history.specs.Days.{daysOf}
 use Rattle.history.specs.Reads.{clockLabel}
 use Rattle.history.specs.Printed.{digit, decimal, fourDigits, hexDigit, hexBytes, blockLine, refusedLine, refusedText, space, newline}
 use Rattle.history.specs.Words.{Block, firstCell}
@@ -48,9 +49,9 @@ hex-all bytes i h a = rw (take-all i bytes h) at a
 
 -- ── the label ──
 
-pub label-put : {out after : List ℕ} {at q n a b c d : ℕ} (cell : ℕ) → n ≡ clockLabel cell → a ≡ digit (n / 1000 % 10) → b ≡ digit (n / 100 % 10)
-    → c ≡ digit (n / 10 % 10) → d ≡ digit (n % 10) → Put out at (a ∷ b ∷ c ∷ d ∷ []) after q → Put out at (fourDigits (clockLabel cell) []) after q
-unfolding fourDigits
+pub label-put : {out after : List ℕ} {at q n a b c d : ℕ} (cell : ℕ) → n ≡ clockLabel (daysOf []) cell → a ≡ digit (n / 1000 % 10) → b ≡ digit (n / 100 % 10)
+    → c ≡ digit (n / 10 % 10) → d ≡ digit (n % 10) → Put out at (a ∷ b ∷ c ∷ d ∷ []) after q → Put out at (fourDigits (clockLabel [] cell) []) after q
+unfolding daysOf fourDigits
 label-put cell e f g h i put = rw (← e, ← f, ← g, ← h, ← i) put
 
 -- ── lines of numbers ──
@@ -71,11 +72,11 @@ label-more n a b = put-append a b
 
 pub front-put : {out o₁ o₂ o₃ o₄ o₅ after : List ℕ} {at p₁ p₂ p₃ p₄ p₅ q : ℕ} (first cells created destroyed : ℕ)
     → Put out at (decimal first (space ∷ [])) o₁ p₁ → Put o₁ p₁ (decimal cells (space ∷ [])) o₂ p₂ → Put o₂ p₂ (decimal created (space ∷ [])) o₃ p₃
-    → Put o₃ p₃ (decimal destroyed (space ∷ [])) o₄ p₄ → Put o₄ p₄ (fourDigits (clockLabel first) []) o₅ p₅ → Put o₅ p₅ (space ∷ []) after q
+    → Put o₃ p₃ (decimal destroyed (space ∷ [])) o₄ p₄ → Put o₄ p₄ (fourDigits (clockLabel [] first) []) o₅ p₅ → Put o₅ p₅ (space ∷ []) after q
     → Put out at (blockFront first cells created destroyed) after q
 unfolding blockFront
 front-put first cells created destroyed a b c d e f =
-    more-put first a (more-put cells b (more-put created c (more-put destroyed d (label-more (clockLabel first) e f))))
+    more-put first a (more-put cells b (more-put created c (more-put destroyed d (label-more (clockLabel [] first) e f))))
 
 pub line-put : {out o₁ o₂ after : List ℕ} {at p₁ p₂ q : ℕ} (first created destroyed : ℕ) (bytes : List ℕ)
     → Put out at (blockFront first (length bytes) created destroyed) o₁ p₁ → Put o₁ p₁ (hexBytes bytes []) o₂ p₂ → Put o₂ p₂ (newline ∷ []) after q
@@ -105,8 +106,8 @@ label-length n text = omega arith
 front-fits : (first cells created destroyed : ℕ) → length (blockFront first cells created destroyed) ≤ frontMost
 unfolding blockFront
 front-fits first cells created destroyed =
-    let label = fourDigits (clockLabel first) (space ∷ []) in
-    let a : length label ≡ 5 = label-length (clockLabel first) (space ∷ []) in
+    let label = fourDigits (clockLabel [] first) (space ∷ []) in
+    let a : length label ≡ 5 = label-length (clockLabel [] first) (space ∷ []) in
     let b = digits-length 20 destroyed (space ∷ label) in
     let c = digits-length 20 created (space ∷ decimal destroyed (space ∷ label)) in
     let d = digits-length 20 cells (space ∷ decimal created (space ∷ decimal destroyed (space ∷ label))) in
@@ -122,7 +123,7 @@ line-parts : (b : Block) → blockLine b ≡ blockLineOf (firstCell b) (b .creat
 unfolding blockLine blockLineOf blockFront
 line-parts b =
     let rest : List ℕ = hexBytes (b .stretch .bytes) [] ++ (newline ∷ []) in
-    let label : List ℕ = fourDigits (clockLabel (firstCell b)) (space ∷ []) in
+    let label : List ℕ = fourDigits (clockLabel [] (firstCell b)) (space ∷ []) in
     let destroyed : List ℕ = decimal (b .destroyed) (space ∷ label) in
     let created : List ℕ = decimal (b .created) (space ∷ destroyed) in
     let cells : List ℕ = decimal (length (b .stretch .bytes)) (space ∷ created) in
@@ -130,8 +131,8 @@ line-parts b =
     (field-text (length (b .stretch .bytes)) created rest
     (field-text (b .created) destroyed rest
     (field-text (b .destroyed) label rest
-    (ap (λ (t : List ℕ). fourDigits (clockLabel (firstCell b)) (space ∷ t)) (hex-text (b .stretch .bytes) (newline ∷ []))
-    ∙ label-text (clockLabel (firstCell b)) rest))))
+    (ap (λ (t : List ℕ). fourDigits (clockLabel [] (firstCell b)) (space ∷ t)) (hex-text (b .stretch .bytes) (newline ∷ []))
+    ∙ label-text (clockLabel [] (firstCell b)) rest))))
 
 pub law-of-lines : LawOfLines
 law-of-lines =

@@ -13,7 +13,7 @@ use Rattle.history.specs.Printed.{space, newline, decimal, fourDigits, hexBytes
 -- up to the hexadecimal
 unfoldable pub blockFront : (first cells created destroyed : ℕ) → List ℕ
 blockFront first cells created destroyed =
-    decimal first (space ∷ decimal cells (space ∷ decimal created (space ∷ decimal destroyed (space ∷ fourDigits (clockLabel first) (space ∷ [])))))
+    decimal first (space ∷ decimal cells (space ∷ decimal created (space ∷ decimal destroyed (space ∷ fourDigits (clockLabel [] first) (space ∷ [])))))
 
 unfoldable pub blockLineOf : (first created destroyed : ℕ) (bytes : List ℕ) → List ℕ
 blockLineOf first created destroyed bytes = blockFront first (length bytes) created destroyed ++ (hexBytes bytes [] ++ (newline ∷ []))

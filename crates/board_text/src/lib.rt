@@ -105,11 +105,12 @@ pub fn hex(out: &mut [u8], at: usize, bytes: &[u8]) -> usize
     next
 }
 
-// The clock label of a cell, in four digits.
+// The clock label of a cell, in four digits; no day is listed.
 fn label(out: &mut [u8], at: usize, cell: u64) -> usize
-    ensures { λ r. ⌜ Put (now (out .entry)) at (fourDigits (clockLabel cell) []) (now (out .exit)) r ⌝ }
+    ensures { λ r. ⌜ Put (now (out .entry)) at (fourDigits (clockLabel [] cell) []) (now (out .exit)) r ⌝ }
 {
-    let n = clock::clock_label(cell);
+    let none = [0; 0];
+    let n = days::cell_label(&none, cell);
     let digits = [
         digit(n / 1000 % 10),
         digit(n / 100 % 10),

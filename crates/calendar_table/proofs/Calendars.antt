@@ -1,14 +1,14 @@
 -- One calendar for each table; it stays where its numbers do; what install leaves; and the returns of the reads. Assumes nothing.
-use mathlib.Core.Path.{_≡_, refl, sym, ap, _∙_}
+use mathlib.Core.Path.{_≡_, refl, sym, ap, ap₂, _∙_}
 use mathlib.Core.Logic.{_⊎_, inl, inr}
 use mathlib.Core.Bool.{Bool, true, false, false≢true}
 use mathlib.Core.Option.{Option, none, some}
 use mathlib.Core.List.{List, _∷_}
-use Prim.Native.Nat.{ℕ, zero, suc, _+_, _-_, _≤_, _<_}
+use Prim.Native.Nat.{ℕ, zero, suc, _+_, _-_, _*_, _≤_, _<_}
 use native.Mathlib.Omega.{arith}
 use native.Mathlib.Nat.{zero-add}
-use lib.ListN.{length, getD, take, drop, length-drop, drop-of-length-le, List·getD-eq-default}
-use lib.Seq.{length-sets, getD-drop, take-all}
+use lib.ListN.{length, getD, set, take, drop, length-drop, drop-of-length-le, List·getD-eq-default}
+use lib.Seq.{sets, length-sets, getD-drop, take-all}
 use borrow.Author.Needs.{needs}
 use Rattle.lists.specs.Lists.{countFrom}
 use Rattle.lists.specs.Tests.{Decides}
@@ -16,9 +16,12 @@ use Rattle.lists.proofs.Numbers.{confirm, refute}
 use Rattle.lists.proofs.Lists.{count-from-at, count-from-length}
 use Rattle.lists.proofs.Maps.{getD-of-map, length-of-map}
 use Rattle.lists.proofs.Stores.{getD-sets-in, getD-sets-out}
+use Rattle.history.specs.Lent.{rowWidth}
+use Rattle.history.specs.Days.{Day, daysOf}
 use Rattle.history.specs.Hours.{Calendar, calendarWidth, calendarOf, closedCell, closedBy, calendarTaken, NoneOrInstallable}
 use Rattle.history.proofs.HoursLaws.{calendar-alike}
 use Rattle.tables.specs.Columns.{frontCalendar, frontDays}
+use Rattle.day_table.specs.DayLists.{listIn, DaysIn}
 use Rattle.calendar_table.specs.Calendars.{flagOf, flagIn, numbersIn, CalendarIn, ClosedTold, CalendarFormed, calendarNumbers, installedIn}
 
 -- ── one calendar ──
@@ -140,16 +143,18 @@ module _ (blocks : List ℕ) where
     pub closed-none : n ≡ 0 → ClosedTold blocks first bytes false
     closed-none z = record { says = go }
       where
-        go : (x : Option Calendar) → CalendarIn blocks x → false ≡ closedBy x first bytes
-        go none h = refl
-        go (some c) h = absurd (omega (arith, h .flag))
+        go : (days : List Day) (x : Option Calendar) → DaysIn blocks days → CalendarIn blocks x → false ≡ closedBy days x first bytes
+        go days none d h = refl
+        go days (some c) d h = absurd (omega (arith, h .flag))
 
-    pub closed-some : (numbers : List ℕ) (r : Bool) → numbers ≡ numbersIn blocks → (n ≡ 0 → ⊥) → r ≡ closedCell (calendarOf numbers) first bytes → ClosedTold blocks first bytes r
-    closed-some numbers r e z is = record { says = go }
+    pub closed-some : (numbers list : List ℕ) (r : Bool) → numbers ≡ numbersIn blocks → list ≡ listIn blocks → (n ≡ 0 → ⊥)
+        → r ≡ closedCell (daysOf list) (calendarOf numbers) first bytes → ClosedTold blocks first bytes r
+    closed-some numbers list r e g z is = record { says = go }
       where
-        go : (x : Option Calendar) → CalendarIn blocks x → r ≡ closedBy x first bytes
-        go none h = absurd (omega (arith, h .flag))
-        go (some c) h = is ∙ ap (λ (d : Calendar). closedCell d first bytes) (ap calendarOf e ∙ h .numbers c refl)
+        go : (days : List Day) (x : Option Calendar) → DaysIn blocks days → CalendarIn blocks x → r ≡ closedBy days x first bytes
+        go days none d h = absurd (omega (arith, h .flag))
+        go days (some c) d h =
+            is ∙ ap₂ (λ (ds : List Day) (k : Calendar). closedCell ds k first bytes) (ap daysOf g ∙ d .is) (ap calendarOf e ∙ h .numbers c refl)
 
   module _ (n : ℕ) (f : n ≡ flagIn blocks) where
     pub formed-none : n ≡ 0 → Decides true (CalendarFormed blocks)
@@ -167,3 +172,12 @@ module _ (blocks : List ℕ) where
 pub ruleset reading = (flag-past, numbers-none, numbers-some, needs)
 
 pub ruleset judging = (closed-none, closed-some, formed-none, formed-no-flag, formed-taken, needs)
+
+-- ── `install` ──
+
+pub install-done : (before flagged next numbers : List ℕ) → flagged ≡ set before (rowWidth * 0 + frontCalendar) 1
+    → next ≡ sets flagged (frontCalendar + 1) (calendarNumbers numbers) → next ≡ installedIn before numbers
+install-done before flagged next numbers e f =
+    let at : rowWidth * 0 + frontCalendar ≡ frontCalendar = omega arith in
+    let behind : suc frontCalendar ≡ frontCalendar + 1 = omega arith in
+    f ∙ rw (e, at, behind)

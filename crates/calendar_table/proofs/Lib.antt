@@ -1,2 +1,1 @@
 pub mod Calendars
-pub mod Writing

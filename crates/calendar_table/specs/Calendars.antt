@@ -3,13 +3,14 @@
 use mathlib.Core.Path.{_≡_}
 use mathlib.Core.Bool.{Bool, true}
 use mathlib.Core.Option.{Option, none, some}
-use mathlib.Core.List.{List, _∷_, map}
+use mathlib.Core.List.{List, _∷_}
 use Prim.Native.Nat.{ℕ, _+_, _≤_}
 use lib.ListN.{getD, drop}
 use lib.Seq.{sets}
-use Rattle.lists.specs.Lists.{countFrom}
+use Rattle.history.specs.Days.{Day}
 use Rattle.history.specs.Hours.{Calendar, calendarWidth, calendarOf, closedBy, calendarTaken}
 use Rattle.tables.specs.Columns.{frontCalendar}
+use Rattle.day_table.specs.DayLists.{DaysIn, padded}
 
 -- ── what stands there ──
 
@@ -32,9 +33,9 @@ pub record CalendarIn (blocks : List ℕ) (x : Option Calendar) : Type 0 where
 
 -- ── what the functions ensure ──
 
--- `closed`: refusal 26, of whatever calendar stands there
+-- `closed`: refusal 26, of whatever calendar and list of days stand there
 pub record ClosedTold (blocks : List ℕ) (first : ℕ) (bytes : List ℕ) (r : Bool) : Type 0 where
-  pub says : (x : Option Calendar) → CalendarIn blocks x → r ≡ closedBy x first bytes
+  pub says : (days : List Day) (x : Option Calendar) → DaysIn blocks days → CalendarIn blocks x → r ≡ closedBy days x first bytes
 
 -- `formed`: no calendar, or one that install takes
 pub record CalendarFormed (blocks : List ℕ) : Type 0 where
@@ -43,7 +44,7 @@ pub record CalendarFormed (blocks : List ℕ) : Type 0 where
 
 -- `install`: the flag and 1,272 numbers, zeros where there are fewer; all else as it was
 abbrev pub calendarNumbers : (numbers : List ℕ) → List ℕ
-calendarNumbers numbers = map (λ i. getD numbers i 0) (countFrom 0 calendarWidth)
+calendarNumbers numbers = padded numbers calendarWidth
 
 abbrev pub installedIn : (blocks numbers : List ℕ) → List ℕ
 installedIn blocks numbers = sets blocks frontCalendar (1 ∷ calendarNumbers numbers)

@@ -3,13 +3,9 @@
 //
 //   specs/Calendars    which calendar stands there, and what the functions ensure
 //   proofs/Calendars   one calendar for each table; what is kept and what is written; each return
-//   proofs/Writing     the numbers written, from one turn to the next
 ghost use mathlib.Core.Path.{_≡_};
 ghost use Rattle.lists.specs.Tests.{Decides};
-ghost use Prim.Native.Nat.{_+_};
-ghost use lib.Seq.{sets};
-ghost use Rattle.tables.specs.Columns.{frontCalendar};
-ghost use Rattle.calendar_table.specs.Calendars.{flagIn, numbersIn, ClosedTold, CalendarFormed, calendarNumbers, installedIn};
+ghost use Rattle.calendar_table.specs.Calendars.{flagIn, numbersIn, ClosedTold, CalendarFormed, installedIn};
 use tables::block;
 
 // What stands in the flag.
@@ -39,14 +35,15 @@ fn numbers<'a>(blocks: &'a [u64]) -> &'a [u64]
     &blocks[block::CALENDAR + 1..to]
 }
 
-// Whether some byte that is not 0 falls on a cell that the calendar closes. Without a calendar this is one test.
+// Whether some byte that is not 0 falls on a cell that the calendar closes; days and labels go by the list that stands behind it. Without a calendar this
+// is one test.
 pub fn closed(blocks: &[u64], first: u64, bytes: &[u8]) -> bool
     ensures { λ r. ⌜ ClosedTold (now (blocks .entry)) first (now (bytes .entry)) r ⌝ }
 {
     if flag(blocks) == 0 {
         return false;
     }
-    hours::closed_cell(numbers(blocks), first, bytes)
+    hours::closed_cell(numbers(blocks), day_table::list(blocks), first, bytes)
 }
 
 // Whether there is no calendar, or one that install takes.
@@ -63,26 +60,10 @@ pub fn formed(blocks: &[u64]) -> bool
     hours::takes(numbers(blocks))
 }
 
-// Writes the numbers behind the flag, zeros where the slice is shorter.
-fn fill(blocks: &mut [u64], calendar: &[u64])
-    ensures { λ _. ⌜ now (blocks .exit) ≡ sets (now (blocks .entry)) (frontCalendar + 1) (calendarNumbers (now (calendar .entry))) ⌝ }
-{
-    let mut i = 0;
-    while i < WIDTH {
-        tables::put(
-            blocks,
-            0,
-            block::CALENDAR + 1 + i,
-            hours::number(calendar, i),
-        );
-        i += 1;
-    }
-}
-
 // Writes a calendar in place of the one before, all its numbers, so that nothing of that one stays.
 pub fn install(blocks: &mut [u64], calendar: &[u64])
     ensures { λ _. ⌜ now (blocks .exit) ≡ installedIn (now (blocks .entry)) (now (calendar .entry)) ⌝ }
 {
     tables::put(blocks, 0, block::CALENDAR, INSTALLED);
-    fill(blocks, calendar);
+    day_table::write(blocks, block::CALENDAR + 1, WIDTH, calendar);
 }

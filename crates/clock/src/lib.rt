@@ -1,18 +1,40 @@
-// The clock label of a cell, worked out from its minute.
-ghost use mathlib.Core.Path.{_≡_};
-ghost use Rattle.history.specs.Reads.{clockLabel};
+// The clock: the label of a cell, by the list of days that stands in the tables of an open or a closed index.
+//
+//   specs/Answers    the number for every case of the answer; what the clock of tested tables ensures
+//   proofs/Telling   one step for each return
+ghost use Rattle.layout.specs.Tables.{tables};
+ghost use Rattle.layout.specs.Relations.{ClockGivenBy};
+ghost use Rattle.clock.specs.Answers.{toldOf, ClockTold};
+use index_test::State;
 
-// A cell's lower 32 bits are its minute, so that its platform is a multiple of this.
-const PLATFORM: u64 = 1 << 32;
-// Minutes of a day, and of an hour.
-const DAY: u64 = 1440;
+// The answer of clock: hours times 100 plus minutes.
+pub enum Told {
+    Label(u64),
+    Refused(u64),
+}
 
-const HOUR: u64 = 60;
-
-// The clock label of `cell`: four digits, hours times 100 plus minutes. The minute comes first: 2^32 is no multiple of a day's minutes.
-pub fn clock_label(cell: u64) -> u64
-    ensures { λ r. ⌜ r ≡ clockLabel cell ⌝ }
+// The label of a cell, of tables that are not tested here.
+pub fn clock_formed(blocks: &[u64], cell: u64) -> Told
+    ensures { λ r. ⌜ ClockTold (now (blocks .entry)) cell (toldOf r) ⌝ }
 {
-    let minute = cell % PLATFORM % DAY;
-    minute / HOUR * 100 + minute % HOUR
+    Told::Label(days::cell_label(day_table::list(blocks), cell))
+}
+
+// The label of a cell.
+pub fn clock(
+    pieces: &[u64],
+    blocks: &[u64],
+    store: &[u8],
+    nodes: &[u64],
+    entries: &[u64],
+    cell: u64,
+) -> Told
+    ensures { λ r. ⌜ ClockGivenBy (tables (now (pieces .entry)) (now (blocks .entry)) (now (store .entry)) (now (nodes .entry)) (now (entries .entry))) cell (toldOf r) ⌝ }
+{
+    let state = index_test::test(pieces, blocks, store, nodes, entries);
+    match state {
+        State::Bad => Told::Refused(2),
+        State::Open => clock_formed(blocks, cell),
+        State::Closed => clock_formed(blocks, cell),
+    }
 }

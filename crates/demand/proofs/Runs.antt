@@ -11,28 +11,30 @@ use borrow.Author.Tests.{le-ltb, lt-ltb}
 use Rattle.lists.proofs.Numbers.{bool-cases}
 use Rattle.history.specs.Words.{Operation, Block}
 use Rattle.history.specs.Lent.{rowWidth, tooShort}
-use Rattle.history.specs.Ledger.{Opening, Ledger, opened, finished, isRead, recordBy, finishBy, installBy}
-use Rattle.history.specs.Reads.{blockBy, findBy}
+use Rattle.history.specs.Ledger.{Opening, Ledger, opened, finished, isRead, recordBy, finishBy, installBy, installDaysBy}
+use Rattle.history.specs.Days.{Day}
+use Rattle.history.specs.Reads.{blockBy, findBy, clockLabel}
 use Rattle.tables.specs.Columns.{blockColumn, blockOffset, piecesRoot}
 use Rattle.merge_set.specs.Tree.{leaf, rows, height, Balanced}
 use Rattle.merge_set.specs.Table.{Shape}
 use Rattle.piece_table.specs.Piece.{pieceAt}
 use Rattle.piece_table.specs.Shown.{shown}
 use Rattle.history.specs.Results.{Result}
-use Rattle.history.specs.Refusals.{Answer, accepted, refused, firstOf, maxEndTick, openAnswer, recordRefusals, recordAnswer, finishRefusals, finishAnswer, installRefusals, installAnswer, findAnswer}
-use Rattle.history.specs.Calls.{Call, recordCall, finishCall, calendarCall, answerTo, acceptedBy, leaves, after, answers, afterAll, noted, history}
+use Rattle.history.specs.Refusals.{Answer, accepted, refused, firstOf, maxEndTick, openAnswer, recordRefusals, recordAnswer, finishRefusals, finishAnswer, installRefusals, installAnswer, daysRefusals, daysAnswer, findAnswer}
+use Rattle.history.specs.Calls.{Call, recordCall, finishCall, calendarCall, daysCall, answerTo, acceptedBy, leaves, after, answers, afterAll, lastDays, noted, history}
 use Rattle.history.specs.Sound.{Sound}
 use Rattle.history.specs.Law.{LedgerLaw, Faithful}
 use Rattle.history.proofs.EveryList.{the-law, every-list, law-after, opening-kept}
+use Rattle.history.proofs.DaysLaws.{days-last}
 use Rattle.history.proofs.FindSound.{find-sound}
 use Rattle.layout.specs.Tables.{Tables, lengthsOf}
 use Rattle.layout.specs.Encodes.{Encodes}
 use Rattle.layout.specs.Formed.{WellFormed, WellFormedForFinish, Blank}
-use Rattle.layout.specs.Relations.{openingOf, openedTables, leftBy, OpenedBy, RecordLeaves, RecordedBy, FinishLeaves, FinishedBy, InstallLeaves, InstalledBy, Fields, blockIn, fieldsAt, BlockHanded}
+use Rattle.layout.specs.Relations.{openingOf, openedTables, leftBy, OpenedBy, RecordLeaves, RecordedBy, FinishLeaves, FinishedBy, InstallLeaves, InstalledBy, DaysLeave, DaysInstalledBy, ClockGivenBy, Fields, blockIn, fieldsAt, BlockHanded}
 use Rattle.layout.proofs.Recording.{record-blank, record-open}
-use Rattle.layout.proofs.Installing.{installed-blank, install-open}
+use Rattle.layout.proofs.Installing.{installed-blank, install-open, days-blank, days-open}
 use Rattle.layout.specs.Reads.{valuesOf}
-use Rattle.layout.proofs.ReadLaws.{block-there, block-15, window-rest, into-gives, into-refuses}
+use Rattle.layout.proofs.ReadLaws.{clock-there, block-there, block-15, window-rest, into-gives, into-refuses}
 use Rattle.layout.proofs.Opening.{open-accepted, getD-zeros, opened-encodes, opened-lengths, opened-blank}
 use Rattle.layout.proofs.Depths.{shallow-trees}
 use Rattle.demand.specs.Theorem.{CallDone, Run, run-nil, run-cons, Finished, Balance, Demand3}
@@ -45,10 +47,11 @@ formed-heads t w = w .encodes .heads
 
 -- of a ledger whose lengths are too short every call is refused 2
 short-answer : (l : Ledger) (k : Call) → tooShort (l .opening .lent) ≡ true → answerTo l k ≡ refused 2
-unfolding answerTo firstOf recordRefusals finishRefusals installRefusals
+unfolding answerTo firstOf recordRefusals finishRefusals installRefusals daysRefusals
 short-answer l (recordCall scratch o) e = rw e
 short-answer l finishCall e = rw e
 short-answer l (calendarCall numbers) e = rw e
+short-answer l (daysCall numbers) e = rw e
 
 short-after : (l : Ledger) (k : Call) → tooShort (l .opening .lent) ≡ true → after l k ≡ l
 unfolding after leaves
@@ -58,6 +61,7 @@ short-call : (k : Call) (t t′ : Tables) (a : Answer Result) → tooShort (leng
 short-call (recordCall scratch o) t t′ a e d = d .unformed (λ w. true≢false (sym e ∙ w .encodes .heads))
 short-call finishCall t t′ a e d = d .unformed (λ w. true≢false (sym e ∙ w .encodes .heads))
 short-call (calendarCall numbers) t t′ a e d = d .unformed (λ w. true≢false (sym e ∙ w .encodes .heads))
+short-call (daysCall numbers) t t′ a e d = d .unformed (λ w. true≢false (sym e ∙ w .encodes .heads))
 
 short-run : {t t′ : Tables} {ks : List Call} {given : List (Answer Result)} (l : Ledger) → tooShort (l .opening .lent) ≡ true → tooShort (lengthsOf t) ≡ true
     → Run t ks given t′ → (given ≡ answers l ks) × (afterAll l ks ≡ l)
@@ -134,12 +138,29 @@ step-install numbers t t′ l h a s d =
     }
     go (refused n) law x = rw x (record { encodes = s .encodes; law = law; blank = s .blank })
 
+step-days : (numbers : List ℕ) (t t′ : Tables) (l : Ledger) (h : List Operation) (a : Answer Result) → Standing t l h → DaysInstalledBy numbers t t′ a
+    → (a ≡ daysAnswer l numbers) × Standing t′ (after l (daysCall numbers)) (noted h (daysCall numbers) (daysAnswer l numbers))
+unfolding after leaves answerTo acceptedBy noted
+step-days numbers t t′ l h a s d =
+    let f = d .formed l (s .encodes) (s .law .sound .sound) in
+    (f .0, go (daysAnswer l numbers) (law-after l h (daysCall numbers) (s .law)) (f .1))
+  where
+    go : (x : Answer Result) → LedgerLaw (leaves x l (installDaysBy l numbers)) (noted h (daysCall numbers) x) → DaysLeave x l numbers t t′
+        → Standing t′ (leaves x l (installDaysBy l numbers)) (noted h (daysCall numbers) x)
+    go (accepted b) law x = record {
+      encodes = x .0;
+      law = law;
+      blank = λ still. rw (x .1) (days-blank t numbers (s .blank (sym (days-open l numbers) ∙ still)));
+    }
+    go (refused n) law x = rw x (record { encodes = s .encodes; law = law; blank = s .blank })
+
 step : (k : Call) (t t′ : Tables) (l : Ledger) (h : List Operation) (a : Answer Result) → Standing t l h → CallDone k t t′ a
     → (a ≡ answerTo l k) × Standing t′ (after l k) (noted h k (answerTo l k))
 unfolding answerTo
 step (recordCall scratch o) t t′ l h a s d = step-record scratch o t t′ l h a s d
 step finishCall t t′ l h a s d = step-finish t t′ l h a s d
 step (calendarCall numbers) t t′ l h a s d = step-install numbers t t′ l h a s d
+step (daysCall numbers) t t′ l h a s d = step-days numbers t t′ l h a s d
 
 runs : {t t′ : Tables} {ks : List Call} {given : List (Answer Result)} (l : Ledger) (h : List Operation) → Standing t l h → Run t ks given t′
     → (given ≡ answers l ks) × Standing t′ (afterAll l ks) (history h l ks)
@@ -190,6 +211,18 @@ finished-reads l h t s done cells = record {
   no-room = λ tick start stop out out′ answer below ordered d room.
       into-refuses (d .read .formed l (s .encodes) (sound l h t s done)) (find-full l h t s done tick start stop (length out) below ordered room);
 }
+
+-- ── the clock ──
+
+-- of tables that stand for a ledger: the label by its list of days
+clock-shows : (t : Tables) (l : Ledger) (h : List Operation) → Standing t l h → (cell : ℕ) (answer : Answer ℕ) → ClockGivenBy t cell answer
+    → answer ≡ accepted (clockLabel (l .days) cell)
+clock-shows t l h s cell answer d =
+    d .read .formed l (s .encodes) (s .law .sound .sound) .answered ∙ ap (valuesOf (λ label. label)) (clock-there (s .encodes) cell)
+
+-- of tables too short: 2
+clock-short : (t : Tables) (cell : ℕ) (answer : Answer ℕ) → ClockGivenBy t cell answer → tooShort (lengthsOf t) ≡ true → answer ≡ refused 2
+clock-short t cell answer d e = d .read .unformed (λ w. true≢false (sym e ∙ w .encodes .heads)) .answered
 
 -- ── the tree of pieces ──
 
@@ -269,6 +302,15 @@ module _ (end kind : ℕ) (some-tick : 1 ≤ end) (end-most : end ≤ maxEndTick
         let same : t′ ≡ openedTables end kind t = short-same table r ∙ left in
         zeros-balanced (afterAll (opened fed) ks) t′ (ap (λ (l : Ledger). l .now .pieces) (short e .1) ∙ opened-pieces fed) (λ i. rw same (getD-zeros (length (t .pieces)) i))
 
+    short-clock : tooShort (lengthsOf t) ≡ true → (cell : ℕ) (answer : Answer ℕ) → ClockGivenBy t′ cell answer → answer ≡ refused 2
+    short-clock e cell answer c =
+        let table : tooShort (lengthsOf t₀) ≡ true = ap tooShort (ap lengthsOf left ∙ sym (opened-lengths end kind t)) ∙ e in
+        clock-short t′ cell answer c (ap (λ (x : Tables). tooShort (lengthsOf x)) (short-same table r) ∙ table)
+
+    days-are : afterAll (opened fed) ks .days ≡ lastDays [] (opened fed) ks
+    unfolding opened
+    days-are = days-last ks (opened fed)
+
     short-open : tooShort (lengthsOf t) ≡ true → finished (afterAll (opened fed) ks) ≡ true → ⊥
     short-open e done = false≢true (sym (opened-open fed) ∙ ap finished (sym (short e .1)) ∙ done)
 
@@ -284,6 +326,8 @@ demand end kind a b c t t₀ opening d =
         opens = opens end kind a b c t t₀ opening d;
         answered = λ ks given t′ r. short end kind a b c t t₀ opening d r e .0;
         balance = λ ks given t′ r. short-balanced end kind a b c t t₀ opening d r e;
+        clock = λ ks given t′ r cell answer x fits. absurd (true≢false (sym e ∙ fits));
+        no-clock = λ ks given t′ r cell answer x _. short-clock end kind a b c t t₀ opening d r e cell answer x;
         done = λ ks given t′ r done. absurd (short-open end kind a b c t t₀ opening d r e done);
       }
       | inr fits ↦ (
@@ -293,6 +337,10 @@ demand end kind a b c t t₀ opening d =
             opens = opens end kind a b c t t₀ opening d;
             answered = λ ks given t′ r. runs (opened begun) [] s r .0;
             balance = λ ks given t′ r. stands-balanced t′ (afterAll (opened begun) ks) (runs (opened begun) [] s r .1 .encodes);
+            clock = λ ks given t′ r cell answer x _.
+                clock-shows t′ (afterAll (opened begun) ks) (history [] (opened begun) ks) (runs (opened begun) [] s r .1) cell answer x
+                ∙ ap (λ (days : List Day). accepted (clockLabel days cell)) (days-are end kind a b c t t₀ opening d r);
+            no-clock = λ ks given t′ r cell answer x e. absurd (true≢false (sym e ∙ fits));
             done = λ ks given t′ r e.
                 finished-reads (afterAll (opened begun) ks) (history [] (opened begun) ks) t′ (runs (opened begun) [] s r .1) e
                 (subst (λ (n : ℕ). Faithful n (afterAll (opened begun) ks .now .blocks) (history [] (opened begun) ks)) (sym (same-end end kind a b c t t₀ opening d ks)) (every-list begun (taken end kind a b c t t₀ opening d) ks .faithful e));

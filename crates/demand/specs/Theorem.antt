@@ -1,22 +1,23 @@
 -- Demand 3, whole: one statement over every list of calls from a freshly opened index. The words of the demand stand over the clauses that say them.
 use mathlib.Core.Path.{_≡_}
-use mathlib.Core.Bool.{true}
+use mathlib.Core.Bool.{true, false}
 use mathlib.Core.List.{List, [], _∷_}
 use Prim.Native.Nat.{ℕ, _≤_, _<_}
 use lib.ListN.{length}
 use lib.Seq.{sets}
 use Rattle.history.specs.Words.{Operation}
+use Rattle.history.specs.Lent.{tooShort}
 use Rattle.history.specs.Ledger.{Ledger, opened, finished}
-use Rattle.history.specs.Reads.{blockBy, findBy}
+use Rattle.history.specs.Reads.{blockBy, findBy, clockLabel}
 use Rattle.history.specs.Results.{Result}
 use Rattle.history.specs.Refusals.{Answer, accepted, refused, maxEndTick}
-use Rattle.history.specs.Calls.{Call, recordCall, finishCall, calendarCall, answers, afterAll, history}
+use Rattle.history.specs.Calls.{Call, recordCall, finishCall, calendarCall, daysCall, answers, afterAll, lastDays, history}
 use Rattle.history.specs.Law.{Faithful, FindLaw}
 use Rattle.tables.specs.Columns.{column, piecesRoot}
 use Rattle.merge_set.specs.Tree.{Tree, rows, height, Balanced}
 use Rattle.merge_set.specs.Table.{Shape}
-use Rattle.layout.specs.Tables.{Tables}
-use Rattle.layout.specs.Relations.{openingOf, OpenedBy, RecordedBy, FinishedBy, InstalledBy, Counts, FoundBy, Fields, blockIn, BlockGivenBy}
+use Rattle.layout.specs.Tables.{Tables, lengthsOf}
+use Rattle.layout.specs.Relations.{openingOf, OpenedBy, RecordedBy, FinishedBy, InstalledBy, DaysInstalledBy, ClockGivenBy, Counts, FoundBy, Fields, blockIn, BlockGivenBy}
 
 -- ── lists of calls ──
 
@@ -25,6 +26,7 @@ abbrev pub CallDone : Call → (t t′ : Tables) → Answer Result → Type 0
 CallDone (recordCall scratch o) t t′ answer = RecordedBy scratch o t t′ answer
 CallDone finishCall t t′ answer = FinishedBy t t′ answer
 CallDone (calendarCall numbers) t t′ answer = InstalledBy numbers t t′ answer
+CallDone (daysCall numbers) t t′ answer = DaysInstalledBy numbers t t′ answer
 
 -- a list of calls, each with the scratch it is lent, and their answers, refused ones included: every call finds the tables as the one before left them
 pub data Run : Tables → List Call → List (Answer Result) → Tables → Type 0 where
@@ -74,7 +76,13 @@ pub record Demand (end kind : ℕ) (t t₀ : Tables) (opening : Answer Unit) : T
   pub answered : (ks : List Call) (given : List (Answer Result)) (t′ : Tables) → Run t₀ ks given t′ → given ≡ answers (opened (openingOf end kind t)) ks
   -- after every list of calls the tree of pieces is balanced;
   pub balance : (ks : List Call) (given : List (Answer Result)) (t′ : Tables) → Run t₀ ks given t′ → Balance (afterAll (opened (openingOf end kind t)) ks) t′
-  -- after an accepted finish all the above.
+  -- after every list of calls the clock gives the label of a cell by the list of days that was accepted last, of an open or a closed index; tables too
+  -- short give 2;
+  pub clock : (ks : List Call) (given : List (Answer Result)) (t′ : Tables) → Run t₀ ks given t′ → (cell : ℕ) (answer : Answer ℕ) → ClockGivenBy t′ cell answer
+      → tooShort (lengthsOf t) ≡ false → answer ≡ accepted (clockLabel (lastDays [] (opened (openingOf end kind t)) ks) cell)
+  pub no-clock : (ks : List Call) (given : List (Answer Result)) (t′ : Tables) → Run t₀ ks given t′ → (cell : ℕ) (answer : Answer ℕ) → ClockGivenBy t′ cell answer
+      → tooShort (lengthsOf t) ≡ true → answer ≡ refused 2
+  -- after an accepted finish, and after every list of days that is installed then, all the above.
   pub done : (ks : List Call) (given : List (Answer Result)) (t′ : Tables) → Run t₀ ks given t′ → finished (afterAll (opened (openingOf end kind t)) ks) ≡ true
       → Finished (afterAll (opened (openingOf end kind t)) ks) (history [] (opened (openingOf end kind t)) ks) t′
 

@@ -20,7 +20,7 @@ use Rattle.history.proofs.TreeCounts.{entry-count-in}
 use Rattle.history.proofs.RulesLaws.{numbered-decides, rule23-decides}
 use Rattle.history.proofs.FileRules.{Rule21, Rule22, rule22-decides}
 use Rattle.history.proofs.FileContents.{Entered, rules-enter}
-use Rattle.tables.specs.Columns.{frontCalendar, blockColumn, blockBase, blockFirst, headState, headEnd, headKind, headCount, headUsed, headLast}
+use Rattle.tables.specs.Columns.{frontCalendar, frontDays, blockColumn, blockBase, blockFirst, headState, headEnd, headKind, headCount, headUsed, headLast}
 use Rattle.block_table.specs.Blocks.{Room, blocksOf, Stored}
 use Rattle.block_table.proofs.Blocks.{blocks-key}
 use Rattle.segment_table.specs.Closed.{firstCellIn, Closed}
@@ -29,6 +29,7 @@ use Rattle.file_scan.specs.Counts.{bytesIn}
 use Rattle.layout.specs.Rows.{headNumbers, blocksNumbers, nodeHeadNumbers, nodeNumbers, treeNumbers, entryHeadNumbers, entryNumbers, runNumbers}
 use Rattle.file_fill.specs.Fill.{bytesOfAll, firstCellOf, NodesLeft}
 use Rattle.file_fill.proofs.FillingTrees.{node-numbers-length, entry-numbers-length}
+use Rattle.day_table.proofs.DayLists.{days-none}
 use Rattle.calendar_table.proofs.Calendars.{calendar-none}
 use Rattle.layout.specs.Tables.{Tables, tables, lengthsOf, headAt}
 use Rattle.layout.specs.Encodes.{closedState, Encodes}
@@ -183,13 +184,15 @@ module _ {f : File} {kind n used e : ℕ} {blocks store nodes entries b₁ b₂ 
         holds-moved (length-replicate {A = ℕ} blockBase 0)
         (holds-right (replicate blockBase 0) headRow (holds-left (loadedHead e kind n used) (blocksNumbers 0 bs) rows-hold))
 
-    -- no calendar
-    front-zero : getD b₂ frontCalendar 0 ≡ 0
+    -- no calendar, and no listed day
+    front-zero : (i : ℕ) → i < blockBase → getD b₂ i 0 ≡ 0
     unfolding loadedHead
-    front-zero =
-        holds-left (replicate blockBase 0) headRow (holds-left (loadedHead e kind n used) (blocksNumbers 0 bs) rows-hold) .says frontCalendar
+    front-zero i h =
+        let z : i ≡ 0 + i = omega arith in
+        ap (λ (j : ℕ). getD b₂ j 0) z
+        ∙ holds-left (replicate blockBase 0) headRow (holds-left (loadedHead e kind n used) (blocksNumbers 0 bs) rows-hold) .says i
         (omega (arith, length-replicate {A = ℕ} blockBase 0))
-        ∙ getD-zeros blockBase frontCalendar
+        ∙ getD-zeros blockBase i
 
     rows-room : Room b₂ n
     rows-room = omega (arith, head-long, block-fits)
@@ -316,7 +319,8 @@ module _ {f : File} {kind n used e : ℕ} {blocks store nodes entries b₁ b₂ 
         pieces = refl;
         pieces-stored = all-nil;
         tree = subst (λ (k : ℕ). Closed (lent b₂ nodes′ entries′) k (endOf (f .nodes)) T) (F .own-kind) (closed entries-headed);
-        calendar = calendar-none b₂ front-zero;
+        calendar = calendar-none b₂ (front-zero frontCalendar (omega arith));
+        days = days-none b₂ (front-zero frontDays (omega arith));
       }
 
       -- the keys are the first cells of the file's blocks: every entry is one of them

@@ -9,10 +9,10 @@ use borrow.Author.Tests.{ltb-false, le-ltb}
 use Rattle.lists.proofs.Numbers.{or-left, or-right}
 use Rattle.history.specs.Words.{Operation}
 use Rattle.history.specs.Lent.{Lent, pieceRows, blockRows, nodeRows, entryRows, tooShort, leastScratch}
-use Rattle.history.specs.Ledger.{Ledger, isRead, recordBy, finishBy, installBy}
+use Rattle.history.specs.Ledger.{Ledger, isRead, recordBy, finishBy, installBy, installDaysBy}
 use Rattle.history.specs.Results.{Result}
 use Rattle.history.specs.Reads.{findBy, liveBy, cellsBy}
-use Rattle.history.specs.Refusals.{accepted, Refusal, firstOf, recordRefusals, recordAnswer, finishRefusals, finishAnswer, installRefusals, installAnswer, windowRefusals, neighbourRefusals, blockRefusals, writeRefusals}
+use Rattle.history.specs.Refusals.{accepted, Refusal, firstOf, recordRefusals, recordAnswer, finishRefusals, finishAnswer, installRefusals, installAnswer, daysRefusals, daysAnswer, windowRefusals, neighbourRefusals, blockRefusals, clockRefusals, writeRefusals}
 use Rattle.history.proofs.Passing.{Passed, passed}
 use Rattle.layout.proofs.Lengths.{Heads, heads-fit, fit-heads}
 use Rattle.growth.specs.Longer.{lengthened, lentMore, ReadsAlike, TakesAlike}
@@ -32,7 +32,7 @@ longer-heads more n e =
 -- ── reads ──
 
 pub reads-alike : (more : Lent) (l : Ledger) → tooShort (l .opening .lent) ≡ false → ReadsAlike l (lentMore more l)
-unfolding findBy liveBy cellsBy windowRefusals neighbourRefusals blockRefusals writeRefusals
+unfolding findBy liveBy cellsBy windowRefusals neighbourRefusals blockRefusals clockRefusals writeRefusals
 reads-alike more l here =
     let there = longer-heads more (l .opening .lent) here in
     record {
@@ -42,10 +42,11 @@ reads-alike more l here =
       last = λ t c. rw (here, there);
       cells = λ t s n bytes held. rw (here, there);
       block = λ k. rw (here, there);
+      clock = λ c. rw (here, there);
       write = λ out. rw (here, there);
     }
 
--- ── record, finish and install ──
+-- ── record, finish and the two install calls ──
 
 -- where no condition holds, the call is accepted
 passing : {A : Type 0} (rs : List Refusal) (a : A) → Passed rs → firstOf rs a ≡ accepted a
@@ -109,8 +110,14 @@ module _ (more : Lent) (l : Ledger) where
       let p = passed (installRefusals l numbers) _ e in
       rw (longer-heads more here (p .0), p .1 .0, p .1 .1 .0) (given (installRefusals l numbers) _ e)
 
+  installs-days : (numbers : List ℕ) (r : Result) → daysAnswer l numbers ≡ accepted r → daysAnswer (lentMore more l) numbers ≡ accepted r
+  unfolding daysRefusals firstOf
+  installs-days numbers r e =
+      let p = passed (daysRefusals l numbers) _ e in
+      rw (longer-heads more here (p .0), p .1 .0) (given (daysRefusals l numbers) _ e)
+
   pub takes-alike : TakesAlike more l
-  unfolding recordBy finishBy installBy
+  unfolding recordBy finishBy installBy installDaysBy
   takes-alike = record {
     records = records;
     recorded = λ o. refl;
@@ -118,4 +125,6 @@ module _ (more : Lent) (l : Ledger) where
     finished = refl;
     installs = installs;
     installed = λ numbers. refl;
+    installs-days = installs-days;
+    days-installed = λ numbers. refl;
   }

@@ -11,11 +11,12 @@ use Rattle.history.specs.Tree as segment
 use Rattle.history.specs.Ledger.{Ledger}
 use Rattle.history.specs.Sound.{SoundBoard, SoundTree, Sound, SoundForFinish}
 use Rattle.tables.specs.Columns.{headState, headEnd, headKind, headCount, headUsed, headLast}
+use Rattle.day_table.proofs.DayLists.{days-kept}
 use Rattle.calendar_table.proofs.Calendars.{calendar-kept}
 use Rattle.layout.specs.Tables.{Tables, lengthsOf, headAt}
 use Rattle.layout.specs.Encodes.{TreeIn, Encodes}
 use Rattle.layout.specs.Formed.{Blank}
-use Rattle.layout.proofs.Lengths.{lent-same}
+use Rattle.layout.proofs.Lengths.{lent-same, heads-fit}
 use Rattle.layout.proofs.Pieces.{used-fits}
 use Rattle.growth.specs.Longer.{zerosBehind, longer, lengthened, lentMore, LongerTables}
 use Rattle.growth.proofs.Extending.{Extends, zeros-length, zeros-extend, links-kept, inside-kept, pieces-kept, blocks-kept, stored-kept, unordered-kept, closed-kept}
@@ -70,6 +71,10 @@ module _ (more : Lent) (t : Tables) (l : Ledger) (e : Encodes t l) where
         pieces-stored = rw (same headUsed) (inside-kept pieces-longer _ (e .pieces-stored));
         tree = tree-kept (l .tree) (e .tree);
         calendar = calendar-kept (t .blocks) (longer more t .blocks) (l .calendar) (λ i _ _. blocks-longer .same i) (e .calendar);
+        days =
+            let h = heads-fit (lengthsOf t) (e .heads) in
+            days-kept (t .blocks) (longer more t .blocks) (l .days) (omega (arith, h .blocks)) (omega (arith, h .blocks, zeros-length (more .blocks) (t .blocks)))
+            (λ i _ _. blocks-longer .same i) (e .days);
       }
 
 -- ── the ledger ──
@@ -88,6 +93,7 @@ board-more more l s =
       blocks-fit = omega (arith, s .blocks-fit);
       store-fits = omega (arith, s .store-fits);
       calendar-taken = s .calendar-taken;
+      days-taken = s .days-taken;
     }
 
 tree-more : (more : Lent) (l : Ledger) (tree : Option segment.Tree) → SoundTree l tree → SoundTree (lentMore more l) tree

@@ -9,7 +9,7 @@ use Rattle.history.specs.Lent.{Lent}
 use Rattle.history.specs.Ledger.{Ledger, openingFor, opened}
 use Rattle.history.specs.Results.{Result}
 use Rattle.history.specs.Refusals.{Answer, accepted, refused, openRefusals}
-use Rattle.history.specs.Calls.{Call, recordCall, finishCall, calendarCall, answerTo, acceptedBy, leaves, after, answers, afterAll}
+use Rattle.history.specs.Calls.{Call, recordCall, finishCall, calendarCall, daysCall, answerTo, acceptedBy, leaves, after, answers, afterAll}
 use Rattle.history.proofs.EveryList.{the-law}
 use Rattle.layout.proofs.Lengths.{lent-same}
 use Rattle.growth.specs.Longer.{lengthened, lentMore}
@@ -21,13 +21,13 @@ use Rattle.growth.proofs.Answering.{takes-alike}
 -- no growth, and growth after growth
 more-none : (l : Ledger) → l ≡ lentMore (grownBy []) l
 unfolding grownBy
-more-none l = λ i. record { opening = record { end = l .opening .end; kind = l .opening .kind; lent = same i }; now = l .now; tree = l .tree; calendar = l .calendar }
+more-none l = λ i. record { opening = record { end = l .opening .end; kind = l .opening .kind; lent = same i }; now = l .now; tree = l .tree; calendar = l .calendar; days = l .days }
   where
     same : l .opening .lent ≡ lengthened (grownBy []) (l .opening .lent)
     same = lent-same _ _ (omega arith) (omega arith) (omega arith) (omega arith) (omega arith)
 
 more-more : (a b : Lent) (l : Ledger) → lentMore b (lentMore a l) ≡ lentMore (lengthened b a) l
-more-more a b l = λ i. record { opening = record { end = l .opening .end; kind = l .opening .kind; lent = same i }; now = l .now; tree = l .tree; calendar = l .calendar }
+more-more a b l = λ i. record { opening = record { end = l .opening .end; kind = l .opening .kind; lent = same i }; now = l .now; tree = l .tree; calendar = l .calendar; days = l .days }
   where
     same : lengthened b (lengthened a (l .opening .lent)) ≡ lengthened (lengthened b a) (l .opening .lent)
     same = lent-same _ _ (omega arith) (omega arith) (omega arith) (omega arith) (omega arith)
@@ -40,12 +40,14 @@ module _ (more : Lent) (l : Ledger) where
   answer-more (recordCall scratch o) r e = takes-alike more l .records scratch o r e
   answer-more finishCall r e = takes-alike more l .finishes r e
   answer-more (calendarCall numbers) r e = takes-alike more l .installs numbers r e
+  answer-more (daysCall numbers) r e = takes-alike more l .installs-days numbers r e
 
   accepted-more : (k : Call) → acceptedBy (lentMore more l) k ≡ lentMore more (acceptedBy l k)
   unfolding acceptedBy
   accepted-more (recordCall scratch o) = takes-alike more l .recorded o
   accepted-more finishCall = takes-alike more l .finished
   accepted-more (calendarCall numbers) = takes-alike more l .installed numbers
+  accepted-more (daysCall numbers) = takes-alike more l .days-installed numbers
 
 after-accepted : (l : Ledger) (k : Call) (r : Result) → answerTo l k ≡ accepted r → after l k ≡ acceptedBy l k
 unfolding after leaves

@@ -6,9 +6,9 @@ use Prim.Native.Nat.{ℕ, _+_}
 use lib.ListN.{replicate}
 use Rattle.history.specs.Words.{Operation}
 use Rattle.history.specs.Lent.{Lent, tooShort}
-use Rattle.history.specs.Ledger.{Ledger, openingFor, recordBy, finishBy, installBy}
+use Rattle.history.specs.Ledger.{Ledger, openingFor, recordBy, finishBy, installBy, installDaysBy}
 use Rattle.history.specs.Results.{Result}
-use Rattle.history.specs.Refusals.{accepted, recordAnswer, finishAnswer, installAnswer, findAnswer, touchingAnswer, nextAnswer, lastAnswer, cellsAnswer, blockAnswer}
+use Rattle.history.specs.Refusals.{accepted, recordAnswer, finishAnswer, installAnswer, daysAnswer, findAnswer, touchingAnswer, nextAnswer, lastAnswer, cellsAnswer, blockAnswer, clockAnswer}
 use Rattle.history.specs.File.{writeAnswer}
 use Rattle.history.specs.Sound.{Sound, SoundForFinish}
 use Rattle.layout.specs.Tables.{Tables, tables, headAt}
@@ -37,7 +37,7 @@ lengthened more n =
       entries = n .entries + more .entries;
     }
 
--- the same ledger, with longer lengths: what it keeps, its tree and its calendar stay, so an open index stays open and a closed one closed
+-- the same ledger, with longer lengths: what it keeps, its tree, its calendar and its list of days stay, so an open index stays open and a closed one closed
 abbrev pub lentMore : (more : Lent) → Ledger → Ledger
 lentMore more l =
     record {
@@ -45,6 +45,7 @@ lentMore more l =
       now = l .now;
       tree = l .tree;
       calendar = l .calendar;
+      days = l .days;
     }
 
 -- ── answers ──
@@ -57,6 +58,7 @@ pub record ReadsAlike (l m : Ledger) : Type 0 where
   pub last : (t cell : ℕ) → lastAnswer m t cell ≡ lastAnswer l t cell
   pub cells : (t start stop bytes held : ℕ) → cellsAnswer m t start stop bytes held ≡ cellsAnswer l t start stop bytes held
   pub block : (k : ℕ) → blockAnswer m k ≡ blockAnswer l k
+  pub clock : (cell : ℕ) → clockAnswer m cell ≡ clockAnswer l cell
   pub write : (out : ℕ) → writeAnswer m out ≡ writeAnswer l out
 
 -- what was accepted is accepted, and the call leaves the same ledger, which is lent more
@@ -67,6 +69,8 @@ pub record TakesAlike (more : Lent) (l : Ledger) : Type 0 where
   pub finished : finishBy (lentMore more l) ≡ lentMore more (finishBy l)
   pub installs : (numbers : List ℕ) (r : Result) → installAnswer l numbers ≡ accepted r → installAnswer (lentMore more l) numbers ≡ accepted r
   pub installed : (numbers : List ℕ) → installBy (lentMore more l) numbers ≡ lentMore more (installBy l numbers)
+  pub installs-days : (numbers : List ℕ) (r : Result) → daysAnswer l numbers ≡ accepted r → daysAnswer (lentMore more l) numbers ≡ accepted r
+  pub days-installed : (numbers : List ℕ) → installDaysBy (lentMore more l) numbers ≡ lentMore more (installDaysBy l numbers)
 
 -- ── the law ──
 
@@ -81,6 +85,6 @@ pub record LongerTables : Type 0 where
   -- so they are well formed again, for finish too;
   pub formed : (more : Lent) (t : Tables) → WellFormed t → WellFormed (longer more t)
   pub formed-for-finish : (more : Lent) (t : Tables) → WellFormedForFinish t → WellFormedForFinish (longer more t)
-  -- every read is answered alike, and what record, finish and install took they take.
+  -- every read is answered alike, and what record, finish and the two install calls took they take.
   pub reads : (more : Lent) (l : Ledger) → tooShort (l .opening .lent) ≡ false → ReadsAlike l (lentMore more l)
   pub takes : (more : Lent) (l : Ledger) → TakesAlike more l

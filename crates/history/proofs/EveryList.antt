@@ -12,15 +12,16 @@ use Rattle.lists.proofs.Lists.{all-map, all-mem, mem-right}
 use Rattle.history.specs.Words.{Operation, Block, Holds, blockOf, byteAt}
 use Rattle.history.specs.Tree.{Tree, treeOf}
 use Rattle.history.specs.Rules.{Apart, isHole}
-use Rattle.history.specs.Ledger.{Opening, Moment, Ledger, withNow, opened, finished, isSome, isRead, readBy, updateBy, recordBy, settled, finishBy, installBy}
+use Rattle.history.specs.Days.{daysOf, daysTaken}
+use Rattle.history.specs.Ledger.{Opening, Moment, Ledger, withNow, opened, finished, isSome, isRead, readBy, updateBy, recordBy, settled, finishBy, installBy, installDaysBy}
 use Rattle.history.specs.Reads.{seen}
 use Rattle.history.specs.Results.{Result}
-use Rattle.history.specs.Refusals.{Answer, accepted, refused, openAnswer, recordAnswer, finishAnswer, installAnswer}
-use Rattle.history.specs.Calls.{Call, recordCall, finishCall, calendarCall, answerTo, acceptedBy, leaves, after, afterAll, noted, history, valueAt}
+use Rattle.history.specs.Refusals.{Answer, accepted, refused, openAnswer, recordAnswer, finishAnswer, installAnswer, daysAnswer}
+use Rattle.history.specs.Calls.{Call, recordCall, finishCall, calendarCall, daysCall, answerTo, acceptedBy, leaves, after, afterAll, noted, history, valueAt}
 use Rattle.history.specs.Sound.{SoundBoard, SoundTree, Sound, SoundForFinish, isEmpty}
 use Rattle.history.specs.Law.{CoversBy, LastCall, LedgerLaw, Faithful, EveryList}
 use Rattle.history.proofs.ByKind.{rule-23-kind}
-use Rattle.history.proofs.Passing.{opens, Taken, taken, room, finishes, Installs, installs}
+use Rattle.history.proofs.Passing.{opens, Taken, taken, room, finishes, Installs, installs, days-installs}
 use Rattle.history.proofs.Cells.{Shown, shown-read, shown-updated}
 use Rattle.history.proofs.Steps.{opened-sound, read-sound, update-sound, new-blocks, settled-sound, shown-apart}
 use Rattle.history.proofs.Reading.{seen-some, seen-holds}
@@ -89,6 +90,7 @@ finish-sound l e s =
           blocks-fit = omega (arith, settled-length (l .opening .end) (l .now), b .blocks-fit);
           store-fits = b .store-fits;
           calendar-taken = b .calendar-taken;
+          days-taken = b .days-taken;
         };
         closed = record {
           no-pieces = refl;
@@ -121,11 +123,47 @@ install-board l numbers k b = record {
   blocks-fit = b .blocks-fit;
   store-fits = b .store-fits;
   calendar-taken = record { numbers = numbers; is = refl; taken = k .taken };
+  days-taken = b .days-taken;
 }
 
 pub install-sound : (l : Ledger) (numbers : List ℕ) {r : Result} → installAnswer l numbers ≡ accepted r → Sound l → Sound (installBy l numbers)
 unfolding installBy
 install-sound l numbers e s = let k = installs l numbers e in open-sound _ (k .still-open) (install-board l numbers k (s .board))
+
+-- An accepted list of days changes the list alone, to one that it takes, of an open ledger or a closed one.
+days-board : (l : Ledger) (numbers : List ℕ) → daysTaken (daysOf numbers) ≡ true → SoundBoard l → SoundBoard (installDaysBy l numbers)
+unfolding installDaysBy
+days-board l numbers k b = record {
+  some-tick = b .some-tick;
+  end-most = b .end-most;
+  known-kind = b .known-kind;
+  last-below-end = b .last-below-end;
+  pieces = b .pieces;
+  in-order = b .in-order;
+  blocks = b .blocks;
+  pieces-fit = b .pieces-fit;
+  blocks-fit = b .blocks-fit;
+  store-fits = b .store-fits;
+  calendar-taken = b .calendar-taken;
+  days-taken = k;
+}
+
+days-tree : (l : Ledger) (numbers : List ℕ) (t : Option Tree) → SoundTree l t → SoundTree (installDaysBy l numbers) t
+unfolding installDaysBy
+days-tree l numbers none s = tt
+days-tree l numbers (some t) s = record {
+  no-pieces = s .no-pieces;
+  rooted = s .rooted;
+  rule-21 = s .rule-21;
+  rule-23 = s .rule-23;
+  rule-24 = s .rule-24;
+  nodes-fit = s .nodes-fit;
+  entries-fit = s .entries-fit;
+}
+
+pub days-sound : (l : Ledger) (numbers : List ℕ) {r : Result} → daysAnswer l numbers ≡ accepted r → Sound l → Sound (installDaysBy l numbers)
+unfolding installDaysBy
+days-sound l numbers e s = record { board = days-board l numbers (days-installs l numbers e) (s .board); closed = days-tree l numbers (l .tree) (s .closed) }
 
 -- ── the law, from call to call ──
 
@@ -200,6 +238,14 @@ law-install l h numbers e law = record {
   open-blocks = law .open-blocks;
 }
 
+law-days : (l : Ledger) (h : List Operation) (numbers : List ℕ) {r : Result} → daysAnswer l numbers ≡ accepted r → LedgerLaw l h → LedgerLaw (installDaysBy l numbers) h
+unfolding installDaysBy
+law-days l h numbers e law = record {
+  sound = record { sound = days-sound l numbers e (law .sound .sound); apart = law .sound .apart };
+  cells = law .cells;
+  open-blocks = law .open-blocks;
+}
+
 -- ── a call, and a list of calls ──
 
 pub law-after : (l : Ledger) (h : List Operation) (k : Call) → LedgerLaw l h → LedgerLaw (after l k) (noted h k (answerTo l k))
@@ -219,6 +265,11 @@ law-after l h (calendarCall numbers) law = go (installAnswer l numbers) refl
     go : (x : Answer Result) → installAnswer l numbers ≡ x → LedgerLaw (leaves x l (installBy l numbers)) h
     go (accepted a) e = law-install l h numbers e law
     go (refused n) e = law
+law-after l h (daysCall numbers) law = go (daysAnswer l numbers) refl
+  where
+    go : (x : Answer Result) → daysAnswer l numbers ≡ x → LedgerLaw (leaves x l (installDaysBy l numbers)) h
+    go (accepted a) e = law-days l h numbers e law
+    go (refused n) e = law
 
 law-all : (ks : List Call) (l : Ledger) (h : List Operation) → LedgerLaw l h → LedgerLaw (afterAll l ks) (history h l ks)
 unfolding afterAll history
@@ -227,7 +278,7 @@ law-all (k ∷ ks) l h law = law-all ks (after l k) (noted h k (answerTo l k)) (
 
 -- no call changes what opening was fed
 pub opening-kept : (ks : List Call) (l : Ledger) → (afterAll l ks) .opening ≡ l .opening
-unfolding afterAll after leaves acceptedBy recordBy finishBy installBy
+unfolding afterAll after leaves acceptedBy recordBy finishBy installBy installDaysBy
 opening-kept [] l = refl
 opening-kept (k ∷ ks) l = opening-kept ks (after l k) ∙ one k (answerTo l k)
   where
@@ -238,6 +289,8 @@ opening-kept (k ∷ ks) l = opening-kept ks (after l k) ∙ one k (answerTo l k)
     one finishCall (refused n) = refl
     one (calendarCall numbers) (accepted a) = refl
     one (calendarCall numbers) (refused n) = refl
+    one (daysCall numbers) (accepted a) = refl
+    one (daysCall numbers) (refused n) = refl
 
 opening-of : (a : Opening) → (opened a) .opening ≡ a
 unfolding opened

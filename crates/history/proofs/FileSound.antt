@@ -17,6 +17,7 @@ use Rattle.history.specs.Reads.{findBy, cellsBy}
 use Rattle.history.specs.File.{newNumber, fileBytes, got, treeFrom, load, endOf, Loaded, File, loadedFrom, loadedLedger, savedLedger}
 use Rattle.history.specs.Rules.{filled}
 use Rattle.history.specs.Lent.{Lent}
+use Rattle.history.specs.Days.{risesFrom, daysTaken}
 use Rattle.history.specs.Ledger.{Ledger}
 use Rattle.history.specs.Sound.{Stored, SoundBlock, Sound, SoundBoard, SoundClosed}
 use Rattle.history.proofs.ByKind.{rule-23-kind, closed-rule-23}
@@ -55,6 +56,7 @@ flat-length (b ∷ bs) = length-append (b .stretch .bytes) (flatMap (λ b. b .st
 
 -- Whatever the loader takes is well formed.
 accepted-sound : (n : Lent) (f : File) → FileFits f → Accepted n f → Sound (loadedLedger n (loadedFrom f))
+unfolding daysTaken risesFrom
 accepted-sound n f fits rules =
     let room : Rule20 n f = rule20-decides n f .yes (rules .room) in
     let halves : Rule21 (f .nodes) = rule21-decides (f .nodes) .yes (rules .halves) in
@@ -74,6 +76,7 @@ accepted-sound n f fits rules =
         blocks-fit = omega (arith, room .blocks);
         store-fits = rw (flat-length (f .blocks)) (room .bytes);
         calendar-taken = tt;
+        days-taken = refl;
       };
       closed = record {
         no-pieces = refl;

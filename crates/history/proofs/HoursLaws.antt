@@ -16,15 +16,18 @@ use Rattle.lists.proofs.Numbers.{bool-cases, eq-or-ne, decided, confirm, refute
 use Rattle.lists.proofs.Lists.{all-map, all-mem, all-at, count-from-at, count-from-length}
 use Rattle.lists.proofs.Counting.{all-count-from, not-mem-nil}
 use Rattle.lists.proofs.Maps.{map-all, getD-of-map}
-use Rattle.history.specs.Hours.{Window, Hours, Special, Calendar, windowAt, hoursAt, weekdayAt, specialAt, specialPlace, specialCount, mostWindows, mostSpecial, calendarWidth, calendarOf, minuteOf, dayOf, labelMinute, weekdayOf, covers, covered, specialOf, shut, weekdayWindows, windowsOf, openMinute, openCell, refusedOn, closedCell, ClosedAt, SomeClosed, windowTaken, hoursTaken, specialTaken, rises, daysAscend, calendarTaken, WindowTaken, HoursTaken, CalendarTaken}
+use Rattle.history.specs.Days.{Day, DaysTaken, minuteOf, unlisted, placeFrom, dayOf, shownOn, labelMinute}
+use Rattle.history.specs.Hours.{Window, Hours, Special, Calendar, windowAt, hoursAt, weekdayAt, specialAt, specialPlace, specialCount, mostWindows, mostSpecial, calendarWidth, calendarOf, weekdayOf, covers, covered, specialOf, shut, weekdayWindows, windowsOf, openMinute, openCell, refusedOn, closedCell, ClosedAt, SomeClosed, windowTaken, hoursTaken, specialTaken, rises, daysAscend, calendarTaken, WindowTaken, HoursTaken, CalendarTaken}
 use Rattle.history.specs.Rules.{every}
-use Rattle.history.specs.HoursLaw.{LawOfDays, SomeCovers, wholeDay, LawOfOpening, AlwaysOpen, LawOfClosing}
+use Rattle.history.specs.HoursLaw.{LawOfPlainDays, SomeCovers, wholeDay, LawOfOpening, AlwaysOpen, LawOfClosing}
 use Rattle.history.proofs.RulesLaws.{every-decides}
+use Rattle.history.proofs.DaysLabels.{shown-in-day}
 
 -- ── days ──
 
-pub law-of-days : LawOfDays
-law-of-days =
+pub law-of-plain-days : LawOfPlainDays
+unfolding labelMinute shownOn placeFrom unlisted
+law-of-plain-days =
     record {
       within = λ minute h. record { day = omega arith; label = omega arith };
       midnight = λ minute h. record { day = omega arith; weekday = omega arith; label = omega arith };
@@ -75,15 +78,15 @@ special-found s (r ∷ rs) (pairs-cons a p) (there m) =
 
 -- ── open cells ──
 
-pub open-special : (c : Calendar) (cell : ℕ) (ws : List Window) → specialOf (dayOf (minuteOf cell)) (c .special) ≡ some ws
-    → openCell c cell ≡ covered (labelMinute (minuteOf cell)) ws
+pub open-special : (days : List Day) (c : Calendar) (cell : ℕ) (ws : List Window) → specialOf (dayOf days (minuteOf cell)) (c .special) ≡ some ws
+    → openCell days c cell ≡ covered (labelMinute days (minuteOf cell)) ws
 unfolding openMinute windowsOf
-open-special c cell ws e = rw e
+open-special days c cell ws e = rw e
 
-pub open-other : (c : Calendar) (cell : ℕ) → specialOf (dayOf (minuteOf cell)) (c .special) ≡ none
-    → openCell c cell ≡ covered (labelMinute (minuteOf cell)) (weekdayWindows c (dayOf (minuteOf cell)))
+pub open-other : (days : List Day) (c : Calendar) (cell : ℕ) → specialOf (dayOf days (minuteOf cell)) (c .special) ≡ none
+    → openCell days c cell ≡ covered (labelMinute days (minuteOf cell)) (weekdayWindows c (dayOf days (minuteOf cell)))
 unfolding openMinute windowsOf
-open-other c cell e = rw e
+open-other days c cell e = rw e
 
 -- the hours of a weekday, by their place
 pub weekday-at : (numbers : List ℕ) (day : ℕ) → weekdayWindows (calendarOf numbers) day ≡ weekdayAt numbers (weekdayOf day) .windows
@@ -93,16 +96,17 @@ weekday-at numbers day =
     ap (λ (x : Hours). x .windows)
     (getD-of-map (weekdayAt numbers) (countFrom 0 7) (day % 7) 0 shut (rw (count-from-length 0 7) h) ∙ ap (weekdayAt numbers) (count-from-at 0 7 (day % 7) h ∙ zero-add (day % 7)))
 
-pub empty-closes : (cell : ℕ) → openCell (calendarOf []) cell ≡ false
+pub empty-closes : (days : List Day) (cell : ℕ) → openCell days (calendarOf []) cell ≡ false
 unfolding openMinute windowsOf hoursAt covered specialOf countFrom calendarOf
-empty-closes cell = rw (weekday-at [] (dayOf (minuteOf cell)))
+empty-closes days cell = rw (weekday-at [] (dayOf days (minuteOf cell)))
 
-pub always-opens : (c : Calendar) → AlwaysOpen c → (cell : ℕ) → openCell c cell ≡ true
+pub always-opens : (days : List Day) (c : Calendar) → DaysTaken days → AlwaysOpen c → (cell : ℕ) → openCell days c cell ≡ true
 unfolding specialOf
-always-opens c a cell =
-    let day = dayOf (minuteOf cell) in
+always-opens days c t a cell =
+    let day = dayOf days (minuteOf cell) in
     let m : Mem wholeDay (weekdayWindows c day) = all-at shut (a .whole) (weekdayOf day) (omega (arith, a .seven)) in
-    open-other c cell (rw (a .no-special)) ∙ covered-member (labelMinute (minuteOf cell)) wholeDay (weekdayWindows c day) m (omega arith) (omega arith)
+    open-other days c cell (rw (a .no-special))
+    ∙ covered-member (labelMinute days (minuteOf cell)) wholeDay (weekdayWindows c day) m (omega arith) (shown-in-day days (minuteOf cell) t)
 
 -- ── the numbers that a calendar is read from ──
 
@@ -141,21 +145,21 @@ law-of-opening =
 
 -- ── closed cells ──
 
-decides-refused : (c : Calendar) (cell byte : ℕ) → Decides (refusedOn c cell byte) ((byte ≡ 0 → ⊥) × (openCell c cell ≡ false))
-decides-refused c cell byte = step (eq-or-ne byte 0) (bool-cases (openCell c cell))
+decides-refused : (days : List Day) (c : Calendar) (cell byte : ℕ) → Decides (refusedOn days c cell byte) ((byte ≡ 0 → ⊥) × (openCell days c cell ≡ false))
+decides-refused days c cell byte = step (eq-or-ne byte 0) (bool-cases (openCell days c cell))
   where
-    step : (byte ≡ 0) ⊎ (byte ≡ 0 → ⊥) → (openCell c cell ≡ true) ⊎ (openCell c cell ≡ false)
-        → Decides (refusedOn c cell byte) ((byte ≡ 0 → ⊥) × (openCell c cell ≡ false))
+    step : (byte ≡ 0) ⊎ (byte ≡ 0 → ⊥) → (openCell days c cell ≡ true) ⊎ (openCell days c cell ≡ false)
+        → Decides (refusedOn days c cell byte) ((byte ≡ 0 → ⊥) × (openCell days c cell ≡ false))
     step (inl z) o = rw (eq-eqb byte 0 z) (refute (λ p. p .0 z))
     step (inr n) (inl o) = rw (ne-eqb byte 0 n, o) (refute (λ p. true≢false (p .1)))
     step (inr n) (inr o) = rw (ne-eqb byte 0 n, o) (confirm (n, refl))
 
-pub closed-decides : (c : Calendar) (first : ℕ) (bytes : List ℕ) → Decides (closedCell c first bytes) (SomeClosed c first bytes)
+pub closed-decides : (days : List Day) (c : Calendar) (first : ℕ) (bytes : List ℕ) → Decides (closedCell days c first bytes) (SomeClosed days c first bytes)
 unfolding closedCell
-closed-decides c first [] = refute (λ s. omega (arith, s .there .inside))
-closed-decides c first (b ∷ bs) = step (bool-cases (refusedOn c first b)) (closed-decides c (suc first) bs)
+closed-decides days c first [] = refute (λ s. omega (arith, s .there .inside))
+closed-decides days c first (b ∷ bs) = step (bool-cases (refusedOn days c first b)) (closed-decides days c (suc first) bs)
   where
-    later : SomeClosed c (suc first) bs → SomeClosed c first (b ∷ bs)
+    later : SomeClosed days c (suc first) bs → SomeClosed days c first (b ∷ bs)
     later s =
         let e : first + suc (s .place) ≡ suc first + s .place = omega arith in
         record {
@@ -163,32 +167,32 @@ closed-decides c first (b ∷ bs) = step (bool-cases (refusedOn c first b)) (clo
           there = record { inside = omega (arith, s .there .inside); written = s .there .written; closed = rw e (s .there .closed) };
         }
 
-    sooner : refusedOn c first b ≡ false → (place : ℕ) → ClosedAt c first (b ∷ bs) place → SomeClosed c (suc first) bs
+    sooner : refusedOn days c first b ≡ false → (place : ℕ) → ClosedAt days c first (b ∷ bs) place → SomeClosed days c (suc first) bs
     sooner e zero a =
         let z : first + 0 ≡ first = omega arith in
-        absurd (decides-refused c first b .not e (a .written, rw z at (a .closed)))
+        absurd (decides-refused days c first b .not e (a .written, rw z at (a .closed)))
     sooner e (suc place) a =
         let q : first + suc place ≡ suc first + place = omega arith in
         record { place = place; there = record { inside = omega (arith, a .inside); written = a .written; closed = rw q at (a .closed) } }
 
-    step : (refusedOn c first b ≡ true) ⊎ (refusedOn c first b ≡ false) → Decides (closedCell c (suc first) bs) (SomeClosed c (suc first) bs)
-        → Decides (refusedOn c first b || closedCell c (suc first) bs) (SomeClosed c first (b ∷ bs))
+    step : (refusedOn days c first b ≡ true) ⊎ (refusedOn days c first b ≡ false) → Decides (closedCell days c (suc first) bs) (SomeClosed days c (suc first) bs)
+        → Decides (refusedOn days c first b || closedCell days c (suc first) bs) (SomeClosed days c first (b ∷ bs))
     step (inl e) d =
-        let q = decides-refused c first b .yes e in
+        let q = decides-refused days c first b .yes e in
         let z : first + 0 ≡ first = omega arith in
         rw e (confirm (record { place = 0; there = record { inside = omega arith; written = q .0; closed = rw z (q .1) } }))
-    step (inr e) d = rw e (decides-iff (closedCell c (suc first) bs) later (λ s. sooner e (s .place) (s .there)) d)
+    step (inr e) d = rw e (decides-iff (closedCell days c (suc first) bs) later (λ s. sooner e (s .place) (s .there)) d)
 
-pub zeros-pass : (c : Calendar) (first n : ℕ) → closedCell c first (replicate n 0) ≡ false
+pub zeros-pass : (days : List Day) (c : Calendar) (first n : ℕ) → closedCell days c first (replicate n 0) ≡ false
 unfolding closedCell
-zeros-pass c first zero = refl
-zeros-pass c first (suc n) = zeros-pass c (suc first) n
+zeros-pass days c first zero = refl
+zeros-pass days c first (suc n) = zeros-pass days c (suc first) n
 
 -- where every cell is open, no byte is refused
-pub always-passes : (c : Calendar) → AlwaysOpen c → (first : ℕ) (bytes : List ℕ) → closedCell c first bytes ≡ false
+pub always-passes : (days : List Day) (c : Calendar) → DaysTaken days → AlwaysOpen c → (first : ℕ) (bytes : List ℕ) → closedCell days c first bytes ≡ false
 unfolding closedCell
-always-passes c a first [] = refl
-always-passes c a first (b ∷ bs) = rw (always-opens c a first, and-false (not (eqb b 0))) (always-passes c a (suc first) bs)
+always-passes days c t a first [] = refl
+always-passes days c t a first (b ∷ bs) = rw (always-opens days c t a first, and-false (not (eqb b 0))) (always-passes days c t a (suc first) bs)
   where
     and-false : (t : Bool) → (t && false) ≡ false
     and-false true = refl

@@ -11,12 +11,12 @@ use Rattle.lists.specs.Lists.{All, all-nil, all-cons, Mem, here, there}
 use Rattle.lists.proofs.Numbers.{decided}
 use Rattle.history.specs.Words.{Operation}
 use Rattle.history.specs.Hours.{Calendar, calendarOf, closedCell, closedBy}
-use Rattle.history.specs.Ledger.{Opening, Ledger, opened, isSome, recordBy, finishBy, installBy}
+use Rattle.history.specs.Ledger.{Opening, Ledger, opened, isSome, recordBy, finishBy, installBy, installDaysBy}
 use Rattle.history.specs.Results.{Result}
-use Rattle.history.specs.Refusals.{Answer, accepted, refused, Refusal, _if_, firstOf, recordRefusals, recordAnswer, finishRefusals, finishAnswer, installRefusals, installAnswer}
-use Rattle.history.specs.Calls.{Call, recordCall, finishCall, calendarCall, answerTo, acceptedBy, leaves, after, answers}
+use Rattle.history.specs.Refusals.{Answer, accepted, refused, Refusal, _if_, firstOf, recordRefusals, recordAnswer, finishRefusals, finishAnswer, installRefusals, installAnswer, daysRefusals, daysAnswer}
+use Rattle.history.specs.Calls.{Call, recordCall, finishCall, calendarCall, daysCall, answerTo, acceptedBy, leaves, after, answers}
 use Rattle.history.specs.HoursLaw.{OutsideHours, ByThen, NotInstall, LawOfInstalling, LawOfHours}
-use Rattle.history.proofs.HoursLaws.{law-of-days, law-of-opening, closed-decides, law-of-closing}
+use Rattle.history.proofs.HoursLaws.{law-of-plain-days, law-of-opening, closed-decides, law-of-closing}
 
 -- ── the first of a list ──
 
@@ -53,15 +53,15 @@ by-then {A} (f ∷ fs) r back a e = go (f .holds) (by-then fs r back a e)
 -- ── 26 ──
 
 module _ (l : Ledger) (o : Operation) where
-  outside-by : closedBy (l .calendar) (o .first) (o .bytes) ≡ true → OutsideHours l o
+  outside-by : closedBy (l .days) (l .calendar) (o .first) (o .bytes) ≡ true → OutsideHours l o
   outside-by = go (l .calendar) refl
     where
-      go : (x : Option Calendar) → l .calendar ≡ x → closedBy x (o .first) (o .bytes) ≡ true → OutsideHours l o
+      go : (x : Option Calendar) → l .calendar ≡ x → closedBy (l .days) x (o .first) (o .bytes) ≡ true → OutsideHours l o
       go none e c = absurd (false≢true c)
-      go (some x) e c = record { calendar = x; installed = e; closed = closed-decides x (o .first) (o .bytes) .yes c }
+      go (some x) e c = record { calendar = x; installed = e; closed = closed-decides (l .days) x (o .first) (o .bytes) .yes c }
 
-  closed-outside : OutsideHours l o → closedBy (l .calendar) (o .first) (o .bytes) ≡ true
-  closed-outside x = rw (x .installed) (decided (closedCell (x .calendar) (o .first) (o .bytes)) (closed-decides (x .calendar) (o .first) (o .bytes)) (x .closed))
+  closed-outside : OutsideHours l o → closedBy (l .days) (l .calendar) (o .first) (o .bytes) ≡ true
+  closed-outside x = rw (x .installed) (decided (closedCell (l .days) (x .calendar) (o .first) (o .bytes)) (closed-decides (l .days) (x .calendar) (o .first) (o .bytes)) (x .closed))
 
   pub given-outside : (scratch : ℕ) → recordAnswer l scratch o ≡ refused 26 → OutsideHours l o
   unfolding recordRefusals
@@ -82,7 +82,7 @@ module _ (l : Ledger) (o : Operation) where
 
 -- no call but install changes the calendar
 pub kept : (l : Ledger) (k : Call) → NotInstall k → after l k .calendar ≡ l .calendar
-unfolding after leaves acceptedBy recordBy finishBy
+unfolding after leaves acceptedBy recordBy finishBy installDaysBy
 kept l k n = go k n (answerTo l k)
   where
     go : (k : Call) → NotInstall k → (x : Answer Result) → leaves x l (acceptedBy l k) .calendar ≡ l .calendar
@@ -91,6 +91,8 @@ kept l k n = go k n (answerTo l k)
     go finishCall n (accepted a) = refl
     go finishCall n (refused m) = refl
     go (calendarCall numbers) n x = absurd n
+    go (daysCall numbers) n (accepted a) = refl
+    go (daysCall numbers) n (refused m) = refl
 
 pub replaced : (l : Ledger) (numbers : List ℕ) {r : Result} → answerTo l (calendarCall numbers) ≡ accepted r
     → after l (calendarCall numbers) .calendar ≡ some (calendarOf numbers)
@@ -107,10 +109,11 @@ no-calendar : {c : Calendar} {x : Option Calendar} → x ≡ none → x ≡ some
 no-calendar e f = let z : none ≡ some _ = sym e ∙ f in absurd (false≢true (ap isSome z))
 
 not-26 : (l : Ledger) (k : Call) → NotInstall k → l .calendar ≡ none → answerTo l k ≡ refused 26 → ⊥
-unfolding answerTo finishRefusals
+unfolding answerTo finishRefusals daysRefusals
 not-26 l (recordCall scratch o) n e x = let out = given-outside l o scratch x in no-calendar e (out .installed)
 not-26 l finishCall n e x = only (finishRefusals l) _ 26 ⊥ x (all-cons (other refl) (all-cons (other refl) (all-cons (other refl) (all-cons (other refl) all-nil))))
 not-26 l (calendarCall numbers) n e x = absurd n
+not-26 l (daysCall numbers) n e x = only (daysRefusals l numbers) _ 26 ⊥ x (all-cons (other refl) (all-cons (other refl) all-nil))
 
 none-refused : (ks : List Call) (l : Ledger) → l .calendar ≡ none → All NotInstall ks → All (λ x. x ≡ refused 26 → ⊥) (answers l ks)
 unfolding answers
@@ -132,4 +135,4 @@ law-of-installing = record {
 }
 
 pub law-of-hours : LawOfHours
-law-of-hours = record { days = law-of-days; opening = law-of-opening; closing = law-of-closing; installing = law-of-installing }
+law-of-hours = record { days = law-of-plain-days; opening = law-of-opening; closing = law-of-closing; installing = law-of-installing }

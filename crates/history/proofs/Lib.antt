@@ -52,5 +52,11 @@ pub mod FileReloaded
 pub mod FileAlike
 pub mod FileSound
 pub mod FileBoards
+pub mod DaysRising
+pub mod DaysSpans
+pub mod DaysPlaces
+pub mod DaysLabels
+pub mod DaysLate
 pub mod HoursLaws
 pub mod Installing
+pub mod DaysLaws

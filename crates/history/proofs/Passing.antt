@@ -11,10 +11,11 @@ use Rattle.lists.proofs.Numbers.{or-left, or-right}
 use Rattle.history.specs.Words.{Operation, size, ends, stretchOf}
 use Rattle.history.specs.Lent.{Lent, pieceRows, blockRows, nodeRows, entryRows}
 use Rattle.history.specs.Tree.{treeOf, nodeCount, entryCount}
+use Rattle.history.specs.Days.{daysOf, daysTaken}
 use Rattle.history.specs.Hours.{calendarOf, calendarTaken}
 use Rattle.history.specs.Ledger.{Opening, Moment, Ledger, finished, isRead, updateBy, settled}
 use Rattle.history.specs.Results.{Result}
-use Rattle.history.specs.Refusals.{accepted, refused, Refusal, firstOf, maxEndTick, openRefusals, openAnswer, recordRefusals, recordAnswer, finishRefusals, finishAnswer, installRefusals, installAnswer}
+use Rattle.history.specs.Refusals.{accepted, refused, Refusal, firstOf, maxEndTick, openRefusals, openAnswer, recordRefusals, recordAnswer, finishRefusals, finishAnswer, installRefusals, installAnswer, daysRefusals, daysAnswer}
 
 -- no condition of the list holds
 abbrev pub Passed : List Refusal → Type 0
@@ -118,3 +119,7 @@ unfolding installRefusals
 installs l numbers e =
     let p = passed _ _ e in
     record { still-open = p .1 .0; taken = not-false _ (p .1 .1 .0) }
+
+pub days-installs : (l : Ledger) (numbers : List ℕ) {r : Result} → daysAnswer l numbers ≡ accepted r → daysTaken (daysOf numbers) ≡ true
+unfolding daysRefusals
+days-installs l numbers e = not-false _ (passed _ _ e .1 .0)

@@ -11,6 +11,7 @@ use Rattle.history.specs.Words.{Stretch, Operation, Piece, Block, size, 
 use Rattle.history.specs.Ledger.{Opening, Moment, Ledger, withNow, opened, readBy, updateBy, settled}
 use Rattle.history.specs.Calls.{valueAt}
 use Rattle.history.specs.Rules.{Apart}
+use Rattle.history.specs.Days.{risesFrom, daysTaken}
 use Rattle.history.specs.Sound.{SoundStretch, SoundPiece, SoundBlock, SoundBoard}
 use Rattle.history.proofs.Parts.{PartOf, all-inside, all-updated, in-order-updated}
 use Rattle.history.proofs.Storing.{stored-part, stored-append, stored-new}
@@ -62,6 +63,7 @@ module _ (l : Ledger) (o : Operation) (s : SoundBoard l) (before-end : o .tick <
     blocks-fit = s .blocks-fit;
     store-fits = s .store-fits;
     calendar-taken = s .calendar-taken;
+    days-taken = s .days-taken;
   }
 
   next : Moment
@@ -119,6 +121,7 @@ module _ (l : Ledger) (o : Operation) (s : SoundBoard l) (before-end : o .tick <
     blocks-fit = r .blocks;
     store-fits = r .store;
     calendar-taken = s .calendar-taken;
+    days-taken = s .days-taken;
   }
 
 -- each piece counted as live up to E
@@ -128,7 +131,7 @@ settled-sound l s =
     (all-map (λ p g. block-of-piece (l .opening .kind) (l .opening .end) (l .opening .end) (l .now) p (omega (arith, s .last-below-end)) (omega arith) g) (s .pieces))
 
 pub opened-sound : (a : Opening) → Opens a → SoundBoard (opened a)
-unfolding opened
+unfolding opened daysTaken risesFrom
 opened-sound a o = record {
   some-tick = o .some-tick;
   end-most = o .end-most;
@@ -141,4 +144,5 @@ opened-sound a o = record {
   blocks-fit = omega arith;
   store-fits = omega arith;
   calendar-taken = tt;
+  days-taken = refl;
 }

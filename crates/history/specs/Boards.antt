@@ -10,8 +10,8 @@ use Rattle.history.specs.Lent.{Lent, rowWidth, entryWidth, pieceHead, bl
 use Rattle.history.specs.Tree.{Tree, hole, node}
 use Rattle.history.specs.Ledger.{Opening, opened, openingFor}
 use Rattle.history.specs.Results.{Result, done, read, update}
-use Rattle.history.specs.Reads.{Found, Cells, treeIn, clockLabel}
-use Rattle.history.specs.Refusals.{Answer, accepted, refused, openAnswer, findAnswer, touchingAnswer, nextAnswer, lastAnswer, cellsAnswer, blockAnswer}
+use Rattle.history.specs.Reads.{Found, Cells, treeIn}
+use Rattle.history.specs.Refusals.{Answer, accepted, refused, openAnswer, findAnswer, touchingAnswer, nextAnswer, lastAnswer, cellsAnswer, blockAnswer, clockAnswer}
 use Rattle.history.specs.Calls.{Call, recordCall, finishCall, answers, afterAll}
 use Rattle.history.specs.File.{Read, got, fault, Loaded, bytesOf, fileOf, load}
 use Rattle.history.specs.Printed.{headerText, badRecordText, openText, newline, decimal, refusedLine, printed}
@@ -37,7 +37,7 @@ pub data Fact : Type 0 where
   touching : Answer (List ℕ) → Fact
   neighbour : Answer (Option ℕ) → Fact
   cells : Answer Cells → Fact
-  label : ℕ → Fact
+  label : Answer ℕ → Fact
 
 -- a question with the fact that must come of it
 infix 70 _is_
@@ -66,7 +66,7 @@ told a ks (whatTouching t s n room) = touching (touchingAnswer (afterAll (opened
 told a ks (whatNext t c) = neighbour (nextAnswer (afterAll (opened a) ks) t c)
 told a ks (whatLast t c) = neighbour (lastAnswer (afterAll (opened a) ks) t c)
 told a ks (whatCells t s n bytes held) = cells (cellsAnswer (afterAll (opened a) ks) t s n bytes held)
-told a ks (whatLabel c) = label (clockLabel c)
+told a ks (whatLabel c) = label (clockAnswer (afterAll (opened a) ks) c)
 
 unfoldable pub played : Board → List Fact
 played b = map (λ c. told (b .opening) (b .calls) (c .question)) (b .cases)
@@ -123,6 +123,9 @@ known! = accepted read
 abbrev pub done! : Answer Result
 done! = accepted done
 
+abbrev pub label! : ℕ → Fact
+label! n = label (accepted n)
+
 abbrev pub listed : List ℕ → (visited : ℕ) → Fact
 listed ks n = found (accepted (record { numbers = ks; visited = n }))
 
@@ -152,7 +155,7 @@ marked =
           ∷ [])
           ∷ whatFind 6 100 104 3 is listed (2 ∷ 3 ∷ 4 ∷ []) 3
           ∷ whatFind 6 104 104 0 is listed [] 3
-          ∷ whatLabel 102 is label 142
+          ∷ whatLabel 102 is label! 142
           ∷ [];
     }
     -- * (0, 10, 05 05) then (1, 10, 05 05 05 05): block 10, length 2, life 0 to 1; a piece of four from tick 1
@@ -199,9 +202,9 @@ marked =
       cases = whatFind 5 1440 1450 9 is listed [] 1
           ∷ whatFind 5 1432 1433 9 is listed (0 ∷ []) 1
           ∷ whatCells 5 1444 1447 3 3 is shown (9 ∷ 9 ∷ 0 ∷ []) (1 ∷ 1 ∷ 0 ∷ [])
-          ∷ whatLabel 1439 is label 2359
-          ∷ whatLabel 1440 is label 0
-          ∷ whatLabel (2 ^ 32 + 61) is label 101
+          ∷ whatLabel 1439 is label! 2359
+          ∷ whatLabel 1440 is label! 0
+          ∷ whatLabel (2 ^ 32 + 61) is label! 101
           ∷ [];
     }
     -- * first cell 2^64 − 2: length 1 is accepted, length 2 refused 6; tick E − 1 is accepted, E refused 7

@@ -9,6 +9,7 @@ use lib.ListN.{length, getD}
 use lib.Dec.{leb, ltb, eqb}
 use Rattle.lists.specs.Lists.{All, Ascending, countFrom}
 use Rattle.history.specs.Rules.{every}
+use Rattle.history.specs.Days.{Day, dayMinutes, minuteOf, dayOf, labelMinute}
 
 -- ── calendars ──
 
@@ -32,9 +33,6 @@ pub record Calendar : Type 0 where
   pub week : List Hours
   pub stated : ℕ
   pub special : List Special
-
-abbrev pub dayMinutes : ℕ
-dayMinutes = 1440
 
 abbrev pub weekdays : ℕ
 weekdays = 7
@@ -100,24 +98,11 @@ calendarOf numbers =
       special = map (specialAt numbers) (countFrom 0 (min (getD numbers specialCount 0) mostSpecial));
     }
 
--- ── minutes and days (item 6 gives both a list of days) ──
-
--- the minute of a cell: its lower 32 bits
-abbrev pub minuteOf : (cell : ℕ) → ℕ
-minuteOf cell = cell % 2 ^ 32
-
-abbrev pub dayOf : (minute : ℕ) → ℕ
-dayOf minute = minute / dayMinutes
-
--- the minute of the day that the label shows
-abbrev pub labelMinute : (minute : ℕ) → ℕ
-labelMinute minute = minute % dayMinutes
+-- ── open and closed ──
 
 -- 0 is Monday, and so is day 0
 abbrev pub weekdayOf : (day : ℕ) → ℕ
 weekdayOf day = day % weekdays
-
--- ── open and closed ──
 
 abbrev pub covers : (minute : ℕ) → Window → Bool
 covers minute w = leb (w .from) minute && ltb minute (w .to)
@@ -148,36 +133,36 @@ weekdayWindows c day = getD (c .week) (weekdayOf day) shut .windows
 unfoldable pub windowsOf : Calendar → (day : ℕ) → List Window
 windowsOf c day = orElse (specialOf day (c .special)) (weekdayWindows c day)
 
--- a minute of a platform is open: some window of its day covers its label
-unfoldable pub openMinute : Calendar → (minute : ℕ) → Bool
-openMinute c minute = covered (labelMinute minute) (windowsOf c (dayOf minute))
+-- A minute of a platform is open: some window of its day covers its label. Day and label go by the list of days.
+unfoldable pub openMinute : List Day → Calendar → (minute : ℕ) → Bool
+openMinute days c minute = covered (labelMinute days minute) (windowsOf c (dayOf days minute))
 
-abbrev pub openCell : Calendar → (cell : ℕ) → Bool
-openCell c cell = openMinute c (minuteOf cell)
+abbrev pub openCell : List Day → Calendar → (cell : ℕ) → Bool
+openCell days c cell = openMinute days c (minuteOf cell)
 
 -- a byte on a cell is refused: it is not 0, and the cell is closed
-abbrev pub refusedOn : Calendar → (cell byte : ℕ) → Bool
-refusedOn c cell byte = not (eqb byte 0) && not (openCell c cell)
+abbrev pub refusedOn : List Day → Calendar → (cell byte : ℕ) → Bool
+refusedOn days c cell byte = not (eqb byte 0) && not (openCell days c cell)
 
 -- Refusal 26: some byte of an operation is refused.
-unfoldable pub closedCell : Calendar → (first : ℕ) (bytes : List ℕ) → Bool
-closedCell c first [] = false
-closedCell c first (b ∷ bs) = refusedOn c first b || closedCell c (suc first) bs
+unfoldable pub closedCell : List Day → Calendar → (first : ℕ) (bytes : List ℕ) → Bool
+closedCell days c first [] = false
+closedCell days c first (b ∷ bs) = refusedOn days c first b || closedCell days c (suc first) bs
 
 -- Until the first calendar is installed, every cell is open.
-abbrev pub closedBy : Option Calendar → (first : ℕ) (bytes : List ℕ) → Bool
-closedBy none first bytes = false
-closedBy (some c) first bytes = closedCell c first bytes
+abbrev pub closedBy : List Day → Option Calendar → (first : ℕ) (bytes : List ℕ) → Bool
+closedBy days none first bytes = false
+closedBy days (some c) first bytes = closedCell days c first bytes
 
 -- 26 of a calendar, by the place of the byte
-pub record ClosedAt (c : Calendar) (first : ℕ) (bytes : List ℕ) (place : ℕ) : Type 0 where
+pub record ClosedAt (days : List Day) (c : Calendar) (first : ℕ) (bytes : List ℕ) (place : ℕ) : Type 0 where
   pub inside : place < length bytes
   pub written : getD bytes place 0 ≡ 0 → ⊥
-  pub closed : openCell c (first + place) ≡ false
+  pub closed : openCell days c (first + place) ≡ false
 
-pub record SomeClosed (c : Calendar) (first : ℕ) (bytes : List ℕ) : Type 0 where
+pub record SomeClosed (days : List Day) (c : Calendar) (first : ℕ) (bytes : List ℕ) : Type 0 where
   pub place : ℕ
-  pub there : ClosedAt c first bytes place
+  pub there : ClosedAt days c first bytes place
 
 -- ── calendars that can be installed (refusal 27) ──
 

@@ -98,7 +98,7 @@ boards =
     ∷ []
 
 abbrev pub opens : Board → List Bool
-opens b = map (openCell (calendarOf (b .numbers))) (b .cells)
+opens b = map (openCell [] (calendarOf (b .numbers))) (b .cells)
 
 -- ── operations ──
 
@@ -131,7 +131,7 @@ bookings =
     ∷ []
 
 abbrev pub refuses : Booking → Bool
-refuses b = closedCell (calendarOf (b .numbers)) (b .first) (b .bytes)
+refuses b = closedCell [] (calendarOf (b .numbers)) (b .first) (b .bytes)
 
 -- ── calendars that can be installed, and each fault ──
 

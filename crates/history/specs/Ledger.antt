@@ -8,6 +8,7 @@ use Rattle.lists.specs.Lists.{has}
 use Rattle.history.specs.Words.{Operation, Piece, Block, ends, stretchOf, below, inside, above, pieceOf, blockOf, heldAt}
 use Rattle.history.specs.Lent.{Lent}
 use Rattle.history.specs.Tree.{Tree, treeOf}
+use Rattle.history.specs.Days.{Day, daysOf}
 use Rattle.history.specs.Hours.{Calendar, calendarOf}
 
 -- ── what is fed and kept ──
@@ -30,13 +31,14 @@ pub record Moment : Type 0 where
   pub last : ℕ
   pub store : List ℕ
 
--- An index: how it was opened, the board as it stands, once it is finished or loaded its tree, and the calendar that was installed last. This is also what
--- a set of lent tables stands for.
+-- An index: how it was opened, the board as it stands, once it is finished or loaded its tree, and the calendar and the list of days that were
+-- installed last; no list is an empty one. This is also what a set of lent tables stands for.
 pub record Ledger : Type 0 where
   pub opening : Opening
   pub now : Moment
   pub tree : Option Tree
   pub calendar : Option Calendar
+  pub days : List Day
 
 abbrev pub isSome : {A : Type 0} → Option A → Bool
 isSome none = false
@@ -62,19 +64,22 @@ abbrev pub withStore : (bytes : List ℕ) → Moment → Moment
 withStore bytes m = record { pieces = m .pieces; blocks = m .blocks; last = m .last; store = bytes }
 
 abbrev pub withNow : Moment → Ledger → Ledger
-withNow m l = record { opening = l .opening; now = m; tree = l .tree; calendar = l .calendar }
+withNow m l = record { opening = l .opening; now = m; tree = l .tree; calendar = l .calendar; days = l .days }
 
 abbrev pub withTree : Option Tree → Ledger → Ledger
-withTree t l = record { opening = l .opening; now = l .now; tree = t; calendar = l .calendar }
+withTree t l = record { opening = l .opening; now = l .now; tree = t; calendar = l .calendar; days = l .days }
 
 abbrev pub withCalendar : Option Calendar → Ledger → Ledger
-withCalendar c l = record { opening = l .opening; now = l .now; tree = l .tree; calendar = c }
+withCalendar c l = record { opening = l .opening; now = l .now; tree = l .tree; calendar = c; days = l .days }
+
+abbrev pub withDays : List Day → Ledger → Ledger
+withDays days l = record { opening = l .opening; now = l .now; tree = l .tree; calendar = l .calendar; days = days }
 
 -- ── open ──
 
--- an index that keeps nothing yet: no pieces and no blocks, the last accepted tick and the store use 0, no calendar
+-- an index that keeps nothing yet: no pieces and no blocks, the last accepted tick and the store use 0, no calendar, no listed day
 abbrev pub empty : Opening → Ledger
-empty a = record { opening = a; now = record { pieces = []; blocks = []; last = 0; store = [] }; tree = none; calendar = none }
+empty a = record { opening = a; now = record { pieces = []; blocks = []; last = 0; store = [] }; tree = none; calendar = none; days = [] }
 
 -- what opening leaves
 unfoldable pub opened : Opening → Ledger
@@ -134,3 +139,7 @@ finishBy l =
 -- the calendar of these numbers in place of the one before (02, Item 5)
 unfoldable pub installBy : Ledger → (numbers : List ℕ) → Ledger
 installBy l numbers = withCalendar (some (calendarOf numbers)) l
+
+-- the days of these numbers in place of the list before (02, Item 6)
+unfoldable pub installDaysBy : Ledger → (numbers : List ℕ) → Ledger
+installDaysBy l numbers = withDays (daysOf numbers) l

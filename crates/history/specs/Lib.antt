@@ -4,6 +4,7 @@ pub mod Tree
 pub mod Find
 pub mod Rules
 pub mod File
+pub mod Days
 pub mod Hours
 pub mod Ledger
 pub mod Reads
@@ -13,7 +14,9 @@ pub mod Calls
 pub mod Sound
 pub mod Law
 pub mod HoursLaw
+pub mod DaysLaw
 pub mod Printed
 pub mod Boards
 pub mod HoursBoards
+pub mod DaysBoards
 pub mod Requested

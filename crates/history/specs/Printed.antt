@@ -159,7 +159,7 @@ hexBytes (b ∷ bs) text = hexDigit (b / 16) ∷ hexDigit (b % 16) ∷ hexBytes 
 unfoldable pub blockLine : Block → List ℕ
 blockLine b =
     decimal (firstCell b) (space ∷ decimal (size (b .stretch)) (space ∷ decimal (b .created) (space ∷ decimal (b .destroyed)
-    (space ∷ fourDigits (clockLabel (firstCell b)) (space ∷ hexBytes (b .stretch .bytes) (newline ∷ []))))))
+    (space ∷ fourDigits (clockLabel [] (firstCell b)) (space ∷ hexBytes (b .stretch .bytes) (newline ∷ []))))))
 
 unfoldable pub refusedLine : (what : List ℕ) (number : ℕ) → List ℕ
 refusedLine what n = what ++ (refusedText ++ decimal n (newline ∷ []))

@@ -10,6 +10,7 @@ use Rattle.lists.specs.Lists.{countFrom}
 use Rattle.history.specs.Words.{Block, firstCell, ends, live, byteAt}
 use Rattle.history.specs.Tree.{Tree, hole, insert, blockAt, keyIn}
 use Rattle.history.specs.Find.{find, visited}
+use Rattle.history.specs.Days.{Day, minuteOf, labelMinute}
 use Rattle.history.specs.Ledger.{Ledger}
 
 -- the tree of a closed index
@@ -107,5 +108,9 @@ cellsBy l t s n =
 unfoldable pub labelOf : (minuteOfDay : ℕ) → ℕ
 labelOf m = m / 60 * 100 + m % 60
 
-unfoldable pub clockLabel : (cell : ℕ) → ℕ
-clockLabel c = labelOf (c % 2 ^ 32 % 1440)
+-- of a cell, by the list of days
+unfoldable pub clockLabel : List Day → (cell : ℕ) → ℕ
+clockLabel days c = labelOf (labelMinute days (minuteOf c))
+
+abbrev pub clockBy : Ledger → (cell : ℕ) → ℕ
+clockBy l c = clockLabel (l .days) c

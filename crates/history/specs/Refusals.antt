@@ -9,10 +9,11 @@ use lib.ListN.{length}
 use Rattle.history.specs.Words.{Operation, Block}
 use Rattle.history.specs.Lent.{pieceRows, blockRows, nodeRows, entryRows, tooShort, leastScratch}
 use Rattle.history.specs.Tree.{treeOf, nodeCount, entryCount}
+use Rattle.history.specs.Days.{daysOf, daysTaken}
 use Rattle.history.specs.Hours.{calendarOf, calendarTaken, closedBy}
 use Rattle.history.specs.Ledger.{Opening, Ledger, finished, changed, isRead, updateBy, settled}
 use Rattle.history.specs.Results.{Result, done, resultOf}
-use Rattle.history.specs.Reads.{Found, Cells, findBy, touchingBy, nextBy, lastBy, cellsBy, blockBy}
+use Rattle.history.specs.Reads.{Found, Cells, findBy, touchingBy, nextBy, lastBy, cellsBy, blockBy, clockBy}
 
 -- ── answers ──
 
@@ -67,7 +68,7 @@ recordRefusals l scratch o =
     -- tick below the last accepted one's
     ∷ 8 if ltb (o .tick) (l .now .last)
     -- a non-zero byte on a closed cell, of a read too
-    ∷ 26 if closedBy (l .calendar) (o .first) (o .bytes)
+    ∷ 26 if closedBy (l .days) (l .calendar) (o .first) (o .bytes)
     -- an update would leave more pieces than there is space for
     ∷ 9 if (update && ltb (pieceRows lent) (length (next .pieces)))
     -- blocks recorded plus pieces, after the update, exceed the block table
@@ -96,6 +97,14 @@ installRefusals l numbers =
     ∷ 27 if not (calendarTaken (calendarOf numbers))
     ∷ []
 
+-- of an open or a closed index
+unfoldable pub daysRefusals : Ledger → (numbers : List ℕ) → List Refusal
+daysRefusals l numbers =
+    2 if tooShort (l .opening .lent)
+    -- more than 64 days, days that do not ascend, or one of another length than 1,380 or 1,500 minutes
+    ∷ 28 if not (daysTaken (daysOf numbers))
+    ∷ []
+
 abbrev pub openAnswer : Opening → Answer Unit
 openAnswer a = firstOf (openRefusals a) tt
 
@@ -107,6 +116,9 @@ finishAnswer l = firstOf (finishRefusals l) done
 
 abbrev pub installAnswer : Ledger → (numbers : List ℕ) → Answer Result
 installAnswer l numbers = firstOf (installRefusals l numbers) done
+
+abbrev pub daysAnswer : Ledger → (numbers : List ℕ) → Answer Result
+daysAnswer l numbers = firstOf (daysRefusals l numbers) done
 
 -- ── the reads ──
 
@@ -167,3 +179,10 @@ blockAnswer l k = firstOf (blockRefusals l k) (blockBy l k)
 
 unfoldable pub writeRefusals : Ledger → (out file : ℕ) → List Refusal
 writeRefusals l out file = readRefusals l (16 if ltb out file ∷ [])
+
+-- the clock label of a cell, of an open or a closed index
+unfoldable pub clockRefusals : Ledger → List Refusal
+clockRefusals l = 2 if tooShort (l .opening .lent) ∷ []
+
+abbrev pub clockAnswer : Ledger → (cell : ℕ) → Answer ℕ
+clockAnswer l c = firstOf (clockRefusals l) (clockBy l c)

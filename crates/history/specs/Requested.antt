@@ -5,9 +5,10 @@ use mathlib.Core.List.{List, [], _∷_, _++_, map}
 use Prim.Native.Nat.{ℕ, _-_, _*_, _^_}
 use lib.ListN.{replicate}
 use Rattle.history.specs.Refusals.{accepted, refused}
-use Rattle.history.specs.Calls.{finishCall, calendarCall}
+use Rattle.history.specs.Calls.{finishCall, calendarCall, daysCall}
 use Rattle.history.specs.HoursBoards.{_to_, calendar, noWeek, monday, special, HoursBoards}
-use Rattle.history.specs.Boards.{Fact, answered, touching, neighbour, label, _is_, Board, whatAnswers, whatFind, whatTouching, whatNext, whatLast, whatLabel, played, expected, lengths, ample, on, opWith, op, from!, known!, done!, listed, listing}
+use Rattle.history.specs.DaysBoards.{DaysBoards}
+use Rattle.history.specs.Boards.{Fact, answered, touching, neighbour, label, _is_, Board, whatAnswers, whatFind, whatTouching, whatNext, whatLast, whatLabel, played, expected, lengths, ample, on, opWith, op, label!, from!, known!, done!, listed, listing}
 
 -- ── Item 1 ──
 
@@ -130,14 +131,14 @@ labelBoards =
     record {
       opening = on 8 ample;
       calls = [];
-      cases = whatLabel 0 is label 0
-          ∷ whatLabel 59 is label 59
-          ∷ whatLabel 60 is label 100
-          ∷ whatLabel 1439 is label 2359
-          ∷ whatLabel 1440 is label 0
-          ∷ whatLabel (2 ^ 32 - 1) is label 415
-          ∷ whatLabel (2 ^ 32) is label 0
-          ∷ whatLabel (2 ^ 64 - 1) is label 415
+      cases = whatLabel 0 is label! 0
+          ∷ whatLabel 59 is label! 59
+          ∷ whatLabel 60 is label! 100
+          ∷ whatLabel 1439 is label! 2359
+          ∷ whatLabel 1440 is label! 0
+          ∷ whatLabel (2 ^ 32 - 1) is label! 415
+          ∷ whatLabel (2 ^ 32) is label! 0
+          ∷ whatLabel (2 ^ 64 - 1) is label! 415
           ∷ [];
     }
     ∷ []
@@ -185,6 +186,53 @@ hoursBoards =
     }
     ∷ []
 
+-- ── Item 6 ──
+
+unfoldable pub daysBoards : List Board
+daysBoards =
+    -- no list, then a lone short day, then a long one in its place; lists that are refused leave it, and so do all other calls; an empty one takes it back
+    record { opening = on 8 ample; calls = op 0 5 (1 ∷ []) ∷ []; cases = whatLabel 120 is label! 200 ∷ whatLabel 1380 is label! 2300 ∷ [] }
+    ∷ record {
+      opening = on 8 ample;
+      calls = daysCall (0 ∷ 1380 ∷ []) ∷ op 0 5 (1 ∷ []) ∷ calendarCall [] ∷ daysCall (0 ∷ 1440 ∷ []) ∷ daysCall (3 ∷ 1380 ∷ 3 ∷ 1500 ∷ []) ∷ daysCall (7 ∷ []) ∷ [];
+      cases = whatAnswers is answered (done! ∷ from! 5 ∷ done! ∷ refused 28 ∷ refused 28 ∷ refused 28 ∷ [])
+          ∷ whatLabel 119 is label! 159
+          ∷ whatLabel 120 is label! 300
+          ∷ whatLabel 1380 is label! 0
+          ∷ whatLabel (2 ^ 32 - 1) is label! 515
+          ∷ [];
+    }
+    ∷ record {
+      opening = on 8 ample;
+      calls = daysCall (0 ∷ 1380 ∷ 1 ∷ 1380 ∷ []) ∷ daysCall (0 ∷ 1500 ∷ []) ∷ [];
+      cases = whatLabel 179 is label! 259 ∷ whatLabel 180 is label! 200 ∷ whatLabel 240 is label! 300 ∷ whatLabel 1500 is label! 0 ∷ whatLabel 2940 is label! 0 ∷ [];
+    }
+    ∷ record { opening = on 8 ample; calls = daysCall (0 ∷ 1380 ∷ []) ∷ daysCall [] ∷ []; cases = whatLabel 120 is label! 200 ∷ [] }
+    -- finish keeps it, and a closed index takes the next one; its blocks are found as before
+    ∷ record {
+      opening = on 8 ample;
+      calls = daysCall (0 ∷ 1380 ∷ []) ∷ op 0 120 (1 ∷ []) ∷ finishCall ∷ [];
+      cases = whatLabel 120 is label! 300 ∷ [];
+    }
+    ∷ record {
+      opening = on 8 ample;
+      calls = op 0 120 (1 ∷ []) ∷ finishCall ∷ daysCall (0 ∷ 1500 ∷ []) ∷ daysCall (0 ∷ 1439 ∷ []) ∷ calendarCall [] ∷ [];
+      cases = whatAnswers is answered (from! 120 ∷ done! ∷ done! ∷ refused 28 ∷ refused 3 ∷ []) ∷ whatLabel 180 is label! 200 ∷ whatTouching 1 0 999 1 is touched (0 ∷ []) ∷ [];
+    }
+    -- a booking is judged by the list as it stands: Mondays from 03:00 on
+    ∷ record {
+      opening = on 8 ample;
+      calls = calendarCall (1 ∷ 180 ∷ 1440 ∷ []) ∷ op 0 120 (1 ∷ []) ∷ daysCall (0 ∷ 1380 ∷ []) ∷ op 0 119 (1 ∷ []) ∷ op 0 120 (1 ∷ []) ∷ daysCall (0 ∷ 1500 ∷ []) ∷ op 0 239 (1 ∷ []) ∷ op 0 240 (1 ∷ []) ∷ [];
+      cases = whatAnswers is answered (done! ∷ refused 26 ∷ done! ∷ refused 26 ∷ from! 120 ∷ done! ∷ refused 26 ∷ from! 240 ∷ []) ∷ [];
+    }
+    -- 2 before 28, and of the clock
+    ∷ record {
+      opening = on 8 (record { pieces = 7; blocks = 8200; store = 65536; nodes = 8200; entries = 8200 });
+      calls = daysCall (0 ∷ 1440 ∷ []) ∷ [];
+      cases = whatAnswers is answered (refused 2 ∷ []) ∷ whatLabel 0 is label (refused 2) ∷ [];
+    }
+    ∷ []
+
 -- ── Item 9 ──
 
 unfoldable pub scratchBoards : List Board
@@ -211,4 +259,6 @@ pub record RequestedBoards : Type 0 where
   pub item-4 : map played labelBoards ≡ map expected labelBoards
   pub item-5 : map played hoursBoards ≡ map expected hoursBoards
   pub calendars : HoursBoards
+  pub item-6 : map played daysBoards ≡ map expected daysBoards
+  pub days : DaysBoards
   pub item-9 : map played scratchBoards ≡ map expected scratchBoards

@@ -11,6 +11,7 @@ use Rattle.history.specs.Words.{Stretch, Piece, Block, size, ends, onlyK
 use Rattle.history.specs.Lent.{pieceRows, blockRows, nodeRows, entryRows}
 use Rattle.history.specs.Tree.{Tree, nodeCount, entryCount}
 use Rattle.history.specs.Rules.{isHole, halved, rule23, Apart}
+use Rattle.history.specs.Days.{daysTaken}
 use Rattle.history.specs.Hours.{NoneOrInstallable}
 use Rattle.history.specs.Ledger.{Moment, Ledger, settled}
 use Rattle.history.specs.Refusals.{maxEndTick}
@@ -65,6 +66,8 @@ pub record SoundBoard (l : Ledger) : Type 0 where
   pub store-fits : length (l .now .store) ≤ l .opening .lent .store
   -- no calendar that install would refuse
   pub calendar-taken : NoneOrInstallable (l .calendar)
+  -- no list of days that install would refuse
+  pub days-taken : daysTaken (l .days) ≡ true
 
 abbrev pub isEmpty : {A : Type 0} → List A → Bool
 isEmpty [] = true

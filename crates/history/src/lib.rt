@@ -4,14 +4,15 @@
 //   specs/Words      operations, pieces, blocks, cells; the part of a stretch in a range
 //   specs/Lent       lengths of what is lent, and rows
 //   specs/Tree       the segment tree as data; Find: the walk of find; Rules: rules 21 to 24 as tests
-//   specs/Hours      station hours: calendars, days, open cells, what install takes; HoursLaw: what is proved of them
+//   specs/Days       days of 23 and 25 hours: lists of days, the day of a minute, what the clock shows; DaysLaw: what is proved of them
+//   specs/Hours      station hours: calendars, open cells, what install takes; HoursLaw: what is proved of them
 //   specs/Ledger     what is kept, and what an accepted call leaves; Reads: what the reads give
-//   specs/Refusals   refusals 1 to 16, 26 and 27, a list for each call; Calls: lists of calls, the history, the value of a cell
+//   specs/Refusals   refusals 1 to 16 and 26 to 28, a list for each call; Calls: lists of calls, the history, the value of a cell
 //   specs/File       the file's bytes, its reader, the loader with refusals 17 to 24
 //   specs/Sound      what makes a set of tables well formed
 //   specs/Printed    the input and the output of the program `board`
 //   specs/Law        what is proved of all this
-//   specs/Boards     the boards to try, with what must come of them; Requested, HoursBoards: those of document 02
+//   specs/Boards     the boards to try, with what must come of them; Requested, HoursBoards, DaysBoards: those of document 02
 //
 //   proofs/Clip, Parts, Split, Seen, Cells, Storing, Apart, Reading, Value   pieces and cells
 //   proofs/ByKind                      the blocks as one kind sees them
@@ -20,8 +21,10 @@
 //   proofs/Touching                    touching, next and last
 //   proofs/File*                       the file, there and back
 //   proofs/HoursLaws, Installing       station hours, and the calls that go by them
+//   proofs/Days*                       lists of days, and the call that installs one
 ghost use Rattle.history.specs.Law.{ValueAt, LawOfChange, LawOfCalls, LawOfFind, LawOfTouching, LawOfNeighbours};
 ghost use Rattle.history.specs.HoursLaw.{LawOfHours};
+ghost use Rattle.history.specs.DaysLaw.{LawOfDays};
 ghost use Rattle.history.specs.Boards.{MarkedBoards};
 ghost use Rattle.history.specs.Requested.{RequestedBoards};
 
@@ -55,9 +58,14 @@ pub fn law_of_neighbours()
     ensures { λ _. ⌜ LawOfNeighbours ⌝ }
 {}
 
-// Station hours: days, open cells, 26 exactly outside hours, 27 fault by fault, and what install leaves.
+// Station hours: open cells, 26 exactly outside hours, 27 fault by fault, and what install leaves.
 pub fn law_of_hours()
     ensures { λ _. ⌜ LawOfHours ⌝ }
+{}
+
+// Days of 23 and 25 hours: every minute lies in one day, what the clock shows then, 28 fault by fault, and what installing a list leaves.
+pub fn law_of_days()
+    ensures { λ _. ⌜ LawOfDays ⌝ }
 {}
 
 // The boards to try come out as they must.

@@ -12,9 +12,11 @@ use lib.Dec.{leb, ltb, eqb}
 use borrow.Author.Needs.{needs}
 use borrow.Author.Tests.{lt-ltb, le-leb, eq-eqb, ne-eqb, leb-true, ltb-true}
 use Rattle.lists.proofs.Numbers.{bool-cases, and-left, and-right, or-true}
-use Rattle.history.specs.Hours.{Window, Calendar, windowAt, hoursAt, specialAt, specialPlace, calendarOf, mostWindows, mostSpecial, specialCount, dayOf, labelMinute, minuteOf, covers, covered, specialOf, windowsOf, openMinute, openCell, refusedOn, closedCell}
+use Rattle.history.specs.Days.{Day, minuteOf}
+use Rattle.history.specs.Hours.{Window, Calendar, windowAt, hoursAt, specialAt, specialPlace, calendarOf, mostWindows, mostSpecial, specialCount, covers, covered, specialOf, windowsOf, openMinute, openCell, refusedOn, closedCell}
 use Rattle.hours.specs.Reach.{untilOf, windowsFrom, specialFrom, SpecialStands, OpenFor, Reaches, Passes}
 use Rattle.history.proofs.HoursLaws.{weekday-at}
+use Rattle.days.specs.Stretches.{Stretches}
 use Rattle.hours.proofs.Rows.{rows-more, rows-none, rows-all}
 
 -- ── the window that covers a minute ──
@@ -150,35 +152,33 @@ until-zero minute (w ∷ ws) z = step (bool-cases (covers minute w)) (until-zero
 
 -- ── how far a window reaches ──
 
-module _ (c : Calendar) (cell day label u : ℕ) (d : day ≡ dayOf (minuteOf cell)) (l : label ≡ labelMinute (minuteOf cell))
+module _ (days : List Day) (c : Calendar) (cell m day label n u : ℕ) (at : m ≡ minuteOf cell) (s : Stretches days m day label n)
     (e : u ≡ untilOf label (windowsOf c day)) where
-  pub reach-closed : u ≤ label → Reaches c cell 0
+  pub reach-closed : u ≤ label → Reaches days c cell 0
   unfolding openMinute
   reach-closed h =
       record {
         ahead = record { each = λ k z. absurd (omega arith) };
-        closed = λ _. rw (← d, ← l) (until-zero label (windowsOf c day) (rw e at h));
+        closed = λ _. rw (← at, ← s .in-day, ← s .shows) (until-zero label (windowsOf c day) (rw e at h));
       }
 
-  -- the cell k behind is of the same day, as far as the window, the day and the platform go
-  same-day : (k : ℕ) → minuteOf cell + k < 2 ^ 32 → label + k < 1440 → label + k < u → openCell c (cell + k) ≡ true
+  -- the cell k behind is of the same day and its label is k further, as far as the window, the stretch and the platform go
+  same-stretch : (k : ℕ) → m + k < 2 ^ 32 → k < n → label + k < u → openCell days c (cell + k) ≡ true
   unfolding openMinute
-  same-day k p q h =
-      let m : minuteOf (cell + k) ≡ minuteOf cell + k = omega arith in
-      let same : dayOf (minuteOf cell + k) ≡ day = omega arith in
-      let further : labelMinute (minuteOf cell + k) ≡ label + k = omega arith in
-      rw (m, same, further) (until-covers label (windowsOf c day) (label + k) (omega arith) (rw e at h))
+  same-stretch k p q h =
+      let minute : minuteOf (cell + k) ≡ m + k = omega arith in
+      rw (minute, s .ahead .in-day k q, s .ahead .shows k q) (until-covers label (windowsOf c day) (label + k) (omega arith) (rw e at h))
 
-  pub reach-open : (a r : ℕ) → label < u → a ≡ min u 1440 → r ≡ min (a - label) (2 ^ 32 - minuteOf cell) → Reaches c cell r
+  pub reach-open : (a r : ℕ) → label < u → a ≡ min (u - label) n → r ≡ min a (2 ^ 32 - m) → Reaches days c cell r
   reach-open a r h p q =
-      let within-window : a ≤ u = omega arith in
-      let within-day : a ≤ 1440 = omega arith in
-      let some-day : label < a = omega arith in
-      let first : r ≤ a - label = omega arith in
-      let second : r ≤ 2 ^ 32 - minuteOf cell = omega arith in
+      let within-window : a ≤ u - label = omega arith in
+      let within-stretch : a ≤ n = omega arith in
+      let some-ahead : 0 < a = omega (arith, s .some) in
+      let first : r ≤ a = omega arith in
+      let second : r ≤ 2 ^ 32 - m = omega arith in
       let some-left : r ≡ 0 → ⊥ = λ z. omega arith in
       record {
-        ahead = record { each = λ k z. same-day k (omega arith) (omega arith) (omega arith) };
+        ahead = record { each = λ k z. same-stretch k (omega arith) (omega arith) (omega arith) };
         closed = λ z. absurd (some-left z);
       }
 
@@ -186,72 +186,72 @@ pub ruleset reaching = (reach-closed, reach-open, needs)
 
 -- ── what passes ──
 
-pub passes-zero : (c : Calendar) (cell byte : ℕ) → byte ≡ 0 → Passes c cell byte 1
-passes-zero c cell byte z = record { refused = λ q. absurd (omega arith); passes = inl (z, refl) }
+pub passes-zero : (days : List Day) (c : Calendar) (cell byte : ℕ) → byte ≡ 0 → Passes days c cell byte 1
+passes-zero days c cell byte z = record { refused = λ q. absurd (omega arith); passes = inl (z, refl) }
 
-pub passes-reach : (c : Calendar) (cell byte r : ℕ) → (byte ≡ 0 → ⊥) → Reaches c cell r → Passes c cell byte r
-passes-reach c cell byte r n s = record { refused = λ z. (n, s .closed z); passes = inr (s .ahead) }
+pub passes-reach : (days : List Day) (c : Calendar) (cell byte r : ℕ) → (byte ≡ 0 → ⊥) → Reaches days c cell r → Passes days c cell byte r
+passes-reach days c cell byte r n s = record { refused = λ z. (n, s .closed z); passes = inr (s .ahead) }
 
 pub ruleset passing = (passes-zero, passes-reach, needs)
 
 -- ── all cells of an operation ──
 
 -- the bytes from the i-th on decide
-pub record ClosedRest (c : Calendar) (first : ℕ) (bytes : List ℕ) (i : ℕ) : Type 0 where
+pub record ClosedRest (days : List Day) (c : Calendar) (first : ℕ) (bytes : List ℕ) (i : ℕ) : Type 0 where
   pub below : i ≤ length bytes
-  pub rest : closedCell c first bytes ≡ closedCell c (first + i) (drop i bytes)
+  pub rest : closedCell days c first bytes ≡ closedCell days c (first + i) (drop i bytes)
 
-pub closed-start : (c : Calendar) (first : ℕ) (bytes : List ℕ) → ClosedRest c first bytes 0
-closed-start c first bytes =
+pub closed-start : (days : List Day) (c : Calendar) (first : ℕ) (bytes : List ℕ) → ClosedRest days c first bytes 0
+closed-start days c first bytes =
     let z : first + 0 ≡ first = omega arith in
     record { below = omega arith; rest = rw z }
 
-pub closed-none : (c : Calendar) (first : ℕ) (bytes : List ℕ) (i : ℕ) → ClosedRest c first bytes i → length bytes ≤ i → false ≡ closedCell c first bytes
+pub closed-none : (days : List Day) (c : Calendar) (first : ℕ) (bytes : List ℕ) (i : ℕ) → ClosedRest days c first bytes i → length bytes ≤ i → false ≡ closedCell days c first bytes
 unfolding closedCell
-closed-none c first bytes i s h = sym (s .rest ∙ rw (drop-of-length-le bytes h))
+closed-none days c first bytes i s h = sym (s .rest ∙ rw (drop-of-length-le bytes h))
 
 -- one more byte is not refused
-one-more : (c : Calendar) (first : ℕ) (bytes : List ℕ) (i : ℕ) → i < length bytes → refusedOn c (first + i) (getD bytes i 0) ≡ false → ClosedRest c first bytes i
-    → ClosedRest c first bytes (suc i)
+one-more : (days : List Day) (c : Calendar) (first : ℕ) (bytes : List ℕ) (i : ℕ) → i < length bytes → refusedOn days c (first + i) (getD bytes i 0) ≡ false → ClosedRest days c first bytes i
+    → ClosedRest days c first bytes (suc i)
 unfolding closedCell
-one-more c first bytes i h e s =
+one-more days c first bytes i h e s =
     let f : first + suc i ≡ suc (first + i) = omega arith in
     record { below = omega arith; rest = s .rest ∙ rw (drop-cons bytes i 0 h, e, f) }
 
 -- a cell is open or closed by its minute alone
-by-minute : (c : Calendar) (first i cell k : ℕ) → cell ≡ first % 2 ^ 32 + i % 2 ^ 32 → openCell c (cell + k) ≡ openCell c (first + i + k)
-by-minute c first i cell k e = ap (openMinute c) (omega arith)
+by-minute : (days : List Day) (c : Calendar) (first i cell k : ℕ) → cell ≡ first % 2 ^ 32 + i % 2 ^ 32 → openCell days c (cell + k) ≡ openCell days c (first + i + k)
+by-minute days c first i cell k e = ap (openMinute days c) (omega arith)
 
 and-false : (t : Bool) → (t && false) ≡ false
 and-false true = refl
 and-false false = refl
 
 -- so are k more, all of them open
-more-open : (c : Calendar) (first : ℕ) (bytes : List ℕ) (i k : ℕ) → i + k ≤ length bytes → OpenFor c (first + i) k → ClosedRest c first bytes i → ClosedRest c first bytes (i + k)
-more-open c first bytes i zero h o s = let z : i + 0 ≡ i = omega arith in rw z s
-more-open c first bytes i (suc k) h o s =
+more-open : (days : List Day) (c : Calendar) (first : ℕ) (bytes : List ℕ) (i k : ℕ) → i + k ≤ length bytes → OpenFor days c (first + i) k → ClosedRest days c first bytes i → ClosedRest days c first bytes (i + k)
+more-open days c first bytes i zero h o s = let z : i + 0 ≡ i = omega arith in rw z s
+more-open days c first bytes i (suc k) h o s =
     let e : i + suc k ≡ suc (i + k) = omega arith in
     let at : first + (i + k) ≡ first + i + k = omega arith in
-    rw e (one-more c first bytes (i + k) (omega arith) (rw (at, o .each k (omega arith)) (and-false (not (eqb (getD bytes (i + k) 0) 0))))
-    (more-open c first bytes i k (omega arith) (record { each = λ j l. o .each j (omega arith) }) s))
+    rw e (one-more days c first bytes (i + k) (omega arith) (rw (at, o .each k (omega arith)) (and-false (not (eqb (getD bytes (i + k) 0) 0))))
+    (more-open days c first bytes i k (omega arith) (record { each = λ j l. o .each j (omega arith) }) s))
 
-module _ (c : Calendar) (first : ℕ) (bytes : List ℕ) (i cell byte r : ℕ) (s : ClosedRest c first bytes i) (h : i < length bytes)
-    (e : cell ≡ first % 2 ^ 32 + i % 2 ^ 32) (b : byte ≡ getD bytes i 0) (p : Passes c cell byte r) where
-  this : openCell c cell ≡ openCell c (first + i)
-  this = ap (openMinute c) (omega arith)
+module _ (days : List Day) (c : Calendar) (first : ℕ) (bytes : List ℕ) (i cell byte r : ℕ) (s : ClosedRest days c first bytes i) (h : i < length bytes)
+    (e : cell ≡ first % 2 ^ 32 + i % 2 ^ 32) (b : byte ≡ getD bytes i 0) (p : Passes days c cell byte r) where
+  this : openCell days c cell ≡ openCell days c (first + i)
+  this = ap (openMinute days c) (omega arith)
 
-  pub closed-found : r ≡ 0 → true ≡ closedCell c first bytes
+  pub closed-found : r ≡ 0 → true ≡ closedCell days c first bytes
   unfolding closedCell
   closed-found z =
       let q = p .refused z in
       sym (s .rest ∙ rw (drop-cons bytes i 0 h, ← b, ne-eqb byte 0 (q .0), ← this, q .1))
 
-  pub closed-more : (k : ℕ) → (r ≡ 0 → ⊥) → k ≡ min r (length bytes - i) → ClosedRest c first bytes (i + k)
+  pub closed-more : (k : ℕ) → (r ≡ 0 → ⊥) → k ≡ min r (length bytes - i) → ClosedRest days c first bytes (i + k)
   closed-more k n m = go (p .passes)
     where
-      go : ((byte ≡ 0) × (r ≡ 1)) ⊎ OpenFor c cell r → ClosedRest c first bytes (i + k)
+      go : ((byte ≡ 0) × (r ≡ 1)) ⊎ OpenFor days c cell r → ClosedRest days c first bytes (i + k)
       go (inl z) =
           let one : i + k ≡ suc i = omega (arith, z .1) in
-          rw one (one-more c first bytes i h (rw (← b, eq-eqb byte 0 (z .0))) s)
+          rw one (one-more days c first bytes i h (rw (← b, eq-eqb byte 0 (z .0))) s)
       go (inr o) =
-          more-open c first bytes i k (omega arith) (record { each = λ j l. sym (by-minute c first i cell j e) ∙ o .each j (omega arith) }) s
+          more-open days c first bytes i k (omega arith) (record { each = λ j l. sym (by-minute days c first i cell j e) ∙ o .each j (omega arith) }) s

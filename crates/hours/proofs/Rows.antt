@@ -5,7 +5,6 @@ use mathlib.Core.List.{List, [], _∷_, map}
 use Prim.Native.Nat.{ℕ, suc, _+_, _-_, _≤_, _<_}
 use native.Mathlib.Omega.{arith}
 use native.Mathlib.Numerals.{add-one}
-use lib.ListN.{length, getD, List·getD-eq-default}
 use Rattle.lists.specs.Lists.{countFrom}
 use Rattle.history.specs.Rules.{every}
 
@@ -50,8 +49,3 @@ module _ {A : Type 0} (t : A → Bool) (f : ℕ → A) where
   pub every-done : (n k : ℕ) → EveryRest t f n k → n ≤ k → true ≡ every t (map f (countFrom 0 n))
   unfolding every
   every-done n k r h = sym (r .rest ∙ rw (rows-none f k n h))
-
--- ── past the end ──
-
-pub past-end : (numbers : List ℕ) (at : ℕ) → length numbers ≤ at → 0 ≡ getD numbers at 0
-past-end numbers at h = sym (List·getD-eq-default numbers 0 {n = at} h)

@@ -6,6 +6,7 @@ use mathlib.Core.Option.{none, some}
 use mathlib.Core.List.{List, [], _∷_, map}
 use Prim.Native.Nat.{ℕ, _+_, _≤_, _<_}
 use Rattle.lists.specs.Lists.{countFrom}
+use Rattle.history.specs.Days.{Day}
 use Rattle.history.specs.Hours.{Window, Special, Calendar, windowAt, specialAt, calendarOf, hoursAt, calendarWidth, covers, specialOf, openCell}
 
 -- the end of the first window that covers the minute of the day; 0 where none does
@@ -20,18 +21,18 @@ pub record SpecialStands (numbers : List ℕ) (day place : ℕ) : Type 0 where
   pub present : (place ≡ 0 → ⊥) → specialOf day (calendarOf numbers .special) ≡ some (hoursAt numbers place .windows)
 
 -- n cells from this one on are open
-pub record OpenFor (c : Calendar) (cell n : ℕ) : Type 0 where
-  pub each : (k : ℕ) → k < n → openCell c (cell + k) ≡ true
+pub record OpenFor (days : List Day) (c : Calendar) (cell n : ℕ) : Type 0 where
+  pub each : (k : ℕ) → k < n → openCell days c (cell + k) ≡ true
 
 -- r cells from this one on are open, and if r is 0 this one is closed
-pub record Reaches (c : Calendar) (cell r : ℕ) : Type 0 where
-  pub ahead : OpenFor c cell r
-  pub closed : r ≡ 0 → openCell c cell ≡ false
+pub record Reaches (days : List Day) (c : Calendar) (cell r : ℕ) : Type 0 where
+  pub ahead : OpenFor days c cell r
+  pub closed : r ≡ 0 → openCell days c cell ≡ false
 
 -- r cells from this one on pass: they are open, or it is this one alone, with a byte of 0; if r is 0 its byte is refused
-pub record Passes (c : Calendar) (cell byte r : ℕ) : Type 0 where
-  pub refused : r ≡ 0 → (byte ≡ 0 → ⊥) × (openCell c cell ≡ false)
-  pub passes : ((byte ≡ 0) × (r ≡ 1)) ⊎ OpenFor c cell r
+pub record Passes (days : List Day) (c : Calendar) (cell byte r : ℕ) : Type 0 where
+  pub refused : r ≡ 0 → (byte ≡ 0 → ⊥) × (openCell days c cell ≡ false)
+  pub passes : ((byte ≡ 0) × (r ≡ 1)) ⊎ OpenFor days c cell r
 
 -- n special days from the k-th on, as they stand
 abbrev pub specialFrom : (numbers : List ℕ) (k n : ℕ) → List Special

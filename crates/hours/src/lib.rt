@@ -8,10 +8,10 @@
 ghost use mathlib.Core.Path.{_≡_};
 ghost use mathlib.Core.Bool.{_&&_};
 ghost use Prim.Native.Nat.{_≤_};
-ghost use lib.ListN.{getD};
 ghost use lib.Dec.{leb, ltb};
 ghost use Rattle.history.specs.Rules.{every};
-ghost use Rattle.history.specs.Hours.{calendarOf, hoursAt, calendarWidth, mostSpecial, dayOf, labelMinute, windowsOf, closedCell, hoursTaken, specialTaken, daysAscend, calendarTaken};
+ghost use Rattle.history.specs.Days.{daysOf};
+ghost use Rattle.history.specs.Hours.{calendarOf, hoursAt, calendarWidth, mostSpecial, windowsOf, closedCell, hoursTaken, specialTaken, daysAscend, calendarTaken};
 ghost use Rattle.hours.specs.Reach.{untilOf, specialFrom, SpecialStands, Reaches, Passes};
 
 // Minutes of a day, and of a platform: a cell's lower 32 bits are its minute.
@@ -35,16 +35,6 @@ const SPECIAL_FIRST: usize = 120;
 
 const SPECIAL_WIDTH: usize = 18;
 
-// The number at a place, 0 past the end.
-pub fn number(calendar: &[u64], at: usize) -> u64
-    ensures { λ r. ⌜ r ≡ getD (now (calendar .entry)) at 0 ⌝ }
-{
-    if at < calendar.len() {
-        return calendar[at];
-    }
-    0
-}
-
 // Whether the window [from, to) covers a minute of the day.
 fn covers(from: u64, to: u64, minute: u64) -> bool
     ensures { λ r. ⌜ r ≡ (leb from minute && ltb minute to) ⌝ }
@@ -60,11 +50,11 @@ fn until(calendar: &[u64], at: usize, minute: u64) -> u64
     requires { ⌜ at ≤ calendarWidth ⌝ }
     ensures { λ r. ⌜ r ≡ untilOf minute (hoursAt (now (calendar .entry)) at .windows) ⌝ }
 {
-    let count = tables::smaller(number(calendar, at), WINDOWS) as usize;
+    let count = tables::smaller(days::number(calendar, at), WINDOWS) as usize;
     let mut j = 0;
     while j < count {
-        let from = number(calendar, at + 1 + 2 * j);
-        let to = number(calendar, at + 2 + 2 * j);
+        let from = days::number(calendar, at + 1 + 2 * j);
+        let to = days::number(calendar, at + 2 + 2 * j);
         if covers(from, to, minute) {
             return to;
         }
@@ -77,10 +67,10 @@ fn until(calendar: &[u64], at: usize, minute: u64) -> u64
 fn special_hours(calendar: &[u64], day: u64) -> usize
     ensures { λ r. ⌜ SpecialStands (now (calendar .entry)) day r ⌝ }
 {
-    let count = tables::smaller(number(calendar, SPECIAL_COUNT), SPECIAL) as usize;
+    let count = tables::smaller(days::number(calendar, SPECIAL_COUNT), SPECIAL) as usize;
     let mut k = 0;
     while k < count {
-        if number(calendar, SPECIAL_FIRST + SPECIAL_WIDTH * k) == day {
+        if days::number(calendar, SPECIAL_FIRST + SPECIAL_WIDTH * k) == day {
             return SPECIAL_FIRST + SPECIAL_WIDTH * k + 1;
         }
         k += 1;
@@ -99,51 +89,42 @@ fn until_on(calendar: &[u64], day: u64, minute: u64) -> u64
     until(calendar, HOURS_WIDTH * (day % WEEKDAYS) as usize, minute)
 }
 
-// The day of a minute, and the minute of the day that its label shows.
-fn day_of(minute: u64) -> u64
-    ensures { λ r. ⌜ r ≡ dayOf minute ⌝ }
-{
-    minute / DAY
-}
-
-fn label_minute(minute: u64) -> u64
-    ensures { λ r. ⌜ r ≡ labelMinute minute ⌝ }
-{
-    minute % DAY
-}
-
-// How many cells from this one on a window keeps open, up to the end of its day or platform; 0 where the cell is closed.
-fn reach(calendar: &[u64], cell: u64) -> u64
-    ensures { λ r. ⌜ Reaches (calendarOf (now (calendar .entry))) cell r ⌝ }
+// How many cells from this one on a window keeps open, up to the end of its day or platform, or to where the label jumps; 0 where the cell is closed.
+fn reach(calendar: &[u64], days: &[u64], cell: u64) -> u64
+    ensures { λ r. ⌜ Reaches (daysOf (now (days .entry))) (calendarOf (now (calendar .entry))) cell r ⌝ }
 {
     let minute = cell % PLATFORM;
-    let label = label_minute(minute);
-    let until = until_on(calendar, day_of(minute), label);
+    let ahead = days::stretch(days, minute);
+    let label = ahead.label;
+    let until = until_on(calendar, ahead.day, label);
     if until <= label {
         return 0;
     }
-    tables::smaller(tables::smaller(until, DAY) - label, PLATFORM - minute)
+    tables::smaller(
+        tables::smaller(until - label, ahead.minutes),
+        PLATFORM - minute,
+    )
 }
 
 // How many cells from this one on pass: one whose byte is 0, or as many as a window reaches; 0 where the byte is refused.
-fn passing(calendar: &[u64], cell: u64, byte: u8) -> u64
-    ensures { λ r. ⌜ Passes (calendarOf (now (calendar .entry))) cell byte r ⌝ }
+fn passing(calendar: &[u64], days: &[u64], cell: u64, byte: u8) -> u64
+    ensures { λ r. ⌜ Passes (daysOf (now (days .entry))) (calendarOf (now (calendar .entry))) cell byte r ⌝ }
 {
     if byte == 0 {
         return 1;
     }
-    reach(calendar, cell)
+    reach(calendar, days, cell)
 }
 
-// Whether some byte that is not 0 falls on a closed cell, where byte i is that of cell first + i. The calendar is looked up once for each window of a
-// day, and the bytes in it are not read.
-pub fn closed_cell(calendar: &[u64], first: u64, bytes: &[u8]) -> bool
-    ensures { λ r. ⌜ r ≡ closedCell (calendarOf (now (calendar .entry))) first (now (bytes .entry)) ⌝ }
+// Whether some byte that is not 0 falls on a closed cell, where byte i is that of cell first + i. Day and label go by the list of days. The calendar is
+// looked up once for each window of a day, and the bytes in it are not read.
+pub fn closed_cell(calendar: &[u64], days: &[u64], first: u64, bytes: &[u8]) -> bool
+    ensures { λ r. ⌜ r ≡ closedCell (daysOf (now (days .entry))) (calendarOf (now (calendar .entry))) first (now (bytes .entry)) ⌝ }
 {
     let mut i = 0;
     while i < bytes.len() {
         let cell = first % PLATFORM + i as u64 % PLATFORM;
-        let passed = passing(calendar, cell, bytes[i]);
+        let passed = passing(calendar, days, cell, bytes[i]);
         if passed == 0 {
             return true;
         }
@@ -157,15 +138,15 @@ fn takes_hours(calendar: &[u64], at: usize) -> bool
     requires { ⌜ at ≤ calendarWidth ⌝ }
     ensures { λ r. ⌜ r ≡ hoursTaken (hoursAt (now (calendar .entry)) at) ⌝ }
 {
-    let stated = number(calendar, at);
+    let stated = days::number(calendar, at);
     if WINDOWS < stated {
         return false;
     }
     let count = stated as usize;
     let mut j = 0;
     while j < count {
-        let from = number(calendar, at + 1 + 2 * j);
-        let to = number(calendar, at + 2 + 2 * j);
+        let from = days::number(calendar, at + 1 + 2 * j);
+        let to = days::number(calendar, at + 2 + 2 * j);
         if to <= from {
             return false;
         }
@@ -214,10 +195,10 @@ fn ascending(calendar: &[u64], count: usize) -> bool
     if count == 0 {
         return true;
     }
-    let mut before = number(calendar, SPECIAL_FIRST);
+    let mut before = days::number(calendar, SPECIAL_FIRST);
     let mut k = 1;
     while k < count {
-        let day = number(calendar, SPECIAL_FIRST + SPECIAL_WIDTH * k);
+        let day = days::number(calendar, SPECIAL_FIRST + SPECIAL_WIDTH * k);
         if day <= before {
             return false;
         }
@@ -231,7 +212,7 @@ fn ascending(calendar: &[u64], count: usize) -> bool
 pub fn takes(calendar: &[u64]) -> bool
     ensures { λ r. ⌜ r ≡ calendarTaken (calendarOf (now (calendar .entry))) ⌝ }
 {
-    let stated = number(calendar, SPECIAL_COUNT);
+    let stated = days::number(calendar, SPECIAL_COUNT);
     if SPECIAL < stated {
         return false;
     }

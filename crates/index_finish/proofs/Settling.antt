@@ -31,6 +31,7 @@ use Rattle.recording.specs.Recorded.{blockRowOf, recorded}
 use Rattle.recording.proofs.Recorded.{recorded-out, recorded-blocks, recorded-count, recorded-row}
 use Rattle.segment_tree.specs.Lives.{Counted, entryRowsIn}
 use Rattle.segment_tree.specs.Fill.{lentTables, Closable, ClosedTree}
+use Rattle.day_table.proofs.DayLists.{days-kept}
 use Rattle.calendar_table.proofs.Calendars.{calendar-kept}
 use Rattle.layout.specs.Tables.{Tables, tables, lengthsOf, headAt}
 use Rattle.layout.specs.Encodes.{Encodes, closedState}
@@ -245,6 +246,9 @@ module _ {pieces was store blank entries nodes : List ℕ} {l : Ledger} (a : Acc
       pieces-stored = all-nil;
       tree = tree;
       calendar = calendar-kept was g (l .calendar) (λ i lo hi. appended-rows .head i (omega arith) (λ z. omega arith) (λ z. omega arith)) (s .encodes .calendar);
+      days =
+          days-kept was g (l .days) (omega (arith, headed)) (omega (arith, headed, grown-length e rs was))
+          (λ i lo hi. appended-rows .head i (omega arith) (λ z. omega arith) (λ z. omega arith)) (s .encodes .days);
     }
 
     finished-tables : Finished l t t′

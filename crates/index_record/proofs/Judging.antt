@@ -202,14 +202,14 @@ module _ {pieces blocks store bytes : List ℕ} {tick first n : ℕ}
   judge-closed z q w = record {
     says = λ nodes entries l scratch long e s still.
         answer-closed l scratch (operation tick first bytes) (ap tooShort (e .lengths) ∙ e .heads) long still (passes pieces blocks store bytes tick first n call z nodes entries l e)
-        (sym (q .says (l .calendar) (e .calendar)) ∙ w);
+        (sym (q .says (l .days) (l .calendar) (e .days) (e .calendar)) ∙ w);
   }
 
   module _ (z : n ≡ 0) (few : length pieces < 2 ^ 64) (fits : length store < 2 ^ 64) {c : Bool} (q : ClosedTold blocks first bytes c) (w : c ≡ false)
       {r : Report} (v : Surveyed pieces store first bytes r) where
     -- the calendar lets it pass, and what the survey tells
-    inside : (nodes entries : List ℕ) (l : Ledger) → Encodes (tables pieces blocks store nodes entries) l → closedBy (l .calendar) first bytes ≡ false
-    inside nodes entries l e = sym (q .says (l .calendar) (e .calendar)) ∙ w
+    inside : (nodes entries : List ℕ) (l : Ledger) → Encodes (tables pieces blocks store nodes entries) l → closedBy (l .days) (l .calendar) first bytes ≡ false
+    inside nodes entries l e = sym (q .says (l .days) (l .calendar) (e .days) (e .calendar)) ∙ w
 
     tells : (nodes entries : List ℕ) (l : Ledger) → Encodes (tables pieces blocks store nodes entries) l → Sound l → Told l (operation tick first bytes) r
     tells nodes entries l e s =

@@ -15,6 +15,7 @@ use Rattle.block_table.specs.Blocks.{SameRows, headPlace}
 use Rattle.block_table.proofs.Blocks.{blocks-kept}
 use Rattle.block_table.proofs.Keeping.{stored-kept}
 use Rattle.ordering.proofs.Keeping.{unordered-kept}
+use Rattle.day_table.proofs.DayLists.{days-kept}
 use Rattle.calendar_table.proofs.Calendars.{calendar-kept}
 use Rattle.layout.specs.Tables.{Tables, lengthsOf, headAt}
 use Rattle.layout.specs.Encodes.{Encodes, TreeIn}
@@ -76,5 +77,7 @@ module _ (t : Tables) (l : Ledger) (o : Operation) (e : Encodes t l) (still : fi
         tree = subst (λ (x : Option segment.Tree). TreeIn (readTables (o .tick) t) (withNow (readBy (l .now) o) l) x) (sym (still-none (l .tree) still))
             (unordered-kept (same-rows (length (l .now .blocks))) (other (rowWidth * 0 + (blockBase + blockNext)) (λ z. omega arith)) (open-unordered t l e still));
         calendar = calendar-kept (t .blocks) (set (t .blocks) (headPlace headLast) (o .tick)) (l .calendar) (λ i lo hi. other i (λ z. omega arith)) (e .calendar);
+        days = days-kept (t .blocks) (set (t .blocks) (headPlace headLast) (o .tick)) (l .days) (omega (arith, head-there)) (omega (arith, head-there, length-set (t .blocks) (headPlace headLast) (o .tick)))
+            (λ i lo hi. other i (λ z. omega arith)) (e .days);
       } in
       subst (λ (m : Ledger). Encodes (readTables (o .tick) t) m) (sym (record-read l o read)) there

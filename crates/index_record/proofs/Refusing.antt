@@ -104,7 +104,7 @@ module _ (l : Ledger) (scratch : ℕ) (o : Operation) (fits : tooShort (l .openi
 
   -- 26 in front of them
   abbrev outside : Bool
-  outside = closedBy (l .calendar) (o .first) (o .bytes)
+  outside = closedBy (l .days) (l .calendar) (o .first) (o .bytes)
 
   abbrev rest : List Refusal
   rest = 26 if outside ∷ ofUpdate (not (isRead (l .now) o))

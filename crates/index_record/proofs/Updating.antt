@@ -35,6 +35,7 @@ use Rattle.recording.specs.Calls.{Updated, AppliedUpdate}
 use Rattle.recording.proofs.Telling.{shown-kept, update-pieces, update-blocks}
 use Rattle.recording.specs.Recorded.{blockRowOf, recorded}
 use Rattle.recording.proofs.Recorded.{recorded-count, recorded-row, recorded-out, recorded-blocks}
+use Rattle.day_table.proofs.DayLists.{days-kept}
 use Rattle.calendar_table.proofs.Calendars.{calendar-kept}
 use Rattle.layout.specs.Tables.{Tables, tables, lengthsOf, headAt}
 use Rattle.layout.specs.Encodes.{Encodes, TreeIn}
@@ -314,6 +315,10 @@ module _ (t : Tables) (l : Ledger) (o : Operation) (scratch : ℕ) (e : Encodes 
           calendar =
               calendar-kept (t .blocks) blocks′ (l .calendar)
               (λ i lo hi. left-appended (o .tick) (used + size) gone (t .blocks) (there .blocks) .head i (omega arith) (λ z. omega arith) (λ z. omega arith) (λ z. omega arith)) (e .calendar);
+          days =
+              days-kept (t .blocks) blocks′ (l .days) (omega (arith, heads-fit (lengthsOf t) (e .heads) .blocks))
+              (omega (arith, heads-fit (lengthsOf t) (e .heads) .blocks, left-appended (o .tick) (used + size) gone (t .blocks) (there .blocks) .len))
+              (λ i lo hi. left-appended (o .tick) (used + size) gone (t .blocks) (there .blocks) .head i (omega arith) (λ z. omega arith) (λ z. omega arith) (λ z. omega arith)) (e .days);
         } in
         subst (λ (m : Ledger). Encodes t′ m) (sym (record-update l o update)) whole
 

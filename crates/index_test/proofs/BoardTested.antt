@@ -12,6 +12,7 @@ use Rattle.history.specs.Refusals.{maxEndTick}
 use Rattle.tables.specs.Columns.{column, piecesCount, headEnd, headKind, headCount, headUsed, headLast}
 use Rattle.block_table.specs.Rows.{RowsSound}
 use Rattle.piece_table.specs.Test as piece
+use Rattle.day_table.specs.DayLists.{DaysFormed}
 use Rattle.calendar_table.specs.Calendars.{CalendarFormed}
 use Rattle.layout.specs.Tables.{Tables, lengthsOf, headAt}
 use Rattle.index_test.specs.Board.{Numbers, HeadFormed, BoardFormed}
@@ -45,17 +46,21 @@ head-heads t r e d = refute (λ s. d .not (not-true r e) (s .heads))
 pub head-numbers : (t : Tables) (r : Bool) → not r ≡ true → Decides r (Numbers t) → Decides false (HeadFormed t)
 head-numbers t r e d = refute (λ s. d .not (not-true r e) (s .numbers))
 
-pub head-rest : (t : Tables) (h m k : Bool) → not h ≡ false → not m ≡ false → Decides h (tooShort (lengthsOf t) ≡ false) → Decides m (Numbers t)
-    → Decides k (CalendarFormed (t .blocks)) → Decides k (HeadFormed t)
-head-rest t h m k eh em dh dm dk =
-    decides-iff k (λ c. record { heads = dh .yes (not-false h eh); numbers = dm .yes (not-false m em); calendar = c }) (λ s. s .calendar) dk
+pub head-calendar : (t : Tables) (r : Bool) → not r ≡ true → Decides r (CalendarFormed (t .blocks)) → Decides false (HeadFormed t)
+head-calendar t r e d = refute (λ s. d .not (not-true r e) (s .calendar))
 
-pub ruleset heading = (head-heads, head-numbers, head-rest)
+pub head-rest : (t : Tables) (h m c k : Bool) → not h ≡ false → not m ≡ false → not c ≡ false → Decides h (tooShort (lengthsOf t) ≡ false) → Decides m (Numbers t)
+    → Decides c (CalendarFormed (t .blocks)) → Decides k (DaysFormed (t .blocks)) → Decides k (HeadFormed t)
+head-rest t h m c k eh em ec dh dm dc dk =
+    decides-iff k (λ d. record { heads = dh .yes (not-false h eh); numbers = dm .yes (not-false m em); calendar = dc .yes (not-false c ec); days = d })
+    (λ s. s .days) dk
+
+pub ruleset heading = (head-heads, head-numbers, head-calendar, head-rest)
 
 -- ── the board ──
 
 pub board-head : (t : Tables) (r : Bool) → not r ≡ true → Decides r (HeadFormed t) → Decides false (BoardFormed t)
-board-head t r e d = refute (λ s. d .not (not-true r e) (record { heads = s .heads; numbers = s .numbers; calendar = s .calendar }))
+board-head t r e d = refute (λ s. d .not (not-true r e) (record { heads = s .heads; numbers = s .numbers; calendar = s .calendar; days = s .days }))
 
 module _ (t : Tables) (kind end used last count : ℕ) (a : kind ≡ headAt t headKind) (b : end ≡ headAt t headEnd) (c : used ≡ headAt t headUsed)
     (d : last ≡ headAt t headLast) (n : count ≡ headAt t headCount) where
@@ -74,6 +79,7 @@ module _ (t : Tables) (kind end used last count : ℕ) (a : kind ≡ headAt t he
         heads = head .heads;
         numbers = head .numbers;
         calendar = head .calendar;
+        days = head .days;
         rows = rw (← a, ← b, ← c, ← n) (dr .yes (not-false r er));
         pieces = rw (← a, ← c, ← d) (dp .yes ep);
       })

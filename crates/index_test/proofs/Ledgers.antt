@@ -22,6 +22,7 @@ use Rattle.piece_table.specs.Piece.{pieceAt, Filled}
 use Rattle.piece_table.specs.Shown.{shown}
 use Rattle.piece_table.specs.Test as piece
 use Rattle.piece_table.proofs.Order.{follow-filled}
+use Rattle.day_table.proofs.DayLists.{daysHeld, formed-days, days-formed}
 use Rattle.calendar_table.proofs.Calendars.{calendarHeld, formed-held, formed-installable, held-formed}
 use Rattle.layout.specs.Tables.{Tables, lengthsOf, headAt}
 use Rattle.layout.specs.Encodes.{Encodes, TreeIn, stateOf}
@@ -83,6 +84,7 @@ ledgerOf t links tree =
       };
       tree = tree;
       calendar = calendarHeld (t .blocks);
+      days = daysHeld (t .blocks);
     }
 
 module _ (t : Tables) (b : BoardFormed t) where
@@ -118,6 +120,7 @@ module _ (t : Tables) (b : BoardFormed t) where
     pieces-stored = all-map (λ link x. x .inside) links-allowed;
     tree = in-tree;
     calendar = formed-held (t .blocks) (b .calendar);
+    days = formed-days (t .blocks) (b .days);
   }
 
   pub board-sound : (tree : Option segment.Tree) → SoundBoard (ledgerOf t boardLinks tree)
@@ -147,6 +150,7 @@ module _ (t : Tables) (b : BoardFormed t) where
         blocks-fit = omega (arith, length-of-map (λ link. shown (t .store) (pieceAt (t .pieces) link)) (b .pieces .rep .links), blocks-length (t .store) (t .blocks) (headAt t headCount), n .rows-fit);
         store-fits = omega (arith, length-take (headAt t headUsed) (t .store));
         calendar-taken = formed-installable (t .blocks) (b .calendar);
+        days-taken = b .days .taken;
       }
 
 -- ── the tables of a sound ledger pass ──
@@ -166,6 +170,7 @@ board-formed t l e s few fits =
         rows-fit = omega (arith, e .count, e .linked .count, pieces-length, rw lent at (s .blocks-fit));
       };
       calendar = held-formed (t .blocks) (l .calendar) (e .calendar) (s .calendar-taken);
+      days = days-formed (t .blocks) (l .days) (e .days) (s .days-taken);
       rows = record { rows = row };
       pieces = pieces-formed t l e s few fits;
     }

@@ -1,4 +1,4 @@
--- What any index has, open or closed, said of its tables: heads, numbers, calendar, rows, pieces. Definitions alone; with its order or its tree it is `WellFormed`.
+-- What any index has, open or closed, said of its tables: heads, numbers, calendar, list of days, rows, pieces. Definitions alone; with its order or its tree it is `WellFormed`.
 use mathlib.Core.Path.{_≡_}
 use mathlib.Core.Bool.{Bool, false}
 use Rattle.lists.specs.Tests.{Decides}
@@ -12,6 +12,7 @@ use Rattle.block_table.specs.Blocks.{blocksOf}
 use Rattle.block_table.specs.Rows.{Bounds, RowsSound}
 use Rattle.piece_table.specs.Test as piece
 use Rattle.ordering.specs.Order.{Unordered}
+use Rattle.day_table.specs.DayLists.{DaysFormed}
 use Rattle.calendar_table.specs.Calendars.{CalendarFormed}
 use Rattle.segment_test.specs.Test.{ClosedTree}
 use Rattle.layout.specs.Tables.{Tables, lengthsOf, headAt, treeTables}
@@ -39,11 +40,13 @@ pub record HeadFormed (t : Tables) : Type 0 where
   pub heads : tooShort (lengthsOf t) ≡ false
   pub numbers : Numbers t
   pub calendar : CalendarFormed (t .blocks)
+  pub days : DaysFormed (t .blocks)
 
 pub record BoardFormed (t : Tables) : Type 0 where
   pub heads : tooShort (lengthsOf t) ≡ false
   pub numbers : Numbers t
   pub calendar : CalendarFormed (t .blocks)
+  pub days : DaysFormed (t .blocks)
   pub rows : RowsSound (t .blocks) (boundsOf t) 0 (headAt t headCount)
   pub pieces : piece.WellFormed (t .pieces) (headAt t headKind) (headAt t headUsed) (headAt t headLast)
 

@@ -1,4 +1,4 @@
-// What any index has, open or closed: heads, numbers, calendar, rows of blocks, pieces.
+// What any index has, open or closed: heads, numbers, calendar, list of days, rows of blocks, pieces.
 ghost use mathlib.Core.Path.{_≡_};
 ghost use mathlib.Core.Bool.{false};
 ghost use lib.ListN.{length};
@@ -83,7 +83,7 @@ fn test_numbers(
     false
 }
 
-// Whether the heads are those of an index: lengths, numbers, calendar.
+// Whether the heads are those of an index: lengths, numbers, calendar, list of days.
 fn test_head(pieces: &[u64], blocks: &[u64], store: &[u8], nodes: &[u64], entries: &[u64]) -> bool
     ensures { λ r. ⌜ Decides r (HeadFormed (tables (now (pieces .entry)) (now (blocks .entry)) (now (store .entry)) (now (nodes .entry)) (now (entries .entry)))) ⌝ }
 {
@@ -93,7 +93,10 @@ fn test_head(pieces: &[u64], blocks: &[u64], store: &[u8], nodes: &[u64], entrie
     if !test_numbers(pieces, blocks, store, nodes, entries) {
         return false;
     }
-    calendar_table::formed(blocks)
+    if !calendar_table::formed(blocks) {
+        return false;
+    }
+    day_table::formed(blocks)
 }
 
 // Whether the tables have what any index has. Linear in the rows in use.

@@ -56,7 +56,7 @@ module _ {blocks numbers : List ℕ} {r : Bool} (is : r ≡ calendarTaken (calen
         let q : installAnswer l numbers ≡ accepted done = install-accepted l numbers (heads-held e) still (sym is ∙ not-false r good) in
         let same : tables pieces blocks′ store nodes entries ≡ installedTables numbers t = ap (λ (b : List ℕ). tables pieces b store nodes entries) e′ in
         let left : InstallLeaves (accepted done) l numbers t (tables pieces blocks′ store nodes entries)
-        = (subst (λ (x : Tables). Encodes x (installBy l numbers)) (sym same) (installed-encodes t l numbers e still), same) in
+        = (subst (λ (x : Tables). Encodes x (installBy l numbers)) (sym same) (installed-encodes t l numbers e), same) in
         (sym q, subst (λ (x : Answer Result). InstallLeaves x l numbers t (tables pieces blocks′ store nodes entries)) (sym q) left);
   }
 

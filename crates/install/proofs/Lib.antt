@@ -1,1 +1,2 @@
 pub mod Installing
+pub mod InstallingDays

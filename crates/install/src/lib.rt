@@ -1,11 +1,12 @@
-// The public call that installs a calendar: total, as the calls of `index` are.
+// The public calls that install a calendar and a list of days: total, as the calls of `index` are.
 //
-//   specs/Answers       the number for every case of its answer; what `install_open` ensures
-//   proofs/Installing   one step for each return
+//   specs/Answers           the number for every case of their answer; what installing into tested tables ensures
+//   proofs/Installing       one step for each return, of a calendar
+//   proofs/InstallingDays   the same of a list of days
 ghost use mathlib.Core.Path.{_≡_};
 ghost use Rattle.layout.specs.Tables.{tables};
-ghost use Rattle.layout.specs.Relations.{InstalledBy};
-ghost use Rattle.install.specs.Answers.{installedOf, InstalledOpen};
+ghost use Rattle.layout.specs.Relations.{InstalledBy, DaysInstalledBy};
+ghost use Rattle.install.specs.Answers.{installedOf, InstalledOpen, DaysInstalled};
 use index_test::State;
 
 // The answer of install.
@@ -44,5 +45,37 @@ pub fn install_calendar(
         State::Bad => Installed::Refused(2),
         State::Closed => Installed::Refused(3),
         State::Open => install_open(blocks, calendar),
+    }
+}
+
+// Installs a list of days into the tables of an open or a closed index, in place of the one before.
+pub fn install_days_formed(blocks: &mut [u64], days: &[u64]) -> Installed
+    ensures { λ r. ⌜ DaysInstalled (now (blocks .entry)) (now (blocks .exit)) (now (days .entry)) r ⌝ }
+{
+    if !days::takes(days) {
+        return Installed::Refused(28);
+    }
+    day_table::install(blocks, days);
+    Installed::Done
+}
+
+// Installs a list of days of 23 and 25 hours: pairs of a day and its minutes. A last day without its minutes has none, and is refused.
+pub fn install_days(
+    pieces: &[u64],
+    blocks: &mut [u64],
+    store: &[u8],
+    nodes: &[u64],
+    entries: &[u64],
+    days: &[u64],
+) -> Installed
+    ensures { λ r. ⌜ DaysInstalledBy (now (days .entry))
+        (tables (now (pieces .entry)) (now (blocks .entry)) (now (store .entry)) (now (nodes .entry)) (now (entries .entry)))
+        (tables (now (pieces .entry)) (now (blocks .exit)) (now (store .entry)) (now (nodes .entry)) (now (entries .entry))) (installedOf r) ⌝ }
+{
+    let state = index_test::test(pieces, blocks, store, nodes, entries);
+    match state {
+        State::Bad => Installed::Refused(2),
+        State::Closed => install_days_formed(blocks, days),
+        State::Open => install_days_formed(blocks, days),
     }
 }

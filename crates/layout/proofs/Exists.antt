@@ -41,10 +41,10 @@ open-exists l s f unfinished =
     record {
       tables = t;
       encodes =
-          board-encodes l s (f .heads) (front-of l f) nodes entries (length-replicate (l .opening .lent .nodes) 0) (length-replicate (l .opening .lent .entries) 0)
+          board-encodes l s (f .heads) (front-of l s f) nodes entries (length-replicate (l .opening .lent .nodes) 0) (length-replicate (l .opening .lent .entries) 0)
           (subst (TreeIn t l) (sym unfinished) unordered);
       fits =
-          board-fits l s f (front-of l f) nodes entries (replicate-all (l .opening .lent .nodes) (omega arith))
+          board-fits l s f (front-of l s f) nodes entries (replicate-all (l .opening .lent .nodes) (omega arith))
           (replicate-all (l .opening .lent .entries) (omega arith));
       blank = λ e. record { nodes = zeros (l .opening .lent .nodes); entries = zeros (l .opening .lent .entries) };
     }
@@ -56,13 +56,13 @@ open-exists l s f unfinished =
     entries = replicate (l .opening .lent .entries) 0
 
     t : Tables
-    t = tablesBy l s (front-of l f) nodes entries
+    t = tablesBy l s (front-of l s f) nodes entries
 
     unordered : TreeIn t l none
     unordered =
         record {
           none = λ k h.
-              block-next (l .opening .lent .blocks) (headOf l (front-of l f)) (blockRowsOf l s .rows) (block-room l s (f .heads)) k (omega (arith, blocks-many l s));
+              block-next (l .opening .lent .blocks) (headOf l (front-of l s f)) (blockRowsOf l s .rows) (block-room l s (f .heads)) k (omega (arith, blocks-many l s));
         }
 
     zeros : (n : ℕ) → replicate {A = ℕ} n 0 ≡ replicate (length (replicate {A = ℕ} n 0)) 0
@@ -78,7 +78,7 @@ numbered-blocks e bs tree h = numbered-decides (length bs) tree .yes (and-left (
 module _ (l : Ledger) (s : SoundBoard l) (f : Lendable l) where
   -- the rows of the blocks
   abbrev rowsAsBlocks : List ℕ
-  rowsAsBlocks = blockTable (l .opening .lent .blocks) (headOf l (front-of l f)) (blockRowsOf l s .rows)
+  rowsAsBlocks = blockTable (l .opening .lent .blocks) (headOf l (front-of l s f)) (blockRowsOf l s .rows)
 
   -- the tree stands in nodes and entries
   pub closed-exists : (tree : segment.Tree) → SoundClosed l tree → l .tree ≡ some tree → Encoded l
@@ -87,9 +87,9 @@ module _ (l : Ledger) (s : SoundBoard l) (f : Lendable l) where
       record {
         tables = t;
         encodes =
-            board-encodes l s (f .heads) (front-of l f) nodes entries (node-table-length (l .opening .lent .nodes) (l .opening .kind) (l .opening .end) tree)
+            board-encodes l s (f .heads) (front-of l s f) nodes entries (node-table-length (l .opening .lent .nodes) (l .opening .kind) (l .opening .end) tree)
             (entry-table-length (l .opening .lent .entries) (firstCellIn rowsAsBlocks) (entriesIn tree)) (subst (TreeIn t l) (sym is) closed);
-        fits = board-fits l s f (front-of l f) nodes entries node-words entry-words;
+        fits = board-fits l s f (front-of l s f) nodes entries node-words entry-words;
         blank = λ e. let no-tree : true ≡ false = sym (ap isSome is) ∙ e in absurd (true≢false no-tree);
       }
     where
@@ -100,7 +100,7 @@ module _ (l : Ledger) (s : SoundBoard l) (f : Lendable l) where
       entries = entryTable (l .opening .lent .entries) (firstCellIn rowsAsBlocks) (entriesIn tree)
 
       t : Tables
-      t = tablesBy l s (front-of l f) nodes entries
+      t = tablesBy l s (front-of l s f) nodes entries
 
       h : Heads (l .opening .lent)
       h = heads-fit (l .opening .lent) (f .heads)
@@ -123,7 +123,7 @@ module _ (l : Ledger) (s : SoundBoard l) (f : Lendable l) where
       entry-words =
           entry-table-words (l .opening .lent .entries) (firstCellIn rowsAsBlocks) (entriesIn tree)
           (omega (arith, entry-count-in tree, c .entries-fit, f .entries)) numbered-words
-          (λ k. word-at (blocks-fit l s f (front-of l f)) (rowWidth * suc k + (blockBase + blockFirst)))
+          (λ k. word-at (blocks-fit l s f (front-of l s f)) (rowWidth * suc k + (blockBase + blockFirst)))
 
 -- ── every sound ledger ──
 

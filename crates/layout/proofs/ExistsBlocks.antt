@@ -13,7 +13,7 @@ use Rattle.history.specs.Lent.{rowWidth, blockHead}
 use Rattle.history.specs.Words.{Block, size, firstCell}
 use Rattle.history.specs.Sound as sound
 use Rattle.lists.proofs.Stores.{getD-sets-out}
-use Rattle.tables.specs.Columns.{frontCalendar, frontDays, blockColumn, blockBase, blockFirst, blockLength, blockCreated, blockDestroyed, blockOffset, blockOwner, blockNext}
+use Rattle.tables.specs.Columns.{frontCalendar, frontDays, frontMarkCount, blockColumn, blockBase, blockFirst, blockLength, blockCreated, blockDestroyed, blockOffset, blockOwner, blockNext}
 use Rattle.block_table.specs.Blocks.{BlockRow, noRow, shownBlock, rowAt, blockOfRow, blocksOf, Stored}
 use Rattle.block_table.proofs.Blocks.{shown-is}
 use Rattle.ordering.specs.Order.{nextAt}
@@ -52,9 +52,11 @@ pub record Head : Type 0 where
   pub kind : ℕ
   pub used : ℕ
   pub last : ℕ
-  -- what stands in its front from the calendar's place on, no more than a calendar takes
-  pub front : List ℕ
-  pub front-fits : frontCalendar + length front ≤ frontDays
+  -- what stands in its front: at the calendar's place no more than a calendar takes, and behind it no more than a list of days
+  pub calendar : List ℕ
+  pub calendar-fits : frontCalendar + length calendar ≤ frontDays
+  pub days : List ℕ
+  pub days-fit : frontDays + length days ≤ frontMarkCount
 
 -- the head, then a row for each block; what is not used is 0
 unfoldable pub blockRow : Head → (fs : List BlockRow) (link : ℕ) → List ℕ
@@ -65,18 +67,22 @@ blockRow h fs (suc k) =
 
 -- as long as it is lent
 unfoldable pub blockTable : (many : ℕ) → Head → (fs : List BlockRow) → List ℕ
-blockTable many h fs = sets (tableBy blockBase many (blockRow h fs)) frontCalendar (h .front)
+blockTable many h fs = sets (sets (tableBy blockBase many (blockRow h fs)) frontCalendar (h .calendar)) frontDays (h .days)
 
 pub block-table-length : (many : ℕ) (h : Head) (fs : List BlockRow) → length (blockTable many h fs) ≡ many
 unfolding blockTable
-block-table-length many h fs = length-sets (tableBy blockBase many (blockRow h fs)) frontCalendar (h .front) ∙ table-by-length blockBase many (blockRow h fs)
+block-table-length many h fs =
+    length-sets (sets (tableBy blockBase many (blockRow h fs)) frontCalendar (h .calendar)) frontDays (h .days)
+    ∙ length-sets (tableBy blockBase many (blockRow h fs)) frontCalendar (h .calendar)
+    ∙ table-by-length blockBase many (blockRow h fs)
 
 module _ (many : ℕ) (h : Head) (fs : List BlockRow) (room : blockHead + rowWidth * length fs ≤ many) where
   -- a column in use reads as the row says
   pub block-column : (link c : ℕ) → link ≤ length fs → c < rowWidth → blockColumn (blockTable many h fs) link c ≡ getD (blockRow h fs link) c 0
   unfolding blockTable
   block-column link c p q =
-      getD-sets-out (h .front) (tableBy blockBase many (blockRow h fs)) frontCalendar (rowWidth * link + (blockBase + c)) (inr (omega (arith, h .front-fits)))
+      getD-sets-out (h .days) (sets (tableBy blockBase many (blockRow h fs)) frontCalendar (h .calendar)) frontDays (rowWidth * link + (blockBase + c)) (inr (omega (arith, h .days-fit)))
+      ∙ getD-sets-out (h .calendar) (tableBy blockBase many (blockRow h fs)) frontCalendar (rowWidth * link + (blockBase + c)) (inr (omega (arith, h .calendar-fits)))
       ∙ table-by-at blockBase many (blockRow h fs) link c q (omega arith)
 
   -- there is no order
@@ -143,13 +149,15 @@ pub record HeadWords (h : Head) : Type 0 where
   pub kind : h .kind < 2 ^ 64
   pub used : h .used < 2 ^ 64
   pub last : h .last < 2 ^ 64
-  pub front : All Word (h .front)
+  pub calendar : All Word (h .calendar)
+  pub days : All Word (h .days)
 
 -- and so are all numbers of the table
 pub block-table-words : (many : ℕ) (h : Head) (fs : List BlockRow) → HeadWords h
     → length fs < 2 ^ 64 → All RowWords fs → All Word (blockTable many h fs)
 unfolding blockTable blockRow
-block-table-words many h fs w few a = all-sets (h .front) frontCalendar (w .front) (table-by-words blockBase many (blockRow h fs) words)
+block-table-words many h fs w few a =
+    all-sets (h .days) frontDays (w .days) (all-sets (h .calendar) frontCalendar (w .calendar) (table-by-words blockBase many (blockRow h fs) words))
   where
     none : RowWords noRow
     none = record { owner = omega arith; first = omega arith; size = omega arith; created = omega arith; destroyed = omega arith; offset = omega arith }

@@ -1,31 +1,37 @@
 -- The tables of a sound board: pieces, blocks and store, with any order column, node and entry table. Assumes nothing.
 use mathlib.Core.Path.{_≡_, refl, ap, sym, _∙_, subst}
 use mathlib.Core.Bool.{false}
+use mathlib.Core.Logic.{inl}
 use mathlib.Core.Option.{Option, none, some}
 use mathlib.Core.List.{List, [], _∷_, _++_}
 use Prim.Native.Nat.{ℕ, zero, suc, _+_, _-_, _*_, _^_, _≤_, _<_}
 use native.Mathlib.Omega.{arith}
 use lib.ListN.{length, getD, replicate, length-append, length-replicate}
-use lib.Seq.{sets, getD-set-same, take-append-seam}
+use lib.Seq.{sets, length-sets, getD-set-same, take-append-seam}
 use Rattle.lists.specs.Lists.{All, all-nil, all-cons, countFrom}
-use Rattle.lists.proofs.Lists.{all-append, all-both, all-of-map, all-un-map}
+use Rattle.lists.proofs.Lists.{all-append, all-both, all-of-map, all-un-map, count-from-length}
 use Rattle.lists.proofs.Counting.{all-count-from}
 use Rattle.lists.proofs.Maps.{length-of-map}
+use Rattle.lists.proofs.Stores.{getD-sets-out}
 use Rattle.history.specs.Lent.{rowWidth, blockHead, tooShort}
 use Rattle.history.specs.Words.{Piece, Block}
 use Rattle.history.specs.Tree as segment
+use Rattle.history.specs.Days.{Day, mostDays, daysOf}
 use Rattle.history.specs.Hours.{Calendar, calendarWidth}
 use Rattle.history.specs.Ledger.{Ledger}
 use Rattle.history.specs.Sound.{SoundPiece, SoundBlock, SoundBoard}
-use Rattle.tables.specs.Columns.{blockBase, frontCalendar, frontDays, headState, headEnd, headKind, headCount, headUsed, headLast}
+use Rattle.history.proofs.DaysRising.{days-taken-decides}
+use Rattle.tables.specs.Columns.{blockBase, frontCalendar, frontDays, frontMarkCount, headState, headEnd, headKind, headCount, headUsed, headLast}
 use Rattle.block_table.specs.Blocks.{BlockRow, shownBlock}
 use Rattle.piece_table.specs.Piece.{PieceRow}
 use Rattle.piece_table.specs.Shown.{shown}
+use Rattle.day_table.specs.DayLists.{DaysIn, dayNumbers}
+use Rattle.day_table.proofs.DayLists.{days-installed-in}
 use Rattle.calendar_table.specs.Calendars.{CalendarIn, calendarNumbers}
-use Rattle.calendar_table.proofs.Calendars.{calendar-none, written-length, installed-in}
+use Rattle.calendar_table.proofs.Calendars.{calendar-none, calendar-kept, written-length, installed-in}
 use Rattle.layout.specs.Tables.{Tables, tables, lengthsOf, headAt}
 use Rattle.layout.specs.Encodes.{stateOf, TreeIn, Encodes}
-use Rattle.layout.specs.Law.{Word, Byte, Fits, NoneOrOfWords, Lendable}
+use Rattle.layout.specs.Law.{Word, Byte, Fits, NoneOrOfWords, DaysOfWords, Lendable}
 use Rattle.layout.proofs.Lengths.{lent-same, Heads, heads-fit}
 use Rattle.layout.proofs.ExistsTable.{tableBy, table-by-length, word-at}
 use Rattle.layout.proofs.ExistsPieces.{PieceRows, piece-rows, pieceTable, piece-table-length, piece-links, pieces-shown, pieces-inside, PieceWords, piece-table-words}
@@ -38,32 +44,56 @@ unfoldable pub unused : Ledger → List ℕ
 unused l = replicate (l .opening .lent .store - length (l .now .store)) 0
 
 -- what the front holds of the ledger's calendar: its flag and its numbers
-pub record Front (l : Ledger) : Type 0 where
+pub record CalendarPart (x : Option Calendar) : Type 0 where
   pub numbers : List ℕ
   pub fits : frontCalendar + length numbers ≤ frontDays
   pub words : All Word numbers
-  pub there : (blocks : List ℕ) → frontDays ≤ length blocks → CalendarIn (sets blocks frontCalendar numbers) (l .calendar)
+  pub there : (blocks : List ℕ) → frontDays ≤ length blocks → CalendarIn (sets blocks frontCalendar numbers) x
+
+-- of its days: their count and their numbers
+pub record DaysPart (days : List Day) : Type 0 where
+  pub numbers : List ℕ
+  pub fits : frontDays + length numbers ≤ frontMarkCount
+  pub words : All Word numbers
+  pub there : (blocks : List ℕ) → frontMarkCount ≤ length blocks → DaysIn (sets blocks frontDays numbers) days
+
+pub record Front (l : Ledger) : Type 0 where
+  pub calendar : CalendarPart (l .calendar)
+  pub days : DaysPart (l .days)
 
 -- the numbers of a calendar are words, as those are that it was made of
 written-words : {ns : List ℕ} → All Word ns → All Word (calendarNumbers ns)
 written-words a = all-of-map _ (all-count-from 0 calendarWidth (λ i p q. word-at a i))
 
-pub front-of : (l : Ledger) → Lendable l → Front l
-front-of l f = go (l .calendar) (f .calendar) refl
-  where
-    go : (x : Option Calendar) → NoneOrOfWords x → l .calendar ≡ x → Front l
-    go none w is = record {
-      numbers = 0 ∷ [];
-      fits = omega arith;
-      words = all-cons {x = 0} (omega arith) all-nil;
-      there = λ blocks room. rw is (calendar-none (sets blocks frontCalendar (0 ∷ [])) (getD-set-same blocks frontCalendar 0 0 (omega arith)));
+calendar-part : (x : Option Calendar) → NoneOrOfWords x → CalendarPart x
+calendar-part none w = record {
+  numbers = 0 ∷ [];
+  fits = omega arith;
+  words = all-cons {x = 0} (omega arith) all-nil;
+  there = λ blocks room. calendar-none (sets blocks frontCalendar (0 ∷ [])) (getD-set-same blocks frontCalendar 0 0 (omega arith));
+}
+calendar-part (some c) w = record {
+  numbers = 1 ∷ calendarNumbers (w .numbers);
+  fits = omega (arith, written-length (w .numbers));
+  words = all-cons {x = 1} (omega arith) (written-words (w .words));
+  there = λ blocks room. rw (← w .is) (installed-in blocks (w .numbers) room);
+}
+
+days-part : (days : List Day) → DaysOfWords days → length days ≤ mostDays → DaysPart days
+days-part days w few =
+    let short : length (daysOf (w .numbers)) ≤ mostDays = rw (w .is) few in
+    record {
+      numbers = length (daysOf (w .numbers)) ∷ dayNumbers (w .numbers);
+      fits = omega (arith, length-of-map (λ j. getD (w .numbers) j 0) (countFrom 0 (2 * mostDays)), count-from-length 0 (2 * mostDays));
+      words = all-cons {x = length (daysOf (w .numbers))} (omega arith) (all-of-map _ (all-count-from 0 (2 * mostDays) (λ i p q. word-at (w .words) i)));
+      there = λ blocks room. rw (← w .is) (days-installed-in blocks (w .numbers) room short);
     }
-    go (some c) w is = record {
-      numbers = 1 ∷ calendarNumbers (w .numbers);
-      fits = omega (arith, written-length (w .numbers));
-      words = all-cons {x = 1} (omega arith) (written-words (w .words));
-      there = λ blocks room. rw (is, ← w .is) (installed-in blocks (w .numbers) room);
-    }
+
+pub front-of : (l : Ledger) → SoundBoard l → Lendable l → Front l
+front-of l s f = record {
+  calendar = calendar-part (l .calendar) (f .calendar);
+  days = days-part (l .days) (f .days) (days-taken-decides (l .days) .yes (s .days-taken) .few);
+}
 
 unfoldable pub headOf : (l : Ledger) → Front l → Head
 headOf l w = record {
@@ -72,8 +102,10 @@ headOf l w = record {
   kind = l .opening .kind;
   used = length (l .now .store);
   last = l .now .last;
-  front = w .numbers;
-  front-fits = w .fits;
+  calendar = w .calendar .numbers;
+  calendar-fits = w .calendar .fits;
+  days = w .days .numbers;
+  days-fit = w .days .fits;
 }
 
 module _ (l : Ledger) (s : SoundBoard l) where
@@ -127,8 +159,23 @@ module _ (l : Ledger) (s : SoundBoard l) where
       unfolding blockTable headOf
       calendar-there =
           let h : Heads (l .opening .lent) = heads-fit (l .opening .lent) fits in
-          w .there (tableBy blockBase (l .opening .lent .blocks) (blockRow (headOf l w) (blockRowsOf .rows)))
-          (omega (arith, h .blocks, table-by-length blockBase (l .opening .lent .blocks) (blockRow (headOf l w) (blockRowsOf .rows))))
+          let rows = tableBy blockBase (l .opening .lent .blocks) (blockRow (headOf l w) (blockRowsOf .rows)) in
+          calendar-kept (sets rows frontCalendar (w .calendar .numbers)) (sets (sets rows frontCalendar (w .calendar .numbers)) frontDays (w .days .numbers)) (l .calendar)
+          (λ i low high. getD-sets-out (w .days .numbers) (sets rows frontCalendar (w .calendar .numbers)) frontDays i (inl high))
+          (w .calendar .there rows (omega (arith, h .blocks, table-by-length blockBase (l .opening .lent .blocks) (blockRow (headOf l w) (blockRowsOf .rows)))))
+
+      days-there : DaysIn (blockTable (l .opening .lent .blocks) (headOf l w) (blockRowsOf .rows)) (l .days)
+      unfolding blockTable headOf
+      days-there =
+          let h : Heads (l .opening .lent) = heads-fit (l .opening .lent) fits in
+          let rows = tableBy blockBase (l .opening .lent .blocks) (blockRow (headOf l w) (blockRowsOf .rows)) in
+          w .days .there (sets rows frontCalendar (w .calendar .numbers))
+          (omega (
+            arith,
+            h .blocks,
+            length-sets rows frontCalendar (w .calendar .numbers),
+            table-by-length blockBase (l .opening .lent .blocks) (blockRow (headOf l w) (blockRowsOf .rows)),
+          ))
 
       -- the board is as it should be, whatever tree there is
       pub board-encodes : length nodes ≡ l .opening .lent .nodes → length entries ≡ l .opening .lent .entries
@@ -158,6 +205,7 @@ module _ (l : Ledger) (s : SoundBoard l) where
                 rw used-is (pieces-inside (l .opening .lent .pieces) (pieceRowsOf .rows) piece-room (length (l .now .store)) (pieceRowsOf .inside));
             tree = tree;
             calendar = calendar-there;
+            days = days-there;
           }
         where
           long : l .opening .lent ≡ lengthsOf (tablesBy w nodes entries)
@@ -179,7 +227,7 @@ head-words l s f w =
     let e : l .opening .end < 2 ^ 64 = omega (arith, s .end-most) in
     let k : l .opening .kind < 2 ^ 64 = omega (arith, s .known-kind) in
     let used : length (l .now .store) < 2 ^ 64 = omega (arith, s .store-fits, f .store) in
-    record { state = state (l .tree); end = e; kind = k; used = used; last = last; front = w .words }
+    record { state = state (l .tree); end = e; kind = k; used = used; last = last; calendar = w .calendar .words; days = w .days .words }
   where
     state : (tree : Option segment.Tree) → stateOf tree < 2 ^ 64
     state none = omega arith

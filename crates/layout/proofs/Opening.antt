@@ -15,11 +15,12 @@ use Rattle.lists.proofs.Stores.{getD-sets-in, getD-sets-out}
 use Rattle.history.specs.Lent.{tooShort, rowWidth, blockHead}
 use Rattle.history.specs.Ledger.{Opening, opened}
 use Rattle.history.specs.Refusals.{accepted, firstOf, maxEndTick, openRefusals, openAnswer}
-use Rattle.tables.specs.Columns.{column, blockBase, frontCalendar, headState, headEnd, headKind, headCount, headUsed, headLast, blockNext, piecesRoot, piecesCount}
+use Rattle.tables.specs.Columns.{column, blockBase, frontCalendar, frontDays, headState, headEnd, headKind, headCount, headUsed, headLast, blockNext, piecesRoot, piecesCount}
 use Rattle.block_table.specs.Blocks.{blocksOf}
 use Rattle.merge_set.specs.Tree.{leaf, rows, Balanced}
 use Rattle.merge_set.specs.Table.{Shape}
 use Rattle.piece_table.specs.Rep.{Links}
+use Rattle.day_table.proofs.DayLists.{days-none}
 use Rattle.calendar_table.proofs.Calendars.{calendar-none}
 use Rattle.layout.specs.Tables.{Tables, lengthsOf, headAt}
 use Rattle.layout.specs.Encodes.{openState, Encodes}
@@ -82,10 +83,14 @@ module _ (end kind : ℕ) (t : Tables) where
   unfolding openedTables
   head-out j h = getD-sets-out (openState ∷ end ∷ kind ∷ []) (replicate (length (t .blocks)) 0) blockBase (rowWidth * 0 + (blockBase + j)) (inr (omega arith)) ∙ getD-zeros (length (t .blocks)) (rowWidth * 0 + (blockBase + j))
 
-  -- no calendar
+  -- no calendar, and no listed day
   front-zero : getD (openedTables end kind t .blocks) frontCalendar 0 ≡ 0
   unfolding openedTables
   front-zero = getD-sets-out (openState ∷ end ∷ kind ∷ []) (replicate (length (t .blocks)) 0) blockBase frontCalendar (inl (omega arith)) ∙ getD-zeros (length (t .blocks)) frontCalendar
+
+  days-zero : getD (openedTables end kind t .blocks) frontDays 0 ≡ 0
+  unfolding openedTables
+  days-zero = getD-sets-out (openState ∷ end ∷ kind ∷ []) (replicate (length (t .blocks)) 0) blockBase frontDays (inl (omega arith)) ∙ getD-zeros (length (t .blocks)) frontDays
 
   pub opened-encodes : tooShort (lengthsOf t) ≡ false → Encodes (openedTables end kind t) (opened (openingOf end kind t))
   unfolding opened openedTables
@@ -109,6 +114,7 @@ module _ (end kind : ℕ) (t : Tables) where
         pieces-stored = all-nil;
         tree = record { none = λ link z. let e : link ≡ 0 = omega arith in rw e (head-out blockNext (omega arith)) };
         calendar = calendar-none (openedTables end kind t .blocks) front-zero;
+        days = days-none (openedTables end kind t .blocks) days-zero;
       }
 
   pub opened-blank : Blank (openedTables end kind t)

@@ -14,8 +14,8 @@ use Rattle.lists.proofs.Numbers.{le-or-lt}
 use Rattle.history.specs.Lent.{tooShort}
 use Rattle.history.specs.Tree.{Tree}
 use Rattle.history.specs.Ledger.{Ledger, finished, isSome}
-use Rattle.history.specs.Reads.{blockBy}
-use Rattle.history.specs.Refusals.{Answer, accepted, refused, firstOf, windowRefusals, neighbourRefusals, blockRefusals, blockAnswer, writeRefusals}
+use Rattle.history.specs.Reads.{blockBy, clockBy}
+use Rattle.history.specs.Refusals.{Answer, accepted, refused, firstOf, windowRefusals, neighbourRefusals, blockRefusals, blockAnswer, clockRefusals, clockAnswer, writeRefusals}
 use Rattle.history.specs.File.{fileBy, writeAnswer}
 use Rattle.tables.specs.Columns.{headState, headEnd}
 use Rattle.layout.specs.Tables.{Tables, headAt}
@@ -44,6 +44,11 @@ module _ {t : Tables} {l : Ledger} (e : Encodes t l) where
   -- its tables hold their heads
   pub heads-held : tooShort (l .opening .lent) ≡ false
   heads-held = rw (e .lengths) (e .heads)
+
+  -- so the clock shows the label of every cell, open or closed
+  pub clock-there : (cell : ℕ) → clockAnswer l cell ≡ accepted (clockBy l cell)
+  unfolding clockRefusals firstOf
+  clock-there cell = rw heads-held
 
 -- ── what a closed index answers to a window ──
 

@@ -13,6 +13,7 @@ use Rattle.piece_table.specs.Piece.{pieceAt}
 use Rattle.piece_table.specs.Rep.{Links}
 use Rattle.piece_table.specs.Shown.{shown}
 use Rattle.segment_table.proofs.Closed.{tree-one}
+use Rattle.day_table.proofs.DayLists.{days-one}
 use Rattle.calendar_table.proofs.Calendars.{calendar-one}
 use Rattle.layout.specs.Tables.{Tables, treeTables}
 use Rattle.layout.specs.Encodes.{stateOf, TreeIn, Encodes}
@@ -51,8 +52,14 @@ tree-same t l m (some a) (some b) k e s h h′ =
 
 -- no two ledgers have the same tables
 pub unique : (t : Tables) (l m : Ledger) → Encodes t l → Encodes t m → l ≡ m
-unique t l m e f = λ i. record { opening = opening i; now = now i; tree = tree i; calendar = calendar-one (t .blocks) (l .calendar) (m .calendar) (e .calendar) (f .calendar) i }
+unique t l m e f = λ i. record { opening = opening i; now = now i; tree = tree i; calendar = calendar i; days = days i }
   where
+    calendar : l .calendar ≡ m .calendar
+    calendar = calendar-one (t .blocks) (l .calendar) (m .calendar) (e .calendar) (f .calendar)
+
+    days : l .days ≡ m .days
+    days = days-one (t .blocks) (l .days) (m .days) (e .days) (f .days)
+
     same-end : l .opening .end ≡ m .opening .end
     same-end = sym (e .end) ∙ f .end
 

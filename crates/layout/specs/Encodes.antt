@@ -16,6 +16,7 @@ use Rattle.piece_table.specs.Rep.{Links}
 use Rattle.piece_table.specs.Shown.{shown}
 use Rattle.ordering.specs.Order.{Unordered}
 use Rattle.segment_table.specs.Closed.{Closed}
+use Rattle.day_table.specs.DayLists.{DaysIn}
 use Rattle.calendar_table.specs.Calendars.{CalendarIn}
 use Rattle.layout.specs.Tables.{Tables, lengthsOf, headAt, treeTables}
 
@@ -61,3 +62,5 @@ pub record Encodes (t : Tables) (l : Ledger) : Type 0 where
   pub tree : TreeIn t l (l .tree)
   -- the calendar, or that there is none, in the front of the head
   pub calendar : CalendarIn (t .blocks) (l .calendar)
+  -- and behind it the list of days
+  pub days : DaysIn (t .blocks) (l .days)

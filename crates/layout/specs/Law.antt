@@ -8,6 +8,7 @@ use Prim.Native.Nat.{ℕ, _^_, _≤_, _<_}
 use lib.ListN.{length}
 use Rattle.lists.specs.Lists.{All}
 use Rattle.history.specs.Lent.{tooShort, pieceRows}
+use Rattle.history.specs.Days.{Day, daysOf}
 use Rattle.history.specs.Hours.{Calendar, calendarOf}
 use Rattle.history.specs.Ledger.{Ledger, finished}
 use Rattle.history.specs.Sound.{Sound, SoundForFinish}
@@ -51,7 +52,13 @@ abbrev pub NoneOrOfWords : Option Calendar → Type 0
 NoneOrOfWords none = Unit {0}
 NoneOrOfWords (some c) = CalendarOfWords c
 
--- what a ledger can be lent: its heads are there, lengths are of 64 bits, the store's used part has bytes, and so has a calendar its numbers
+-- the list of days of numbers of 64 bits
+pub record DaysOfWords (days : List Day) : Type 0 where
+  pub numbers : List ℕ
+  pub words : All Word numbers
+  pub is : daysOf numbers ≡ days
+
+-- what a ledger can be lent: its heads are there, lengths are of 64 bits, the store's used part has bytes, and the numbers of calendar and days are of 64 bits
 pub record Lendable (l : Ledger) : Type 0 where
   pub heads : tooShort (l .opening .lent) ≡ false
   pub pieces : Word (l .opening .lent .pieces)
@@ -61,6 +68,7 @@ pub record Lendable (l : Ledger) : Type 0 where
   pub entries : Word (l .opening .lent .entries)
   pub bytes : All Byte (l .now .store)
   pub calendar : NoneOrOfWords (l .calendar)
+  pub days : DaysOfWords (l .days)
 
 -- tables that stand for the ledger; the node and entry tables of an open one are zeros
 pub record Encoded (l : Ledger) : Type 0 where

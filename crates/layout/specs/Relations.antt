@@ -10,16 +10,17 @@ use lib.Seq.{sets}
 use Rattle.history.specs.Words.{Operation, Block, aBlock, size}
 use Rattle.history.specs.Lent.{rowWidth}
 use Rattle.history.specs.Tree.{treeOf}
-use Rattle.history.specs.Ledger.{Opening, Ledger, isRead, recordBy, finishBy, installBy, openingFor}
+use Rattle.history.specs.Ledger.{Opening, Ledger, isRead, recordBy, finishBy, installBy, installDaysBy, openingFor}
 use Rattle.history.specs.Reads.{Found}
 use Rattle.history.specs.Results.{Result}
-use Rattle.history.specs.Refusals.{Answer, accepted, refused, openAnswer, recordAnswer, finishAnswer, installAnswer, findAnswer, touchingAnswer, nextAnswer, lastAnswer, blockAnswer}
+use Rattle.history.specs.Refusals.{Answer, accepted, refused, openAnswer, recordAnswer, finishAnswer, installAnswer, daysAnswer, findAnswer, touchingAnswer, nextAnswer, lastAnswer, blockAnswer, clockAnswer}
 use Rattle.history.specs.Sound.{Sound}
 use Rattle.tables.specs.Columns.{column, blockBase, blockColumn, blockOffset, blockNext, blockSpare, headState, headCount, headLast, pieceOffset}
 use Rattle.block_table.specs.Blocks.{headPlace}
 use Rattle.block_table.specs.Appended.{Appended}
 use Rattle.piece_table.specs.Rep.{Links}
 use Rattle.segment_table.specs.Alone.{TreeAlone}
+use Rattle.day_table.specs.DayLists.{daysInstalledIn}
 use Rattle.calendar_table.specs.Calendars.{installedIn}
 use Rattle.layout.specs.Tables.{Tables, tables, lengthsOf}
 use Rattle.layout.specs.Encodes.{Encodes, openState}
@@ -122,6 +123,27 @@ InstallLeaves (refused n) l numbers t t′ = t′ ≡ t
 pub record InstalledBy (numbers : List ℕ) (t t′ : Tables) (answer : Answer Result) : Type 0 where
   pub formed : (l : Ledger) → Encodes t l → Sound l → (answer ≡ installAnswer l numbers) × InstallLeaves (installAnswer l numbers) l numbers t t′
   pub unformed : (WellFormed t → ⊥) → (answer ≡ refused 2) × (t′ ≡ t)
+
+-- ── install days ──
+
+-- the list written behind the calendar, all its numbers; all else as it was
+abbrev pub daysTables : (numbers : List ℕ) → Tables → Tables
+daysTables numbers t = tables (t .pieces) (daysInstalledIn (t .blocks) numbers) (t .store) (t .nodes) (t .entries)
+
+abbrev pub DaysLeave : Answer Result → Ledger → (numbers : List ℕ) → (t t′ : Tables) → Type 0
+DaysLeave (accepted a) l numbers t t′ = Encodes t′ (installDaysBy l numbers) × (t′ ≡ daysTables numbers t)
+DaysLeave (refused n) l numbers t t′ = t′ ≡ t
+
+-- of an open or a closed index
+pub record DaysInstalledBy (numbers : List ℕ) (t t′ : Tables) (answer : Answer Result) : Type 0 where
+  pub formed : (l : Ledger) → Encodes t l → Sound l → (answer ≡ daysAnswer l numbers) × DaysLeave (daysAnswer l numbers) l numbers t t′
+  pub unformed : (WellFormed t → ⊥) → (answer ≡ refused 2) × (t′ ≡ t)
+
+-- ── clock ──
+
+-- the label of a cell, by the list of days
+pub record ClockGivenBy (t : Tables) (cell : ℕ) (answer : Answer ℕ) : Type 0 where
+  pub read : ReadBy t (λ l. clockAnswer l cell) (HandedOut (λ label. label) answer)
 
 -- ── find ──
 

@@ -23,6 +23,9 @@ use Rattle.index_read.specs.declared.Given.the-variants.{Block, Refused as Bloc
 use Rattle.install.specs.Answers.{installedOf}
 use Rattle.install.specs.declared.Installed.{Installed}
 use Rattle.install.specs.declared.Installed.the-variants.{Done as IsInstalled, Refused as InstallRefused}
+use Rattle.clock.specs.Answers.{toldOf}
+use Rattle.clock.specs.declared.Told.{Told}
+use Rattle.clock.specs.declared.Told.the-variants.{Label, Refused as ClockRefused}
 use Rattle.touching_read.specs.Answers.{touchingOf, neighbourOf}
 use Rattle.touching_read.specs.declared.Touching.{Touching}
 use Rattle.touching_read.specs.declared.Touching.the-variants.{Listed as Touched, Refused as TouchingRefused}
@@ -79,6 +82,14 @@ installedBack (refused n) = InstallRefused n
 installed-same : (x : Installed) → installedBack (installedOf x) ≡ x
 installed-same IsInstalled = refl
 installed-same (InstallRefused n) = refl
+
+abbrev toldBack : Answer ℕ → Told
+toldBack (accepted n) = Label n
+toldBack (refused n) = ClockRefused n
+
+told-same : (x : Told) → toldBack (toldOf x) ≡ x
+told-same (Label n) = refl
+told-same (ClockRefused n) = refl
 
 abbrev foundBack : Answer Counts → Found
 foundBack (accepted c) = Listed (c .count) (c .visited)
@@ -144,7 +155,8 @@ meanings = record {
   opening = undone openedOf openedBack opened-same;
   record-op = undone recordedOf recordedBack recorded-same;
   finalize = undone finishedOf finishedBack finished-same;
-  install-calendar = undone installedOf installedBack installed-same;
+  install = undone installedOf installedBack installed-same;
+  clock = undone toldOf toldBack told-same;
   block = undone givenOf givenBack given-same;
   find = undone foundOf foundBack found-same;
   touching = undone touchingOf touchingBack touching-same;

@@ -1,5 +1,4 @@
 -- The contracts of the public calls are the relations by which the theorems link them. Statements alone: the proof stands in proofs/Citing.
-use mathlib.Core.Path.{_≡_}
 use mathlib.Core.List.{List}
 use Prim.Native.Nat.{ℕ}
 use lib.ListN.{length}
@@ -7,15 +6,15 @@ use borrow.Fn.Kinds.{PK, RK, In, Out, Dens, resT, endedOf}
 use contract.Lifetimes.{Lfts}
 use denote.Triple.Clauses.{AtExit}
 use denote.Ref.{RefT, now}
-use Rattle.history.specs.Reads.{clockLabel}
 use Rattle.layout.specs.Tables.{Tables, tables}
-use Rattle.layout.specs.Relations.{OpenedBy, RecordedBy, FinishedBy, InstalledBy, FoundBy, TouchedBy, NextGivenBy, LastGivenBy, BlockGivenBy}
+use Rattle.layout.specs.Relations.{OpenedBy, RecordedBy, FinishedBy, InstalledBy, DaysInstalledBy, ClockGivenBy, FoundBy, TouchedBy, NextGivenBy, LastGivenBy, BlockGivenBy}
 use Rattle.layout.specs.Files.{WrittenBy, LoadedBy}
 use Rattle.index_record.specs.Calls.{operation, recordedOf}
 use Rattle.index_finish.specs.Answers.{finishedOf}
 use Rattle.index_read.specs.Answers.{foundOf, givenOf}
 use Rattle.index.specs.Answers.{openedOf, BytesGivenBy}
 use Rattle.install.specs.Answers.{installedOf}
+use Rattle.clock.specs.Answers.{toldOf}
 use Rattle.touching_read.specs.Answers.{touchingOf, neighbourOf}
 use Rattle.cells_read.specs.Answers.{readOf}
 use Rattle.cells.specs.Answers.{CellsReadBy}
@@ -38,6 +37,8 @@ use Rattle.index.proofs.find.Kinds as find-kinds
 use Rattle.index.proofs.find.Reads as find-reads
 use Rattle.install.proofs.install_calendar.Kinds as install-kinds
 use Rattle.install.proofs.install_calendar.Reads as install-reads
+use Rattle.install.proofs.install_days.Kinds as days-kinds
+use Rattle.install.proofs.install_days.Reads as days-reads
 use Rattle.touching.proofs.touching.Kinds as touching-kinds
 use Rattle.touching.proofs.touching.Reads as touching-reads
 use Rattle.touching.proofs.next.Kinds as next-kinds
@@ -46,8 +47,8 @@ use Rattle.touching.proofs.last.Kinds as last-kinds
 use Rattle.touching.proofs.last.Reads as last-reads
 use Rattle.cells.proofs.read_cells.Kinds as cells-kinds
 use Rattle.cells.proofs.read_cells.Reads as cells-reads
-use Rattle.clock.proofs.clock_label.Kinds as clock-kinds
-use Rattle.clock.proofs.clock_label.Reads as clock-reads
+use Rattle.clock.proofs.clock.Kinds as clock-kinds
+use Rattle.clock.proofs.clock.Reads as clock-reads
 use Rattle.spacetime_file.proofs.serialize_to.Kinds as write-kinds
 use Rattle.spacetime_file.proofs.serialize_to.Reads as write-reads
 use Rattle.spacetime_file.proofs.deserialize.Kinds as load-kinds
@@ -89,6 +90,8 @@ pub record Contracts : Type 0 where
       (λ κs a x e. FinishedBy (held a) (tables (held e .pieces) (held e .blocks) (held a .store) (held e .nodes) (held e .entries)) (finishedOf x))
   pub install-calendar : Says 6 install-kinds.ps install-kinds.r install-reads.Asked install-reads.Learnt
       (λ κs a x e. InstalledBy (now (behind a .0)) (held a) (tables (held a .pieces) (held e .blocks) (held a .store) (held a .nodes) (held a .entries)) (installedOf x))
+  pub install-days : Says 6 days-kinds.ps days-kinds.r days-reads.Asked days-reads.Learnt
+      (λ κs a x e. DaysInstalledBy (now (behind a .0)) (held a) (tables (held a .pieces) (held e .blocks) (held a .store) (held a .nodes) (held a .entries)) (installedOf x))
   pub block : Says 5 block-kinds.ps block-kinds.r block-reads.Asked block-reads.Learnt
       (λ κs a x e. BlockGivenBy (held a) (behind a .0) (givenOf x))
   pub block-bytes : Says 5 bytes-kinds.ps bytes-kinds.r bytes-reads.Asked bytes-reads.Learnt
@@ -104,7 +107,8 @@ pub record Contracts : Type 0 where
   pub read-cells : Says 7 cells-kinds.ps cells-kinds.r cells-reads.Asked cells-reads.Learnt
       (λ κs a x e. CellsReadBy (held a) (behind a .0) (behind a .1 .0) (behind a .1 .1 .0) (now (behind a .1 .1 .1 .0)) (now (behind e .1 .1 .1 .0))
       (now (behind a .1 .1 .1 .1 .0)) (now (behind e .1 .1 .1 .1 .0)) (readOf x))
-  pub clock-label : Says 0 clock-kinds.ps clock-kinds.r clock-reads.Asked clock-reads.Learnt (λ κs a x e. x ≡ clockLabel (a .0))
+  pub clock : Says 5 clock-kinds.ps clock-kinds.r clock-reads.Asked clock-reads.Learnt
+      (λ κs a x e. ClockGivenBy (held a) (behind a .0) (toldOf x))
   pub serialize-to : Says 6 write-kinds.ps write-kinds.r write-reads.Asked write-reads.Learnt
       (λ κs a x e. WrittenBy (held a) (now (behind a .0)) (now (behind e .0)) (writtenOf x))
   pub deserialize : Says 6 load-kinds.ps load-kinds.r load-reads.Asked load-reads.Learnt

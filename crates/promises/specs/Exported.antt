@@ -4,9 +4,8 @@ use mathlib.Core.Path.{_≡_}
 use Prim.Native.Nat.{ℕ}
 use lib.ListN.{length}
 use denote.Ref.{RefT, now}
-use Rattle.history.specs.Reads.{clockLabel}
 use Rattle.layout.specs.Tables.{tables}
-use Rattle.layout.specs.Relations.{OpenedBy, RecordedBy, FinishedBy, InstalledBy, FoundBy, TouchedBy, NextGivenBy, LastGivenBy, Fields, BlockGivenBy}
+use Rattle.layout.specs.Relations.{OpenedBy, RecordedBy, FinishedBy, InstalledBy, DaysInstalledBy, ClockGivenBy, FoundBy, TouchedBy, NextGivenBy, LastGivenBy, Fields, BlockGivenBy}
 use Rattle.history.specs.Results.{done}
 use Rattle.layout.specs.Files.{WrittenBy, LoadedBy}
 use Rattle.lengths.specs.Lengths.{lengthFor}
@@ -27,6 +26,8 @@ use Rattle.servercape.proofs.servercape_finish.Kinds as finish-kinds
 use Rattle.servercape.proofs.servercape_finish.Reads as finish-reads
 use Rattle.servercape.proofs.servercape_install_calendar.Kinds as install-kinds
 use Rattle.servercape.proofs.servercape_install_calendar.Reads as install-reads
+use Rattle.servercape.proofs.servercape_install_days.Kinds as days-kinds
+use Rattle.servercape.proofs.servercape_install_days.Reads as days-reads
 use Rattle.servercape.proofs.servercape_block.Kinds as block-kinds
 use Rattle.servercape.proofs.servercape_block.Reads as block-reads
 use Rattle.servercape.proofs.servercape_find.Kinds as find-kinds
@@ -70,6 +71,8 @@ pub record Exported : Type 0 where
       (λ κs a x e. ByNumber (FinishedBy (held a) (tables (held e .pieces) (held e .blocks) (held a .store) (held e .nodes) (held e .entries))) x done done)
   pub install-calendar : Says 6 install-kinds.ps install-kinds.r install-reads.Asked install-reads.Learnt
       (λ κs a x e. ByNumber (InstalledBy (now (behind a .0)) (held a) (tables (held a .pieces) (held e .blocks) (held a .store) (held a .nodes) (held a .entries))) x done done)
+  pub install-days : Says 6 days-kinds.ps days-kinds.r days-reads.Asked days-reads.Learnt
+      (λ κs a x e. ByNumber (DaysInstalledBy (now (behind a .0)) (held a) (tables (held a .pieces) (held e .blocks) (held a .store) (held a .nodes) (held a .entries))) x done done)
   pub block : Says 11 block-kinds.ps block-kinds.r block-reads.Asked block-reads.Learnt
       (λ κs a x e. ByNumber (BlockGivenBy (held a) (behind a .0)) x (handedOut (behind a .1)) (handedOut (behind e .1)))
   pub find : Says 8 find-kinds.ps find-kinds.r find-reads.Asked find-reads.Learnt
@@ -93,4 +96,5 @@ pub record Exported : Type 0 where
       (λ κs a x e. ByNumber (WrittenBy (held a) (now (behind a .0)) (now (behind e .0))) x (now (behind a .1 .0)) (now (behind e .1 .0)))
   pub load : Says 7 load-kinds.ps load-kinds.r load-reads.Asked load-reads.Learnt
       (λ κs a x e. ByNumber (LoadedBy (now (behind a .0)) (behind a .1 .0) (held a) (held e)) x (now (behind a .1 .1 .0)) (now (behind e .1 .1 .0)))
-  pub clock : Says 0 clock-kinds.ps clock-kinds.r clock-reads.Asked clock-reads.Learnt (λ κs a x e. x ≡ clockLabel (a .0))
+  pub clock : Says 6 clock-kinds.ps clock-kinds.r clock-reads.Asked clock-reads.Learnt
+      (λ κs a x e. ByNumber (ClockGivenBy (held a) (behind a .0)) x (now (behind a .1 .0)) (now (behind e .1 .0)))

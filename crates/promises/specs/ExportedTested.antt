@@ -4,7 +4,7 @@ use lib.ListN.{length}
 use denote.Ref.{now}
 use Rattle.index_record.specs.Calls.{operation}
 use Rattle.servercape.specs.Numbers.{changes, counts, near}
-use Rattle.servercape_tested.specs.States.{StateTold, RecordedAs, FoundAs, BlockAs, TouchedAs, NextAs, LastAs, CellsAs, WrittenAs}
+use Rattle.servercape_tested.specs.States.{StateTold, RecordedAs, FoundAs, BlockAs, TouchedAs, NextAs, LastAs, CellsAs, WrittenAs, ClockAs}
 use Rattle.servercape_tested.proofs.servercape_state.Kinds as state-kinds
 use Rattle.servercape_tested.proofs.servercape_state.Reads as state-reads
 use Rattle.servercape_tested.proofs.servercape_record_tested.Kinds as record-kinds
@@ -23,6 +23,8 @@ use Rattle.servercape_tested.proofs.servercape_read_cells_tested.Kinds as cells
 use Rattle.servercape_tested.proofs.servercape_read_cells_tested.Reads as cells-reads
 use Rattle.servercape_tested.proofs.servercape_write_tested.Kinds as write-kinds
 use Rattle.servercape_tested.proofs.servercape_write_tested.Reads as write-reads
+use Rattle.servercape_tested.proofs.servercape_clock_tested.Kinds as clock-kinds
+use Rattle.servercape_tested.proofs.servercape_clock_tested.Reads as clock-reads
 use Rattle.promises.specs.Contracts.{Says, held}
 use Rattle.promises.specs.Exported.{handedOut}
 
@@ -63,3 +65,5 @@ pub record ExportedTested : Type 0 where
   pub write : Says 6 write-kinds.ps write-kinds.r write-reads.Asked write-reads.Learnt
       (λ κs a x e. WrittenAs (a .0) (now (a .1 .0)) (now (a .1 .1 .0)) (now (a .1 .1 .1 .0)) (now (a .1 .1 .1 .1 .0)) (now (behind4 a .0)) (now (behind4 e .0)) x
       (now (behind4 a .1 .0)) (now (behind4 e .1 .0)))
+  pub clock : Says 2 clock-kinds.ps clock-kinds.r clock-reads.Asked clock-reads.Learnt
+      (λ κs a x e. ClockAs (a .0) (now (a .1 .0)) (a .1 .1 .0) x (now (a .1 .1 .1 .0)) (now (e .1 .1 .1 .0)))

@@ -5,6 +5,7 @@ use Rattle.index_finish.specs.Answers.{finishedOf}
 use Rattle.index_read.specs.Answers.{foundOf, givenOf}
 use Rattle.index.specs.Answers.{openedOf}
 use Rattle.install.specs.Answers.{installedOf}
+use Rattle.clock.specs.Answers.{toldOf}
 use Rattle.touching_read.specs.Answers.{touchingOf, neighbourOf}
 use Rattle.cells_read.specs.Answers.{readOf}
 use Rattle.file_write.specs.Answers.{writtenOf}
@@ -19,7 +20,9 @@ pub record Meanings : Type 0 where
   pub opening : Injective openedOf
   pub record-op : Injective recordedOf
   pub finalize : Injective finishedOf
-  pub install-calendar : Injective installedOf
+  -- a calendar and a list of days
+  pub install : Injective installedOf
+  pub clock : Injective toldOf
   pub block : Injective givenOf
   pub find : Injective foundOf
   pub touching : Injective touchingOf

@@ -1,6 +1,7 @@
 -- What is proved, in the order in which README tells it. Each statement stands, in words and clause by clause, in the file that it is taken from.
 use Rattle.history.specs.Law.{ValueAt, LawOfChange, LawOfCalls, LawOfFind, LawOfTouching, LawOfNeighbours}
 use Rattle.history.specs.HoursLaw.{LawOfHours}
+use Rattle.history.specs.DaysLaw.{LawOfDays}
 use Rattle.history.specs.Boards.{MarkedBoards}
 use Rattle.history.specs.Requested.{RequestedBoards}
 use Rattle.apart_laws.specs.Law.{TheoremH}
@@ -53,6 +54,7 @@ pub record OfHistory : Type 0 where
   pub law-of-touching : LawOfTouching
   pub law-of-neighbours : LawOfNeighbours
   pub law-of-hours : LawOfHours
+  pub law-of-days : LawOfDays
   pub marked-boards : MarkedBoards
   pub requested-boards : RequestedBoards
   pub theorem-h : TheoremH

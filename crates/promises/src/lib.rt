@@ -66,6 +66,7 @@ pub fn of_history()
     history::law_of_touching();
     history::law_of_neighbours();
     history::law_of_hours();
+    history::law_of_days();
     history::marked_boards();
     history::requested_boards();
     apart_laws::theorem_h();

@@ -12,11 +12,13 @@ use Rattle.touching_read.specs.Reads.{TouchingClosed, NextClosed, LastClosed}
 use Rattle.cells_read.specs.Answers.{ReadClosed}
 use Rattle.cells_read.proofs.Reading.{cells-refused}
 use Rattle.file_write.specs.Answers.{WrittenClosed}
+use Rattle.clock.specs.Answers.{ClockTold}
+use Rattle.clock.proofs.Telling.{formed-told}
 use Rattle.index_test.specs.declared.State.{State}
 use Rattle.index_test.specs.declared.State.the-variants.{Bad, Open, Closed}
 use Rattle.index_tested.specs.Kept.{BlocksFit}
 use Rattle.index_tested.proofs.Keeping.{kept-2, kept-4, kept-on, formed-fits}
-use Rattle.reads_tested.specs.Tested.{TouchedTested, NextTested, LastTested, CellsTested, WrittenTested}
+use Rattle.reads_tested.specs.Tested.{TouchedTested, NextTested, LastTested, CellsTested, WrittenTested, ClockTested}
 
 -- ── touching ──
 
@@ -95,3 +97,17 @@ module _ {s : State} {blocks store nodes entries out : List ℕ} where
   write-closed e f = record { done = λ pieces k. record { read = kept-on k e (f .written pieces) } }
 
 pub ruleset write-answers = (write-bad, write-open, write-unfit, write-closed)
+
+-- ── clock ──
+
+module _ {s : State} {blocks : List ℕ} {cell : ℕ} where
+  pub clock-bad : s ≡ Bad → ClockTested s blocks cell (refused 2)
+  clock-bad e = record { done = λ pieces store nodes entries k. record { read = kept-2 k e out-refused } }
+
+  pub clock-open : {a : Answer ℕ} → s ≡ Open → ClockTold blocks cell a → ClockTested s blocks cell a
+  clock-open e f = record { done = λ pieces store nodes entries k. formed-told (k .opened e .formed) f }
+
+  pub clock-closed : {a : Answer ℕ} → s ≡ Closed → ClockTold blocks cell a → ClockTested s blocks cell a
+  clock-closed e f = record { done = λ pieces store nodes entries k. formed-told (k .closed e .formed) f }
+
+pub ruleset clock-answers = (clock-bad, clock-open, clock-closed)

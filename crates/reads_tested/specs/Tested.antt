@@ -3,7 +3,7 @@ use mathlib.Core.List.{List}
 use Prim.Native.Nat.{ℕ}
 use Rattle.history.specs.Refusals.{Answer}
 use Rattle.layout.specs.Tables.{tables}
-use Rattle.layout.specs.Relations.{TouchedBy, Near, NextGivenBy, LastGivenBy}
+use Rattle.layout.specs.Relations.{TouchedBy, Near, NextGivenBy, LastGivenBy, ClockGivenBy}
 use Rattle.layout.specs.Files.{WrittenBy}
 use Rattle.cells.specs.Answers.{CellsReadBy}
 use Rattle.index_test.specs.declared.State.{State}
@@ -28,3 +28,7 @@ pub record CellsTested (s : State) (blocks store nodes entries : List ℕ) (tick
 -- `write_tested`
 pub record WrittenTested (s : State) (blocks store nodes entries out out′ : List ℕ) (answer : Answer ℕ) : Type 0 where
   pub done : (pieces : List ℕ) → Kept s (tables pieces blocks store nodes entries) → WrittenBy (tables pieces blocks store nodes entries) out out′ answer
+
+-- `clock_tested`
+pub record ClockTested (s : State) (blocks : List ℕ) (cell : ℕ) (answer : Answer ℕ) : Type 0 where
+  pub done : (pieces store nodes entries : List ℕ) → Kept s (tables pieces blocks store nodes entries) → ClockGivenBy (tables pieces blocks store nodes entries) cell answer

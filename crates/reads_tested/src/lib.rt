@@ -1,4 +1,4 @@
-// Touching, next, last, read cells and write after one test: each takes the state that `index_test::test` found and does not test the tables again
+// Touching, next, last, read cells, write and clock after one test: each takes the state that `index_test::test` found and does not test the tables again
 // (crate `index_tested`). Where the state is false they end after few steps too: ways down are at most 66 long, a run of cells ends behind its start, and
 // write goes over no more blocks than the table has rows and puts a byte for each node.
 //
@@ -7,8 +7,10 @@
 ghost use Rattle.touching_read.specs.Answers.{touchingOf, neighbourOf};
 ghost use Rattle.cells_read.specs.Answers.{readOf};
 ghost use Rattle.file_write.specs.Answers.{writtenOf};
-ghost use Rattle.reads_tested.specs.Tested.{TouchedTested, NextTested, LastTested, CellsTested, WrittenTested};
+ghost use Rattle.clock.specs.Answers.{toldOf};
+ghost use Rattle.reads_tested.specs.Tested.{TouchedTested, NextTested, LastTested, CellsTested, WrittenTested, ClockTested};
 use cells_read::Read;
+use clock::Told;
 use file_write::Written;
 use index_test::State;
 use touching_read::Nearest;
@@ -127,5 +129,16 @@ pub fn write_tested(
             }
             file_write::write_closed(blocks, store, nodes, entries, out)
         }
+    }
+}
+
+// The clock label of a cell, of an open or a closed index.
+pub fn clock_tested(state: State, blocks: &[u64], cell: u64) -> Told
+    ensures { λ r. ⌜ ClockTested state (now (blocks .entry)) cell (toldOf r) ⌝ }
+{
+    match state {
+        State::Bad => Told::Refused(2),
+        State::Open => clock::clock_formed(blocks, cell),
+        State::Closed => clock::clock_formed(blocks, cell),
     }
 }

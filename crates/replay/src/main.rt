@@ -4,7 +4,7 @@
 //   input          the list as it is read
 //   rows           the columns of its rows, and what is told in them
 //   play           row after row
-//   update, calendar, read, near   each call
+//   update, installs, read, near   each call
 //   damage         a file damaged at each place of a run
 //   alike, kept    slices and tables compared
 //   counts         what is counted, and what is lent
@@ -16,10 +16,10 @@ use tables::node;
 use tables::piece;
 
 mod alike;
-mod calendar;
 mod counts;
 mod damage;
 mod input;
+mod installs;
 mod kept;
 mod near;
 mod play;

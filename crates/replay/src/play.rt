@@ -1,8 +1,8 @@
 // Plays a part of the stored list, row after row, in lent tables.
-use crate::calendar;
 use crate::counts;
 use crate::damage;
 use crate::input;
+use crate::installs;
 use crate::kept;
 use crate::near;
 use crate::read;
@@ -32,7 +32,7 @@ fn read(
     } else if code == rows::WRITE {
         read::write(pieces, blocks, store, nodes, entries, row, pool, told);
     } else if code == rows::CLOCK {
-        read::clock(row, told);
+        read::clock(pieces, blocks, store, nodes, entries, row, told);
     } else {
         near::read(pieces, blocks, store, nodes, entries, row, pool, told);
     }
@@ -87,10 +87,10 @@ fn update(
         );
     } else if code == rows::FINISH {
         update::finish(pieces, blocks, store, nodes, entries, told);
-    } else if code == rows::CALENDAR {
-        calendar::play(pieces, blocks, store, nodes, entries, row, pool, told);
-    } else {
+    } else if code == rows::LOAD {
         update::load(pieces, blocks, store, nodes, entries, row, pool, told);
+    } else {
+        installs::play(pieces, blocks, store, nodes, entries, row, pool, told);
     }
 }
 
@@ -135,7 +135,7 @@ fn changes(code: u64) -> bool {
     if code == rows::LOAD {
         return true;
     }
-    if code == rows::CALENDAR {
+    if rows::CALENDAR <= code {
         return true;
     }
     code < rows::BLOCK

@@ -4,6 +4,7 @@ use crate::alike;
 use crate::damage;
 use crate::rows;
 use cells::Read;
+use clock::Told;
 use file_write::Written;
 use index::Found;
 use index::Given;
@@ -267,10 +268,23 @@ pub fn write(
     tell_file(told, row, pool, &out);
 }
 
-pub fn clock(row: &[u64; rows::COLUMNS], told: &mut [u64; rows::COLUMNS]) {
-    rows::tell(
-        told,
-        CLOCK_LABEL,
-        clock::clock_label(rows::get(row, CLOCK_CELL)),
-    );
+fn tell_label(told: &mut [u64; rows::COLUMNS], label: Told) {
+    match label {
+        Told::Label(number) => rows::tell(told, CLOCK_LABEL, number),
+        Told::Refused(n) => rows::tell(told, rows::REFUSAL, n),
+    }
+}
+
+pub fn clock(
+    pieces: &[u64],
+    blocks: &[u64],
+    store: &[u8],
+    nodes: &[u64],
+    entries: &[u64],
+    row: &[u64; rows::COLUMNS],
+    told: &mut [u64; rows::COLUMNS],
+) {
+    let cell = rows::get(row, CLOCK_CELL);
+    let label = clock::clock(pieces, blocks, store, nodes, entries, cell);
+    tell_label(told, label);
 }

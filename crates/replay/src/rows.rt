@@ -60,6 +60,8 @@ pub const LAST: u64 = 16;
 
 pub const CALENDAR: u64 = 17;
 
+pub const DAYS: u64 = 18;
+
 // A column of a row.
 pub fn get(row: &[u64; COLUMNS], col: usize) -> u64 {
     tables::get(row, 0, col)

@@ -9,7 +9,7 @@ use Rattle.layout.specs.Tables.{Tables}
 use Rattle.layout.specs.Relations.{RecordedBy}
 use Rattle.layout.specs.Reads.{valuesOf}
 use Rattle.servercape.specs.Numbers.{answerOf, ByNumber, ToldAs, changesOf}
-use Rattle.servercape.proofs.Positive.{open-positive, changes-positive, finish-positive, install-positive, block-positive, find-positive, touching-positive, next-positive, last-positive, cells-positive, write-positive}
+use Rattle.servercape.proofs.Positive.{open-positive, changes-positive, finish-positive, install-positive, days-positive, block-positive, find-positive, touching-positive, next-positive, last-positive, cells-positive, write-positive, clock-positive}
 use Rattle.servercape.proofs.PositiveLoad.{load-positive}
 
 -- An answer x of the call behind, of which `of` says what it means, was found to be y.
@@ -38,6 +38,7 @@ pub ruleset numbers = (
   changes-positive,
   finish-positive,
   install-positive,
+  days-positive,
   block-positive,
   find-positive,
   touching-positive,
@@ -45,5 +46,6 @@ pub ruleset numbers = (
   last-positive,
   cells-positive,
   write-positive,
+  clock-positive,
   load-positive,
 )

@@ -10,14 +10,14 @@ use borrow.Author.Tests.{ltb-true}
 use Rattle.lists.proofs.Numbers.{and-left, and-right}
 use Rattle.history.specs.Words.{Operation}
 use Rattle.history.specs.Ledger.{Ledger}
-use Rattle.history.specs.Reads.{findBy, touchingBy, nextBy, lastBy, cellsBy}
+use Rattle.history.specs.Reads.{findBy, touchingBy, nextBy, lastBy, cellsBy, clockBy}
 use Rattle.history.specs.Results.{Result}
-use Rattle.history.specs.Refusals.{Answer, accepted, refused, Refusal, firstOf, openRefusals, recordRefusals, finishRefusals, installRefusals, windowRefusals, neighbourRefusals, blockRefusals, writeRefusals}
+use Rattle.history.specs.Refusals.{Answer, accepted, refused, Refusal, firstOf, openRefusals, recordRefusals, finishRefusals, installRefusals, daysRefusals, windowRefusals, neighbourRefusals, blockRefusals, writeRefusals, clockRefusals}
 use Rattle.history.specs.File.{fileBy}
 use Rattle.layout.specs.Tables.{Tables}
 use Rattle.layout.specs.Formed.{WellFormed, WellFormedForFinish}
 use Rattle.layout.specs.Reads.{valuesOf, ReadBy}
-use Rattle.layout.specs.Relations.{openingOf, OpenedBy, RecordedBy, FinishedBy, InstalledBy, FoundBy, TouchedBy, NextGivenBy, LastGivenBy, BlockGivenBy}
+use Rattle.layout.specs.Relations.{openingOf, OpenedBy, RecordedBy, FinishedBy, InstalledBy, DaysInstalledBy, ClockGivenBy, FoundBy, TouchedBy, NextGivenBy, LastGivenBy, BlockGivenBy}
 use Rattle.layout.specs.Files.{WrittenBy}
 use Rattle.cells.specs.Answers.{CellsReadBy}
 use Rattle.servercape.specs.Numbers.{ToldAs, changesOf}
@@ -66,6 +66,12 @@ pub install-positive : {numbers : List ℕ} {t t′ : Tables} → InstalledBy nu
 unfolding installRefusals positive
 install-positive {numbers} {t} told =
     let ill : WellFormed t → ⊥ = λ w. first-positive (installRefusals (w .ledger) numbers) _ refl (sym (told .formed (w .ledger) (w .encodes) (w .sound) .0)) in
+    not-2 (told .unformed ill .0)
+
+pub days-positive : {numbers : List ℕ} {t t′ : Tables} → DaysInstalledBy numbers t t′ (refused 0) → ⊥
+unfolding daysRefusals positive
+days-positive {numbers} {t} told =
+    let ill : WellFormed t → ⊥ = λ w. first-positive (daysRefusals (w .ledger) numbers) _ refl (sym (told .formed (w .ledger) (w .encodes) (w .sound) .0)) in
     not-2 (told .unformed ill .0)
 
 -- ── the reads: the ledger's answer, with other values ──
@@ -117,3 +123,7 @@ cells-positive {tick = tick} {start} {stop} told =
 pub write-positive : {t : Tables} {out out′ : List ℕ} → WrittenBy t out out′ (refused 0) → ⊥
 unfolding writeRefusals positive
 write-positive told = read-positive _ (λ x h. h .answered) (λ l. first-positive (writeRefusals l _ (length (fileBy l))) (fileBy l) refl) (told .read)
+
+pub clock-positive : {t : Tables} {cell : ℕ} → ClockGivenBy t cell (refused 0) → ⊥
+unfolding clockRefusals positive
+clock-positive {cell = cell} told = read-positive _ (λ x h. h .answered) (λ l. first-positive (clockRefusals l) (clockBy l cell) refl) (told .read)

@@ -8,9 +8,8 @@
 //                   proofs/Positive, PositiveLoad   no refusal is 0
 ghost use mathlib.Core.Path.{_≡_};
 ghost use lib.ListN.{length};
-ghost use Rattle.history.specs.Reads.{clockLabel};
 ghost use Rattle.layout.specs.Tables.{tables};
-ghost use Rattle.layout.specs.Relations.{OpenedBy, RecordedBy, FinishedBy, InstalledBy, BlockGivenBy, FoundBy, TouchedBy, NextGivenBy, LastGivenBy};
+ghost use Rattle.layout.specs.Relations.{OpenedBy, RecordedBy, FinishedBy, InstalledBy, DaysInstalledBy, ClockGivenBy, BlockGivenBy, FoundBy, TouchedBy, NextGivenBy, LastGivenBy};
 ghost use Rattle.history.specs.Results.{done};
 ghost use Rattle.layout.specs.Files.{WrittenBy, LoadedBy};
 ghost use Rattle.index_record.specs.Calls.{operation};
@@ -20,6 +19,7 @@ ghost use Rattle.find_all.specs.Many.{FoundAll};
 ghost use Rattle.lengths.specs.Lengths.{lengthFor};
 ghost use Rattle.servercape.specs.Numbers.{ByNumber, ToldAs, changes, changesOf, counts, near, fields};
 use cells::Read;
+use clock::Told;
 use file_load::Loaded;
 use file_write::Written;
 use index::Finished;
@@ -176,6 +176,27 @@ pub extern "C" fn servercape_install_calendar(
         (tables (now (pieces .entry)) (now (blocks .exit)) (now (store .entry)) (now (nodes .entry)) (now (entries .entry)))) r done done ⌝ }
 {
     let installed = install::install_calendar(pieces, blocks, store, nodes, entries, calendar);
+    match installed {
+        Installed::Done => 0,
+        Installed::Refused(number) => number,
+    }
+}
+
+// Installs a list of days of 23 and 25 hours into an open or a closed index, in place of the one before.
+#[no_mangle]
+pub extern "C" fn servercape_install_days(
+    pieces: &[u64],
+    blocks: &mut [u64],
+    store: &[u8],
+    nodes: &[u64],
+    entries: &[u64],
+    days: &[u64],
+) -> u64
+    ensures { λ r. ⌜ ByNumber (DaysInstalledBy (now (days .entry))
+        (tables (now (pieces .entry)) (now (blocks .entry)) (now (store .entry)) (now (nodes .entry)) (now (entries .entry)))
+        (tables (now (pieces .entry)) (now (blocks .exit)) (now (store .entry)) (now (nodes .entry)) (now (entries .entry)))) r done done ⌝ }
+{
+    let installed = install::install_days(pieces, blocks, store, nodes, entries, days);
     match installed {
         Installed::Done => 0,
         Installed::Refused(number) => number,
@@ -497,10 +518,27 @@ pub extern "C" fn servercape_load(
     }
 }
 
-// The clock label of a cell.
+// The clock label of a cell, by the list of days of an open or a closed index.
 #[no_mangle]
-pub extern "C" fn servercape_clock(cell: u64) -> u64
-    ensures { λ r. ⌜ r ≡ clockLabel cell ⌝ }
+pub extern "C" fn servercape_clock(
+    pieces: &[u64],
+    blocks: &[u64],
+    store: &[u8],
+    nodes: &[u64],
+    entries: &[u64],
+    cell: u64,
+    label: &mut u64,
+) -> u64
+    ensures { λ r. ⌜ ByNumber (ClockGivenBy
+        (tables (now (pieces .entry)) (now (blocks .entry)) (now (store .entry)) (now (nodes .entry)) (now (entries .entry))) cell) r
+        (now (label .entry)) (now (label .exit)) ⌝ }
 {
-    clock::clock_label(cell)
+    let told = clock::clock(pieces, blocks, store, nodes, entries, cell);
+    match told {
+        Told::Label(shown) => {
+            *label = shown;
+            0
+        }
+        Told::Refused(number) => number,
+    }
 }

@@ -24,14 +24,16 @@ use Rattle.cells_read.specs.Answers.{readOf}
 use Rattle.cells_read.specs.declared.Read.{Read}
 use Rattle.file_write.specs.Answers.{writtenOf}
 use Rattle.file_write.specs.declared.Written.{Written}
+use Rattle.clock.specs.Answers.{toldOf}
+use Rattle.clock.specs.declared.Told.{Told}
 use Rattle.index_tested.specs.Kept.{Kept}
 use Rattle.index_tested.specs.Tested.{RecordedTested, FoundTested, BlockTested}
 use Rattle.index_tested.proofs.Keeping.{test-keeps}
-use Rattle.reads_tested.specs.Tested.{TouchedTested, NextTested, LastTested, CellsTested, WrittenTested}
+use Rattle.reads_tested.specs.Tested.{TouchedTested, NextTested, LastTested, CellsTested, WrittenTested, ClockTested}
 use Rattle.servercape.specs.Numbers.{Changes, changesOf}
 use Rattle.servercape.proofs.Answering.{answer-0, answer-n, told-as}
-use Rattle.servercape.proofs.Positive.{changes-positive, block-positive, find-positive, touching-positive, next-positive, last-positive, cells-positive, write-positive}
-use Rattle.servercape_tested.specs.States.{stateNumbered, StateTold, RecordedAs, FoundAs, BlockAs, TouchedAs, NextAs, LastAs, CellsAs, WrittenAs}
+use Rattle.servercape.proofs.Positive.{changes-positive, block-positive, find-positive, touching-positive, next-positive, last-positive, cells-positive, write-positive, clock-positive}
+use Rattle.servercape_tested.specs.States.{stateNumbered, StateTold, RecordedAs, FoundAs, BlockAs, TouchedAs, NextAs, LastAs, CellsAs, WrittenAs, ClockAs}
 
 -- ── the state ──
 
@@ -139,6 +141,13 @@ module _ {n : ℕ} {s : State} {b st no e out out′ : List ℕ} {x y : Written}
   pub write-n : {before m : ℕ} → writtenOf y ≡ refused m → WrittenAs n b st no e out out′ m before before
   write-n v = record { done = λ p h. answer-n writtenOf (told .done p (into at h)) is v write-positive }
 
+module _ {n : ℕ} {s : State} {b : List ℕ} {cell : ℕ} {x y : Told} (at : s ≡ stateNumbered n) (told : ClockTested s b cell (toldOf x)) (is : x ≡ y) where
+  pub clock-0 : {before after : ℕ} → toldOf y ≡ accepted after → ClockAs n b cell 0 before after
+  clock-0 v = record { done = λ p st no e h. answer-0 toldOf (told .done p st no e (into at h)) is v }
+
+  pub clock-n : {before m : ℕ} → toldOf y ≡ refused m → ClockAs n b cell m before before
+  clock-n v = record { done = λ p st no e h. answer-n toldOf (told .done p st no e (into at h)) is v clock-positive }
+
 -- one step for each return; what is left to find is what y means
 pub ruleset numbering =
-    (refl, record-0, record-n, block-0, block-n, find-0, find-n, touching-0, touching-n, next-0, next-n, last-0, last-n, cells-0, cells-n, write-0, write-n)
+    (refl, record-0, record-n, block-0, block-n, find-0, find-n, touching-0, touching-n, next-0, next-n, last-0, last-n, cells-0, cells-n, write-0, write-n, clock-0, clock-n)

@@ -6,7 +6,7 @@ use Prim.Native.Nat.{ℕ, _≤_}
 use lib.Dec.{eqb}
 use Rattle.history.specs.Words.{Operation}
 use Rattle.layout.specs.Tables.{Tables, tables}
-use Rattle.layout.specs.Relations.{RecordedBy, Counts, FoundBy, Fields, BlockGivenBy, TouchedBy, Near, NextGivenBy, LastGivenBy}
+use Rattle.layout.specs.Relations.{RecordedBy, Counts, FoundBy, Fields, BlockGivenBy, TouchedBy, Near, NextGivenBy, LastGivenBy, ClockGivenBy}
 use Rattle.layout.specs.Files.{WrittenBy}
 use Rattle.cells.specs.Answers.{CellsReadBy}
 use Rattle.index_test.specs.declared.State.{State}
@@ -66,3 +66,8 @@ pub record CellsAs (state : ℕ) (blocks store nodes entries : List ℕ) (tick s
 pub record WrittenAs (state : ℕ) (blocks store nodes entries out out′ : List ℕ) (r before after : ℕ) : Type 0 where
   pub done : (pieces : List ℕ) → Kept (stateNumbered state) (tables pieces blocks store nodes entries)
       → ByNumber (WrittenBy (tables pieces blocks store nodes entries) out out′) r before after
+
+-- `servercape_clock_tested`
+pub record ClockAs (state : ℕ) (blocks : List ℕ) (cell r before after : ℕ) : Type 0 where
+  pub done : (pieces store nodes entries : List ℕ) → Kept (stateNumbered state) (tables pieces blocks store nodes entries)
+      → ByNumber (ClockGivenBy (tables pieces blocks store nodes entries) cell) r before after

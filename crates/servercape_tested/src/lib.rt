@@ -9,8 +9,9 @@ ghost use lib.ListN.{length};
 ghost use Rattle.layout.specs.Tables.{tables};
 ghost use Rattle.index_record.specs.Calls.{operation};
 ghost use Rattle.servercape.specs.Numbers.{changes, counts, near, fields};
-ghost use Rattle.servercape_tested.specs.States.{stateNumbered, StateTold, RecordedAs, FoundAs, BlockAs, TouchedAs, NextAs, LastAs, CellsAs, WrittenAs};
+ghost use Rattle.servercape_tested.specs.States.{stateNumbered, StateTold, RecordedAs, FoundAs, BlockAs, TouchedAs, NextAs, LastAs, CellsAs, WrittenAs, ClockAs};
 use cells_read::Read;
+use clock::Told;
 use file_write::Written;
 use index::Found;
 use index::Given;
@@ -327,5 +328,25 @@ pub extern "C" fn servercape_write_tested(
             0
         }
         Written::Refused(number) => number,
+    }
+}
+
+// The clock label of a cell, by the list of days of an open or a closed index.
+#[no_mangle]
+pub extern "C" fn servercape_clock_tested(
+    state: u64,
+    blocks: &[u64],
+    cell: u64,
+    label: &mut u64,
+) -> u64
+    ensures { λ r. ⌜ ClockAs state (now (blocks .entry)) cell r (now (label .entry)) (now (label .exit)) ⌝ }
+{
+    let told = reads_tested::clock_tested(numbered(state), blocks, cell);
+    match told {
+        Told::Label(shown) => {
+            *label = shown;
+            0
+        }
+        Told::Refused(number) => number,
     }
 }

@@ -1,4 +1,4 @@
--- The state after open, load, record and install. Assumes nothing.
+-- The state after open, load, record and the two install calls. Assumes nothing.
 use mathlib.Core.Path.{_≡_, refl, sym, _∙_, subst}
 use mathlib.Core.Bool.{false}
 use mathlib.Core.List.{List, []}
@@ -6,17 +6,17 @@ use Prim.Native.Nat.{ℕ, _≤_}
 use lib.ListN.{length}
 use Rattle.history.specs.Words.{Operation}
 use Rattle.history.specs.Lent.{pieceHead, tooShort}
-use Rattle.history.specs.Ledger.{Opening, Ledger, opened, recordBy, installBy}
+use Rattle.history.specs.Ledger.{Opening, Ledger, opened, recordBy, installBy, installDaysBy}
 use Rattle.history.specs.Calls.{afterAll, history}
 use Rattle.history.specs.Results.{Result}
-use Rattle.history.specs.Refusals.{Answer, accepted, refused, openAnswer, recordAnswer, installAnswer}
+use Rattle.history.specs.Refusals.{Answer, accepted, refused, openAnswer, recordAnswer, installAnswer, daysAnswer}
 use Rattle.history.specs.Sound.{Sound}
-use Rattle.history.proofs.EveryList.{the-law, record-sound, install-sound}
+use Rattle.history.proofs.EveryList.{the-law, record-sound, install-sound, days-sound}
 use Rattle.tables.specs.Columns.{headState}
 use Rattle.layout.specs.Tables.{Tables, lengthsOf, headAt}
 use Rattle.layout.specs.Encodes.{Encodes, stateOf, openState, closedState}
 use Rattle.layout.specs.Formed.{WellFormed}
-use Rattle.layout.specs.Relations.{openingOf, openedTables, leftBy, OpenedBy, RecordLeaves, RecordedBy, InstallLeaves, InstalledBy}
+use Rattle.layout.specs.Relations.{openingOf, openedTables, leftBy, OpenedBy, RecordLeaves, RecordedBy, InstallLeaves, InstalledBy, DaysLeave, DaysInstalledBy}
 use Rattle.layout.specs.Files.{LoadedBy}
 use Rattle.layout.proofs.Opening.{opened-encodes}
 use Rattle.spacetime_file.specs.Law.{IsFile}
@@ -56,7 +56,7 @@ loads file at next t t′ bytes d long =
     let told = takes .taken next refl in
     kept-closed refl (record { formed = takes .formed next refl long; state = takes .stands (told .0) next (told .1) (told .2) .state })
 
--- ── record and install ──
+-- ── record and the two install calls ──
 
 -- a call that leaves unformed tables alone, and what it finds standing in its state, keeps the state
 keeps : {s : State} {t t′ : Tables} → Kept s t → ((WellFormed t → ⊥) → t′ ≡ t) → ((head : ℕ) → StandsIn head t → StandsIn head t′) → Kept s t′
@@ -108,6 +108,23 @@ installs s numbers t t′ a k told =
     installed numbers t t′ (w .ledger) (w .encodes) (w .sound) (here .state) (installAnswer (w .ledger) numbers) refl
     (told .formed (w .ledger) (w .encodes) (w .sound) .1))
 
+days-state : (l : Ledger) (numbers : List ℕ) → stateOf (installDaysBy l numbers .tree) ≡ stateOf (l .tree)
+unfolding installDaysBy
+days-state l numbers = refl
+
+days-installed : {head : ℕ} (numbers : List ℕ) (t t′ : Tables) (l : Ledger) → Encodes t l → Sound l → headAt t headState ≡ head
+    → (a : Answer Result) → daysAnswer l numbers ≡ a → DaysLeave a l numbers t t′ → StandsIn head t′
+days-installed numbers t t′ l enc s h (accepted r) q left = goes-on enc (left .0) (days-sound l numbers q s) (days-state l numbers) h
+days-installed numbers t t′ l enc s h (refused n) q left = rw left (goes-on enc enc s refl h)
+
+installs-days : (s : State) (numbers : List ℕ) (t t′ : Tables) (a : Answer Result) → Kept s t → DaysInstalledBy numbers t t′ a → Kept s t′
+installs-days s numbers t t′ a k told =
+    keeps k (λ n. told .unformed n .1)
+    (λ head here.
+    let w = here .formed in
+    days-installed numbers t t′ (w .ledger) (w .encodes) (w .sound) (here .state) (daysAnswer (w .ledger) numbers) refl
+    (told .formed (w .ledger) (w .encodes) (w .sound) .1))
+
 plays : {s : State} {scratch : ℕ} {list : List ℕ} {most at next : ℕ} {t t′ : Tables} {given : List (Answer Result)} → Kept s t
     → Plays scratch list most at t given next t′ → Kept s t′
 plays k plays-full = k
@@ -120,5 +137,6 @@ states-follow = record {
   loads = loads;
   records = records;
   installs = installs;
+  installs-days = installs-days;
   lists = λ s scratch list t t′ answers answers′ count next k all. plays k (all .calls);
 }

@@ -6,14 +6,14 @@ use Rattle.history.specs.Words.{Operation}
 use Rattle.history.specs.Results.{Result}
 use Rattle.history.specs.Refusals.{Answer}
 use Rattle.layout.specs.Tables.{Tables}
-use Rattle.layout.specs.Relations.{RecordedBy, Counts, FoundBy, Fields, BlockGivenBy, TouchedBy, Near, NextGivenBy, LastGivenBy}
+use Rattle.layout.specs.Relations.{RecordedBy, Counts, FoundBy, Fields, BlockGivenBy, TouchedBy, Near, NextGivenBy, LastGivenBy, ClockGivenBy}
 use Rattle.layout.specs.Files.{WrittenBy}
 use Rattle.index.specs.Answers.{BytesGivenBy}
 use Rattle.cells.specs.Answers.{CellsReadBy}
 use Rattle.index_test.specs.declared.State.{State}
 use Rattle.index_tested.specs.Kept.{Kept}
 use Rattle.index_tested.specs.Tested.{RecordedTested, FoundTested, BlockTested, BytesTested}
-use Rattle.reads_tested.specs.Tested.{TouchedTested, NextTested, LastTested, CellsTested, WrittenTested}
+use Rattle.reads_tested.specs.Tested.{TouchedTested, NextTested, LastTested, CellsTested, WrittenTested, ClockTested}
 
 -- ── calls ──
 
@@ -28,6 +28,7 @@ pub data Asked : Type 0 where
   last : (tick cell : ℕ) (answer : Answer Near) → Asked
   shown : (tick start stop : ℕ) (bytes bytes′ held held′ : List ℕ) (answer : Answer Unit) → Asked
   written : (out out′ : List ℕ) (answer : Answer ℕ) → Asked
+  clocked : (cell : ℕ) (answer : Answer ℕ) → Asked
 
 -- calls one after the other: each finds the tables as the one before left them
 pub data Run (Does : Asked → Tables → Tables → Type 0) : Tables → List Asked → Tables → Type 0 where
@@ -47,6 +48,7 @@ Public (next tick cell a) t t′ = NextGivenBy t tick cell a × (t′ ≡ t)
 Public (last tick cell a) t t′ = LastGivenBy t tick cell a × (t′ ≡ t)
 Public (shown tick start stop bytes bytes′ held held′ a) t t′ = CellsReadBy t tick start stop bytes bytes′ held held′ a × (t′ ≡ t)
 Public (written out out′ a) t t′ = WrittenBy t out out′ a × (t′ ≡ t)
+Public (clocked cell a) t t′ = ClockGivenBy t cell a × (t′ ≡ t)
 
 -- ── the calls with a state, which do not ──
 
@@ -67,6 +69,7 @@ Tested s (last tick cell a) t t′ = LastTested s (t .blocks) (t .nodes) (t .ent
 Tested s (shown tick start stop bytes bytes′ held held′ a) t t′ =
     CellsTested s (t .blocks) (t .store) (t .nodes) (t .entries) tick start stop bytes bytes′ held held′ a × (t′ ≡ t)
 Tested s (written out out′ a) t t′ = WrittenTested s (t .blocks) (t .store) (t .nodes) (t .entries) out out′ a × (t′ ≡ t)
+Tested s (clocked cell a) t t′ = ClockTested s (t .blocks) cell a × (t′ ≡ t)
 
 -- ── the theorem ──
 

@@ -2,7 +2,7 @@
 // public calls leave, so that a caller who uses both need not test again.
 //
 //   specs/Law      proofs/Sessions   every list of calls with a state
-//   specs/States   proofs/States     the state after open, load, record and install; crate `index_tested` has it after finish
+//   specs/States   proofs/States     the state after open, load, record and the two install calls; crate `index_tested` has it after finish
 //   specs/Growth   proofs/Growth     tables that grow keep the state
 ghost use Rattle.sessions.specs.Law.{Sessions};
 ghost use Rattle.sessions.specs.States.{StatesFollow};
@@ -13,7 +13,7 @@ pub fn sessions_hold()
     ensures { λ _. ⌜ Sessions ⌝ }
 {}
 
-// An accepted open leaves an open index, an accepted load a closed one; records and calendars leave the state as it was.
+// An accepted open leaves an open index, an accepted load a closed one; records, calendars and lists of days leave the state as it was.
 pub fn states_follow()
     ensures { λ _. ⌜ StatesFollow ⌝ }
 {}

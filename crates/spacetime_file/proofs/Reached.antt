@@ -14,11 +14,11 @@ use Rattle.lists.proofs.Numbers.{le-or-lt}
 use Rattle.history.specs.Words.{Operation, Piece, ends, stretchOf, below, inside, above, pieceOf, blockOf}
 use Rattle.history.specs.Lent.{Lent, rowWidth, entryWidth, blockHead, nodeHead, entryHead, blockRows}
 use Rattle.history.specs.Tree.{noBlock}
-use Rattle.history.specs.Ledger.{Opening, Ledger, withNow, opened, finished, isRead, readBy, updateBy, recordBy, settled, finishBy, installBy}
+use Rattle.history.specs.Ledger.{Opening, Ledger, withNow, opened, finished, isRead, readBy, updateBy, recordBy, settled, finishBy, installBy, installDaysBy}
 use Rattle.history.specs.Reads.{treeIn}
 use Rattle.history.specs.Results.{Result}
-use Rattle.history.specs.Refusals.{Answer, accepted, refused, openAnswer, recordAnswer, finishAnswer, installAnswer}
-use Rattle.history.specs.Calls.{Call, recordCall, finishCall, calendarCall, answerTo, acceptedBy, leaves, after, afterAll, noted, history}
+use Rattle.history.specs.Refusals.{Answer, accepted, refused, openAnswer, recordAnswer, finishAnswer, installAnswer, daysAnswer}
+use Rattle.history.specs.Calls.{Call, recordCall, finishCall, calendarCall, daysCall, answerTo, acceptedBy, leaves, after, afterAll, noted, history}
 use Rattle.history.specs.Law.{LedgerLaw}
 use Rattle.history.specs.Sound.{SoundBoard, SoundPiece, Sound}
 use Rattle.history.specs.File.{savedLedger}
@@ -111,10 +111,14 @@ finish-kept l e b k = record {
         k .pieces (finishes l e .still-open) (omega (arith, length-append (l .now .blocks) (map (blockOf (l .opening .end)) (l .now .pieces)), length-map (l .now .pieces) (blockOf (l .opening .end)))))
         (λ h. h) (le-or-lt (length (l .now .pieces)) 0)
 
--- install changes nothing of this
+-- the two install calls change nothing of this
 install-kept : (l : Ledger) (numbers : List ℕ) → Kept l → Kept (installBy l numbers)
 unfolding installBy
 install-kept l numbers k = record { stored = k .stored; pieces = k .pieces; living = λ z h. let x = k .living z h in (x .0, record { number = x .1 .number; ticks = x .1 .ticks }) }
+
+days-kept : (l : Ledger) (numbers : List ℕ) → Kept l → Kept (installDaysBy l numbers)
+unfolding installDaysBy
+days-kept l numbers k = record { stored = k .stored; pieces = k .pieces; living = λ z h. let x = k .living z h in (x .0, record { number = x .1 .number; ticks = x .1 .ticks }) }
 
 after-kept : (l : Ledger) (h : List Operation) (k : Call) → LedgerLaw l h → Kept l → Kept (after l k)
 unfolding after leaves answerTo acceptedBy
@@ -132,6 +136,11 @@ after-kept l h (calendarCall numbers) law kept = go (installAnswer l numbers)
   where
     go : (x : Answer Result) → Kept (leaves x l (installBy l numbers))
     go (accepted a) = install-kept l numbers kept
+    go (refused n) = kept
+after-kept l h (daysCall numbers) law kept = go (daysAnswer l numbers)
+  where
+    go : (x : Answer Result) → Kept (leaves x l (installDaysBy l numbers))
+    go (accepted a) = days-kept l numbers kept
     go (refused n) = kept
 
 all-kept : (ks : List Call) (l : Ledger) (h : List Operation) → LedgerLaw l h → Kept l → Kept (afterAll l ks)

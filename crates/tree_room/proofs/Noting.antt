@@ -6,10 +6,10 @@ use Prim.Native.Nat.{ℕ}
 use Rattle.lists.specs.Lists.{All, all-nil, Mem, here, there}
 use Rattle.lists.proofs.Lists.{all-append, all-map, all-of-map}
 use Rattle.history.specs.Words.{Operation, Piece, Block, ends, stretchOf, blockOf}
-use Rattle.history.specs.Ledger.{Opening, Moment, Ledger, opened, finished, isRead, readBy, updateBy, recordBy, finishBy, installBy}
+use Rattle.history.specs.Ledger.{Opening, Moment, Ledger, opened, finished, isRead, readBy, updateBy, recordBy, finishBy, installBy, installDaysBy}
 use Rattle.history.specs.Results.{Result}
-use Rattle.history.specs.Refusals.{Answer, accepted, refused, recordAnswer, finishAnswer, installAnswer}
-use Rattle.history.specs.Calls.{Call, recordCall, finishCall, calendarCall, answerTo, acceptedBy, leaves, after, afterAll, noted, history}
+use Rattle.history.specs.Refusals.{Answer, accepted, refused, recordAnswer, finishAnswer, installAnswer, daysAnswer}
+use Rattle.history.specs.Calls.{Call, recordCall, finishCall, calendarCall, daysCall, answerTo, acceptedBy, leaves, after, afterAll, noted, history}
 use Rattle.history.proofs.Parts.{all-inside, all-updated}
 
 abbrev tickOf : Operation → ℕ
@@ -62,7 +62,7 @@ noted-record l h o n still = go (isRead (l .now) o)
     go false = noted-update (l .opening .kind) (l .now) h o (n still)
 
 noted-after : (l : Ledger) (h : List Operation) (k : Call) → NotedOpen l h → NotedOpen (after l k) (noted h k (answerTo l k))
-unfolding after leaves noted answerTo acceptedBy finishBy installBy
+unfolding after leaves noted answerTo acceptedBy finishBy installBy installDaysBy
 noted-after l h (recordCall scratch o) n = go (recordAnswer l scratch o)
   where
     go : (x : Answer Result) → NotedOpen (leaves x l (recordBy l o)) (noted h (recordCall scratch o) x)
@@ -76,6 +76,11 @@ noted-after l h finishCall n = go (finishAnswer l)
 noted-after l h (calendarCall numbers) n = go (installAnswer l numbers)
   where
     go : (x : Answer Result) → NotedOpen (leaves x l (installBy l numbers)) h
+    go (accepted a) = n
+    go (refused _) = n
+noted-after l h (daysCall numbers) n = go (daysAnswer l numbers)
+  where
+    go : (x : Answer Result) → NotedOpen (leaves x l (installDaysBy l numbers)) h
     go (accepted a) = n
     go (refused _) = n
 

@@ -6,4 +6,4 @@ use Rattle.calendar_table.proofs.closed.Tie as tie
 
 pub closed-spec : {M : Type 1} → statement M
 closed-spec =
-    tie.close (tie.spec (λ c κs. search needs) (λ c. search judging) (λ c κs. search needs) (λ c κs. search needs) (λ c. search judging))
+    tie.close (tie.spec (λ c κs. search needs) (λ c. search judging) (λ c κs. search needs) (λ c κs. search needs) (λ c κs. search needs) (λ c. search judging))

@@ -6,4 +6,4 @@ use Rattle.index_test.proofs.board.test_head.Tie as tie
 
 pub test-head-spec : {M : Type 1} → statement M
 test-head-spec =
-    tie.close (tie.spec (λ c κs. search needs) (λ c. search heading) (λ c κs. search needs) (λ c. search heading) (λ c κs. search needs) (λ c. search heading))
+    tie.close (tie.spec (λ c κs. search needs) (λ c. search heading) (λ c κs. search needs) (λ c. search heading) (λ c κs. search needs) (λ c. search heading) (λ c κs. search needs) (λ c. search heading))

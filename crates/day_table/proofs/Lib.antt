@@ -1,0 +1,2 @@
+pub mod DayLists
+pub mod Writing
