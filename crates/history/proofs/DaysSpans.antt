@@ -27,6 +27,7 @@ length_low d h (rises_cons {from} {e} {es} p q r) = length_other e es d (λ x. o
 
 -- a listed day, and one that is not
 length_of_listed : {from : ℕ} {es : List Day} (e : Day) → Rises from es → Mem e es → length_of es e.day ≡ e.minutes
+length_of_listed d (rises_nil {from = from}) x4 = elim x4 [ ]
 length_of_listed d (rises_cons {from} {e} {es} p q r) (here same) = rw same (length_here e es)
 length_of_listed d (rises_cons {from} {e} {es} p q r) (there m) =
     length_other e es d.day (λ z. omega (arith, all_mem (rises_all r) m)) ∙ length_of_listed d r m

@@ -7,7 +7,7 @@ use mathlib.Core.List.{List, [], ◌∷◌, map, append-nil, filter_map, Option-
 use Prim.Native.Nat.{ℕ, ◌+◌, ◌≤◌, ◌<◌}
 use native.Mathlib.Omega.{arith}
 use lib.ListN.{length, length-append, length-map}
-use Rattle.lists.specs.Lists.{All, all_nil, pairs_nil, Mem, here}
+use Rattle.lists.specs.Lists.{All, all_nil, pairs_nil, Mem, here, there}
 use Rattle.lists.proofs.Lists.{all_map, all_mem, mem_right}
 use Rattle.history.specs.Words.{Operation, Block, Holds, block_of, byte_at}
 use Rattle.history.specs.Tree.{Tree, tree_of}
@@ -306,6 +306,8 @@ the_law a e ks = law_all ks (opened a) [] (law_open (opened a) [] refl (opened_s
 -- a byte among none or one is that one
 mem_one : (x : Option ℕ) (b : ℕ) → Mem b (Option-to_list x) → x ≡ some b
 unfolding Option-to_list
+mem_one (some a) b (there x6) = elim x6 [ ]
+mem_one none b x'' = elim x'' [ ]
 mem_one (some a) b (here e) = ap {B = Option ℕ} some (sym e)
 
 -- the last call is one of the history

@@ -80,8 +80,8 @@ module _ (f : ℕ → ℕ) where
       ap₂ (λ (a b : Bool). a && b)
       (every_map f _ _ (all_both (λ k p q. ap₂ (λ (a b : Bool). a && not b) p q) (over _ (entries_here es l r h)) (entries_here es l r z)))
       (ap₂ (λ (a b : Bool). a && b)
-      (map_tree-placed at' at _ _ lo (mid lo hi) l (entries_left es l r h) (over _ (entries_left es l r h)))
-      (map_tree-placed at' at _ _ (mid lo hi) hi r (entries_right es l r h) (over _ (entries_right es l r h))))
+      (map_tree-placed at' at (λ x. covers (at' x).created (at' x).destroyed lo hi) _ lo (mid lo hi) l (entries_left es l r h) (over _ (entries_left es l r h)))
+      (map_tree-placed at' at (λ x. covers (at' x).created (at' x).destroyed lo hi) _ (mid lo hi) hi r (entries_right es l r h) (over _ (entries_right es l r h))))
 
   -- 23: first cells ascend
   pub map_tree-sorted : (key' key : ℕ → ℕ) (t : Tree) → All (λ k. key' (f k) ≡ key k) (entries_in t) → sorted key' (map_tree f t) ≡ sorted key t

@@ -1,5 +1,5 @@
 -- What find lists, over any sound tree: exactly the live blocks whose first cell is in the window, each once. Assumes nothing.
-use mathlib.Core.Path.{◌≡◌, refl, sym, ◌∙◌}
+use mathlib.Core.Path.{◌≡◌, refl, sym, ◌∙◌, subst}
 use mathlib.Core.Logic.{inl, inr}
 use mathlib.Core.Bool.{Bool, true, false, true≢false, cond, ◌&&◌}
 use mathlib.Core.List.{List, [], ◌∷◌, map}
@@ -28,7 +28,7 @@ unfolding count window
 count-window key s n k [] = sym (cond_same (within s n (key k)) 0)
 count-window key s n k (x ∷ xs) =
     elim (eq_or_ne k x) [
-      | inl e ↦ rw e (same (within s n (key x)) (count-window key s n x xs))
+      | inl e ↦ subst (λ z. count z (window key s n (x ∷ xs)) ≡ cond (within s n (key z)) (count z (x ∷ xs)) 0) (sym e) (same (within s n (key x)) (count-window key s n x xs))
       | inr e ↦ rw (ne_eqb k x e, zero-add) (other e (within s n (key x)) ∙ count-window key s n k xs)
     ]
   where

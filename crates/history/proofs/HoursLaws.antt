@@ -71,6 +71,7 @@ special_missed day (s ∷ ss) (all_cons n ns) = rw (ne_eqb s.day day n) (special
 -- a later day has another number, so that the first one found is the one meant
 pub special_found : (s : Special) (ss : List Special) → Ascending (λ s. s.day) ss → Mem s ss → special_of s.day ss ≡ some s.hours.windows
 unfolding special_of
+special_found s [] p x'' = elim x'' [ ]
 special_found s (r ∷ rs) p (here e) = rw (e, eq-eqb r.day r.day refl)
 special_found s (r ∷ rs) (pairs_cons a p) (there m) =
     let l : r.day < s.day = all_mem a m in

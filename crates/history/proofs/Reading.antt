@@ -59,6 +59,7 @@ seen_none t c (k ∷ ks) e = go (shows t c k) refl (sym (seen_cons t c k ks) ∙
 -- a block of the list that holds the cell has a byte that is seen
 pub seen_holds : (t c : ℕ) (k : Block) (ks : List Block) → Mem k ks → Holds t c k → (x : ℕ) × (byte_at c k.stretch ≡ some x) × Mem x (seen t c ks)
 unfolding Option-to_list
+seen_holds t c k [] x'' h = elim x'' [ ]
 seen_holds t c k (y ∷ ks) (here e) h =
     let x = get_or k.stretch.bytes (c - k.stretch.first) 0 in
     let shown : shows t c y ≡ some x = rw (← e) (holds_shows t c k h) in

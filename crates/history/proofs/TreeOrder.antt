@@ -163,6 +163,7 @@ without_there x y ys n = rw (ne_eqb x y n)
 
 count-without : (k x : ℕ) (ys : List ℕ) → Mem x ys → count k ys ≡ count k (x ∷ without x ys)
 unfolding count
+count-without k x [] m = elim m [ ]
 count-without k x (y ∷ ys) m =
     elim (eq_or_ne x y) [
       | inl e ↦ rw e (rw (without_here y ys))
@@ -180,6 +181,7 @@ module _ (at : ℕ → Block) (key : ℕ → ℕ) (e : ℕ) (some : 0 < e) (diff
   -- a block may come first
   each_first : (x : ℕ) (ys : List ℕ) (T : Tree) → Mem x ys → add_each at key e ys T ≡ add_each at key e (without x ys) (add_block at key e x T)
   unfolding add_each
+  each_first x [] T m = elim m [ ]
   each_first x (y ∷ ys) T m =
       elim (eq_or_ne x y) [
         | inl s ↦ rw s (rw (without_here y ys))

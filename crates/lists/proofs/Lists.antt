@@ -42,6 +42,7 @@ module _ {A : Type 0} where
 
   -- what holds of all holds of a member, and what holds of every member holds of all
   pub all_mem : {P : A → Type 0} {x : A} {xs : List A} → All P xs → Mem x xs → P x
+  all_mem {P = P} all_nil x4 = elim x4 [ ]
   all_mem {P} (all_cons p ps) (here e) = rw e p
   all_mem (all_cons p ps) (there m) = all_mem ps m
 
@@ -109,6 +110,7 @@ module _ {A : Type 0} where
 
 module _ {A : Type 0} where
   pub mem_left : {k : A} (xs ys : List A) → Mem k xs → Mem k (xs ++ ys)
+  mem_left {k = k} [] ys x' = elim x' [ ]
   mem_left (x ∷ xs) ys (here e) = here e
   mem_left (x ∷ xs) ys (there m) = there (mem_left xs ys m)
 
@@ -158,6 +160,7 @@ module _ {A : Type 0} where
   ascending_distinct key (pairs_cons {x} a p) = ((λ m. omega (arith, all_mem {P = λ y. key x < key y} a m)), ascending_distinct key p)
 
   pub distinct_apart : {k : A} (xs ys : List A) → Distinct (xs ++ ys) → Mem k xs → Mem k ys → ⊥
+  distinct_apart {k = k} [] ys d x3 n = elim x3 [ ]
   distinct_apart (x ∷ xs) ys d (here e) n = d.0 (mem_right xs ys (rw (← e) n))
   distinct_apart (x ∷ xs) ys d (there m) n = distinct_apart xs ys d.1 m n
 
