@@ -26,6 +26,7 @@ module _ {A : Type 0} where
 
   -- a relation that goes both ways holds of two members that differ
   pub pairs_mem : {R : A → A → Type 0} {x y : A} {xs : List A} → ((a b : A) → R a b → R b a) → Pairs R xs → Mem x xs → Mem y xs → (x ≡ y → ⊥) → R x y
+  pairs_mem {R = R} {x = x} {y = y} turn pairs_nil x10 _ ne = elim x10 [ ]
   pairs_mem turn (pairs_cons a r) (here e) (here d) ne = absurd (ne (e ∙ sym d))
   pairs_mem turn (pairs_cons a r) (here e) (there n) ne = rw e (all_mem a n)
   pairs_mem {x} turn (pairs_cons a r) (there m) (here d) ne = rw d (turn _ x (all_mem a m))

@@ -87,6 +87,7 @@ born_disjoint bs t apart j k ne p q cell m n =
 
 -- the block of a stretch
 stretch_of_lem : (bs : List Block) (ks : List ℕ) {r : Stretch} → Mem r (map (stretch_at bs) ks) → (k : ℕ) × Mem k ks × (r ≡ stretch_at bs k)
+stretch_of_lem bs [] {r = r} x' = elim x' [ ]
 stretch_of_lem bs (k ∷ ks) (here e) = (k, here refl, e)
 stretch_of_lem bs (k ∷ ks) (there m) = let z = stretch_of_lem bs ks m in (z.0, there z.1, z.2)
 

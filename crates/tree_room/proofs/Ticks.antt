@@ -49,6 +49,7 @@ ticks_split lo m hi (t ∷ ts) a b = omega (arith, one_split lo m hi t a b, tick
 
 pub ticks_some : (lo hi t : ℕ) (ts : List ℕ) → Mem t ts → lo ≤ t → t < hi → 1 ≤ ticks_in lo hi ts
 unfolding ticks_in
+ticks_some lo hi t [] x3 a b = elim x3 [ ]
 ticks_some lo hi t (x ∷ ts) (here e) a b = rw (← e) (omega (arith, one_in lo hi t a b))
 ticks_some lo hi t (x ∷ ts) (there m) a b = omega (arith, ticks_some lo hi t ts m a b)
 
