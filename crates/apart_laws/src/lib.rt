@@ -17,6 +17,9 @@
 //   proofs/Handing     what is destroyed at each mid is restored there, or left open
 //   proofs/RightFirst  the walk shows it
 //   proofs/Parting     blocks that are parted from those live before share nothing
+
+#![tactic(auto)]
+
 ghost use Rattle.apart_laws.specs.Law.{TheoremH};
 
 // H1 and H2 make rule 24.

@@ -8,6 +8,9 @@
 //   proofs/Blocks     how many blocks the rows stand for, which, and what they depend on
 //   proofs/Keeping    what leaves the rows as they were
 //   proofs/Appending  laws of appending
+
+#![tactic(auto)]
+
 ghost use Rattle.std.specs.Prelude.{◌≡◌, set};
 ghost use Rattle.lists.specs.Tests.{Decides};
 ghost use Rattle.tables.specs.Columns.{block_column, head_state, head_end, head_kind, head_count, head_used, head_last, block_next};

@@ -1,4 +1,7 @@
 // Reads a board's input and prints the blocks of its history: document 01, "Added: cells and clock".
+
+#![tactic(auto)]
+
 use libc::{STDIN_FILENO, STDOUT_FILENO};
 
 fn main() {

@@ -5,6 +5,9 @@
 //   specs/Walk    the bookings that one meets from record to record
 //
 //   proofs/Numbers, Records, Checking   the returns and loops; Walking, Meeting: from record to record
+
+#![tactic(auto)]
+
 ghost use Rattle.std.specs.Prelude.{◌≡◌, ◌≤◌, ◌<◌};
 ghost use Rattle.board_input.specs.Walk.{LawOfInput};
 ghost use Rattle.board_input.specs.Input.{ByteAt, NumberAt, start_of, item_at, check_of, records_of};

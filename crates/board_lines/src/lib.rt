@@ -4,5 +4,8 @@
 //   blocks    specs/Lines   proofs/Listing               finish, and the blocks in recorded order
 //
 // No table is tested here: opening makes them well formed, and each call after it keeps them so.
+
+#![tactic(auto)]
+
 pub mod blocks;
 pub mod records;

@@ -5,6 +5,9 @@
 //   specs/Runs      what each part puts; the lines of records and blocks stand in `board_lines`
 //   proofs/Running  one step for each return
 //   proofs/Sizes, Room   every byte recorded is printed once, so there is room for all that is printed
+
+#![tactic(auto)]
+
 ghost use Rattle.std.specs.Prelude.{◌≡◌, length};
 ghost use Rattle.layout.specs.Tables.{tables};
 ghost use Rattle.board_run.specs.Runs.{OpenPut, PlayPut, LendPut, printed_of};

@@ -5,6 +5,9 @@
 //
 //   specs/Line             a block's line in parts
 //   proofs/Digits, Lines   the returns and loops, and lines in parts
+
+#![tactic(auto)]
+
 ghost use Rattle.std.specs.Prelude.{◌≡◌, [], ◌∷◌, ◌++◌, ◌<◌};
 ghost use Rattle.history.specs.Reads.{clock_label};
 ghost use Rattle.history.specs.Printed.{digit as Printed·digit, hex_digit, decimal as Printed·decimal, four_digits, hex_bytes, newline, space};

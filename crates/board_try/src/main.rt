@@ -1,6 +1,9 @@
 // Plays the boards of its data through `board_run` and compares what is printed of each with what must be. The data is made by tools/printed.py: a
 // count, then for each board the input's length, the input, the output's length and the output. Prints the number of each board that differs, from 0 on,
 // and then how many were compared and how many differ.
+
+#![tactic(auto)]
+
 ghost use Rattle.std.specs.Prelude.{◌≡◌, ◌<◌, ◌^◌, length};
 
 use libc::{STDIN_FILENO, STDOUT_FILENO};

@@ -3,6 +3,9 @@
 //
 //   specs/Calendars    which calendar stands there, and what the functions ensure
 //   proofs/Calendars   one calendar for each table; what is kept and what is written; each return
+
+#![tactic(auto)]
+
 ghost use Rattle.std.specs.Prelude.{◌≡◌};
 ghost use Rattle.lists.specs.Tests.{Decides};
 ghost use Rattle.calendar_table.specs.Calendars.{flag_in, numbers_in, ClosedTold, CalendarFormed, installed_in};

@@ -2,6 +2,9 @@
 //
 //   specs/Operations   proofs/Reading   an operation of the list, read
 //   specs/Threes       proofs/Threes    answers in a row
+
+#![tactic(auto)]
+
 ghost use Rattle.std.specs.Prelude.{◌≡◌, [], ◌∷◌, ◌+◌, ◌≤◌, length};
 ghost use Rattle.std.proofs.lemmas.List.Edits.{sets};
 ghost use Rattle.call_lists.specs.Operations.{ItemRead};

@@ -3,6 +3,9 @@
 //   specs/Answers   the contract
 //   specs/Law       the history is shown (proofs/History): a theorem of crate demand, which links it to lists of calls
 //   lib             proofs/Answering   2 and 4; the rest stands in cells_read
+
+#![tactic(auto)]
+
 ghost use Rattle.layout.specs.Tables.{tables};
 ghost use Rattle.cells_read.specs.Answers.{read_of};
 ghost use Rattle.cells.specs.Answers.{CellsReadBy};

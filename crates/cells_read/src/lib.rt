@@ -4,6 +4,9 @@
 //   specs/Answers   what the answer means, and what is handed out
 //   show            specs/Shows   proofs/Filling, Showing   cells written run by run
 //   lib             proofs/Reading                          14, 15 and 16
+
+#![tactic(auto)]
+
 ghost use Rattle.cells_read.specs.Answers.{read_of, ReadClosed};
 
 mod show;

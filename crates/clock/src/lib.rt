@@ -2,6 +2,9 @@
 //
 //   specs/Answers    the number for every case of the answer; what the clock of tested tables ensures
 //   proofs/Telling   one step for each return
+
+#![tactic(auto)]
+
 ghost use Rattle.layout.specs.Tables.{tables};
 ghost use Rattle.layout.specs.Relations.{ClockGivenBy};
 ghost use Rattle.clock.specs.Answers.{told_of, ClockTold};

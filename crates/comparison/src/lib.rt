@@ -2,6 +2,9 @@
 //
 //   specs/Comparison   what each function ensures
 //   proofs/Comparing   one step for each return
+
+#![tactic(auto)]
+
 ghost use Rattle.std.specs.Prelude.{◌+◌, ◌≤◌, length};
 ghost use Rattle.comparison.specs.Comparison.{Matching, Compared};
 

@@ -4,6 +4,9 @@
 //   specs/DayLists    which list stands there, and what the functions ensure
 //   proofs/DayLists   one list for each table; what is kept and what is written; each return
 //   proofs/Writing    the numbers written, from one turn to the next
+
+#![tactic(auto)]
+
 ghost use Rattle.std.specs.Prelude.{◌≡◌, ◌+◌, ◌^◌, ◌<◌};
 ghost use Rattle.std.proofs.lemmas.List.Edits.{sets};
 ghost use Rattle.lists.specs.Tests.{Decides};

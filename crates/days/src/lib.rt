@@ -6,6 +6,9 @@
 //   proofs/Taking     lists that are taken: each return of the test
 //   proofs/Places     the place of a minute: each return of the walk; it goes on with the minutes of its day
 //   proofs/Labels     what the clock shows: each return, and how far it goes on by one
+
+#![tactic(auto)]
+
 ghost use Rattle.std.specs.Prelude.{◌≡◌, ◌+◌, ◌-◌, ◌^◌, ◌<◌, length, get_or, leb};
 ghost use Rattle.history.specs.Days.{days_of, listable, days_taken, unlisted, place_of, shown_on, label_minute};
 ghost use Rattle.history.specs.Reads.{label_of, clock_label};

@@ -7,6 +7,9 @@
 //   proofs/Shown    so read cells shows the history; Touched: so does what touching lists
 //
 // That the contracts of the public calls are these relations is shown in crate promises.
+
+#![tactic(auto)]
+
 ghost use Rattle.demand.specs.Theorem.{Demand3};
 ghost use Rattle.demand.specs.Cells.{CellsShown};
 ghost use Rattle.demand.specs.Touching.{TouchingShown};

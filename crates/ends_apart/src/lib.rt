@@ -5,6 +5,9 @@
 //   specs/Rows       what a row says, and which cells it has
 //   specs/Turns      H1, and what the test says
 //   proofs/Turning   one step for each return and each turn
+
+#![tactic(auto)]
+
 ghost use Rattle.lists.specs.Tests.{Decides};
 ghost use Rattle.ends_apart.specs.Turns.{EndsBy, Parted, ClearBack, Follows, SeenApart};
 

@@ -5,6 +5,9 @@
 //   reader                   the file with a position: what the loader reads by
 //   write                    the same fields, written
 //   specs/Fields             what a read answers, in the words of `history`
+
+#![tactic(auto)]
+
 ghost use Rattle.std.specs.Prelude.{◌≡◌, ◌+◌, ◌≤◌, length};
 ghost use Rattle.history.specs.File.{number};
 ghost use Rattle.fields.specs.Fields.{read_of, Low, Half};

@@ -6,6 +6,9 @@
 //   nodes             the node rows and their entries, by halves, with rule 21
 //   specs/Fill        the numbers that are written, and what each function leaves
 
+#![tactic(auto)]
+
+
 pub mod blocks;
 pub mod nodes;
 pub mod rows;

@@ -16,6 +16,9 @@
 //   proofs/Judging    one step for each return of the tests
 //   proofs/Building   one step for each return of `build`
 //   proofs/Loading    one step for each return of `load`
+
+#![tactic(auto)]
+
 ghost use Rattle.std.specs.Prelude.{◌≡◌, length, replicate};
 ghost use Rattle.layout.specs.Tables.{tables};
 ghost use Rattle.layout.specs.Files.{LoadedBy};

@@ -4,5 +4,8 @@
 //   numbers   specs/Numbering   proofs/Listing, Ranking   the new numbers
 //   nodes     specs/Nodes       proofs/Treeing            the tree, root first
 
+#![tactic(auto)]
+
+
 pub mod nodes;
 pub mod numbers;

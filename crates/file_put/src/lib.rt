@@ -4,6 +4,9 @@
 //   put      proofs/Putting                       bytes and numbers
 //   blocks   specs/Living, Parts  proofs/Laying   the blocks that have a life
 
+#![tactic(auto)]
+
+
 pub mod blocks;
 pub mod put;
 

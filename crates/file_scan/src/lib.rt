@@ -6,6 +6,9 @@
 //   blocks, nodes     all of them, counted
 //   specs/Rows        what a row says, in the words of `history`
 //   specs/Counts      what is counted of the file
+
+#![tactic(auto)]
+
 ghost use Rattle.std.specs.Prelude.{◌≡◌};
 ghost use Rattle.history.specs.File.{read_file};
 ghost use Rattle.file_scan.specs.Counts.{scan_of};

@@ -6,6 +6,9 @@
 //
 //   lib    specs/Answers   proofs/Agreeing, Answering   the file in parts, as the ledger has it; 16
 //   plan   specs/Sizes     proofs/Planning              how long the file is
+
+#![tactic(auto)]
+
 ghost use Rattle.file_write.specs.Answers.{written_of, FileWritten, WrittenClosed};
 
 mod plan;

@@ -3,6 +3,9 @@
 //
 //   specs/Many      what `find_all` does
 //   proofs/Asking   one step for each return, and for each turn of the loop
+
+#![tactic(auto)]
+
 ghost use Rattle.std.specs.Prelude.{◌+◌, ◌*◌, ◌≤◌, min, ◌≡◌, length};
 ghost use Rattle.layout.specs.Tables.{tables};
 ghost use Rattle.index_read.specs.Answers.{found_of};

@@ -1,6 +1,9 @@
 // Lends tables of any contents and many lengths to the public calls: each refuses them with 2 and leaves them as they were. Opening takes them all, and what
 // is opened is refused 2 where a table cannot hold its head, 9 where it has no row, and takes a call else. Prints one line: how many answers were compared,
 // how many of them differ, and how many calls were refused.
+
+#![tactic(auto)]
+
 use index::{Finished, Found, Given, Index, Opened};
 use index_record::Recorded;
 use tables::{ROW, block};

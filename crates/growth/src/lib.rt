@@ -7,6 +7,9 @@
 //   proofs/Answering   the answers of a ledger that is lent more
 //   proofs/Longer      the tables, the ledger, and well formed again
 //   proofs/Steps       growth moved to the start
+
+#![tactic(auto)]
+
 ghost use Rattle.growth.specs.Longer.{LongerTables};
 ghost use Rattle.growth.specs.Steps.{GrownBoards};
 

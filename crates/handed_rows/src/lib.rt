@@ -8,6 +8,9 @@
 //   proofs/Along     the rows of a tick: one step for each turn and each return
 //   proofs/Tallying  what is counted for each row, and one step for each turn and each return of the loops over blocks and pieces
 //   proofs/Handing   rows that are taken over whole show rule 24: theorem H
+
+#![tactic(auto)]
+
 ghost use Rattle.std.specs.Prelude.{◌≡◌, ◌≤◌};
 ghost use Rattle.tables.specs.Columns.{column, pieces_count};
 ghost use Rattle.handed_rows.specs.Handed.{Common, HandsOn, TalliedRows, TalliedPieces, TakenOver, AllTaken, SeenHanded};

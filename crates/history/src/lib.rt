@@ -22,6 +22,9 @@
 //   proofs/File*                       the file, there and back
 //   proofs/HoursLaws, Installing       station hours, and the calls that go by them
 //   proofs/Days*                       lists of days, and the call that installs one
+
+#![tactic(auto)]
+
 ghost use Rattle.history.specs.Law.{ValueAt, LawOfChange, LawOfCalls, LawOfFind, LawOfTouching, LawOfNeighbours};
 ghost use Rattle.history.specs.HoursLaw.{LawOfHours};
 ghost use Rattle.history.specs.DaysLaw.{LawOfDays};

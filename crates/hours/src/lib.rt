@@ -5,6 +5,9 @@
 //   proofs/Rows      the numbers of a calendar as lists, from one turn to the next
 //   proofs/Taking    taken calendars: each return of the test
 //   proofs/Opening   open cells: each return of the reads
+
+#![tactic(auto)]
+
 ghost use Rattle.std.specs.Prelude.{◌≡◌, ◌&&◌, ◌≤◌, leb, ltb};
 ghost use Rattle.history.specs.Rules.{every};
 ghost use Rattle.history.specs.Days.{days_of};

@@ -5,6 +5,9 @@
 //   proofs/Opens, Recording, Finishing, Answering   one step for each return
 //   The contracts are the relations of `layout`, by which demand 3 links the calls. The work behind them stands in `index_record`, `index_finish` and
 //   `index_read`, without the test of the tables; how a read is added is said in `index_test`.
+
+#![tactic(auto)]
+
 ghost use Rattle.std.specs.Prelude.{◌≡◌, length};
 ghost use Rattle.index_record.specs.Calls.{operation, recorded_of};
 ghost use Rattle.layout.specs.Tables.{tables};

@@ -16,6 +16,9 @@
 //   proofs/Trying     one step for each return of the trial
 //   proofs/Finishing  one step for each return of the others
 //   proofs/Public     so finish does what layout's relation says: one step for each return of `finish_open`
+
+#![tactic(auto)]
+
 ghost use Rattle.index_finish.specs.Finish.{TestedBlank, Prepared, SettledTables};
 ghost use Rattle.index_finish.specs.Answers.{finished_of, FinishesOpen};
 

@@ -4,6 +4,9 @@
 //   specs/Reads     what each call hands out of the ledger that the tables stand for
 //   proofs/Giving   one step for each return of `block_closed`
 //   proofs/Finding  and of `find_closed`
+
+#![tactic(auto)]
+
 ghost use Rattle.index_read.specs.Answers.{found_of, given_of};
 ghost use Rattle.index_read.specs.Reads.{BlockClosed, FindClosed};
 

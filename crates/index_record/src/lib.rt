@@ -9,6 +9,9 @@
 //   proofs/Reading    the tables after a read
 //   proofs/Updating   the tables after an update
 //   proofs/Recording  one step for each return of `record_open`
+
+#![tactic(auto)]
+
 ghost use Rattle.std.specs.Prelude.{◌≡◌, ◌+◌, ◌-◌, ◌/◌, ltb};
 ghost use Rattle.index_record.specs.Refusing.{CallTested, SpaceTested};
 ghost use Rattle.index_record.specs.Calls.{operation, Judged, ReadApplied, UpdateApplied, RecordedOpen};

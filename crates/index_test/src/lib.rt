@@ -13,6 +13,9 @@
 //      and the laws of `ReadLaws` (`window-14`, `window-15`, `window-rest`).
 //   3. The relation of the public call is a record of one field, `read : ReadBy t (λ l. xAnswer l ..) (HandedInto ..)`.
 //   4. The public call matches on `test`: 2, 4, or the inner call. Its three returns are `read-2`, `read-4` and `read-on` (proofs/Told).
+
+#![tactic(auto)]
+
 ghost use Rattle.std.specs.Prelude.{◌≡◌};
 ghost use Rattle.layout.specs.Tables.{tables};
 ghost use Rattle.index_test.specs.Board.{Outcome, TestedClosed};

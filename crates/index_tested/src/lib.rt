@@ -7,6 +7,9 @@
 //   specs/Law       where states come from
 //   proofs/Keeping, Recording, Reading   one step for each return
 //   proofs/Closing  the state after finish
+
+#![tactic(auto)]
+
 ghost use Rattle.std.specs.Prelude.{◌≡◌, length};
 ghost use Rattle.lists.specs.Tests.{Decides};
 ghost use Rattle.index_record.specs.Calls.{operation, recorded_of};

@@ -3,6 +3,9 @@
 //   specs/Answers           the number for every case of their answer; what installing into tested tables ensures
 //   proofs/Installing       one step for each return, of a calendar
 //   proofs/InstallingDays   the same of a list of days
+
+#![tactic(auto)]
+
 ghost use Rattle.std.specs.Prelude.{◌≡◌};
 ghost use Rattle.layout.specs.Tables.{tables};
 ghost use Rattle.layout.specs.Relations.{InstalledBy, DaysInstalledBy};

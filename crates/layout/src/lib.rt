@@ -14,6 +14,9 @@
 //   proofs/Trees    what its tables say of its tree and of the live blocks
 //   proofs/Exists*  every sound ledger that fits the lent lengths has tables
 //   proofs/Depths   the tree of pieces is not deep
+
+#![tactic(auto)]
+
 ghost use Rattle.layout.specs.Law.{OneLedger, TablesExist, ShallowTrees};
 
 // Tables stand for one ledger at most.

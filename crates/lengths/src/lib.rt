@@ -2,6 +2,9 @@
 //
 //   specs/Lengths   proofs/Fitting   the length of each table, as a 64-bit number
 //                   proofs/Holding   a slice of that length has the rows asked for
+
+#![tactic(auto)]
+
 ghost use Rattle.std.specs.Prelude.{◌≡◌, ◌+◌, ◌*◌};
 ghost use Rattle.history.specs.Lent.{row_width, entry_width, entry_head};
 ghost use Rattle.lengths.specs.Lengths.{length_for, whole, LengthsHold};

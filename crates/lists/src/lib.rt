@@ -10,3 +10,5 @@
 //   proofs/Stores    laws of set and sets: what a write changes and what it leaves
 //   proofs/Parts     laws of take and drop
 //   proofs/Puts      laws of Put
+
+#![tactic(auto)]

@@ -8,6 +8,9 @@
 //   proofs/Balance    and the balance
 //   proofs/Heights    how few links a balanced tree of some height has, so how deep it can be
 //   proofs/Frame, Turns, Inserting, Removing, Relinking    the table steps, one for each return
+
+#![tactic(auto)]
+
 ghost use Rattle.std.specs.Prelude.{◌≡◌, ℕ, suc, ◌<◌, ◌^◌, max};
 ghost use Rattle.merge_set.specs.Tree.{Tree, node, rotated_left, rotated_right, updated};
 ghost use Rattle.merge_set.specs.Table.{StartsBelow, StartsBefore, deep_at, Made, Higher, Inserted, Least, WithoutLeast, Glued, Removed, Relinked, CopiedRow};

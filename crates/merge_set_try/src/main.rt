@@ -1,6 +1,9 @@
 // Builds tables of pieces in ascending, descending and shuffled order, and thins the last one by every second piece. Of each it compares how many pieces are
 // found at their first cells, how deep the tree is, and that the table is well formed. Then it tests tables that no call leaves: a chain of many rows, a row
 // that is its own child, and rows that many paths share. Prints one line: how many were compared, how many of them differ, and how many tables were refused.
+
+#![tactic(auto)]
+
 ghost use Rattle.std.specs.Prelude.{◌<◌};
 
 use tables::piece;

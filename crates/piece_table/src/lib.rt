@@ -11,6 +11,9 @@
 //   proofs/Seeking, Removing, Writing    one step for each return
 //   proofs/Testing  the test decides it
 //   proofs/Held     the contracts by links are contracts by pieces
+
+#![tactic(auto)]
+
 ghost use Rattle.std.specs.Prelude.{◌≡◌};
 ghost use Rattle.piece_table.specs.Calls.{HeadSet, WroteRow, EndsPast, EndsAfter, SoughtFrom, Sought, HasCell, HasEnded, RemovedPiece, ReplacedPiece, InsertedPiece, TrimmedBack, TrimmedFront};
 ghost use Rattle.lists.specs.Tests.{Decides};

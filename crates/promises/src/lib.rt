@@ -5,6 +5,9 @@
 //   specs/Relations   the contracts of the public calls are the relations that the theorems speak of (proofs/Citing)
 //   specs/Exported    and so are those of the calls for Rust and C, at the number that they give; ExportedTested: those after one test
 //   specs/Meanings    no two answers of a call mean the same (proofs/Telling)
+
+#![tactic(auto)]
+
 ghost use Rattle.promises.specs.Relations.{Contracts};
 ghost use Rattle.promises.specs.Exported.{Exported};
 ghost use Rattle.promises.specs.ExportedTested.{ExportedTested};

@@ -4,6 +4,9 @@
 //
 //   specs/Tested       the calls at a state
 //   proofs/Answering   one step for each return
+
+#![tactic(auto)]
+
 ghost use Rattle.touching_read.specs.Answers.{touching_of, neighbour_of};
 ghost use Rattle.cells_read.specs.Answers.{read_of};
 ghost use Rattle.file_write.specs.Answers.{written_of};

@@ -4,6 +4,9 @@
 //   specs/Many       what `record_all` does
 //   specs/Law        it stands in every list of calls (proofs/Written)
 //   proofs/Playing   one step for each return, and for each turn of the loop
+
+#![tactic(auto)]
+
 ghost use Rattle.std.specs.Prelude.{◌+◌, ◌*◌, ◌≤◌, length};
 ghost use Rattle.layout.specs.Tables.{tables};
 ghost use Rattle.index_record.specs.Calls.{operation};

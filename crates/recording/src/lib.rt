@@ -8,6 +8,9 @@
 //   proofs/Updating    of `split`, `cut_first`, `apply_update`
 //   proofs/Extracting  of `extract_members`
 //   proofs/Telling     what the tables then stand for is the ledger's update
+
+#![tactic(auto)]
+
 ghost use Rattle.std.specs.Prelude.{◌+◌, ◌<◌, ◌^◌};
 ghost use Rattle.recording.specs.Calls.{RecordedPart, Extracted, ExtractedMembers, MetOne, ClearedOne, Cleared, ClearedAfter, SplitPiece, CutFirst, TookPlace, AppliedUpdate};
 

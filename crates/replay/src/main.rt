@@ -8,6 +8,9 @@
 //   damage         a file damaged at each place of a run
 //   alike, kept    slices and tables compared
 //   counts         what is counted, and what is lent
+
+#![tactic(auto)]
+
 use libc::STDIN_FILENO;
 use tables::{ROW, block, entry, node, piece};
 

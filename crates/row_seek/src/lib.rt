@@ -4,6 +4,9 @@
 //
 //   specs/Marks     what is marked
 //   proofs/Marking  one step for each turn and the return of the loop
+
+#![tactic(auto)]
+
 ghost use Rattle.std.specs.Prelude.{◌≤◌, ◌<◌, max, length};
 ghost use Rattle.row_seek.specs.Marks.{Marked};
 

@@ -5,6 +5,9 @@
 //   proofs/Seeing  what blocks that share no cell show of one
 //   proofs/Living  the live blocks of a closed index, from its tables
 //   proofs/Runs    one step for each return
+
+#![tactic(auto)]
+
 ghost use Rattle.std.specs.Prelude.{◌≡◌, min};
 ghost use Rattle.runs.specs.Runs.{PartOf, FirstRun, NextRun};
 

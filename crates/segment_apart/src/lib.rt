@@ -5,6 +5,9 @@
 //           proofs/Creation  blocks that are parted whenever one is created share nothing
 //           proofs/Deciding  all blocks
 //   specs/Apart  proofs/Agreeing         what is decided; for callers, in the words of history
+
+#![tactic(auto)]
+
 ghost use Rattle.segment_test.specs.Test.{lent};
 ghost use Rattle.segment_apart.specs.Apart.{ClosedApart};
 

@@ -4,6 +4,9 @@
 //   specs/Clear       a block among others of a list, in a run and on a way
 //   specs/Above       the nodes above one on a way, of which no two blocks of one share a cell
 //   proofs/Clearing   one step for each return and turn; Rising: of `above_clear`
+
+#![tactic(auto)]
+
 ghost use Rattle.std.specs.Prelude.{◌≡◌, suc, ◌<◌};
 ghost use Rattle.lists.specs.Tests.{Decides};
 ghost use Rattle.history.specs.Lent.{row_width};

@@ -6,6 +6,9 @@
 //   specs/Listing      what find answers, and what it leaves in the answer
 //   proofs/Searching   the way down; Windowing: the rows of its nodes; Extending: the writing; Finding: all together. Noting: laws of what is noted
 //   proofs/Agreeing    for callers: by the blocks of the model
+
+#![tactic(auto)]
+
 ghost use Rattle.std.specs.Prelude.{◌≡◌, length};
 ghost use Rattle.std.proofs.lemmas.List.Edits.{sets};
 ghost use Rattle.segment_walk.specs.Rowing.{blocks_in};

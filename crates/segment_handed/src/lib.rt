@@ -10,6 +10,9 @@
 //   proofs/Rows     block k is what its row says
 //   proofs/Owing    one block; Holding: a node's run; Halves: a node and its halves
 //   proofs/Showing  the walk shows rule 24
+
+#![tactic(auto)]
+
 ghost use Rattle.std.specs.Prelude.{◌<◌};
 ghost use Rattle.segment_test.specs.Test.{lent};
 ghost use Rattle.segment_handed.specs.Tree.{Owed, Passes, BlockHeld, RunHeld, TreeHeld};

@@ -3,6 +3,9 @@
 //
 //   specs/Neighbours      the nearest block of a list on one side of a place, and in the tables
 //   proofs/Neighbouring   the returns; Agreeing: for callers, by the blocks of the model; a neighbour is the only one
+
+#![tactic(auto)]
+
 ghost use Rattle.std.specs.Prelude.{◌≡◌};
 ghost use Rattle.segment_table.specs.Closed.{block_in};
 ghost use Rattle.segment_walk.specs.Rowing.{key_at};

@@ -2,3 +2,6 @@
 //
 //   specs/Closed   a closed index: nodes with their runs of entries
 //   proofs/Closed  its laws: one tree for each table, runs apart, reads by place
+
+#![tactic(auto)]
+

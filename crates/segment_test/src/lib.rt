@@ -9,6 +9,9 @@
 //   run                one node's entries
 //   walk               every node, by halves
 //   total              runs one after the other; rule 23's sum, one total over all entries
+
+#![tactic(auto)]
+
 ghost use Rattle.std.specs.Prelude.{List};
 ghost use Rattle.lists.specs.Tests.{Decides};
 ghost use Rattle.history.specs.Words.{Block};

@@ -10,6 +10,9 @@
 //   proofs/Ways          and on its way down, one step for each turn and each return of the loops of `build`
 //   proofs/WritingDown   a block at one node
 //   proofs/WritingWays   and on its way down, for the loops of `close`
+
+#![tactic(auto)]
+
 ghost use Rattle.std.specs.Prelude.{◌≡◌};
 ghost use Rattle.history.specs.Tree.{covers, halves};
 

@@ -6,5 +6,8 @@
 //                          proofs/Windows           its rows in a window
 //          proofs/Agreeing                          for callers: by the blocks of the model
 
+#![tactic(auto)]
+
+
 pub mod rows;
 pub mod walk;

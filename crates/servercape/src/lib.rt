@@ -6,6 +6,9 @@
 //
 //   specs/Numbers   proofs/Answering                what the numbers mean; an answer as its number
 //                   proofs/Positive, PositiveLoad   no refusal is 0
+
+#![tactic(auto)]
+
 ghost use Rattle.std.specs.Prelude.{◌≡◌, length};
 ghost use Rattle.layout.specs.Tables.{tables};
 ghost use Rattle.layout.specs.Relations.{OpenedBy, RecordedBy, FinishedBy, InstalledBy, DaysInstalledBy, ClockGivenBy, BlockGivenBy, FoundBy, TouchedBy, NextGivenBy, LastGivenBy};

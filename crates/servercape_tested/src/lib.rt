@@ -4,6 +4,9 @@
 //
 //   specs/States       the state that a number stands for; the calls at such a state
 //   proofs/Numbering   one step for each return
+
+#![tactic(auto)]
+
 ghost use Rattle.std.specs.Prelude.{◌≡◌, length};
 ghost use Rattle.layout.specs.Tables.{tables};
 ghost use Rattle.index_record.specs.Calls.{operation};

@@ -4,6 +4,9 @@
 //   specs/Law      proofs/Sessions   every list of calls with a state
 //   specs/States   proofs/States     the state after open, load, record and the two install calls; crate `index_tested` has it after finish
 //   specs/Growth   proofs/Growth     tables that grow keep the state
+
+#![tactic(auto)]
+
 ghost use Rattle.sessions.specs.Law.{Sessions};
 ghost use Rattle.sessions.specs.States.{StatesFollow};
 ghost use Rattle.sessions.specs.Growth.{GrowthKeeps};

@@ -4,6 +4,9 @@
 //
 //   specs/Steps    slots in code as the laws have them, and what each function does
 //   proofs/Steps   one step for each return
+
+#![tactic(auto)]
+
 ghost use Rattle.std.specs.Prelude.{◌≡◌, ◌+◌, ◌≤◌};
 ghost use Rattle.slots.specs.Steps.{Unused, TookIn, Restores, Takes, Holds, Counts};
 

@@ -6,6 +6,9 @@
 //         proofs/Closed, Alike, Saving    written and loaded: the same answers
 //         proofs/Cutting, Reached         of an index that calls have reached
 //         proofs/Taking, Emptying         what the loader takes; files that it refuses
+
+#![tactic(auto)]
+
 ghost use Rattle.layout.specs.Tables.{tables};
 ghost use Rattle.layout.specs.Files.{WrittenBy, LoadedBy};
 ghost use Rattle.file_write.specs.Answers.{written_of};

@@ -7,6 +7,9 @@
 //   proofs/Matching   one step for each return, of what compares
 //   proofs/Surveying  and of the rest
 //   proofs/Telling    what is told is what the ledger says
+
+#![tactic(auto)]
+
 ghost use Rattle.survey.specs.Survey.{HeldPart, HeldBytes, RestsOf, Made, Surveyed};
 
 use comparison::Difference;

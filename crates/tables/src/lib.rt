@@ -5,6 +5,9 @@
 //   specs/Sums      sums of numbers that nobody has tested
 //   specs/Parts     parts of bytes
 //   piece, block, node, entry   its names in code
+
+#![tactic(auto)]
+
 ghost use Rattle.std.specs.Prelude.{◌≡◌, ℕ, ◌+◌, ◌-◌, ◌*◌, ◌/◌, min, max, length, get_or, set, replicate};
 ghost use Rattle.std.proofs.lemmas.List.Edits.{sets};
 ghost use Rattle.lists.specs.Tests.{Decides};

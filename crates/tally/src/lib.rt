@@ -2,6 +2,9 @@
 //
 //   specs/Counts   what a tally holds after each thing that is counted
 //   specs/Lines    what is printed of it
+
+#![tactic(auto)]
+
 ghost use Rattle.std.specs.Prelude.{◌≡◌, true, length, get_or};
 ghost use Rattle.lists.specs.Puts.{Put, behind};
 ghost use Rattle.tally.specs.Counts.{raised, Counted, Compared, Answered};

@@ -4,6 +4,9 @@
 //   The contracts are the relations of `layout`. The work stands in `touching_read`, without the test of the tables; what is proved of the ledger's
 //   lists stands in `history` (`law_of_touching`, `law_of_neighbours`).
 //   proofs/Answering   one step for each return
+
+#![tactic(auto)]
+
 ghost use Rattle.layout.specs.Tables.{tables};
 ghost use Rattle.layout.specs.Relations.{TouchedBy, NextGivenBy, LastGivenBy};
 ghost use Rattle.touching_read.specs.Answers.{touching_of, neighbour_of};

@@ -6,6 +6,9 @@
 //   proofs/Reaching   where a block ends, and the live one that reaches over a place
 //   proofs/Starting   so touching is what starts in the window, behind that one; Listing: the returns of `touching_closed`
 //   proofs/Nearing    the returns of `next_closed` and `last_closed`
+
+#![tactic(auto)]
+
 ghost use Rattle.touching_read.specs.Answers.{touching_of, neighbour_of};
 ghost use Rattle.touching_read.specs.Reads.{EndOf, OverAt, TouchingClosed, NextClosed, LastClosed};
 

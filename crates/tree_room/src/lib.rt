@@ -7,6 +7,9 @@
 //   proofs/Nodes     the nodes of all blocks: one has halves only where it has a tick
 //   proofs/Noting    the ticks of an open index are those of the accepted calls
 //   proofs/Room      the law
+
+#![tactic(auto)]
+
 ghost use Rattle.tree_room.specs.Room.{LawOfRoom};
 
 // The tree of an index has no more nodes and entries than the bounds say, and finish that is lent so many rows is taken.
