@@ -13,6 +13,7 @@ use Rattle.merge_set.specs.Table.{Good}
 
 -- the only member of a list of one is its head
 pub mem_one : {k x : ℕ} (ys : List ℕ) → Mem k (x ∷ []) → Mem k (x ∷ ys)
+mem_one {k = k} ys (there x4) = elim x4 [ ]
 mem_one ys (here e) = here e
 
 -- a part of a good list is good
@@ -56,6 +57,7 @@ put_right {n} ws p =
 
 -- a link that is there stands somewhere
 pub found : {k : ℕ} (xs : List ℕ) → Mem k xs → (ys : List ℕ) × Put k ys xs
+found {k = k} [] x' = elim x' [ ]
 found {k} (x ∷ xs) (here e) = (xs, record { front = []; back = xs; without = refl; with_it = ap (λ j. j ∷ xs) (sym e) })
 found {k} (x ∷ xs) (there m) = let p : (ys : List ℕ) × Put k ys xs = found xs m in (x ∷ p.0, put_right (x ∷ []) p.1)
 

@@ -172,6 +172,7 @@ removed_less key x (node a y b) =
 -- in a tree in order the link that goes is the one that was asked for
 pub removed_put : (key : ℕ → ℕ) (x : ℕ) (T : Tree) → Ascending key (rows T) → Mem x (rows T) → Put x (rows (removed key x T)) (rows T)
 unfolding removed rows
+removed_put key x leaf asc m = elim m [ ]
 removed_put key x (node a y b) asc m =
     go (ltb (key x) (key y)) refl (ltb (key y) (key x)) refl (mem_split (rows a) (y ∷ rows b) m)
     (removed_put key x a (ascending_left key (rows a) (y ∷ rows b) asc)) (removed_put key x b (ascending_tail key (ascending_right key (rows a) (y ∷ rows b) asc)))
@@ -221,6 +222,7 @@ relinked_swapped key y x (node a z b) = go (eqb z y) refl (ltb (key y) (key z)) 
 -- in a tree in order it exchanges the one that was asked for
 pub relinked_finds : (key : ℕ → ℕ) (y x : ℕ) (T : Tree) → Ascending key (rows T) → Mem y (rows T) → Exchanged y x (rows T) (rows (relinked key y x T))
 unfolding relinked rows
+relinked_finds key y x leaf asc m = elim m [ ]
 relinked_finds key y x (node a z b) asc m =
     go (eqb z y) refl (ltb (key y) (key z)) refl (mem_split (rows a) (z ∷ rows b) m)
     (relinked_finds key y x a (ascending_left key (rows a) (z ∷ rows b) asc)) (relinked_finds key y x b (ascending_tail key (ascending_right key (rows a) (z ∷ rows b) asc)))

@@ -93,6 +93,7 @@ module _ {t : List ℕ} {k n l r : ℕ} (el : l ≡ column t k piece_left) (er :
 -- the links of a tree in the table are rows of it
 pub valid_in : (t : List ℕ) (r : ℕ) (T : Tree) {j : ℕ} → Shape t r T → Mem j (rows T) → Valid t j
 unfolding Shape rows
+valid_in t r leaf {j = j} s m = elim m [ ]
 valid_in t r (node a x b) {j} s m = go (mem_split (rows a) (x ∷ rows b) m) (valid_in t (column t x piece_left) a s.left) (valid_in t (column t x piece_right) b s.right)
   where
     tail : Mem j (x ∷ rows b) → (Mem j (rows b) → Valid t j) → Valid t j

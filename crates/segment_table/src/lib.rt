@@ -4,4 +4,3 @@
 //   proofs/Closed  its laws: one tree for each table, runs apart, reads by place
 
 #![tactic(auto)]
-

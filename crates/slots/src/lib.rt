@@ -13,7 +13,7 @@ ghost use Rattle.slots.specs.Steps.{Unused, TookIn, Restores, Takes, Holds, Coun
 // How far a block may lie from a slot to go to it.
 const NEAR: u64 = 1024;
 
-#[derive(Drop)]
+#[derive(Clone, Copy)]
 pub struct Slot {
     pub lo: u64,
     pub hi: u64,

@@ -15,11 +15,11 @@ returns c =
     let three = four.before.before.before.before in
     let two = three.before.before.before.before in
     let one = two.before.before.before.before in
-    write_row_done _ one.put.ensures two.put2.ensures three.put3.ensures four.put4.ensures five.put5.ensures six.put6.ensures seven.put7.ensures eight.put8.ensures
+    write_row_done _ one.put.ensures two.put-2.ensures three.put-3.ensures four.put-4.ensures five.put-5.ensures six.put-6.ensures seven.put-7.ensures eight.put-8.ensures
 
-same_length : tie.Need-same-length
+same_length : tie.Need-shape_of-blocks
 same_length c =
-    c.before.blocks9.given ∙ c.before.before.before.before.before.blocks8.given ∙ c.before.before.before.before.before.before.before.before.before.blocks7.given ∙ c.before.before.before.before.before.before.before.before.before.before.before.before.before.blocks6.given ∙ c.before.before.before.before.before.before.before.before.before.before.before.before.before.before.before.before.before.blocks5.given ∙ c.before.before.before.before.before.before.before.before.before.before.before.before.before.before.before.before.before.before.before.before.before.blocks4.given ∙ c.before.before.before.before.before.before.before.before.before.before.before.before.before.before.before.before.before.before.before.before.before.before.before.before.before.blocks3.given ∙ c.before.before.before.before.before.before.before.before.before.before.before.before.before.before.before.before.before.before.before.before.before.before.before.before.before.before.before.before.before.blocks2.given
+    c.before.blocks-8-1.given ∙ c.before.before.before.before.before.blocks-7-1.given ∙ c.before.before.before.before.before.before.before.before.before.blocks-6-1.given ∙ c.before.before.before.before.before.before.before.before.before.before.before.before.before.blocks-5-1.given ∙ c.before.before.before.before.before.before.before.before.before.before.before.before.before.before.before.before.before.blocks-4-1.given ∙ c.before.before.before.before.before.before.before.before.before.before.before.before.before.before.before.before.before.before.before.before.before.blocks-3-1.given ∙ c.before.before.before.before.before.before.before.before.before.before.before.before.before.before.before.before.before.before.before.before.before.before.before.before.before.blocks-2-1.given ∙ c.before.before.before.before.before.before.before.before.before.before.before.before.before.before.before.before.before.before.before.before.before.before.before.before.before.before.before.before.before.blocks-1.given
 
 pub write_row_spec : {M : Type 1} → statement M
 write_row_spec =

@@ -5,16 +5,16 @@ use Rattle.days.proofs.Places.{Walks, walking}
 use Rattle.days.proofs.place_of.Statement.{statement}
 use Rattle.days.proofs.place_of.Tie as tie
 
-abbrev invariant-loop : tie.invariant-loop
-invariant-loop list minute count k₀ from₀ left₀ k from left = Walks list minute k from left
+abbrev invariant-loop-k : tie.invariant-loop-k
+invariant-loop-k list minute count k₀ from₀ left₀ k from left = Walks list minute k from left
 
-abbrev decreases-loop : tie.decreases-loop
-decreases-loop list minute count k₀ from₀ left₀ k from left = count - k
+abbrev decreases-loop-k : tie.decreases-loop-k
+decreases-loop-k list minute count k₀ from₀ left₀ k from left = count - k
 
 pub place_of_spec : {M : Type 1} → statement M
 place_of_spec =
     tie.close
-    (tie.spec invariant-loop decreases-loop (λ c κs. search rules) (λ c. search walking) (λ c. search rules) (λ c κs. search rules) (λ c κs. search rules)
+    (tie.spec invariant-loop-k decreases-loop-k (λ c κs. search rules) (λ c. search walking) (λ c. search rules) (λ c κs. search rules) (λ c κs. search rules)
     (λ c κs. search rules) (λ c. search walking) (λ c. search rules) (λ c. search rules) (λ c. search rules) (λ c. search rules)
     (λ c κs. search rules) (λ c. search walking) (λ c. search walking) (λ c. search rules) (λ c. search rules) (λ c. search walking)
     (λ c κs. search rules) (λ c. search walking))

@@ -8,23 +8,23 @@ use Rattle.days.proofs.Taking.{TakesRest, takes_more, taking}
 use Rattle.days.proofs.takes.Statement.{statement}
 use Rattle.days.proofs.takes.Tie as tie
 
-abbrev invariant-loop : tie.invariant-loop
-invariant-loop list count k₀ last₀ k last = TakesRest list k last
+abbrev invariant-loop-k : tie.invariant-loop-k
+invariant-loop-k list count k₀ last₀ k last = TakesRest list k last
 
-abbrev decreases-loop : tie.decreases-loop
-decreases-loop list count k₀ last₀ k last = count - k
+abbrev decreases-loop-k : tie.decreases-loop-k
+decreases-loop-k list count k₀ last₀ k last = count - k
 
-loop-again : tie.Need-loop-preserved invariant-loop decreases-loop
+loop-again : tie.Need-loop-k-preserved invariant-loop-k decreases-loop-k
 loop-again c =
     let second = c.before.before in
     let ranked = second.before.before in
     let first = ranked.before in
-    takes_more _ _ _ _ _ first.before.before.loop.invariant first.before.before.before.before.count.ensures (search rules) first.number.ensures _
-    ranked.rises.ensures (search rules) _ second.number2.ensures _ c.before.may-last.ensures (search rules)
+    takes_more _ _ _ _ _ first.before.before.loop-k.invariant first.before.before.before.before.count-count.ensures (search rules) first.number-day.ensures _
+    ranked.rises.ensures (search rules) _ second.number.ensures _ c.before.may_last.ensures (search rules)
 
 pub takes_spec : {M : Type 1} → statement M
 takes_spec =
     tie.close
-    (tie.spec invariant-loop decreases-loop (λ c κs. search rules) (λ c. search taking) (λ c. search taking) (λ c. search rules) (λ c κs. search rules)
+    (tie.spec invariant-loop-k decreases-loop-k (λ c κs. search rules) (λ c. search taking) (λ c. search taking) (λ c. search rules) (λ c κs. search rules)
     (λ c κs. search rules) (λ c. search taking) (λ c. search rules) (λ c. search rules) (λ c κs. search rules) (λ c κs. search rules)
     (λ c. search taking) (λ c. search rules) (λ c. search rules) loop-again (λ c. search taking))

@@ -5,13 +5,13 @@ use Rattle.merge_set.proofs.Relinking.{Copying, relinking}
 use Rattle.merge_set.proofs.copy_row.Statement.{statement}
 use Rattle.merge_set.proofs.copy_row.Tie as tie
 
-abbrev invariant-loop : tie.invariant-loop
-invariant-loop t₀ y x i₀ t i = Copying t₀ t y x i
+abbrev invariant-loop-i : tie.invariant-loop-i
+invariant-loop-i t₀ y x i₀ t i = Copying t₀ t y x i
 
-abbrev decreases-loop : tie.decreases-loop
-decreases-loop t₀ y x i₀ t i = 8 - i
+abbrev decreases-loop-i : tie.decreases-loop-i
+decreases-loop-i t₀ y x i₀ t i = 8 - i
 
 pub copy_row_spec : {M : Type 1} → statement M
 copy_row_spec =
-    tie.close (tie.spec invariant-loop decreases-loop (λ c. search relinking) (λ c κs. search rules) (λ c κs. search rules) (λ c. search rules) (λ c. search rules)
+    tie.close (tie.spec invariant-loop-i decreases-loop-i (λ c. search relinking) (λ c κs. search rules) (λ c κs. search rules) (λ c. search rules) (λ c. search rules)
     (λ c. search relinking) (λ c. search rules) (λ c. search relinking))
