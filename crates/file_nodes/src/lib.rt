@@ -6,6 +6,5 @@
 
 #![tactic(auto)]
 
-
 pub mod nodes;
 pub mod numbers;

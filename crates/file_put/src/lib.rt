@@ -6,7 +6,6 @@
 
 #![tactic(auto)]
 
-
 pub mod blocks;
 pub mod put;
 

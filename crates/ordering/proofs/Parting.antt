@@ -230,6 +230,7 @@ pub ruleset parting = (rows_start, rows_turn, rows_end, rows_spent, rows_none, r
 -- ── pairs of an order, and all blocks ──
 
 pairs-apart : {t : List ℕ} {j k : ℕ} {xs : List ℕ} → AllClear t xs → Mem j xs → Mem k xs → (j ≡ k → ⊥) → Clash t j k → ⊥
+pairs-apart {t = t} {j = j} {k = k} pairs_nil x9 _ ne h = elim x9 [ ]
 pairs-apart (pairs_cons c p) (here e) (here f) ne h = ne (e ∙ sym f)
 pairs-apart {t} {j} {k} (pairs_cons c p) (here e) (there m) ne h = all_mem c m (rw e at h)
 pairs-apart {t} {j} {k} (pairs_cons c p) (there m) (here e) ne h = all_mem c m (clash_turned (rw e at h))

@@ -75,6 +75,7 @@ sum_front f k (suc n) h =
 -- ── lists without numbers ──
 
 pub mem_none : (k : ℕ) (xs : List ℕ) → length xs ≡ 0 → Mem k xs → ⊥
+mem_none k [] h m = elim m [ ]
 mem_none k (x ∷ xs) h m = omega arith
 
 -- ── over a list ──

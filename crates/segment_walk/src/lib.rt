@@ -8,6 +8,5 @@
 
 #![tactic(auto)]
 
-
 pub mod rows;
 pub mod walk;

@@ -6,29 +6,29 @@ use Rattle.board_input.proofs.Numbers.{Reached, reached_none, reached_one, reach
 use Rattle.board_input.proofs.number_at.Statement.{statement}
 use Rattle.board_input.proofs.number_at.Tie as tie
 
-abbrev invariant-loop : tie.invariant-loop
-invariant-loop input at width value₀ i₀ value i = Reached input at width value i
+abbrev invariant-loop-i : tie.invariant-loop-i
+invariant-loop-i input at width value₀ i₀ value i = Reached input at width value i
 
-abbrev decreases-loop : tie.decreases-loop
-decreases-loop input at width value₀ i₀ value i = width - i
+abbrev decreases-loop-i : tie.decreases-loop-i
+decreases-loop-i input at width value₀ i₀ value i = width - i
 
-loop-holds : tie.Need-loop-init invariant-loop decreases-loop
+loop-holds : tie.Need-loop-i-init invariant-loop-i decreases-loop-i
 loop-holds c = reached_none _ _ _
 
-mul-value : tie.Need-overflow-mul-value invariant-loop decreases-loop
-mul-value c = omega (arith, reached_room c.before.loop.invariant (search rules) (search rules))
+mul-value : tie.Need-overflow-mul-value invariant-loop-i decreases-loop-i
+mul-value c = omega (arith, reached_room c.before.loop-i.invariant (search rules) (search rules))
 
-add-value : tie.Need-overflow-add-value invariant-loop decreases-loop
-add-value c = omega (arith, reached_room c.before.before.loop.invariant (search rules) (search rules))
+add-value : tie.Need-overflow-add-value invariant-loop-i decreases-loop-i
+add-value c = omega (arith, reached_room c.before.before.loop-i.invariant (search rules) (search rules))
 
-loop-again : tie.Need-loop-preserved invariant-loop decreases-loop
-loop-again c = reached_one c.before.before.loop.invariant (search rules) (search rules)
+loop-again : tie.Need-loop-i-preserved invariant-loop-i decreases-loop-i
+loop-again c = reached_one c.before.before.loop-i.invariant (search rules) (search rules)
 
-returns : tie.Need-returns invariant-loop decreases-loop
-returns c = reached_all c.before.loop.invariant (search rules)
+returns : tie.Need-returns invariant-loop-i decreases-loop-i
+returns c = reached_all c.before.loop-i.invariant (search rules)
 
 pub number_at_spec : {M : Type 1} → statement M
 number_at_spec =
     tie.close
-    (tie.spec invariant-loop decreases-loop loop-holds (λ c. search rules) mul-value (λ c. search rules) (λ c κs. search rules) add-value (λ c. search rules)
+    (tie.spec invariant-loop-i decreases-loop-i loop-holds (λ c. search rules) mul-value (λ c. search rules) (λ c κs. search rules) add-value (λ c. search rules)
     loop-again returns)

@@ -13,8 +13,8 @@ returns c =
     let cells = created.before.before.before.before in
     let first = cells.before.before.before.before in
     let entry = first.before.before.before.args in
-    front_put entry.first entry.length entry.created entry.destroyed first.field.ensures cells.field2.ensures created.field3.ensures
-    destroyed.field4.ensures labelled.label.ensures spaced.put.ensures
+    front_put entry.first entry.length entry.created entry.destroyed first.field-behind_first.ensures cells.field-behind_length.ensures created.field-behind_created.ensures
+    destroyed.field-behind_destroyed.ensures labelled.label-behind_label.ensures spaced.put.ensures
 
 pub block_front_spec : {M : Type 1} → statement M
 block_front_spec =

@@ -8,34 +8,34 @@ use Rattle.board_text.proofs.Digits.{Spelling, spelling_none, spelling_room, spe
 use Rattle.board_text.proofs.decimal.Statement.{statement}
 use Rattle.board_text.proofs.decimal.Tie as tie
 
-abbrev invariant-loop : tie.invariant-loop
-invariant-loop out at n digits₀ start₀ rest₀ digits start rest = (length digits ≡ 20) × (start < 20) × Spelling n digits start rest
+abbrev invariant-loop-rest : tie.invariant-loop-rest
+invariant-loop-rest out at n digits₀ start₀ rest₀ digits start rest = (length digits ≡ 20) × (start < 20) × Spelling n digits start rest
 
-abbrev decreases-loop : tie.decreases-loop
-decreases-loop out at n digits₀ start₀ rest₀ digits start rest = start
+abbrev decreases-loop-rest : tie.decreases-loop-rest
+decreases-loop-rest out at n digits₀ start₀ rest₀ digits start rest = start
 
-loop-holds : tie.Need-loop-init invariant-loop decreases-loop
+loop-holds : tie.Need-loop-rest-init invariant-loop-rest decreases-loop-rest
 loop-holds c = (search rules, search rules, spelling_none _ _ (search rules) (search rules))
 
-sub-start-2 : tie.Need-overflow-sub-start-2 invariant-loop decreases-loop
-sub-start-2 c = omega (arith, spelling_room c.digit.result c.before.before.loop.invariant.2 (omega arith) (omega arith))
+sub-start-2 : tie.Need-overflow-sub-start-2 invariant-loop-rest decreases-loop-rest
+sub-start-2 c = omega (arith, spelling_room c.digit.result c.before.before.loop-rest.invariant.2 (omega arith) (omega arith))
 
-loop-less : tie.Need-loop-smaller invariant-loop decreases-loop
-loop-less c = omega (arith, spelling_room c.digit.result c.before.before.loop.invariant.2 (omega arith) (omega arith))
+loop-less : tie.Need-loop-rest-smaller invariant-loop-rest decreases-loop-rest
+loop-less c = omega (arith, spelling_room c.digit.result c.before.before.loop-rest.invariant.2 (omega arith) (omega arith))
 
-loop-again : tie.Need-loop-preserved invariant-loop decreases-loop
+loop-again : tie.Need-loop-rest-preserved invariant-loop-rest decreases-loop-rest
 loop-again c =
-    (search rules, omega arith, spelling_one c.digit.result c.before.before.loop.invariant.2 (omega arith) (omega arith) c.digit.ensures)
+    (search rules, omega arith, spelling_one c.digit.result c.before.before.loop-rest.invariant.2 (omega arith) (omega arith) c.digit.ensures)
 
-returns : tie.Need-returns invariant-loop decreases-loop
+returns : tie.Need-returns invariant-loop-rest decreases-loop-rest
 returns c =
-    let turn = c.before.before.before.before.before.before.before.before.loop in
-    let last = c.before.before.before.before.before.before.digit2 in
+    let turn = c.before.before.before.before.before.before.before.before.loop-rest in
+    let last = c.before.before.before.before.before.before.digit-2 in
     rw (spelled last.result turn.invariant.2 (omega arith) (omega arith) last.ensures turn.invariant.0) at c.before.before.text.ensures
 
 pub decimal_spec : {M : Type 1} → statement M
 decimal_spec =
     tie.close
-    (tie.spec invariant-loop decreases-loop (λ c. search rules) loop-holds (λ c κs. search rules) (λ c. search rules) sub-start-2 loop-less loop-again
+    (tie.spec invariant-loop-rest decreases-loop-rest (λ c. search rules) loop-holds (λ c κs. search rules) (λ c. search rules) sub-start-2 loop-less loop-again
     (λ c κs. search rules) (λ c. search rules) (λ c. search rules) (λ c. search rules) (λ c. simp length-set (omega arith))
     (λ c κs. search rules) (λ c. search rules) returns)

@@ -10,26 +10,26 @@ use Rattle.board_text.proofs.Lines.{hex_none, hex_one, hex_all}
 use Rattle.board_text.proofs.hex.Statement.{statement}
 use Rattle.board_text.proofs.hex.Tie as tie
 
-abbrev invariant-loop : tie.invariant-loop
-invariant-loop out₀ at bytes next₀ i₀ out next i = (length out ≡ length out₀) × Put out₀ at (hex_bytes (take i bytes) []) out next
+abbrev invariant-loop-i : tie.invariant-loop-i
+invariant-loop-i out₀ at bytes next₀ i₀ out next i = (length out ≡ length out₀) × Put out₀ at (hex_bytes (take i bytes) []) out next
 
-abbrev decreases-loop : tie.decreases-loop
-decreases-loop out₀ at bytes next₀ i₀ out next i = length bytes - i
+abbrev decreases-loop-i : tie.decreases-loop-i
+decreases-loop-i out₀ at bytes next₀ i₀ out next i = length bytes - i
 
-loop-holds : tie.Need-loop-init invariant-loop decreases-loop
+loop-holds : tie.Need-loop-i-init invariant-loop-i decreases-loop-i
 loop-holds c = let entry = c.before.before.args in (search rules, hex_none entry.out.now entry.bytes.now entry.at)
 
-loop-again : tie.Need-loop-preserved invariant-loop decreases-loop
+loop-again : tie.Need-loop-i-preserved invariant-loop-i decreases-loop-i
 loop-again c =
     let entry = c.before.before.before.before.before.before.before.before.before.args in
-    let turn = c.before.before.before.before.before.before.loop in
-    (search rules, hex_one entry.bytes.now turn.i (search rules) turn.invariant.1 c.before.before.hex-byte.ensures)
+    let turn = c.before.before.before.before.before.before.loop-i in
+    (search rules, hex_one entry.bytes.now turn.i (search rules) turn.invariant.1 c.before.before.hex_byte-next.ensures)
 
-returns : tie.Need-returns invariant-loop decreases-loop
-returns c = hex_all c.before.before.before.before.args.bytes.now c.before.loop.i (search rules) c.before.loop.invariant.1
+returns : tie.Need-returns invariant-loop-i decreases-loop-i
+returns c = hex_all c.before.before.before.before.args.bytes.now c.before.loop-i.i (search rules) c.before.loop-i.invariant.1
 
 pub hex_spec : {M : Type 1} → statement M
 hex_spec =
     tie.close
-    (tie.spec invariant-loop decreases-loop loop-holds (λ c. search rules) (λ c κs. search rules) (λ c. search rules) (λ c. search rules) loop-again
+    (tie.spec invariant-loop-i decreases-loop-i loop-holds (λ c. search rules) (λ c κs. search rules) (λ c. search rules) (λ c. search rules) loop-again
     (λ c. search rules) returns)

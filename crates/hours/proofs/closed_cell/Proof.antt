@@ -8,14 +8,14 @@ use Rattle.hours.proofs.Opening.{ClosedRest, closed_start, closed_none, closed_f
 use Rattle.hours.proofs.closed_cell.Statement.{statement}
 use Rattle.hours.proofs.closed_cell.Tie as tie
 
-abbrev invariant-loop : tie.invariant-loop
-invariant-loop calendar days first bytes i₀ i = ClosedRest (days_of days) (calendar_of calendar) first bytes i
+abbrev invariant-loop-i : tie.invariant-loop-i
+invariant-loop-i calendar days first bytes i₀ i = ClosedRest (days_of days) (calendar_of calendar) first bytes i
 
-abbrev decreases-loop : tie.decreases-loop
-decreases-loop calendar days first bytes i₀ i = length bytes - i
+abbrev decreases-loop-i : tie.decreases-loop-i
+decreases-loop-i calendar days first bytes i₀ i = length bytes - i
 
 pub closed_cell_spec : {M : Type 1} → statement M
 closed_cell_spec =
     tie.close
-    (tie.spec invariant-loop decreases-loop (λ c. closed_start _ _ _ _) (λ c. search rules) (λ c. search rules) (λ c κs. search rules) (λ c. search (closed_found, rules))
+    (tie.spec invariant-loop-i decreases-loop-i (λ c. closed_start _ _ _ _) (λ c. search rules) (λ c. search rules) (λ c κs. search rules) (λ c. search (closed_found, rules))
     (λ c. search rules) (λ c κs. search rules) (λ c. search rules) (λ c. search rules) (λ c. search (closed_more, rules)) (λ c. search (closed_none, rules)))

@@ -7,16 +7,16 @@ use Rattle.hours.proofs.Taking.{window-not_ordered, window_too_late, window_righ
 use Rattle.hours.proofs.takes_hours.Statement.{statement}
 use Rattle.hours.proofs.takes_hours.Tie as tie
 
-abbrev invariant-loop : tie.invariant-loop
-invariant-loop calendar at stated count j₀ j = EveryRest window_taken (window_at calendar at) stated j
+abbrev invariant-loop-j : tie.invariant-loop-j
+invariant-loop-j calendar at stated count j₀ j = EveryRest window_taken (window_at calendar at) stated j
 
-abbrev decreases-loop : tie.decreases-loop
-decreases-loop calendar at stated count j₀ j = count - j
+abbrev decreases-loop-j : tie.decreases-loop-j
+decreases-loop-j calendar at stated count j₀ j = count - j
 
 pub takes_hours_spec : {M : Type 1} → statement M
 takes_hours_spec =
     tie.close
-    (tie.spec invariant-loop decreases-loop (λ c κs. search rules) (λ c. search (hours-many, rules)) (λ c. every_start _ _ _) (λ c. search rules) (λ c. search rules) (λ c. search rules)
+    (tie.spec invariant-loop-j decreases-loop-j (λ c κs. search rules) (λ c. search (hours-many, rules)) (λ c. every_start _ _ _) (λ c. search rules) (λ c. search rules) (λ c. search rules)
     (λ c κs. search rules) (λ c. search rules) (λ c. search rules) (λ c. search rules) (λ c κs. search rules)
     (λ c. search (hours_few, every_fails, window-not_ordered, rules)) (λ c. search (hours_few, every_fails, window_too_late, rules)) (λ c. search rules) (λ c. search rules)
     (λ c. search (every_more, window_right, rules)) (λ c. search (hours_few, every_done, rules)))

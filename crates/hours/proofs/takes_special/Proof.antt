@@ -7,14 +7,14 @@ use Rattle.hours.proofs.Taking.{taking}
 use Rattle.hours.proofs.takes_special.Statement.{statement}
 use Rattle.hours.proofs.takes_special.Tie as tie
 
-abbrev invariant-loop : tie.invariant-loop
-invariant-loop calendar count k₀ k = EveryRest special_taken (special_at calendar) count k
+abbrev invariant-loop-k : tie.invariant-loop-k
+invariant-loop-k calendar count k₀ k = EveryRest special_taken (special_at calendar) count k
 
-abbrev decreases-loop : tie.decreases-loop
-decreases-loop calendar count k₀ k = count - k
+abbrev decreases-loop-k : tie.decreases-loop-k
+decreases-loop-k calendar count k₀ k = count - k
 
 pub takes_special_spec : {M : Type 1} → statement M
 takes_special_spec =
     tie.close
-    (tie.spec invariant-loop decreases-loop (λ c. every_start _ _ _) (λ c. search rules) (λ c. search rules) (λ c. search rules) (λ c κs. search rules) (λ c. search taking)
+    (tie.spec invariant-loop-k decreases-loop-k (λ c. every_start _ _ _) (λ c. search rules) (λ c. search rules) (λ c. search rules) (λ c κs. search rules) (λ c. search taking)
     (λ c. search rules) (λ c. search rules) (λ c. search taking) (λ c. search (every_done, rules)))

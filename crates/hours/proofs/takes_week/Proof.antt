@@ -7,14 +7,14 @@ use Rattle.hours.proofs.Taking.{taking}
 use Rattle.hours.proofs.takes_week.Statement.{statement}
 use Rattle.hours.proofs.takes_week.Tie as tie
 
-abbrev invariant-loop : tie.invariant-loop
-invariant-loop calendar k₀ k = EveryRest hours_taken (weekday_at calendar) 7 k
+abbrev invariant-loop-k : tie.invariant-loop-k
+invariant-loop-k calendar k₀ k = EveryRest hours_taken (weekday_at calendar) 7 k
 
-abbrev decreases-loop : tie.decreases-loop
-decreases-loop calendar k₀ k = 7 - k
+abbrev decreases-loop-k : tie.decreases-loop-k
+decreases-loop-k calendar k₀ k = 7 - k
 
 pub takes_week_spec : {M : Type 1} → statement M
 takes_week_spec =
     tie.close
-    (tie.spec invariant-loop decreases-loop (λ c. every_start _ _ _) (λ c. search rules) (λ c κs. search rules) (λ c. search taking) (λ c. search rules) (λ c. search rules)
+    (tie.spec invariant-loop-k decreases-loop-k (λ c. every_start _ _ _) (λ c. search rules) (λ c κs. search rules) (λ c. search taking) (λ c. search rules) (λ c. search rules)
     (λ c. search taking) (λ c. search taking))

@@ -7,28 +7,28 @@ use Rattle.segment_test.proofs.test_tree.Statement.{statement}
 use Rattle.segment_test.proofs.test_tree.Tie as tie
 
 -- what the heads say
-test-runs-requires : tie.Need-test-runs-requires
-test-runs-requires c κs = (c.before.test-heads.ensures.yes (not-false _ c.if1.false)).node-room
+test-runs-requires : tie.Need-test_runs-requires
+test-runs-requires c κs = (c.before.test_heads.ensures.yes (not-false _ c.if-not-test_heads.false)).node-room
 
-test-nodes-requires : tie.Need-test-nodes-requires
+test-nodes-requires : tie.Need-test_nodes-requires
 test-nodes-requires c κs =
     let here = c.before.before in
-    let heads = here.before.test-heads.ensures.yes (not-false _ here.if1.false) in
+    let heads = here.before.test_heads.ensures.yes (not-false _ here.if-not-test_heads.false) in
     (heads.block_room, heads.node-room)
 
 -- the entry count is one number
-entry-widths-requires : tie.Need-entry-widths-requires
+entry-widths-requires : tie.Need-entry_widths-widths-requires
 entry-widths-requires c κs =
     let runs = c.before.before in
     let here = runs.before.before in (
-      (here.before.test-heads.ensures.yes (not-false _ here.if1.false)).node-room,
-      omega (arith, (runs.before.test-runs.ensures.yes (not-false _ runs.if2.false)).total, here.before.before.shared-slice-known3.given 0),
+      (here.before.test_heads.ensures.yes (not-false _ here.if-not-test_heads.false)).node-room,
+      omega (arith, (runs.before.test_runs.ensures.yes (not-false _ runs.if-not-test_runs.false)).total, here.before.before.shared_slice_known-3-1.given 0),
     )
 
-lives-requires : tie.Need-lives-requires
+lives-requires : tie.Need-lives-lives-requires
 lives-requires c κs =
     let here = c.before.before.before.before.before in
-    (here.before.test-heads.ensures.yes (not-false _ here.if1.false)).block_room
+    (here.before.test_heads.ensures.yes (not-false _ here.if-not-test_heads.false)).block_room
 
 pub test_tree_spec : {M : Type 1} → statement M
 test_tree_spec =

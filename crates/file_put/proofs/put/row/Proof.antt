@@ -11,8 +11,8 @@ returns c =
     let second = third.before.before.before.before in
     let first = second.before.before.before.before in
     let mark = first.before.before.before.before in
-    put_append mark.byte.ensures
-    (put_append first.number.ensures (put_append second.number2.ensures (put_append third.number3.ensures fourth.number4.ensures)))
+    put_append mark.byte-a_at.ensures
+    (put_append first.number-b_at.ensures (put_append second.number-c_at.ensures (put_append third.number-d_at.ensures fourth.number.ensures)))
 
 pub row_spec : {M : Type 1} → statement M
 row_spec =

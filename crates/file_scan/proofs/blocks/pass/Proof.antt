@@ -7,17 +7,17 @@ use Rattle.file_scan.proofs.BlockCounts.{Counts, pass_room, counting}
 use Rattle.file_scan.proofs.blocks.pass.Statement.{statement}
 use Rattle.file_scan.proofs.blocks.pass.Tie as tie
 
-abbrev invariant-loop : tie.invariant-loop
-invariant-loop file kind count at left₀ bytes₀ place₀ left bytes place = Counts kind file (blocks_from 0 (many (read_block kind) count file at)) left bytes place
+abbrev invariant-loop-left : tie.invariant-loop-left
+invariant-loop-left file kind count at left₀ bytes₀ place₀ left bytes place = Counts kind file (blocks_from 0 (many (read_block kind) count file at)) left bytes place
 
-abbrev decreases-loop : tie.decreases-loop
-decreases-loop file kind count at left₀ bytes₀ place₀ left bytes place = left
+abbrev decreases-loop-left : tie.decreases-loop-left
+decreases-loop-left file kind count at left₀ bytes₀ place₀ left bytes place = left
 
-add-bytes : tie.Need-overflow-add-bytes invariant-loop decreases-loop
+add-bytes : tie.Need-overflow-add-bytes invariant-loop-left decreases-loop-left
 add-bytes c =
     let turn = c.before.before.before in
-    omega (arith, pass_room turn.before.before.loop.invariant c.before.length.given.1 turn.block_at.ensures)
+    omega (arith, pass_room turn.before.before.loop-left.invariant c.before.length-1.given.1 turn.block_at.ensures)
 
 pub pass_spec : {M : Type 1} → statement M
 pass_spec =
-    tie.close (tie.spec invariant-loop decreases-loop (λ c. search counting) (λ c κs. search rules) (λ c. search rules) add-bytes (λ c. search rules) (λ c. search rules) (λ c. search counting) (λ c. search rules) (λ c. search counting) (λ c. search counting))
+    tie.close (tie.spec invariant-loop-left decreases-loop-left (λ c. search counting) (λ c κs. search rules) (λ c. search rules) add-bytes (λ c. search rules) (λ c. search rules) (λ c. search counting) (λ c. search rules) (λ c. search counting) (λ c. search counting))

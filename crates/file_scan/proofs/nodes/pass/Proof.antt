@@ -9,37 +9,37 @@ use Rattle.file_scan.proofs.NodeCounts.{Awaits, present_room, absent_room, await
 use Rattle.file_scan.proofs.nodes.pass.Statement.{statement}
 use Rattle.file_scan.proofs.nodes.pass.Tie as tie
 
-abbrev invariant-loop : tie.invariant-loop
-invariant-loop file at awaited₀ nodes₀ entries₀ place₀ awaited nodes entries place = Awaits file (nodes_from (read_root file at)) awaited nodes entries place
+abbrev invariant-loop-awaited : tie.invariant-loop-awaited
+invariant-loop-awaited file at awaited₀ nodes₀ entries₀ place₀ awaited nodes entries place = Awaits file (nodes_from (read_root file at)) awaited nodes entries place
 
-abbrev decreases-loop : tie.decreases-loop
-decreases-loop file at awaited₀ nodes₀ entries₀ place₀ awaited nodes entries place = length file - place
+abbrev decreases-loop-awaited : tie.decreases-loop-awaited
+decreases-loop-awaited file at awaited₀ nodes₀ entries₀ place₀ awaited nodes entries place = length file - place
 
-add-nodes : tie.Need-overflow-add-nodes invariant-loop decreases-loop
+add-nodes : tie.Need-overflow-add-nodes invariant-loop-awaited decreases-loop-awaited
 add-nodes c =
     let turn = c.before.before.before in
-    omega (arith, present_room turn.before.before.loop.invariant c.before.count.given.1 turn.Node-at.ensures)
+    omega (arith, present_room turn.before.before.loop-awaited.invariant c.before.count-1.given.1 turn.Node-at.ensures)
 
-add-entries : tie.Need-overflow-add-entries invariant-loop decreases-loop
+add-entries : tie.Need-overflow-add-entries invariant-loop-awaited decreases-loop-awaited
 add-entries c =
     let turn = c.before.before.before in
-    omega (arith, present_room turn.before.before.loop.invariant c.before.count.given.1 turn.Node-at.ensures)
+    omega (arith, present_room turn.before.before.loop-awaited.invariant c.before.count-1.given.1 turn.Node-at.ensures)
 
-add-awaited : tie.Need-overflow-add-awaited invariant-loop decreases-loop
+add-awaited : tie.Need-overflow-add-awaited invariant-loop-awaited decreases-loop-awaited
 add-awaited c =
     let turn = c.before.before.before in
-    omega (arith, present_room turn.before.before.loop.invariant c.before.count.given.1 turn.Node-at.ensures)
+    omega (arith, present_room turn.before.before.loop-awaited.invariant c.before.count-1.given.1 turn.Node-at.ensures)
 
-loop-less : tie.Need-loop-smaller invariant-loop decreases-loop
+loop-less : tie.Need-loop-awaited-smaller-in-Present invariant-loop-awaited decreases-loop-awaited
 loop-less c =
     let turn = c.before.before.before in
-    omega (arith, present_room turn.before.before.loop.invariant c.before.count.given.1 turn.Node-at.ensures)
+    omega (arith, present_room turn.before.before.loop-awaited.invariant c.before.count-1.given.1 turn.Node-at.ensures)
 
-loop-less-2 : tie.Need-loop-smaller-2 invariant-loop decreases-loop
+loop-less-2 : tie.Need-loop-awaited-smaller invariant-loop-awaited decreases-loop-awaited
 loop-less-2 c =
     let turn = c.before.before.before in
-    omega (arith, absent_room turn.before.before.loop.invariant c.before.next.given.1 turn.Node-at.ensures)
+    omega (arith, absent_room turn.before.before.loop-awaited.invariant c.before.next-1.given.1 turn.Node-at.ensures)
 
 pub pass_spec : {M : Type 1} → statement M
 pass_spec =
-    tie.close (tie.spec invariant-loop decreases-loop (λ c. search awaiting) (λ c κs. search rules) (λ c. search rules) add-nodes add-entries add-awaited loop-less (λ c. search awaiting) (λ c. search rules) (λ c. search rules) loop-less-2 (λ c. search awaiting) (λ c. search rules) (λ c. search awaiting) (λ c. search awaiting))
+    tie.close (tie.spec invariant-loop-awaited decreases-loop-awaited (λ c. search awaiting) (λ c κs. search rules) (λ c. search rules) add-nodes add-entries add-awaited loop-less (λ c. search awaiting) (λ c. search rules) (λ c. search rules) loop-less-2 (λ c. search awaiting) (λ c. search rules) (λ c. search awaiting) (λ c. search awaiting))

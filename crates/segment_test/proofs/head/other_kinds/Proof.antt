@@ -6,13 +6,13 @@ use Rattle.segment_test.proofs.Heading.{testing_kinds}
 use Rattle.segment_test.proofs.head.other_kinds.Statement.{statement}
 use Rattle.segment_test.proofs.head.other_kinds.Tie as tie
 
-abbrev invariant-loop : tie.invariant-loop
-invariant-loop nodes kind kinds k₀ k = (k ≤ kinds) × OtherKinds nodes kind k
+abbrev invariant-loop-k : tie.invariant-loop-k
+invariant-loop-k nodes kind kinds k₀ k = (k ≤ kinds) × OtherKinds nodes kind k
 
-abbrev decreases-loop : tie.decreases-loop
-decreases-loop nodes kind kinds k₀ k = kinds - k
+abbrev decreases-loop-k : tie.decreases-loop-k
+decreases-loop-k nodes kind kinds k₀ k = kinds - k
 
 pub other_kinds_spec : {M : Type 1} → statement M
 other_kinds_spec =
     tie.close
-    (tie.spec invariant-loop decreases-loop (λ c. (search rules, search testing_kinds)) (λ c κs. search rules) (λ c. search testing_kinds) (λ c. search rules) (λ c. search rules) (λ c. (search rules, search testing_kinds)) (λ c. search testing_kinds))
+    (tie.spec invariant-loop-k decreases-loop-k (λ c. (search rules, search testing_kinds)) (λ c κs. search rules) (λ c. search testing_kinds) (λ c. search rules) (λ c. search rules) (λ c. (search rules, search testing_kinds)) (λ c. search testing_kinds))

@@ -7,17 +7,17 @@ use Rattle.segment_test.proofs.Running.{testing_run, run_more}
 use Rattle.segment_test.proofs.run.test_run.Statement.{statement}
 use Rattle.segment_test.proofs.run.test_run.Tie as tie
 
-abbrev invariant-loop : tie.invariant-loop
-invariant-loop blocks entries n first many min max from to j₀ j = (j ≤ many) × RunRows blocks entries n first j min max from to
+abbrev invariant-loop-j : tie.invariant-loop-j
+invariant-loop-j blocks entries n first many min max from to j₀ j = (j ≤ many) × RunRows blocks entries n first j min max from to
 
-abbrev decreases-loop : tie.decreases-loop
-decreases-loop blocks entries n first many min max from to j₀ j = many - j
+abbrev decreases-loop-j : tie.decreases-loop-j
+decreases-loop-j blocks entries n first many min max from to j₀ j = many - j
 
 ruleset steps = (testing_run, not-true, not-false)
 
 pub test_run_spec : {M : Type 1} → statement M
 test_run_spec =
     tie.close
-    (tie.spec invariant-loop decreases-loop (λ c. (search rules, search steps)) (λ c. search rules) (λ c κs. search rules) (λ c. search steps) (λ c κs. search rules) (λ c. search steps)
+    (tie.spec invariant-loop-j decreases-loop-j (λ c. (search rules, search steps)) (λ c. search rules) (λ c κs. search rules) (λ c. search steps) (λ c κs. search rules) (λ c. search steps)
     (λ c. search rules) (λ c. search rules) (λ c. let turn = c.before.before in
-    (search rules, run_more turn.before.before.before.loop.invariant.1 turn.before.test-entry.ensures (not-false _ turn.if1.false) c.before.follows.ensures (not-false _ c.if2.false))) (λ c. search steps))
+    (search rules, run_more turn.before.before.before.loop-j.invariant.1 turn.before.test_entry.ensures (not-false _ turn.if-not-test_entry.false) c.before.follows.ensures (not-false _ c.if-not-follows.false))) (λ c. search steps))

@@ -8,18 +8,18 @@ use Rattle.segment_test.proofs.Totalling.{words_start, lives_more}
 use Rattle.segment_test.proofs.total.lives.Statement.{statement}
 use Rattle.segment_test.proofs.total.lives.Tie as tie
 
-abbrev invariant-loop : tie.invariant-loop
-invariant-loop blocks n sum₀ k₀ sum k = (k ≤ n) × (two_words sum.high sum.low ≡ sum_to (life_in blocks) k) × (sum.high ≤ k)
+abbrev invariant-loop-k : tie.invariant-loop-k
+invariant-loop-k blocks n sum₀ k₀ sum k = (k ≤ n) × (two_words sum.high sum.low ≡ sum_to (life_in blocks) k) × (sum.high ≤ k)
 
-abbrev decreases-loop : tie.decreases-loop
-decreases-loop blocks n sum₀ k₀ sum k = n - k
+abbrev decreases-loop-k : tie.decreases-loop-k
+decreases-loop-k blocks n sum₀ k₀ sum k = n - k
 
 pub lives_spec : {M : Type 1} → statement M
 lives_spec =
     tie.close
-    (tie.spec invariant-loop decreases-loop (λ c. (omega arith, words_start _, omega arith)) (λ c κs. search rules) (λ c κs. search rules) (λ c κs. search rules) (λ c κs. search rules)
+    (tie.spec invariant-loop-k decreases-loop-k (λ c. (omega arith, words_start _, omega arith)) (λ c κs. search rules) (λ c κs. search rules) (λ c κs. search rules) (λ c κs. search rules)
     (λ c. search rules) (λ c. search rules)
-    (λ c. let turn = c.before.before.before.before.before.loop in
-    (omega arith, lives_more c.before.before.before.before.before.before.before.args.blocks.now turn.k _ _ _ _ turn.invariant.1 c.before.before.before.block.ensures c.before.before.block2.ensures (omega (arith, c.plus_one.ensures.0, c.before.lasts.ensures)), omega arith))
-    (λ c. let e : c.before.loop.k ≡ c.before.before.before.args.n = omega arith in
-    rw e at c.before.loop.invariant.1))
+    (λ c. let turn = c.before.before.before.before.before.loop-k in
+    (omega arith, lives_more c.before.before.before.before.before.before.before.args.blocks.now turn.k _ _ _ _ turn.invariant.1 c.before.before.before.block-created.ensures c.before.before.block-destroyed.ensures (omega (arith, c.plus_one-sum.ensures.0, c.before.lasts.ensures)), omega arith))
+    (λ c. let e : c.before.loop-k.k ≡ c.before.before.before.args.n = omega arith in
+    rw e at c.before.loop-k.invariant.1))

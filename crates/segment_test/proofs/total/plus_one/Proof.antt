@@ -5,11 +5,11 @@ use Rattle.segment_test.specs.Total.{two_words}
 use Rattle.segment_test.proofs.total.plus_one.Statement.{statement}
 use Rattle.segment_test.proofs.total.plus_one.Tie as tie
 
-returns : tie.Need-returns
+returns : tie.Need-returns-then-x-room
 unfolding two_words
 returns c = (omega arith, omega arith)
 
-returns-2 : tie.Need-returns-2
+returns-2 : tie.Need-returns
 unfolding two_words
 returns-2 c = (omega arith, omega arith)
 

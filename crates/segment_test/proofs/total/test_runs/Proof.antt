@@ -6,18 +6,18 @@ use Rattle.segment_test.proofs.Totalling.{TiledTo, testing_runs, tiled_more}
 use Rattle.segment_test.proofs.total.test_runs.Statement.{statement}
 use Rattle.segment_test.proofs.total.test_runs.Tie as tie
 
-abbrev invariant-loop : tie.invariant-loop
-invariant-loop nodes entries used total begin₀ k₀ begin k = (k ≤ used) × TiledTo nodes total begin k
+abbrev invariant-loop-k : tie.invariant-loop-k
+invariant-loop-k nodes entries used total begin₀ k₀ begin k = (k ≤ used) × TiledTo nodes total begin k
 
-abbrev decreases-loop : tie.decreases-loop
-decreases-loop nodes entries used total begin₀ k₀ begin k = used - k
+abbrev decreases-loop-k : tie.decreases-loop-k
+decreases-loop-k nodes entries used total begin₀ k₀ begin k = used - k
 
 pub test_runs_spec : {M : Type 1} → statement M
 test_runs_spec =
     tie.close
-    (tie.spec invariant-loop decreases-loop (λ c κs. search rules) (λ c κs. search rules) (λ c. (search rules, search testing_runs)) (λ c. search rules) (λ c κs. search rules)
+    (tie.spec invariant-loop-k decreases-loop-k (λ c κs. search rules) (λ c κs. search rules) (λ c. (search rules, search testing_runs)) (λ c. search rules) (λ c κs. search rules)
     (λ c. search testing_runs) (λ c. search rules) (λ c κs. search rules) (λ c. search rules) (λ c. search testing_runs) (λ c. search rules) (λ c. search rules)
     (λ c. search rules)
     (λ c. let turn = c.before.before.before in
-    (search rules, tiled_more turn.before.before.loop.invariant.1 turn.node.ensures c.before.before.if1.false c.before.node2.ensures c.if2.false refl))
+    (search rules, tiled_more turn.before.before.loop-k.invariant.1 turn.node.ensures c.before.before.if-node-begin.false c.before.node-many.ensures c.if-total-begin.false refl))
     (λ c. search testing_runs))

@@ -9,14 +9,14 @@ use Rattle.segment_test.proofs.walk.test_node.Tie as tie
 ruleset steps = (testing_node, not-true, not-false)
 
 -- a row that stands is in use
-node-requires : tie.Need-node-requires
-node-requires c κs = omega (arith, (c.before.test-row.ensures.yes (not-false _ c.if1.false)).used)
+node-requires : tie.Need-node-first-requires
+node-requires c κs = omega (arith, (c.before.test_row.ensures.yes (not-false _ c.if-not-test_row.false)).used)
 
-node-requires-2 : tie.Need-node-requires-2
-node-requires-2 c κs = omega (arith, (c.before.before.test-row.ensures.yes (not-false _ c.before.if1.false)).used)
+node-requires-2 : tie.Need-node-many-requires
+node-requires-2 c κs = omega (arith, (c.before.before.test_row.ensures.yes (not-false _ c.before.if-not-test_row.false)).used)
 
-test-run-requires : tie.Need-test-run-requires
-test-run-requires c κs = (search rules, c.before.inside.ensures.yes (not-false _ c.if2.false))
+test-run-requires : tie.Need-test_run-requires
+test-run-requires c κs = (search rules, c.before.inside.ensures.yes (not-false _ c.if-not-inside.false))
 
 pub test_node_spec : {M : Type 1} → statement M
 test_node_spec =

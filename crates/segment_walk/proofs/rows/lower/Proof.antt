@@ -6,21 +6,21 @@ use Rattle.segment_walk.proofs.Parting.{Between, between_up, between_down, parti
 use Rattle.segment_walk.proofs.rows.lower.Statement.{statement}
 use Rattle.segment_walk.proofs.rows.lower.Tie as tie
 
-abbrev invariant-loop : tie.invariant-loop
-invariant-loop entries key lo₀ hi₀ lo hi = Between entries (record { from = lo₀; to = hi₀ }) key lo hi
+abbrev invariant-loop-lo : tie.invariant-loop-lo
+invariant-loop-lo entries key lo₀ hi₀ lo hi = Between entries (record { from = lo₀; to = hi₀ }) key lo hi
 
-abbrev decreases-loop : tie.decreases-loop
-decreases-loop entries key lo₀ hi₀ lo hi = hi - lo
+abbrev decreases-loop-lo : tie.decreases-loop-lo
+decreases-loop-lo entries key lo₀ hi₀ lo hi = hi - lo
 
-loop-again : tie.Need-loop-preserved invariant-loop decreases-loop
-loop-again c = between_up c.before.before.before.loop.invariant (search rules) (search rules) refl c.if2.true
+loop-again : tie.Need-loop-lo-preserved-then-entries-mid invariant-loop-lo decreases-loop-lo
+loop-again c = between_up c.before.before.before.loop-lo.invariant (search rules) (search rules) refl c.if-entries-mid.true
 
-loop-again-2 : tie.Need-loop-preserved-2 invariant-loop decreases-loop
-loop-again-2 c = between_down c.before.before.before.loop.invariant (search rules) (search rules) refl c.if2.false
+loop-again-2 : tie.Need-loop-lo-preserved invariant-loop-lo decreases-loop-lo
+loop-again-2 c = between_down c.before.before.before.loop-lo.invariant (search rules) (search rules) refl c.if-entries-mid.false
 
 pub lower_spec : {M : Type 1} → statement M
 lower_spec =
     tie.close
-    (tie.spec invariant-loop decreases-loop (λ c κs. search rules) (λ c. search parting) (λ c. search parting) (λ c. search rules) (λ c. search rules)
+    (tie.spec invariant-loop-lo decreases-loop-lo (λ c κs. search rules) (λ c. search parting) (λ c. search parting) (λ c. search rules) (λ c. search rules)
     (λ c. search rules) (λ c. search rules) (λ c. search rules) (λ c. search rules) (λ c. search rules) (λ c. search rules) (λ c. search rules) loop-again
     (λ c. search rules) loop-again-2 (λ c. search parting))

@@ -5,17 +5,17 @@ use Rattle.segment_walk.proofs.Parting.{Between, between_found, parting}
 use Rattle.segment_walk.proofs.rows.lower_near.Statement.{statement}
 use Rattle.segment_walk.proofs.rows.lower_near.Tie as tie
 
-abbrev invariant-loop : tie.invariant-loop
-invariant-loop entries key from to row₀ row = Between entries (record { from = from; to = to }) key row to
+abbrev invariant-loop-row : tie.invariant-loop-row
+invariant-loop-row entries key from to row₀ row = Between entries (record { from = from; to = to }) key row to
 
-abbrev decreases-loop : tie.decreases-loop
-decreases-loop entries key from to row₀ row = to - row
+abbrev decreases-loop-row : tie.decreases-loop-row
+decreases-loop-row entries key from to row₀ row = to - row
 
 pub lower_near_spec : {M : Type 1} → statement M
 lower_near_spec =
     tie.close
-    (tie.spec invariant-loop decreases-loop (λ c κs. search rules) (λ c. search parting) (λ c. search parting) (λ c. search rules) (λ c. search rules)
+    (tie.spec invariant-loop-row decreases-loop-row (λ c κs. search rules) (λ c. search parting) (λ c. search parting) (λ c. search rules) (λ c. search rules)
     (λ c. search rules) (λ c. search rules) (λ c. search rules) (λ c. search rules)
-    (λ c. between_found c.before.before.before.before.loop.invariant (search rules) c.if3.true) (λ c. search rules) (λ c. search rules)
+    (λ c. between_found c.before.before.before.before.loop-row.invariant (search rules) c.if-key-entries.true) (λ c. search rules) (λ c. search rules)
     (λ c. search parting)
     (λ c κs. search rules) (λ c. search parting))
