@@ -118,7 +118,7 @@ pub fn set_first(blocks: &mut [u64], value: u64)
 // ── rows ──
 
 // What is read of a row at once.
-#[derive(Drop)]
+#[derive(Clone, Copy)]
 pub struct Row {
     pub first: u64,
     pub length: u64,

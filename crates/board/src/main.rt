@@ -2,12 +2,19 @@
 
 #![tactic(auto)]
 
-use libc::{STDIN_FILENO, STDOUT_FILENO};
+use std::io::{self, Print};
 
-fn main() {
-    let mut input = io::large_buffer();
+// As much of the input is read as `board_run` plays.
+fn buffer() -> [u8; board_run::INPUT]
+    ensures { 65536 ≡ length result }
+{
+    [0; board_run::INPUT]
+}
+
+fn main(rt: HostRuntime) -> io::Result<()> {
+    let mut input = buffer();
     let mut out = board_run::buffer();
-    let given = io::read_full(STDIN_FILENO, &mut input);
+    let given = read_full::read_full(&mut rt.reader(), &mut input)?;
     let printed = board_run::run(&input[..given], &mut out);
-    io::write_all(STDOUT_FILENO, &out[..printed]);
+    rt.stdout().write_all(&out[..printed])
 }

@@ -28,14 +28,14 @@ const FRONT: usize = MARK + NUMBER + NUMBER + LENGTH;
 pub const RECORDS: usize = NUMBER + KIND;
 
 // What the index is opened with.
-#[derive(Drop)]
+#[derive(Clone, Copy)]
 pub enum Start {
     Short,
     Open { end: u64, kind: u8 },
 }
 
 // What stands at a position: the input's end, a wrong mark or a cut record, or a record whose bytes are the `length` bytes from `start` on.
-#[derive(Drop)]
+#[derive(Clone, Copy)]
 pub enum Item {
     End,
     Bad,
@@ -49,7 +49,7 @@ pub enum Item {
 }
 
 // The first wrong mark or cut record, or none.
-#[derive(Drop)]
+#[derive(Clone, Copy)]
 pub enum Check {
     Good,
     Bad(u64),

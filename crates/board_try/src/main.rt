@@ -6,7 +6,7 @@
 
 ghost use Rattle.std.specs.Prelude.{◌≡◌, ◌<◌, ◌^◌, length};
 
-use libc::{STDIN_FILENO, STDOUT_FILENO};
+use std::io::{self, Print, Stdout};
 
 // As much data is read.
 const DATA: usize = 1000000;
@@ -50,28 +50,28 @@ fn behind(data: &[u8], at: usize) -> usize {
 // Whether the board of an input is printed as it must be.
 fn prints(input: &[u8], wanted: &[u8], out: &mut [u8]) -> bool {
     let printed = board_run::run(input, out);
-    check::same(&out[..printed], wanted)
+    &out[..printed] == wanted
 }
 
 // Prints the number of a board that differs.
-fn say(tally: &[u64]) {
+fn say(stdout: &Stdout, tally: &[u64]) {
     let mut line = [0; tally::LINE];
-    io::write_all(STDOUT_FILENO, b"differs: ");
-    tally::print_count(&mut line, tally, tally::COMPARED, b"\n");
+    let _is_written = stdout.write_all(b"differs: ").is_ok();
+    tally::print_count(stdout, &mut line, tally, tally::COMPARED, b"\n");
 }
 
 // Plays the board at a position.
-fn play_one(tally: &mut [u64], data: &[u8], at: usize, out: &mut [u8]) {
+fn play_one(stdout: &Stdout, tally: &mut [u64], data: &[u8], at: usize, out: &mut [u8]) {
     let input = text_at(data, at);
     let wanted = text_at(data, behind(data, at));
     let alike = prints(input, wanted, out);
     if !alike {
-        say(tally);
+        say(stdout, tally);
     }
     tally::compare(tally, alike);
 }
 
-fn play_all(tally: &mut [u64], data: &[u8], out: &mut [u8]) {
+fn play_all(stdout: &Stdout, tally: &mut [u64], data: &[u8], out: &mut [u8]) {
     let count = number_at(data, 0);
     let mut at = NUMBER;
     let mut boards: usize = 0;
@@ -79,7 +79,7 @@ fn play_all(tally: &mut [u64], data: &[u8], out: &mut [u8]) {
         if count <= boards {
             return;
         }
-        play_one(tally, data, at, out);
+        play_one(stdout, tally, data, at, out);
         at = behind(data, behind(data, at));
         boards += 1;
     }
@@ -91,13 +91,21 @@ fn buffer() -> [u8; DATA]
     [0; DATA]
 }
 
-fn main() {
+fn main(rt: HostRuntime) -> io::Result<()> {
+    let stdout = rt.stdout();
     let mut tally = [0; 8];
     let mut line = [0; tally::LINE];
     let mut data = buffer();
     let mut out = board_run::buffer();
-    let given = io::read_full(STDIN_FILENO, &mut data);
-    play_all(&mut tally, &data[..given], &mut out);
-    tally::print_count(&mut line, &tally, tally::COMPARED, b" boards compared, ");
-    tally::print_count(&mut line, &tally, tally::DIFFER, b" differ\n");
+    let given = read_full::read_full(&mut rt.reader(), &mut data)?;
+    play_all(&stdout, &mut tally, &data[..given], &mut out);
+    tally::print_count(
+        &stdout,
+        &mut line,
+        &tally,
+        tally::COMPARED,
+        b" boards compared, ",
+    );
+    tally::print_count(&stdout, &mut line, &tally, tally::DIFFER, b" differ\n");
+    Ok(())
 }

@@ -12,7 +12,7 @@ ghost use Rattle.call_lists.specs.Operations.{ItemRead};
 use fields::Field;
 
 // An operation of the list, its bytes from `start` up to `next`; or that the list ends before or inside one.
-#[derive(Drop)]
+#[derive(Clone, Copy)]
 pub enum Item {
     Operation {
         tick: u64,

@@ -12,7 +12,7 @@ ghost use Rattle.cells_read.specs.Answers.{read_of, ReadClosed};
 mod show;
 
 // The answer of read cells: both slices are filled, or nothing has changed.
-#[derive(Drop)]
+#[derive(Clone, Copy)]
 pub enum Read {
     Filled,
     Refused(u64),

@@ -12,7 +12,7 @@ ghost use Rattle.clock.specs.Answers.{told_of, ClockTold};
 use index_test::State;
 
 // The answer of clock: hours times 100 plus minutes.
-#[derive(Drop)]
+#[derive(Clone, Copy)]
 pub enum Told {
     Label(u64),
     Refused(u64),

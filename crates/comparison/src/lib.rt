@@ -11,7 +11,7 @@ ghost use Rattle.comparison.specs.Comparison.{Matching, Compared};
 use tables::piece;
 
 // The first cell that differs, or that none does.
-#[derive(Drop)]
+#[derive(Clone, Copy)]
 pub enum Difference {
     Cell(u64),
     Nothing,

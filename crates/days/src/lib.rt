@@ -89,7 +89,7 @@ pub fn takes(list: &[u64]) -> bool
 }
 
 // A minute as a minute of a day, and how many that day has.
-#[derive(Drop)]
+#[derive(Clone, Copy)]
 pub struct Place {
     pub day: u64,
     pub minute: u64,
@@ -192,7 +192,7 @@ fn turn(length: u64, minute: u64) -> u64
 
 // What lies ahead of a minute: its day, the minute of 24 hours that the clock shows, and how many minutes from it on stay in that day and show one more
 // each.
-#[derive(Drop)]
+#[derive(Clone, Copy)]
 pub struct Ahead {
     pub day: u64,
     pub label: u64,

@@ -27,7 +27,7 @@ const HALF: usize = 4;
 const UPPER: u64 = 1 << 32;
 
 // A field's value with the position behind it, or that the bytes end inside it.
-#[derive(Drop)]
+#[derive(Clone, Copy)]
 pub enum Field {
     Got(u64, usize),
     End,

@@ -7,7 +7,7 @@ ghost use Rattle.fields.specs.Fields.{read_of};
 use crate::{Field, byte_at, number_at};
 
 // The file's bytes and a position.
-#[derive(Drop)]
+#[derive(Clone, Copy)]
 pub struct Reader<'a> {
     pub file: &'a [u8],
     pub at: usize,

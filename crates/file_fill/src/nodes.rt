@@ -15,7 +15,7 @@ use file_scan::rows::NodeRow;
 use tables::{block, entry};
 
 // What stands at a position where the node of an interval is awaited: that node, no node, or anything else.
-#[derive(Drop)]
+#[derive(Clone, Copy)]
 pub enum Half {
     Present {
         count: u64,
@@ -29,7 +29,7 @@ pub enum Half {
 }
 
 // A tree that was filled: the link of its root, or 0 for none; how many node and entry rows are in use, and the position behind it.
-#[derive(Drop)]
+#[derive(Clone, Copy)]
 pub enum Filled {
     Tree(u64, u64, u64, usize),
     Wrong,

@@ -32,7 +32,7 @@ mod judge;
 mod room;
 
 // The next position, or the refusal's number in document 01.
-#[derive(Drop)]
+#[derive(Clone, Copy)]
 pub enum Loaded {
     Next(usize),
     Refused(u64),

@@ -7,7 +7,7 @@ use crate::rows;
 use crate::rows::BlockRow;
 
 // How many bytes the blocks hold, with the position behind them; or the first fault's number.
-#[derive(Drop)]
+#[derive(Clone, Copy)]
 pub enum Blocks {
     Passed { bytes: u64, next: usize },
     Fault { number: u64 },

@@ -25,7 +25,7 @@ use nodes::Nodes;
 const KINDS: u64 = 4;
 
 // What the tables must hold, and where the nodes begin; or the first fault's number.
-#[derive(Drop)]
+#[derive(Clone, Copy)]
 pub enum Scanned {
     Counts {
         kind: u64,

@@ -7,7 +7,7 @@ use crate::rows;
 use crate::rows::NodeRow;
 
 // How many nodes and entries there are, with the position behind them; or the first fault's number.
-#[derive(Drop)]
+#[derive(Clone, Copy)]
 pub enum Nodes {
     Passed {
         nodes: u64,

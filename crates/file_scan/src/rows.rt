@@ -21,14 +21,14 @@ const PRESENT: u64 = 1;
 const ENTRY: u64 = 8;
 
 // Four numbers, one after the other, with the position behind them.
-#[derive(Drop)]
+#[derive(Clone, Copy)]
 enum Four {
     Got(u64, u64, u64, u64, usize),
     End,
 }
 
 // A block, with the place of its bytes.
-#[derive(Drop)]
+#[derive(Clone, Copy)]
 pub enum BlockRow {
     Block {
         first: u64,
@@ -44,7 +44,7 @@ pub enum BlockRow {
 }
 
 // A node, with the place of its entries and how many there are, or an absent child.
-#[derive(Drop)]
+#[derive(Clone, Copy)]
 pub enum NodeRow {
     Present {
         min: u64,

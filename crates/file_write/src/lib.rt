@@ -19,7 +19,7 @@ use plan::Plan;
 use tables::block;
 
 // How many bytes the file has; or a refusal, and nothing has changed.
-#[derive(Drop)]
+#[derive(Clone, Copy)]
 pub enum Written {
     Bytes(u64),
     Refused(u64),

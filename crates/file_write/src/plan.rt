@@ -13,14 +13,14 @@ const NODE: u64 = 34;
 const ENTRY: u64 = 8;
 
 // The blocks' share of the file: how many are written, and the place behind them.
-#[derive(Drop)]
+#[derive(Clone, Copy)]
 enum Share {
     Fits { living: u64, next: usize },
     TooLong,
 }
 
 // The parts of a file that goes into the room.
-#[derive(Drop)]
+#[derive(Clone, Copy)]
 pub enum Plan {
     Fits {
         living: u64,

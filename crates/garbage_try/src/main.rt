@@ -277,9 +277,15 @@ fn try_garbage(tally: &mut [u64]) {
     }
 }
 
-fn main() {
+fn main(rt: HostRuntime) {
     let mut tally = [0; 8];
     let mut line = [0; tally::LINE];
     try_garbage(&mut tally);
-    tally::print(&mut line, &tally, tally::REFUSED, b" calls refused");
+    tally::print(
+        &rt.stdout(),
+        &mut line,
+        &tally,
+        tally::REFUSED,
+        b" calls refused",
+    );
 }

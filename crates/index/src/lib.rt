@@ -23,11 +23,11 @@ use index_test::State;
 use tables::block;
 
 // The type that the calls on an index belong to. It holds nothing: the state stands in the lent tables.
-#[derive(Drop)]
+#[derive(Clone, Copy)]
 pub struct Index {}
 
 // The answer of opening.
-#[derive(Drop)]
+#[derive(Clone, Copy)]
 pub enum Opened {
     Opened,
     Refused(u64),

@@ -28,7 +28,7 @@ mod rule;
 mod trial;
 
 // The answer of finish.
-#[derive(Drop)]
+#[derive(Clone, Copy)]
 pub enum Finished {
     Finished,
     Refused(u64),

@@ -13,14 +13,14 @@ ghost use Rattle.index_read.specs.Reads.{BlockClosed, FindClosed};
 use tables::block;
 
 // The answer of find: how many block numbers it lists, and how many nodes it visited.
-#[derive(Drop)]
+#[derive(Clone, Copy)]
 pub enum Found {
     Listed { count: u64, visited: u64 },
     Refused(u64),
 }
 
 // The answer of block by number: the block's fields; its bytes are the store's part of that length at the offset.
-#[derive(Drop)]
+#[derive(Clone, Copy)]
 pub enum Given {
     Block {
         kind: u64,

@@ -20,7 +20,7 @@ use tables::{block, piece};
 
 // What becomes of an operation: the number of its refusal, or what it is; of an update the lowest cell that it changes, and a guess for the link of the
 // lowest piece that it meets.
-#[derive(Drop)]
+#[derive(Clone, Copy)]
 pub enum Verdict {
     Refused(u64),
     Read,
@@ -28,7 +28,7 @@ pub enum Verdict {
 }
 
 // The answer of record: a read, or an update with the lowest cell that was unknown or had another byte.
-#[derive(Drop)]
+#[derive(Clone, Copy)]
 pub enum Recorded {
     Read,
     Update(u64),

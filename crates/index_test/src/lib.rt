@@ -26,7 +26,7 @@ mod board;
 use tables::{block, piece};
 
 // What tables are found to be.
-#[derive(Drop)]
+#[derive(Clone, Copy)]
 pub enum State {
     Bad,
     Open,

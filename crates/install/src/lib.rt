@@ -14,7 +14,7 @@ ghost use Rattle.install.specs.Answers.{installed_of, InstalledOpen, DaysInstall
 use index_test::State;
 
 // The answer of install.
-#[derive(Drop)]
+#[derive(Clone, Copy)]
 pub enum Installed {
     Done,
     Refused(u64),

@@ -22,13 +22,19 @@ const DEEPEST: u64 = 92;
 // The step of the shuffled order, which is odd.
 const STEP: u64 = 1597;
 
-fn main() {
+fn main(rt: HostRuntime) {
     let mut tally = [0; 8];
     let mut table = [0; NUMBERS];
     let mut line = [0; tally::LINE];
     try_orders(&mut tally, &mut table);
     try_spoiled(&mut tally, &mut table);
-    tally::print(&mut line, &tally, tally::REFUSED, b" tables refused");
+    tally::print(
+        &rt.stdout(),
+        &mut line,
+        &tally,
+        tally::REFUSED,
+        b" tables refused",
+    );
 }
 
 // The depths are those that a balanced tree gets by rotations: 4,096 pieces need 13, and 2,048 need 12.

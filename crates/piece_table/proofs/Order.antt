@@ -50,6 +50,7 @@ follow_without low (q ∷ qs) p rs f = (f.0, f.1, follow_without (row_end q) qs 
 
 -- each of them starts at low or past it
 pub follow_above : (at : ℕ → PieceRow) (low : ℕ) (xs : List ℕ) (k : ℕ) → Follow low (map at xs) → Mem k xs → low ≤ (at k).first
+follow_above at low [] k s x'' = elim x'' [ ]
 follow_above at low (x ∷ xs) k s (here e) = rw e s.0
 follow_above at low (x ∷ xs) k s (there m) = omega (arith, follow_above at (row_end (at x)) xs k s.2 m, s.0, s.1.some)
 
@@ -98,6 +99,7 @@ placed-between (q ∷ qs) p rs h (all_cons b l) r = rw (le-ltb p.first q.first (
 
 -- and ends past it
 follow_past : (at : ℕ → PieceRow) (low : ℕ) (xs : List ℕ) (k : ℕ) → Follow low (map at xs) → Mem k xs → low < row_end (at k)
+follow_past at low [] k s x'' = elim x'' [ ]
 follow_past at low (x ∷ xs) k s (here e) = rw e (omega (arith, s.0, s.1.some))
 follow_past at low (x ∷ xs) k s (there m) = omega (arith, follow_past at (row_end (at x)) xs k s.2 m, s.0, s.1.some)
 

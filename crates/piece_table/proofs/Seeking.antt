@@ -232,6 +232,7 @@ record Behind (t : List ℕ) (x : ℕ) (T : Tree) : Type 0 where
 
 behind : (t : List ℕ) (x k : ℕ) (T : Tree) → Shape t k T → Mem x (rows T) → Behind t x T
 unfolding Shape rows height
+behind t x k leaf s m = elim m [ ]
 behind t x k (node A y B) s m = go (behind t x (column t y piece_left) A s.left) (behind t x (column t y piece_right) B s.right) (mem_split (rows A) (y ∷ rows B) m)
   where
     go : (Mem x (rows A) → Behind t x A) → (Mem x (rows B) → Behind t x B) → Mem x (rows A) ⊎ Mem x (y ∷ rows B) → Behind t x (node A y B)

@@ -72,7 +72,7 @@ pub fn ends_after(table: &[u64], link: u64, place: u64) -> bool
 
 // What a search finds: the link of the lowest piece that ends after a place, 0 if there is none. `after` is a guess for `seek_next`: the next piece's, where
 // the found one has none right below it; any number.
-#[derive(Drop)]
+#[derive(Clone, Copy)]
 pub struct Found {
     pub link: u64,
     pub after: u64,
@@ -288,7 +288,7 @@ pub fn trim_front(table: &mut [u64], link: u64, first: u64)
 }
 
 // What the pieces of a table may be: how many, their kind, the bytes in use, the last accepted tick.
-#[derive(Drop)]
+#[derive(Clone, Copy)]
 pub struct Limits {
     pub count: u64,
     pub kind: u64,
@@ -297,7 +297,7 @@ pub struct Limits {
 }
 
 // What a walk through a tree finds: something wrong, or how many pieces it has seen now, and where the last one ends.
-#[derive(Drop)]
+#[derive(Clone, Copy)]
 pub enum Walk {
     Bad,
     Fine(u64, u64),

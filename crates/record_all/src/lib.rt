@@ -18,7 +18,7 @@ use index::Recorded;
 use index_test::State;
 
 // How many operations were played, and the position behind them.
-#[derive(Drop)]
+#[derive(Clone, Copy)]
 pub struct Played {
     pub count: usize,
     pub next: usize,

@@ -1,6 +1,6 @@
 // What is counted and what is lent, in the columns of one slice.
 use crate::rows;
-use libc::STDOUT_FILENO;
+use std::io::{Print, Stdout};
 
 // Cases of the oracle's list, and of our own; all.
 const ORACLE: usize = tally::OWN;
@@ -31,37 +31,37 @@ pub fn count_case(counts: &mut [u64; rows::COLUMNS], code: u64) {
     tables::put(counts, 0, CALL, 0);
 }
 
-fn say(counts: &[u64; rows::COLUMNS]) {
+fn say(stdout: &Stdout, counts: &[u64; rows::COLUMNS]) {
     if SHOWN < tally::get(counts, tally::DIFFER) {
         return;
     }
     let mut line = [0; tally::LINE];
-    io::write_all(STDOUT_FILENO, b"case ");
-    tally::print_count(&mut line, counts, CASES, b", call ");
-    tally::print_count(&mut line, counts, CALL, b" differs\n");
+    let _is_written = stdout.write_all(b"case ").is_ok();
+    tally::print_count(stdout, &mut line, counts, CASES, b", call ");
+    tally::print_count(stdout, &mut line, counts, CALL, b" differs\n");
 }
 
-fn count_call(counts: &mut [u64; rows::COLUMNS], alike: bool) {
+fn count_call(stdout: &Stdout, counts: &mut [u64; rows::COLUMNS], alike: bool) {
     tally::compare(counts, alike);
     if !alike {
-        say(counts);
+        say(stdout, counts);
     }
 }
 
-fn count_file(counts: &mut [u64; rows::COLUMNS], alike: bool) {
-    count_call(counts, alike);
+fn count_file(stdout: &Stdout, counts: &mut [u64; rows::COLUMNS], alike: bool) {
+    count_call(stdout, counts, alike);
     tally::count(counts, FILES);
     tally::count_if(counts, FILES_DIFFER, !alike);
 }
 
 // An answer came, as it must or not.
-pub fn count_answer(counts: &mut [u64; rows::COLUMNS], code: u64, alike: bool) {
+pub fn count_answer(stdout: &Stdout, counts: &mut [u64; rows::COLUMNS], code: u64, alike: bool) {
     if code == rows::LOAD {
-        count_file(counts, alike);
+        count_file(stdout, counts, alike);
     } else if code == rows::DAMAGED {
-        count_file(counts, alike);
+        count_file(stdout, counts, alike);
     } else {
-        count_call(counts, alike);
+        count_call(stdout, counts, alike);
     }
 }
 
@@ -87,12 +87,24 @@ pub fn count_row(counts: &mut [u64; rows::COLUMNS], row: &[u64; rows::COLUMNS], 
     }
 }
 
-pub fn print(counts: &[u64; rows::COLUMNS]) {
+pub fn print(stdout: &Stdout, counts: &[u64; rows::COLUMNS]) {
     let mut line = [0; tally::LINE];
-    tally::print_count(&mut line, counts, ORACLE, b" cases of the oracle's list, ");
-    tally::print_count(&mut line, counts, OWN, b" more: ");
-    tally::print_count(&mut line, counts, tally::COMPARED, b" answers compared, ");
-    tally::print_count(&mut line, counts, tally::DIFFER, b" differ\n");
-    tally::print_count(&mut line, counts, FILES, b" files compared, ");
-    tally::print_count(&mut line, counts, FILES_DIFFER, b" differ\n");
+    tally::print_count(
+        stdout,
+        &mut line,
+        counts,
+        ORACLE,
+        b" cases of the oracle's list, ",
+    );
+    tally::print_count(stdout, &mut line, counts, OWN, b" more: ");
+    tally::print_count(
+        stdout,
+        &mut line,
+        counts,
+        tally::COMPARED,
+        b" answers compared, ",
+    );
+    tally::print_count(stdout, &mut line, counts, tally::DIFFER, b" differ\n");
+    tally::print_count(stdout, &mut line, counts, FILES, b" files compared, ");
+    tally::print_count(stdout, &mut line, counts, FILES_DIFFER, b" differ\n");
 }

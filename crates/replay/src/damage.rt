@@ -2,6 +2,7 @@
 use crate::{alike, counts, input, kept, rows};
 use file_load::Loaded;
 use file_write::Written;
+use std::io::Stdout;
 
 const AT: usize = 2;
 
@@ -130,6 +131,7 @@ fn load_damaged(
 
 // Loads the file damaged at each place of the run.
 pub fn play(
+    stdout: &Stdout,
     counts: &mut [u64; rows::COLUMNS],
     pieces: &mut [u64],
     blocks: &mut [u64],
@@ -147,6 +149,7 @@ pub fn play(
     while place < end {
         let number = load_damaged(pieces, blocks, store, nodes, entries, &mut file, row, place);
         counts::count_answer(
+            stdout,
             counts,
             rows::DAMAGED,
             number == rows::get(row, rows::REFUSAL),

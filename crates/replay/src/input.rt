@@ -12,7 +12,7 @@ const BASE: u64 = 256;
 const UPPER: u64 = 1 << 56;
 
 // A number, and the place behind it.
-#[derive(Drop)]
+#[derive(Clone, Copy)]
 pub struct Number {
     pub value: u64,
     pub next: usize,

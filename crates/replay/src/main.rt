@@ -11,7 +11,7 @@
 
 #![tactic(auto)]
 
-use libc::STDIN_FILENO;
+use std::io::{self, Read, Stdout};
 use tables::{ROW, block, entry, node, piece};
 
 mod alike;
@@ -43,7 +43,11 @@ pub const NODES: usize = node::HEAD + 4096 * ROW + 7;
 pub const ENTRIES: usize = entry::HEAD + 8195 * entry::WIDTH + 1;
 
 // Reads part after part, and plays it.
-fn replay(counts: &mut [u64; rows::COLUMNS]) {
+fn replay<R: Read>(
+    input: &mut R,
+    stdout: &Stdout,
+    counts: &mut [u64; rows::COLUMNS],
+) -> io::Result<()> {
     let mut pieces = [0; PIECES];
     let mut blocks = [0; BLOCKS];
     let mut store = [0; STORE];
@@ -52,11 +56,12 @@ fn replay(counts: &mut [u64; rows::COLUMNS]) {
     let mut part = [0; PART];
     let mut left = PARTS;
     while 0 < left {
-        let got = io::read_full(STDIN_FILENO, &mut part);
+        let got = read_full::read_full(input, &mut part)?;
         if got == 0 {
-            return;
+            return Ok(());
         }
         play::play(
+            stdout,
             counts,
             &mut pieces,
             &mut blocks,
@@ -67,10 +72,13 @@ fn replay(counts: &mut [u64; rows::COLUMNS]) {
         );
         left -= 1;
     }
+    Ok(())
 }
 
-fn main() {
+fn main(rt: HostRuntime) -> io::Result<()> {
+    let stdout = rt.stdout();
     let mut counts = [0; rows::COLUMNS];
-    replay(&mut counts);
-    counts::print(&counts);
+    replay(&mut rt.reader(), &stdout, &mut counts)?;
+    counts::print(&stdout, &counts);
+    Ok(())
 }

@@ -1,5 +1,6 @@
 // Plays a part of the stored list, row after row, in lent tables.
 use crate::{counts, damage, input, installs, kept, near, read, rows, update};
+use std::io::Stdout;
 
 // As many rows as a part can have.
 const ROWS: u64 = 65536;
@@ -32,6 +33,7 @@ fn read(
 
 // Reads, and counts what came. A row that only lends is no call.
 fn play_read(
+    stdout: &Stdout,
     counts: &mut [u64; rows::COLUMNS],
     pieces: &[u64],
     blocks: &[u64],
@@ -48,7 +50,7 @@ fn play_read(
     let mut told = [0; rows::COLUMNS];
     rows::start(&mut told, row);
     read(pieces, blocks, store, nodes, entries, row, pool, &mut told);
-    counts::count_answer(counts, code, rows::is_same(&told, row));
+    counts::count_answer(stdout, counts, code, rows::is_same(&told, row));
 }
 
 fn update(
@@ -80,6 +82,7 @@ fn update(
 
 // Updates, and counts what came. After a refused call the tables must be left as they were, or as zeros.
 fn play_update(
+    stdout: &Stdout,
     counts: &mut [u64; rows::COLUMNS],
     pieces: &mut [u64],
     blocks: &mut [u64],
@@ -100,6 +103,7 @@ fn play_update(
     let left = kept::is_left(pieces, blocks, store, nodes, entries, before, refusal);
     rows::must(&mut told, left);
     counts::count_answer(
+        stdout,
         counts,
         rows::get(row, rows::CODE),
         rows::is_same(&told, row),
@@ -119,6 +123,7 @@ fn changes(code: u64) -> bool {
 
 // A row that is no case: a call, a damaged file, or another scratch.
 fn play_lent(
+    stdout: &Stdout,
     counts: &mut [u64; rows::COLUMNS],
     pieces: &mut [u64],
     blocks: &mut [u64],
@@ -130,16 +135,23 @@ fn play_lent(
 ) {
     let code = rows::get(row, rows::CODE);
     if code == rows::DAMAGED {
-        damage::play(counts, pieces, blocks, store, nodes, entries, row, pool);
+        damage::play(
+            stdout, counts, pieces, blocks, store, nodes, entries, row, pool,
+        );
     } else if changes(code) {
-        play_update(counts, pieces, blocks, store, nodes, entries, row, pool);
+        play_update(
+            stdout, counts, pieces, blocks, store, nodes, entries, row, pool,
+        );
     } else {
-        play_read(counts, pieces, blocks, store, nodes, entries, row, pool);
+        play_read(
+            stdout, counts, pieces, blocks, store, nodes, entries, row, pool,
+        );
     }
 }
 
 // The row with the parts of the tables that are lent.
 fn lend(
+    stdout: &Stdout,
     counts: &mut [u64; rows::COLUMNS],
     pieces: &mut [u64],
     blocks: &mut [u64],
@@ -155,6 +167,7 @@ fn lend(
     let of_nodes = rows::at_most(tally::get(counts, rows::NODES), nodes.len());
     let of_entries = rows::at_most(tally::get(counts, rows::ENTRIES), entries.len());
     play_lent(
+        stdout,
         counts,
         &mut pieces[0..of_pieces],
         &mut blocks[0..of_blocks],
@@ -168,6 +181,7 @@ fn lend(
 
 // Plays a row: the start of a case, with garbage in the tables, or a call.
 fn play_row(
+    stdout: &Stdout,
     counts: &mut [u64; rows::COLUMNS],
     pieces: &mut [u64; crate::PIECES],
     blocks: &mut [u64; crate::BLOCKS],
@@ -183,12 +197,15 @@ fn play_row(
         counts::count_case(counts, code);
     } else {
         counts::count_row(counts, row, code);
-        lend(counts, pieces, blocks, store, nodes, entries, row, pool);
+        lend(
+            stdout, counts, pieces, blocks, store, nodes, entries, row, pool,
+        );
     }
 }
 
 // Plays a part: how many bytes its pool has, the pool, the rows.
 pub fn play(
+    stdout: &Stdout,
     counts: &mut [u64; rows::COLUMNS],
     pieces: &mut [u64; crate::PIECES],
     blocks: &mut [u64; crate::BLOCKS],
@@ -209,7 +226,9 @@ pub fn play(
         if rows::get(&row, rows::CODE) == rows::END {
             return;
         }
-        play_row(counts, pieces, blocks, store, nodes, entries, &row, pool);
+        play_row(
+            stdout, counts, pieces, blocks, store, nodes, entries, &row, pool,
+        );
         left -= 1;
     }
 }

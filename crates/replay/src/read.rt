@@ -94,7 +94,7 @@ pub fn block(
     let bytes = index::block_bytes(pieces, blocks, store, nodes, entries, number);
     let start = rows::get(row, BLOCK_START);
     let right = tables::part(pool, start, rows::get(row, BLOCK_LENGTH));
-    rows::must(told, check::same(bytes, right));
+    rows::must(told, bytes == right);
 }
 
 fn tell_found(told: &mut [u64; rows::COLUMNS], found: Found) {

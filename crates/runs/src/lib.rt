@@ -15,7 +15,7 @@ use segment_near::Neighbour;
 use tables::block;
 
 // From the place asked for on, the cells below `until` are free; those from there to below `past` have the store's bytes from place `from` on.
-#[derive(Drop)]
+#[derive(Clone, Copy)]
 pub struct Run {
     pub until: u64,
     pub past: u64,

@@ -22,7 +22,7 @@ use segment_walk::{rows, walk};
 use tables::{block, entry};
 
 // A block that others are held against: its number, first cell and end.
-#[derive(Drop)]
+#[derive(Clone, Copy)]
 pub struct Own {
     pub number: u64,
     pub first: u64,

@@ -20,14 +20,14 @@ use segment_walk::walk::Node;
 use segment_walk::{rows, walk};
 
 // How many blocks are listed, and how many nodes were visited; or that the lent answer does not hold them.
-#[derive(Drop)]
+#[derive(Clone, Copy)]
 pub enum Found {
     Listed { count: usize, visited: usize },
     TooSmall,
 }
 
 // How many nodes have rows to list; or that the answer does not hold them.
-#[derive(Drop)]
+#[derive(Clone, Copy)]
 enum Noted {
     Runs { count: usize },
     TooSmall,

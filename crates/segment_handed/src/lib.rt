@@ -27,7 +27,7 @@ use slots::Slots;
 use tables::entry;
 
 // Whether all blocks were held, and the slots for the min of a node.
-#[derive(Drop)]
+#[derive(Clone, Copy)]
 pub struct Seen {
     pub all: bool,
     pub slots: Slots,

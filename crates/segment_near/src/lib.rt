@@ -16,14 +16,14 @@ use segment_walk::walk::Node;
 use segment_walk::{rows, walk};
 
 // Where a neighbour of a place is looked for: among the blocks that start at it or after it, or among those that start before it.
-#[derive(Drop)]
+#[derive(Clone, Copy)]
 pub enum Side {
     From,
     Before,
 }
 
 // A block next to a place, with its first cell; or none.
-#[derive(Drop)]
+#[derive(Clone, Copy)]
 pub enum Neighbour {
     Block { number: u64, first: u64 },
     Nothing,

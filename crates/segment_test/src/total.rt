@@ -32,7 +32,7 @@ pub fn test_runs(nodes: &[u64], entries: &[u64]) -> bool
 }
 
 // high * 2^64 + low.
-#[derive(Drop)]
+#[derive(Clone, Copy)]
 pub struct Total {
     pub high: u64,
     pub low: u64,

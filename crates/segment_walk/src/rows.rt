@@ -5,7 +5,7 @@ ghost use Rattle.segment_walk.specs.Rowing.{rows_at, Lower, InWindow};
 use crate::walk;
 
 // Rows of the entry table, [from, to).
-#[derive(Drop)]
+#[derive(Clone, Copy)]
 pub struct Rows {
     pub from: usize,
     pub to: usize,

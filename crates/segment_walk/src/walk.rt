@@ -6,7 +6,7 @@ ghost use Rattle.tables.specs.Columns.{column};
 ghost use Rattle.segment_walk.specs.Walking.{root_at, Absent, half_at};
 
 // A node of the tree, [min, max), by the link of its row; link 0 is no node.
-#[derive(Drop)]
+#[derive(Clone, Copy)]
 pub struct Node {
     pub link: u64,
     pub min: u64,
@@ -14,7 +14,7 @@ pub struct Node {
 }
 
 // What is asked on the way: the blocks live at a tick whose first cell is in [start, stop).
-#[derive(Drop)]
+#[derive(Clone, Copy)]
 pub struct Query {
     pub tick: u64,
     pub start: u64,

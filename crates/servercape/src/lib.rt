@@ -32,16 +32,14 @@ use touching::{Nearest, Touching};
 
 // How many numbers (of the store: bytes) to lend for so many rows: table 0 pieces, 1 blocks, 2 store, 3 nodes, 4 entries, 5 scratch. 0 where that is no
 // 64-bit number, and for any other table.
-#[unsafe(no_mangle)]
-pub extern "C" fn servercape_length(table: u64, rows: u64) -> u64
+pub fn servercape_length(table: u64, rows: u64) -> u64
     ensures { result ≡ length_for table rows }
 {
     lengths::length_for(table, rows)
 }
 
 // Opens an index in the lent tables.
-#[unsafe(no_mangle)]
-pub extern "C" fn servercape_open(
+pub fn servercape_open(
     pieces: &mut [u64],
     blocks: &mut [u64],
     store: &[u8],
@@ -62,8 +60,7 @@ pub extern "C" fn servercape_open(
 }
 
 // Records an operation.
-#[unsafe(no_mangle)]
-pub extern "C" fn servercape_record(
+pub fn servercape_record(
     pieces: &mut [u64],
     blocks: &mut [u64],
     store: &mut [u8],
@@ -100,8 +97,7 @@ pub extern "C" fn servercape_record(
 }
 
 // Records the operations of a list, with one test of the tables for all: how many were played, and the position behind them.
-#[unsafe(no_mangle)]
-pub extern "C" fn servercape_record_all(
+pub fn servercape_record_all(
     pieces: &mut [u64],
     blocks: &mut [u64],
     store: &mut [u8],
@@ -125,8 +121,7 @@ pub extern "C" fn servercape_record_all(
 }
 
 // Finishes an index.
-#[unsafe(no_mangle)]
-pub extern "C" fn servercape_finish(
+pub fn servercape_finish(
     pieces: &mut [u64],
     blocks: &mut [u64],
     store: &[u8],
@@ -145,8 +140,7 @@ pub extern "C" fn servercape_finish(
 }
 
 // Installs a calendar into an open index, in place of the one before.
-#[unsafe(no_mangle)]
-pub extern "C" fn servercape_install_calendar(
+pub fn servercape_install_calendar(
     pieces: &[u64],
     blocks: &mut [u64],
     store: &[u8],
@@ -166,8 +160,7 @@ pub extern "C" fn servercape_install_calendar(
 }
 
 // Installs a list of days of 23 and 25 hours into an open or a closed index, in place of the one before.
-#[unsafe(no_mangle)]
-pub extern "C" fn servercape_install_days(
+pub fn servercape_install_days(
     pieces: &[u64],
     blocks: &mut [u64],
     store: &[u8],
@@ -187,8 +180,7 @@ pub extern "C" fn servercape_install_days(
 }
 
 // The block of a number: its bytes are the store's part of that length at the offset.
-#[unsafe(no_mangle)]
-pub extern "C" fn servercape_block(
+pub fn servercape_block(
     pieces: &[u64],
     blocks: &[u64],
     store: &[u8],
@@ -230,8 +222,7 @@ pub extern "C" fn servercape_block(
 }
 
 // The live blocks whose first cell is in [start, end) at a tick: their numbers go into the lent answer.
-#[unsafe(no_mangle)]
-pub extern "C" fn servercape_find(
+pub fn servercape_find(
     pieces: &[u64],
     blocks: &[u64],
     store: &[u8],
@@ -266,8 +257,7 @@ pub extern "C" fn servercape_find(
 }
 
 // Asks the queries of a list, with one test of the tables for all: how many were asked.
-#[unsafe(no_mangle)]
-pub extern "C" fn servercape_find_all(
+pub fn servercape_find_all(
     pieces: &[u64],
     blocks: &[u64],
     store: &[u8],
@@ -287,8 +277,7 @@ pub extern "C" fn servercape_find_all(
 }
 
 // The live blocks that hold a cell of [start, end) at a tick, ascending by first cell: their numbers go into the lent answer.
-#[unsafe(no_mangle)]
-pub extern "C" fn servercape_touching(
+pub fn servercape_touching(
     pieces: &[u64],
     blocks: &[u64],
     store: &[u8],
@@ -317,8 +306,7 @@ pub extern "C" fn servercape_touching(
 }
 
 // The first live block that starts at the cell or after it: 1 and its number, or 0 and 0 where there is none.
-#[unsafe(no_mangle)]
-pub extern "C" fn servercape_next(
+pub fn servercape_next(
     pieces: &[u64],
     blocks: &[u64],
     store: &[u8],
@@ -350,8 +338,7 @@ pub extern "C" fn servercape_next(
 }
 
 // The last live block whose cells are all below the cell: 1 and its number, or 0 and 0 where there is none.
-#[unsafe(no_mangle)]
-pub extern "C" fn servercape_last(
+pub fn servercape_last(
     pieces: &[u64],
     blocks: &[u64],
     store: &[u8],
@@ -383,8 +370,7 @@ pub extern "C" fn servercape_last(
 }
 
 // The byte of each cell of [start, end) at a tick, and 1 where a live block holds it.
-#[unsafe(no_mangle)]
-pub extern "C" fn servercape_read_cells(
+pub fn servercape_read_cells(
     pieces: &[u64],
     blocks: &[u64],
     store: &[u8],
@@ -410,8 +396,7 @@ pub extern "C" fn servercape_read_cells(
 }
 
 // Writes the file of a finished or loaded index from the start of `out` on: how many bytes.
-#[unsafe(no_mangle)]
-pub extern "C" fn servercape_write(
+pub fn servercape_write(
     pieces: &[u64],
     blocks: &[u64],
     store: &[u8],
@@ -435,8 +420,7 @@ pub extern "C" fn servercape_write(
 }
 
 // Loads a finished index from a file, from a position on: the position after it.
-#[unsafe(no_mangle)]
-pub extern "C" fn servercape_load(
+pub fn servercape_load(
     pieces: &mut [u64],
     blocks: &mut [u64],
     store: &mut [u8],
@@ -470,8 +454,7 @@ pub extern "C" fn servercape_load(
 }
 
 // The clock label of a cell, by the list of days of an open or a closed index.
-#[unsafe(no_mangle)]
-pub extern "C" fn servercape_clock(
+pub fn servercape_clock(
     pieces: &[u64],
     blocks: &[u64],
     store: &[u8],

@@ -35,8 +35,7 @@ fn numbered(state: u64) -> State
 }
 
 // Tests the tables: 0 not well formed, 1 open, 2 closed.
-#[unsafe(no_mangle)]
-pub extern "C" fn servercape_state(
+pub fn servercape_state(
     pieces: &[u64],
     blocks: &[u64],
     store: &[u8],
@@ -54,8 +53,7 @@ pub extern "C" fn servercape_state(
 }
 
 // Records an operation.
-#[unsafe(no_mangle)]
-pub extern "C" fn servercape_record_tested(
+pub fn servercape_record_tested(
     state: u64,
     pieces: &mut [u64],
     blocks: &mut [u64],
@@ -97,8 +95,7 @@ pub extern "C" fn servercape_record_tested(
 }
 
 // The block of a number: its bytes are the store's part of that length at the offset.
-#[unsafe(no_mangle)]
-pub extern "C" fn servercape_block_tested(
+pub fn servercape_block_tested(
     state: u64,
     blocks: &[u64],
     store: &[u8],
@@ -137,8 +134,7 @@ pub extern "C" fn servercape_block_tested(
 }
 
 // The live blocks whose first cell is in [start, end) at a tick: their numbers go into the lent answer.
-#[unsafe(no_mangle)]
-pub extern "C" fn servercape_find_tested(
+pub fn servercape_find_tested(
     state: u64,
     blocks: &[u64],
     nodes: &[u64],
@@ -177,8 +173,7 @@ pub extern "C" fn servercape_find_tested(
 }
 
 // The live blocks that hold a cell of [start, end) at a tick, ascending by first cell: their numbers go into the lent answer.
-#[unsafe(no_mangle)]
-pub extern "C" fn servercape_touching_tested(
+pub fn servercape_touching_tested(
     state: u64,
     blocks: &[u64],
     nodes: &[u64],
@@ -212,8 +207,7 @@ pub extern "C" fn servercape_touching_tested(
 }
 
 // The first live block that starts at the cell or after it: 1 and its number, or 0 and 0 where there is none.
-#[unsafe(no_mangle)]
-pub extern "C" fn servercape_next_tested(
+pub fn servercape_next_tested(
     state: u64,
     blocks: &[u64],
     nodes: &[u64],
@@ -243,8 +237,7 @@ pub extern "C" fn servercape_next_tested(
 }
 
 // The last live block whose cells are all below the cell: 1 and its number, or 0 and 0 where there is none.
-#[unsafe(no_mangle)]
-pub extern "C" fn servercape_last_tested(
+pub fn servercape_last_tested(
     state: u64,
     blocks: &[u64],
     nodes: &[u64],
@@ -274,8 +267,7 @@ pub extern "C" fn servercape_last_tested(
 }
 
 // The byte of each cell of [start, end) at a tick, and 1 where a live block holds it.
-#[unsafe(no_mangle)]
-pub extern "C" fn servercape_read_cells_tested(
+pub fn servercape_read_cells_tested(
     state: u64,
     blocks: &[u64],
     store: &[u8],
@@ -309,8 +301,7 @@ pub extern "C" fn servercape_read_cells_tested(
 }
 
 // Writes the file of a finished or loaded index from the start of `out` on: how many bytes.
-#[unsafe(no_mangle)]
-pub extern "C" fn servercape_write_tested(
+pub fn servercape_write_tested(
     state: u64,
     blocks: &[u64],
     store: &[u8],
@@ -333,13 +324,7 @@ pub extern "C" fn servercape_write_tested(
 }
 
 // The clock label of a cell, by the list of days of an open or a closed index.
-#[unsafe(no_mangle)]
-pub extern "C" fn servercape_clock_tested(
-    state: u64,
-    blocks: &[u64],
-    cell: u64,
-    label: &mut u64,
-) -> u64
+pub fn servercape_clock_tested(state: u64, blocks: &[u64], cell: u64, label: &mut u64) -> u64
     ensures { ClockAs state blocks.now cell result label.old label.new }
 {
     let told = reads_tested::clock_tested(numbered(state), blocks, cell);

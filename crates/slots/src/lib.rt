@@ -20,7 +20,7 @@ pub struct Slot {
     pub sum: u64,
 }
 
-#[derive(Drop)]
+#[derive(Clone, Copy)]
 pub struct Slots {
     pub a: Slot,
     pub b: Slot,

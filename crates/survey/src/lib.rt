@@ -17,7 +17,7 @@ use tables::piece;
 
 // What an operation meets: how many of its leading cells the pieces hold with its bytes, how many pieces there would be after an update, and how many
 // blocks it records. `near` is a guess for the update: the link of the lowest piece that is met.
-#[derive(Drop)]
+#[derive(Clone, Copy)]
 pub struct Report {
     pub same: u64,
     pub pieces: u64,

@@ -10,7 +10,7 @@ ghost use Rattle.lists.specs.Puts.{Put, behind};
 ghost use Rattle.tally.specs.Counts.{raised, Counted, Compared, Answered};
 ghost use Rattle.tally.specs.Lines.{count_text, tally_line};
 
-use libc::STDOUT_FILENO;
+use std::io::Print;
 
 // Answers compared, those that differ, and calls or tables refused. What else a program counts stands from `OWN` on.
 pub const COMPARED: usize = 0;
@@ -92,20 +92,32 @@ fn put_line(line: &mut [u8], tally: &[u64], column: usize, words: &[u8]) -> usiz
 }
 
 // Prints a count, then words. No contract can say what is written, so it says what is put into the lent line, of which the part up to the answer is written.
-pub fn print_count(line: &mut [u8], tally: &[u64], column: usize, words: &[u8]) -> usize
+pub fn print_count<W: Print>(
+    out: &W,
+    line: &mut [u8],
+    tally: &[u64],
+    column: usize,
+    words: &[u8],
+) -> usize
     ensures { Put line.old 0 (count_text tally.now column words.now) line.new result }
 {
     let many = put_count(line, 0, tally, column, words);
-    io::write_all(STDOUT_FILENO, &line[..many]);
+    let _is_written = out.write_all(&line[..many]).is_ok();
     many
 }
 
 // Prints how many were compared, how many of them differ, and one count more, in the same way.
-pub fn print(line: &mut [u8], tally: &[u64], column: usize, words: &[u8]) -> usize
+pub fn print<W: Print>(
+    out: &W,
+    line: &mut [u8],
+    tally: &[u64],
+    column: usize,
+    words: &[u8],
+) -> usize
     ensures { Put line.old 0 (tally_line tally.now column words.now) line.new result }
 {
     let many = put_line(line, tally, column, words);
-    io::write_all(STDOUT_FILENO, &line[..many]);
+    let _is_written = out.write_all(&line[..many]).is_ok();
     many
 }
 

@@ -18,14 +18,14 @@ use segment_walk::walk::Query;
 use tables::block;
 
 // The answer of touching: how many block numbers it lists.
-#[derive(Drop)]
+#[derive(Clone, Copy)]
 pub enum Touching {
     Listed(u64),
     Refused(u64),
 }
 
 // The answer of next and last: the number of a block, or that there is none.
-#[derive(Drop)]
+#[derive(Clone, Copy)]
 pub enum Nearest {
     Block(u64),
     Missing,

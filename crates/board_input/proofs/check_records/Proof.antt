@@ -20,25 +20,25 @@ loop-holds : tie.Need-loop-next-init invariant-loop-next decreases-loop-next
 loop-holds c = check_start _ (search rules)
 
 returns-2 : tie.Need-returns-in-End invariant-loop-next decreases-loop-next
-returns-2 c = check_end c.before.before.before.loop-next.invariant c.before.before.record_at.ensures c.enum_told-1.given.1
+returns-2 c = check_end c.loop-next.invariant c.record_at.ensures c.in-End.is
 
 returns-3 : tie.Need-returns-in-Bad invariant-loop-next decreases-loop-next
-returns-3 c = check_bad c.before.before.before.loop-next.invariant c.before.before.record_at.ensures c.enum_told-in-Bad-1.given.1
+returns-3 c = check_bad c.loop-next.invariant c.record_at.ensures c.in-Bad.is
 
-add-k : tie.Need-overflow-add-k invariant-loop-next decreases-loop-next
+add-k : tie.Need-overflow_add-k invariant-loop-next decreases-loop-next
 add-k c =
-    let inv = c.before.before.before.before.loop-next.invariant in
-    let stands = c.before.before.before.record_at.ensures in
-    omega (arith, inv.counted, check_further inv stands c.before.next-1.given.1, check_inside inv stands c.before.next-1.given.1)
+    let inv = c.loop-next.invariant in
+    let stands = c.record_at.ensures in
+    omega (arith, inv.counted, check_further inv stands c.in-Record.is, check_inside inv stands c.in-Record.is)
 
 loop-less : tie.Need-loop-next-smaller invariant-loop-next decreases-loop-next
 loop-less c =
-    let inv = c.before.before.before.before.loop-next.invariant in
-    let stands = c.before.before.before.record_at.ensures in
-    omega (arith, check_further inv stands c.before.next-1.given.1, check_inside inv stands c.before.next-1.given.1)
+    let inv = c.loop-next.invariant in
+    let stands = c.record_at.ensures in
+    omega (arith, check_further inv stands c.in-Record.is, check_inside inv stands c.in-Record.is)
 
 loop-again : tie.Need-loop-next-preserved invariant-loop-next decreases-loop-next
-loop-again c = check_on c.before.before.before.before.loop-next.invariant c.before.before.before.record_at.ensures c.before.next-1.given.1
+loop-again c = check_on c.loop-next.invariant c.record_at.ensures c.in-Record.is
 
 pub check_records_spec : {M : Type 1} → statement M
 check_records_spec =

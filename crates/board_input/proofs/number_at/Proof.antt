@@ -15,17 +15,17 @@ decreases-loop-i input at width value₀ i₀ value i = width - i
 loop-holds : tie.Need-loop-i-init invariant-loop-i decreases-loop-i
 loop-holds c = reached_none _ _ _
 
-mul-value : tie.Need-overflow-mul-value invariant-loop-i decreases-loop-i
-mul-value c = omega (arith, reached_room c.before.loop-i.invariant (search rules) (search rules))
+mul-value : tie.Need-overflow_mul-value invariant-loop-i decreases-loop-i
+mul-value c = omega (arith, reached_room c.loop-i.invariant (search rules) (search rules))
 
-add-value : tie.Need-overflow-add-value invariant-loop-i decreases-loop-i
-add-value c = omega (arith, reached_room c.before.before.loop-i.invariant (search rules) (search rules))
+add-value : tie.Need-overflow_add-value invariant-loop-i decreases-loop-i
+add-value c = omega (arith, reached_room c.loop-i.invariant (search rules) (search rules))
 
 loop-again : tie.Need-loop-i-preserved invariant-loop-i decreases-loop-i
-loop-again c = reached_one c.before.before.loop-i.invariant (search rules) (search rules)
+loop-again c = reached_one c.loop-i.invariant (search rules) (search rules)
 
 returns : tie.Need-returns invariant-loop-i decreases-loop-i
-returns c = reached_all c.before.loop-i.invariant (search rules)
+returns c = reached_all c.loop-i.invariant (search rules)
 
 pub number_at_spec : {M : Type 1} → statement M
 number_at_spec =

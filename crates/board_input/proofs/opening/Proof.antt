@@ -8,4 +8,4 @@ pub opening_spec : {M : Type 1} → statement M
 opening_spec =
     tie.close
     (tie.spec (λ c. start_short _ (search rules)) (λ c κs. search rules) (λ c κs. search rules) (λ c. search rules)
-    (λ c. start_open _ (search rules) c.before.number_at.ensures c.number_at-2.ensures))
+    (λ c. start_open _ (search rules) c.number_at.ensures c.number_at-2.ensures))

@@ -11,5 +11,5 @@ record_at_spec =
     (λ c. search (item_wrong, rules)) (λ c. search rules) (λ c. search rules) (λ c κs. search rules) (λ c. search rules)
     (λ c. search (item_cut, rules)) (λ c. search rules) (λ c κs. search rules) (λ c. search rules) (λ c. search rules) (λ c κs. search rules)
     (λ c. search rules) (λ c.
-    item_record _ _ (search rules) c.before.before.before.before.before.number_at.ensures (search rules)
-    c.before.before.before.number_at-length.ensures (search rules) c.before.number_at-2.ensures c.number_at-3.ensures))
+    item_record _ _ (search rules) c.number_at.ensures (search rules)
+    c.number_at-length.ensures (search rules) c.number_at-2.ensures c.number_at-3.ensures))

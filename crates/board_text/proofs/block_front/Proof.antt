@@ -6,13 +6,13 @@ use Rattle.board_text.proofs.block_front.Tie as tie
 
 returns : tie.Need-returns
 returns c =
-    let spaced = c.before.before in
-    let labelled = spaced.before.before.before.before in
-    let destroyed = labelled.before.before.before.before in
-    let created = destroyed.before.before.before.before in
-    let cells = created.before.before.before.before in
-    let first = cells.before.before.before.before in
-    let entry = first.before.before.before.args in
+    let spaced = c in
+    let labelled = spaced in
+    let destroyed = labelled in
+    let created = destroyed in
+    let cells = created in
+    let first = cells in
+    let entry = first.args in
     front_put entry.first entry.length entry.created entry.destroyed first.field-behind_first.ensures cells.field-behind_length.ensures created.field-behind_created.ensures
     destroyed.field-behind_destroyed.ensures labelled.label-behind_label.ensures spaced.put.ensures
 

@@ -17,21 +17,21 @@ decreases-loop-rest out at n digits₀ start₀ rest₀ digits start rest = star
 loop-holds : tie.Need-loop-rest-init invariant-loop-rest decreases-loop-rest
 loop-holds c = (search rules, search rules, spelling_none _ _ (search rules) (search rules))
 
-sub-start-2 : tie.Need-overflow-sub-start-2 invariant-loop-rest decreases-loop-rest
-sub-start-2 c = omega (arith, spelling_room c.digit.result c.before.before.loop-rest.invariant.2 (omega arith) (omega arith))
+sub-start-2 : tie.Need-overflow_sub-start-in-loop-rest invariant-loop-rest decreases-loop-rest
+sub-start-2 c = omega (arith, spelling_room c.digit.result c.loop-rest.invariant.2 (omega arith) (omega arith))
 
 loop-less : tie.Need-loop-rest-smaller invariant-loop-rest decreases-loop-rest
-loop-less c = omega (arith, spelling_room c.digit.result c.before.before.loop-rest.invariant.2 (omega arith) (omega arith))
+loop-less c = omega (arith, spelling_room c.digit.result c.loop-rest.invariant.2 (omega arith) (omega arith))
 
 loop-again : tie.Need-loop-rest-preserved invariant-loop-rest decreases-loop-rest
 loop-again c =
-    (search rules, omega arith, spelling_one c.digit.result c.before.before.loop-rest.invariant.2 (omega arith) (omega arith) c.digit.ensures)
+    (search rules, omega arith, spelling_one c.digit.result c.loop-rest.invariant.2 (omega arith) (omega arith) c.digit.ensures)
 
 returns : tie.Need-returns invariant-loop-rest decreases-loop-rest
 returns c =
-    let turn = c.before.before.before.before.before.before.before.before.loop-rest in
-    let last = c.before.before.before.before.before.before.digit-2 in
-    rw (spelled last.result turn.invariant.2 (omega arith) (omega arith) last.ensures turn.invariant.0) at c.before.before.text.ensures
+    let turn = c.loop-rest in
+    let last = c.digit-2 in
+    rw (spelled last.result turn.invariant.2 (omega arith) (omega arith) last.ensures turn.invariant.0) at c.text.ensures
 
 pub decimal_spec : {M : Type 1} → statement M
 decimal_spec =

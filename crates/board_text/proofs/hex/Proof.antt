@@ -17,16 +17,16 @@ abbrev decreases-loop-i : tie.decreases-loop-i
 decreases-loop-i out₀ at bytes next₀ i₀ out next i = length bytes - i
 
 loop-holds : tie.Need-loop-i-init invariant-loop-i decreases-loop-i
-loop-holds c = let entry = c.before.before.args in (search rules, hex_none entry.out.now entry.bytes.now entry.at)
+loop-holds c = let entry = c.args in (search rules, hex_none entry.out.now entry.bytes.now entry.at)
 
 loop-again : tie.Need-loop-i-preserved invariant-loop-i decreases-loop-i
 loop-again c =
-    let entry = c.before.before.before.before.before.before.before.before.before.args in
-    let turn = c.before.before.before.before.before.before.loop-i in
-    (search rules, hex_one entry.bytes.now turn.i (search rules) turn.invariant.1 c.before.before.hex_byte-next.ensures)
+    let entry = c.args in
+    let turn = c.loop-i in
+    (search rules, hex_one entry.bytes.now turn.i (search rules) turn.invariant.1 c.hex_byte-next.ensures)
 
 returns : tie.Need-returns invariant-loop-i decreases-loop-i
-returns c = hex_all c.before.before.before.before.args.bytes.now c.before.loop-i.i (search rules) c.before.loop-i.invariant.1
+returns c = hex_all c.args.bytes.now c.loop-i.i (search rules) c.loop-i.invariant.1
 
 pub hex_spec : {M : Type 1} → statement M
 hex_spec =

@@ -16,14 +16,14 @@ decreases-loop-i out₀ at characters next₀ i₀ out next i = length character
 
 loop-again : tie.Need-loop-i-preserved invariant-loop-i decreases-loop-i
 loop-again c =
-    let entry = c.before.before.before.before.before.before.before.before.before.args in
-    let turn = c.before.before.before.before.before.before.loop-i in
-    (search rules, put_one entry.characters.now turn.i (search rules) turn.invariant.1 c.before.before.put-next.ensures)
+    let entry = c.args in
+    let turn = c.loop-i in
+    (search rules, put_one entry.characters.now turn.i (search rules) turn.invariant.1 c.put-next.ensures)
 
 returns : tie.Need-returns invariant-loop-i decreases-loop-i
 returns c =
-    let entry = c.before.before.before.before.args in
-    put_all entry.characters.now c.before.loop-i.i (search rules) c.before.loop-i.invariant.1
+    let entry = c.args in
+    put_all entry.characters.now c.loop-i.i (search rules) c.loop-i.invariant.1
 
 pub text_spec : {M : Type 1} → statement M
 text_spec =

@@ -5,12 +5,12 @@ use Rattle.comparison.proofs.Comparing.{comparing, store_room, bytes_room}
 use Rattle.comparison.proofs.first_difference.Statement.{statement}
 use Rattle.comparison.proofs.first_difference.Tie as tie
 
-matching-requires : tie.Need-matching-requires
+matching-requires : tie.Need-matching-same-requires
 matching-requires c κs =
-    let some-run = c.before.before.if1.false in
-    let counted = c.before.before.before.before.before in (
-      store_room _ _ _ _ some-run c.before.minus5.ensures (omega (arith, c.if2.false)),
-      bytes_room _ _ _ _ _ some-run counted.smaller.ensures counted.before.before.before.minus3.ensures,
+    let some-run = c.if-run-eq0.false in
+    let counted = c in (
+      store_room _ _ _ _ some-run c.minus.ensures (omega (arith, c.if-minus-run.false)),
+      bytes_room _ _ _ _ _ some-run counted.smaller-run.ensures counted.minus-ours.ensures,
     )
 
 pub first_difference_spec : {M : Type 1} → statement M

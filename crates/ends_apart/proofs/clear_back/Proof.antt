@@ -5,14 +5,14 @@ use Rattle.ends_apart.proofs.Turning.{ClearTo, clearing}
 use Rattle.ends_apart.proofs.clear_back.Statement.{statement}
 use Rattle.ends_apart.proofs.clear_back.Tie as tie
 
-abbrev invariant-loop : tie.invariant-loop
-invariant-loop blocks low k own i₀ i = ClearTo blocks low i own
+abbrev invariant-loop-i : tie.invariant-loop-i
+invariant-loop-i blocks low k own i₀ i = ClearTo blocks low i own
 
-abbrev decreases-loop : tie.decreases-loop
-decreases-loop blocks low k own i₀ i = k - i
+abbrev decreases-loop-i : tie.decreases-loop-i
+decreases-loop-i blocks low k own i₀ i = k - i
 
 pub clear_back_spec : {M : Type 1} → statement M
 clear_back_spec =
     tie.close
-    (tie.spec invariant-loop decreases-loop (λ c κs. search rules) (λ c. search clearing) (λ c. search clearing) (λ c. search rules) (λ c κs. search rules) (λ c κs. search rules)
+    (tie.spec invariant-loop-i decreases-loop-i (λ c κs. search rules) (λ c. search clearing) (λ c. search clearing) (λ c. search rules) (λ c κs. search rules) (λ c κs. search rules)
     (λ c. search clearing) (λ c. search rules) (λ c. search clearing) (λ c. search clearing))

@@ -5,14 +5,14 @@ use Rattle.handed_rows.proofs.Tallying.{TakenTo, taking}
 use Rattle.handed_rows.proofs.all_taken.Statement.{statement}
 use Rattle.handed_rows.proofs.all_taken.Tie as tie
 
-abbrev invariant-loop : tie.invariant-loop
-invariant-loop blocks n k₀ k = TakenTo blocks k
+abbrev invariant-loop-k : tie.invariant-loop-k
+invariant-loop-k blocks n k₀ k = TakenTo blocks k
 
-abbrev decreases-loop : tie.decreases-loop
-decreases-loop blocks n k₀ k = n - k
+abbrev decreases-loop-k : tie.decreases-loop-k
+decreases-loop-k blocks n k₀ k = n - k
 
 pub all_taken_spec : {M : Type 1} → statement M
 all_taken_spec =
     tie.close
-    (tie.spec invariant-loop decreases-loop (λ c. search taking) (λ c. search rules) (λ c κs. search rules) (λ c κs. search rules) (λ c. search taking) (λ c. search rules)
+    (tie.spec invariant-loop-k decreases-loop-k (λ c. search taking) (λ c. search rules) (λ c κs. search rules) (λ c κs. search rules) (λ c. search taking) (λ c. search rules)
     (λ c. search rules) (λ c. search taking) (λ c. search taking))

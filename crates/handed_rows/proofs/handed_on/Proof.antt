@@ -4,14 +4,14 @@ use Rattle.handed_rows.proofs.Handing.{handed-not, handed-told}
 use Rattle.handed_rows.proofs.handed_on.Statement.{statement}
 use Rattle.handed_rows.proofs.handed_on.Tie as tie
 
-returns-2 : tie.Need-returns-2
+returns-2 : tie.Need-returns
 returns-2 c =
-    let taken = c.before.before.before.before in
-    let pieces = taken.before.before.before.before in
-    let rows = pieces.before.before.before.before.before.before in
-    let asked = rows.before.before.before.before.before.before.before in
-    handed-told asked.before.ends-apart.ensures asked.if1.false rows.tally-rows.ensures pieces.before.before.before.get.ensures pieces.tally-pieces.ensures
-    taken.all-taken.ensures c.before.before.clear-order.ensures
+    let taken = c in
+    let pieces = taken in
+    let rows = pieces in
+    let asked = rows in
+    handed-told asked.ends_apart.ensures asked.if-not-ends_apart.false rows.tally_rows.ensures pieces.get-m.ensures pieces.tally_pieces.ensures
+    taken.all_taken-all.ensures c.clear_order.ensures
 
 pub handed_on_spec : {M : Type 1} → statement M
 handed_on_spec =

@@ -5,22 +5,22 @@ use Rattle.handed_rows.proofs.Tallying.{RowsTo, rows_pass, rows-count, rows}
 use Rattle.handed_rows.proofs.tally_rows.Statement.{statement}
 use Rattle.handed_rows.proofs.tally_rows.Tie as tie
 
-abbrev invariant-loop : tie.invariant-loop
-invariant-loop blocks₀ n marks k₀ blocks k = RowsTo blocks₀ blocks n k
+abbrev invariant-loop-k : tie.invariant-loop-k
+invariant-loop-k blocks₀ n marks k₀ blocks k = RowsTo blocks₀ blocks n k
 
-abbrev decreases-loop : tie.decreases-loop
-decreases-loop blocks₀ n marks k₀ blocks k = n - k
+abbrev decreases-loop-k : tie.decreases-loop-k
+decreases-loop-k blocks₀ n marks k₀ blocks k = n - k
 
-loop-again : tie.Need-loop-preserved invariant-loop decreases-loop
+loop-again : tie.Need-loop-k-preserved-then-row invariant-loop-k decreases-loop-k
 loop-again c =
-    let read = c.before.before.before.before.before.before in
-    rows-count read.before.before.before.loop.invariant (search rules) read.read.ensures (search rules) c.before.before.hand_on.ensures
+    let read = c in
+    rows-count read.loop-k.invariant (search rules) read.read.ensures (search rules) c.hand_on.ensures
 
-loop-again-2 : tie.Need-loop-preserved-2 invariant-loop decreases-loop
-loop-again-2 c = let read = c.before.before in rows_pass read.before.before.before.loop.invariant (search rules) read.read.ensures
+loop-again-2 : tie.Need-loop-k-preserved invariant-loop-k decreases-loop-k
+loop-again-2 c = let read = c in rows_pass read.loop-k.invariant (search rules) read.read.ensures
 
 pub tally_rows_spec : {M : Type 1} → statement M
 tally_rows_spec =
     tie.close
-    (tie.spec invariant-loop decreases-loop (λ c. search rows) (λ c. search rules) (λ c κs. search rules) (λ c κs. search rules) (λ c. search rules) (λ c. search rules) loop-again
+    (tie.spec invariant-loop-k decreases-loop-k (λ c. search rows) (λ c. search rules) (λ c κs. search rules) (λ c κs. search rules) (λ c. search rules) (λ c. search rules) loop-again
     (λ c. search rules) (λ c. search rules) loop-again-2 (λ c. search rules) (λ c. search rows))

@@ -27,4 +27,4 @@ walk-tree-below t =
 
 pub +walk_tree_spec : {M : Type 1} → statement M
 +walk_tree_spec =
-    close μ-walk-tree λ t. walk-tree-lts.spec (row-stands-reads.Asked, row-stands-reads.Learnt, get-reads.Asked, get-reads.Learnt, walk-tree-below t, walk-tree.Post, row-fits-reads.Asked, row-fits-reads.Learnt) (walk-tree-at t) walk-tree.Post (λ c. search testing) (λ c. search testing) (λ c κs. search rules) (λ c. search testing) (λ c κs. search rules) (λ c κs. search rules) (λ c. search rules) (λ c κs. search rules) (λ c. search rules) (λ c. search rules) (λ c. search testing) (λ c κs. search rules) (λ c. search testing) (λ c κs. search rules) (λ c κs. search rules) (λ c. omega (arith, fits-near c.before.before.before.row-fits.ensures (not-false _ c.before.before.if5.false) c.before.get3.ensures c.get4.ensures)) (λ c. search rules) (λ c. search rules) (λ c κs. search rules) (λ c. search testing) (λ c. search testing)
+    close μ-walk-tree λ t. walk-tree-lts.spec (row-stands-reads.Asked, row-stands-reads.Learnt, get-reads.Asked, get-reads.Learnt, walk-tree-below t, walk-tree.Post, row-fits-reads.Asked, row-fits-reads.Learnt) (walk-tree-at t) walk-tree.Post (λ c. search testing) (λ c. search testing) (λ c κs. search rules) (λ c. search testing) (λ c κs. search rules) (λ c κs. search rules) (λ c. search rules) (λ c κs. search rules) (λ c. search rules) (λ c. search rules) (λ c. search testing) (λ c κs. search rules) (λ c. search testing) (λ c κs. search rules) (λ c κs. search rules) (λ c. omega (arith, fits-near c.row_fits.ensures c.if-not-row_fits.false c.get-first.ensures c.get-length.ensures)) (λ c. search rules) (λ c. search rules) (λ c κs. search rules) (λ c. search testing) (λ c. search testing)

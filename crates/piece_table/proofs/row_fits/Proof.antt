@@ -5,17 +5,17 @@ use Rattle.piece_table.proofs.Testing.{testing, row_fits_rest}
 use Rattle.piece_table.proofs.row_fits.Statement.{statement}
 use Rattle.piece_table.proofs.row_fits.Tie as tie
 
-returns-7 : tie.Need-returns-7
+returns-7 : tie.Need-returns
 returns-7 c =
-    let low = c.before.before.before.before.before.before in
-    let last = low.before in
-    let offset = last.before in
-    let written = offset.before in
-    let size = written.before in
-    let start = size.before.before.before in
-    row_fits_rest size.before.get.ensures size.get2.ensures offset.get4.ensures written.get3.ensures last.get5.ensures
-    low.starts-below.ensures c.before.before.before.before.before.if1.false c.before.before.before.before.if2.false
-    (omega (arith, c.before.before.before.if3.false)) (omega (arith, c.before.before.if4.false)) (omega (arith, c.before.if5.false)) (omega (arith, start.well-formed)) (omega (arith, c.if6.false))
+    let low = c in
+    let last = low in
+    let offset = last in
+    let written = offset in
+    let size = written in
+    let start = size in
+    row_fits_rest size.get-first.ensures size.get-length.ensures offset.get-offset.ensures written.get-written.ensures last.get-owner.ensures
+    low.starts_below.ensures c.if-starts_below.false c.if-length-eq0.false
+    (omega (arith, c.if-first-length.false)) (omega (arith, c.if-used-length.false)) (omega (arith, c.if-used-length-2.false)) (omega (arith, start.well_formed)) (omega (arith, c.if-last-written.false))
 
 pub row_fits_spec : {M : Type 1} → statement M
 row_fits_spec =

@@ -7,4 +7,4 @@ use Rattle.piece_table.proofs.test_pieces.Tie as tie
 
 pub test_pieces_spec : {M : Type 1} → statement M
 test_pieces_spec =
-    tie.close (tie.spec (λ c κs. search rules) (λ c κs. search rules) (λ c. search testing) (λ c κs. search rules) (λ c κs. search rules) (λ c. search rules) (λ c. search rules) (λ c. search testing) (λ c. test_fine c.before.before.before.before.before.before.before.get.ensures c.before.before.before.before.before.before.rows.ensures (omega arith) c.before.before.before.before.get2.ensures c.before.before.before.walk-tree.ensures (omega arith) c.before.found.given.1))
+    tie.close (tie.spec (λ c κs. search rules) (λ c κs. search rules) (λ c. search testing) (λ c κs. search rules) (λ c κs. search rules) (λ c. search rules) (λ c. search rules) (λ c. search testing) (λ c. test_fine c.get-count.ensures c.rows.ensures (omega arith) c.get-root.ensures c.walk_tree-found.ensures (omega arith) c.in-Fine.is))

@@ -6,12 +6,12 @@ use Rattle.piece_table.proofs.write_row.Tie as tie
 
 returns : tie.Need-returns
 returns c =
-    let five = c.before.before in
-    let four = five.before.before.before.before in
-    let three = four.before.before.before.before in
-    let two = three.before.before.before.before in
-    let one = two.before.before.before.before in
-    write_row_done one.put.ensures two.put2.ensures three.put3.ensures four.put4.ensures five.put5.ensures
+    let five = c in
+    let four = five in
+    let three = four in
+    let two = three in
+    let one = two in
+    write_row_done one.put.ensures two.put-2.ensures three.put-3.ensures four.put-4.ensures five.put-5.ensures
 
 pub write_row_spec : {M : Type 1} → statement M
 write_row_spec =

@@ -4,12 +4,12 @@ use Rattle.recording.proofs.Clearing.{clearing, Round}
 use Rattle.recording.proofs.clear.Statement.{statement}
 use Rattle.recording.proofs.clear.Tie as tie
 
-abbrev invariant-loop : tie.invariant-loop
-invariant-loop pieces₀ blocks₀ tick first end near left₀ pieces blocks left = Round pieces₀ pieces blocks₀ blocks tick first end left
+abbrev invariant-loop-left : tie.invariant-loop-left
+invariant-loop-left pieces₀ blocks₀ tick first end near left₀ pieces blocks left = Round pieces₀ pieces blocks₀ blocks tick first end left
 
-abbrev decreases-loop : tie.decreases-loop
-decreases-loop pieces₀ blocks₀ tick first end near left₀ pieces blocks left = left
+abbrev decreases-loop-left : tie.decreases-loop-left
+decreases-loop-left pieces₀ blocks₀ tick first end near left₀ pieces blocks left = left
 
 pub clear_spec : {M : Type 1} → statement M
 clear_spec =
-    tie.close (tie.spec invariant-loop decreases-loop (λ c κs. search rules) (λ c. search clearing) (λ c κs. search rules) (λ c. search rules) (λ c. search rules) (λ c. search clearing) (λ c. search rules) (λ c. search rules) (λ c. search clearing) (λ c. search rules) (λ c. search rules) (λ c. search clearing))
+    tie.close (tie.spec invariant-loop-left decreases-loop-left (λ c κs. search rules) (λ c. search clearing) (λ c κs. search rules) (λ c. search rules) (λ c. search rules) (λ c. search clearing) (λ c. search rules) (λ c. search rules) (λ c. search clearing) (λ c. search rules) (λ c. search rules) (λ c. search clearing))

@@ -6,12 +6,12 @@ use Rattle.recording.proofs.meet_one.Statement.{statement}
 use Rattle.recording.proofs.meet_one.Tie as tie
 
 -- the last: nothing of the pieces was written
-whole : tie.Need-returns-4
+whole : tie.Need-returns
 whole c =
-    let recorded = c.before.before.before.before.before in
-    let tested = recorded.before.before.before.before in
-    let sought = tested.before.before.before in
-    meet_one-whole sought.seek-near.ensures tested.before.before.if1.false tested.starts-below.ensures (not-false _ recorded.before.before.before.if2.false) recorded.record-part.ensures c.before.ends-after.ensures c.if3.false
+    let recorded = c in
+    let tested = recorded in
+    let sought = tested in
+    meet_one-whole sought.seek_near-link.ensures tested.if-link-eq0.false tested.starts_below.ensures recorded.if-not-starts_below.false recorded.record_part.ensures c.ends_after-reaches_on.ensures c.if-reaches_on.false
 
 pub meet_one_spec : {M : Type 1} → statement M
 meet_one_spec =

@@ -5,4 +5,4 @@ use Rattle.segment_clear.proofs.column.Statement.{statement}
 use Rattle.segment_clear.proofs.column.Tie as tie
 
 pub column_spec : {M : Type 1} → statement M
-column_spec = tie.close (tie.spec (λ c. search rules) (λ c κs. search rules) (λ c. let a = c.before.before.args in column_of a.blocks.now a.k a.col c.get.ensures))
+column_spec = tie.close (tie.spec (λ c. search rules) (λ c κs. search rules) (λ c. let a = c.args in column_of a.blocks.now a.k a.col c.get.ensures))

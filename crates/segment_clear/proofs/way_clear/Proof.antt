@@ -7,19 +7,19 @@ use Rattle.segment_clear.proofs.Clearing.{Leads, going}
 use Rattle.segment_clear.proofs.way_clear.Statement.{statement}
 use Rattle.segment_clear.proofs.way_clear.Tie as tie
 
-abbrev invariant-loop : tie.invariant-loop
-invariant-loop blocks nodes entries tick own node₀ node = Leads blocks nodes entries node₀ node tick own
+abbrev invariant-loop-own : tie.invariant-loop-own
+invariant-loop-own blocks nodes entries tick own node₀ node = Leads blocks nodes entries node₀ node tick own
 
-abbrev decreases-loop : tie.decreases-loop
-decreases-loop blocks nodes entries tick own node₀ node = node.max - node.min
+abbrev decreases-loop-own : tie.decreases-loop-own
+decreases-loop-own blocks nodes entries tick own node₀ node = node.max - node.min
 
-loop-less : tie.Need-loop-smaller invariant-loop decreases-loop
+loop-less : tie.Need-loop-own-smaller invariant-loop-own decreases-loop-own
 loop-less c =
-    let test = c.before.before.before.before in
-    half_falls _ _ _ _ (present test.before.absent.ensures (not-true _ test.if1.true)) c.half.ensures
+    let test = c in
+    half_falls _ _ _ _ (present test.absent.ensures test.loop-own-test.true) c.half-node.ensures
 
 pub way_clear_spec : {M : Type 1} → statement M
 way_clear_spec =
     tie.close
-    (tie.spec invariant-loop decreases-loop (λ c. search going) (λ c κs. search rules) (λ c κs. search rules) (λ c κs. search rules) (λ c. search going)
+    (tie.spec invariant-loop-own decreases-loop-own (λ c. search going) (λ c κs. search rules) (λ c κs. search rules) (λ c κs. search rules) (λ c. search going)
     (λ c κs. search rules) loop-less (λ c. search going) (λ c. search going))

@@ -8,27 +8,27 @@ use Rattle.segment_test.proofs.test_tree.Tie as tie
 
 -- what the heads say
 test-runs-requires : tie.Need-test_runs-requires
-test-runs-requires c κs = (c.before.test_heads.ensures.yes (not-false _ c.if-not-test_heads.false)).node-room
+test-runs-requires c κs = (c.test_heads.ensures.yes c.if-not-test_heads.false).node_room
 
 test-nodes-requires : tie.Need-test_nodes-requires
 test-nodes-requires c κs =
-    let here = c.before.before in
-    let heads = here.before.test_heads.ensures.yes (not-false _ here.if-not-test_heads.false) in
-    (heads.block_room, heads.node-room)
+    let here = c in
+    let heads = here.test_heads.ensures.yes here.if-not-test_heads.false in
+    (heads.block_room, heads.node_room)
 
 -- the entry count is one number
 entry-widths-requires : tie.Need-entry_widths-widths-requires
 entry-widths-requires c κs =
-    let runs = c.before.before in
-    let here = runs.before.before in (
-      (here.before.test_heads.ensures.yes (not-false _ here.if-not-test_heads.false)).node-room,
-      omega (arith, (runs.before.test_runs.ensures.yes (not-false _ runs.if-not-test_runs.false)).total, here.before.before.shared_slice_known-3-1.given 0),
+    let runs = c in
+    let here = runs in (
+      (here.test_heads.ensures.yes here.if-not-test_heads.false).node_room,
+      omega (arith, (runs.test_runs.ensures.yes runs.if-not-test_runs.false).total, here.shared_slice_known-3-1.given 0),
     )
 
 lives-requires : tie.Need-lives-lives-requires
 lives-requires c κs =
-    let here = c.before.before.before.before.before in
-    (here.before.test_heads.ensures.yes (not-false _ here.if-not-test_heads.false)).block_room
+    let here = c in
+    (here.test_heads.ensures.yes here.if-not-test_heads.false).block_room
 
 pub test_tree_spec : {M : Type 1} → statement M
 test_tree_spec =

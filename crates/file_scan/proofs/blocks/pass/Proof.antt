@@ -13,10 +13,10 @@ invariant-loop-left file kind count at left₀ bytes₀ place₀ left bytes plac
 abbrev decreases-loop-left : tie.decreases-loop-left
 decreases-loop-left file kind count at left₀ bytes₀ place₀ left bytes place = left
 
-add-bytes : tie.Need-overflow-add-bytes invariant-loop-left decreases-loop-left
+add-bytes : tie.Need-overflow_add-bytes invariant-loop-left decreases-loop-left
 add-bytes c =
-    let turn = c.before.before.before in
-    omega (arith, pass_room turn.before.before.loop-left.invariant c.before.length-1.given.1 turn.block_at.ensures)
+    let turn = c in
+    omega (arith, pass_room turn.loop-left.invariant c.in-Block.is turn.block_at.ensures)
 
 pub pass_spec : {M : Type 1} → statement M
 pass_spec =

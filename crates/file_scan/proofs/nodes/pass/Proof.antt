@@ -15,30 +15,30 @@ invariant-loop-awaited file at awaited₀ nodes₀ entries₀ place₀ awaited n
 abbrev decreases-loop-awaited : tie.decreases-loop-awaited
 decreases-loop-awaited file at awaited₀ nodes₀ entries₀ place₀ awaited nodes entries place = length file - place
 
-add-nodes : tie.Need-overflow-add-nodes invariant-loop-awaited decreases-loop-awaited
+add-nodes : tie.Need-overflow_add-nodes invariant-loop-awaited decreases-loop-awaited
 add-nodes c =
-    let turn = c.before.before.before in
-    omega (arith, present_room turn.before.before.loop-awaited.invariant c.before.count-1.given.1 turn.Node-at.ensures)
+    let turn = c in
+    omega (arith, present_room turn.loop-awaited.invariant c.in-Present.is turn.node_at.ensures)
 
-add-entries : tie.Need-overflow-add-entries invariant-loop-awaited decreases-loop-awaited
+add-entries : tie.Need-overflow_add-entries invariant-loop-awaited decreases-loop-awaited
 add-entries c =
-    let turn = c.before.before.before in
-    omega (arith, present_room turn.before.before.loop-awaited.invariant c.before.count-1.given.1 turn.Node-at.ensures)
+    let turn = c in
+    omega (arith, present_room turn.loop-awaited.invariant c.in-Present.is turn.node_at.ensures)
 
-add-awaited : tie.Need-overflow-add-awaited invariant-loop-awaited decreases-loop-awaited
+add-awaited : tie.Need-overflow_add-awaited invariant-loop-awaited decreases-loop-awaited
 add-awaited c =
-    let turn = c.before.before.before in
-    omega (arith, present_room turn.before.before.loop-awaited.invariant c.before.count-1.given.1 turn.Node-at.ensures)
+    let turn = c in
+    omega (arith, present_room turn.loop-awaited.invariant c.in-Present.is turn.node_at.ensures)
 
 loop-less : tie.Need-loop-awaited-smaller-in-Present invariant-loop-awaited decreases-loop-awaited
 loop-less c =
-    let turn = c.before.before.before in
-    omega (arith, present_room turn.before.before.loop-awaited.invariant c.before.count-1.given.1 turn.Node-at.ensures)
+    let turn = c in
+    omega (arith, present_room turn.loop-awaited.invariant c.in-Present.is turn.node_at.ensures)
 
 loop-less-2 : tie.Need-loop-awaited-smaller invariant-loop-awaited decreases-loop-awaited
 loop-less-2 c =
-    let turn = c.before.before.before in
-    omega (arith, absent_room turn.before.before.loop-awaited.invariant c.before.next-1.given.1 turn.Node-at.ensures)
+    let turn = c in
+    omega (arith, absent_room turn.loop-awaited.invariant c.in-Absent.is turn.node_at.ensures)
 
 pub pass_spec : {M : Type 1} → statement M
 pass_spec =

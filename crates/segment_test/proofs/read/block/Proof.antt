@@ -11,4 +11,4 @@ pub block_spec : {M : Type 1} → statement M
 block_spec =
     tie.close
     (tie.spec (λ c. search rules) (λ c. search rules) (λ c. search rules) (λ c. search rules) (λ c. search rules)
-    (λ c. ap (λ (i : ℕ). get_or c.before.args.blocks.now i 0) (omega arith)))
+    (λ c. ap (λ (i : ℕ). get_or c.args.blocks.now i 0) (omega arith)))

@@ -19,5 +19,5 @@ pub test_run_spec : {M : Type 1} → statement M
 test_run_spec =
     tie.close
     (tie.spec invariant-loop-j decreases-loop-j (λ c. (search rules, search steps)) (λ c. search rules) (λ c κs. search rules) (λ c. search steps) (λ c κs. search rules) (λ c. search steps)
-    (λ c. search rules) (λ c. search rules) (λ c. let turn = c.before.before in
-    (search rules, run_more turn.before.before.before.loop-j.invariant.1 turn.before.test_entry.ensures (not-false _ turn.if-not-test_entry.false) c.before.follows.ensures (not-false _ c.if-not-follows.false))) (λ c. search steps))
+    (λ c. search rules) (λ c. search rules) (λ c. let turn = c in
+    (search rules, run_more turn.loop-j.invariant.1 turn.test_entry.ensures turn.if-not-test_entry.false c.follows.ensures c.if-not-follows.false)) (λ c. search steps))

@@ -17,9 +17,9 @@ entry_widths_spec =
     tie.close
     (tie.spec invariant-loop-row decreases-loop-row (λ c κs. search rules) (λ c. (omega arith, widths-none)) (λ c. search rules) (λ c κs. search rules) (λ c. search rules) (λ c κs. search rules)
     (λ c. search rules) (λ c κs. search rules) (λ c κs. search rules)
-    (λ c κs. let turn = c.before.before.before.before in
-    widths_fit turn.before.loop-row.invariant.1 c.before.node-many.ensures turn.before.before.get-used.ensures turn.loop-row-test.true turn.before.before.before.before.requires.1)
+    (λ c κs. let turn = c in
+    widths_fit turn.loop-row.invariant.1 c.node-many.ensures turn.get-used.ensures turn.loop-row-test.true turn.requires.1)
     (λ c. search rules) (λ c. search rules)
-    (λ c. let turn = c.before.before.before.before in
-    (omega arith, widths_more turn.before.before.loop-row.invariant.1 c.before.before.node-many.ensures turn.node-min.ensures c.before.before.before.node-max.ensures c.before.lasts.ensures c.plus_times-sum.ensures))
+    (λ c. let turn = c in
+    (omega arith, widths_more turn.loop-row.invariant.1 c.node-many.ensures turn.node-min.ensures c.node-max.ensures c.lasts.ensures c.plus_times-sum.ensures))
     (λ c. search (widths_all, rules)))

@@ -19,7 +19,7 @@ lives_spec =
     tie.close
     (tie.spec invariant-loop-k decreases-loop-k (λ c. (omega arith, words_start _, omega arith)) (λ c κs. search rules) (λ c κs. search rules) (λ c κs. search rules) (λ c κs. search rules)
     (λ c. search rules) (λ c. search rules)
-    (λ c. let turn = c.before.before.before.before.before.loop-k in
-    (omega arith, lives_more c.before.before.before.before.before.before.before.args.blocks.now turn.k _ _ _ _ turn.invariant.1 c.before.before.before.block-created.ensures c.before.before.block-destroyed.ensures (omega (arith, c.plus_one-sum.ensures.0, c.before.lasts.ensures)), omega arith))
-    (λ c. let e : c.before.loop-k.k ≡ c.before.before.before.args.n = omega arith in
-    rw e at c.before.loop-k.invariant.1))
+    (λ c. let turn = c.loop-k in
+    (omega arith, lives_more c.args.blocks.now turn.k _ _ _ _ turn.invariant.1 c.block-created.ensures c.block-destroyed.ensures (omega (arith, c.plus_one-sum.ensures.0, c.lasts.ensures)), omega arith))
+    (λ c. let e : c.loop-k.k ≡ c.args.n = omega arith in
+    rw e at c.loop-k.invariant.1))

@@ -19,7 +19,7 @@ pub plus_times_spec : {M : Type 1} → statement M
 plus_times_spec =
     tie.close
     (tie.spec invariant-loop-j decreases-loop-j (λ c. (omega arith, omega arith, omega arith)) (λ c κs. search rules) (λ c. search rules) (λ c. search rules)
-    (λ c. let turn = c.before.before.loop-j in
+    (λ c. let turn = c.loop-j in
     (omega arith, times_more _ _ _ turn.j _ turn.invariant.1 c.plus_one-sum.ensures.0, omega arith))
-    (λ c. let e : c.before.loop-j.j ≡ c.before.before.args.n = omega arith in
-    (rw e at c.before.loop-j.invariant.1, omega arith)))
+    (λ c. let e : c.loop-j.j ≡ c.args.n = omega arith in
+    (rw e at c.loop-j.invariant.1, omega arith)))

@@ -7,4 +7,4 @@ use Rattle.segment_test.proofs.total.same.Tie as tie
 pub same_spec : {M : Type 1} → statement M
 same_spec =
     tie.close
-    (tie.spec (λ c. same_apart _ _ _ _ (omega arith) (omega arith) c.if-a-b.true) (λ c. same_rest _ _ _ _ (omega arith) (omega arith) c.before.before.if-a-b.false))
+    (tie.spec (λ c. same_apart _ _ _ _ (omega arith) (omega arith) c.if-a-b.true) (λ c. same_rest _ _ _ _ (omega arith) (omega arith) c.if-a-b.false))

@@ -18,6 +18,6 @@ test_runs_spec =
     (tie.spec invariant-loop-k decreases-loop-k (λ c κs. search rules) (λ c κs. search rules) (λ c. (search rules, search testing_runs)) (λ c. search rules) (λ c κs. search rules)
     (λ c. search testing_runs) (λ c. search rules) (λ c κs. search rules) (λ c. search rules) (λ c. search testing_runs) (λ c. search rules) (λ c. search rules)
     (λ c. search rules)
-    (λ c. let turn = c.before.before.before in
-    (search rules, tiled_more turn.before.before.loop-k.invariant.1 turn.node.ensures c.before.before.if-node-begin.false c.before.node-many.ensures c.if-total-begin.false refl))
+    (λ c. let turn = c in
+    (search rules, tiled_more turn.loop-k.invariant.1 turn.node.ensures c.if-node-begin.false c.node-many.ensures c.if-total-begin.false refl))
     (λ c. search testing_runs))

@@ -27,4 +27,4 @@ walk-below t = and 3 walk-kinds.ps (falls 3 walk-kinds.ps ◌<◌ μ-walk t) wal
 
 pub +walk_spec : {M : Type 1} → statement M
 +walk_spec =
-    close μ-walk λ t. walk-lts.spec (test-node-reads.Asked, test-node-reads.Learnt, node-reads.Asked, node-reads.Learnt, walk-below t, walk.Post) (walk_at t) walk.Post (λ c. search steps) (λ c. search steps) (λ c κs. search rules) (λ c. search steps) (λ c. search rules) (λ c. search rules) (λ c. search steps) (λ c. search rules) (λ c. search rules) (λ c κs. omega (arith, (c.before.before.test-node.ensures.yes (not-false _ c.before.if3.false)).row.used)) (λ c κs. omega (arith, (c.before.before.before.test-node.ensures.yes (not-false _ c.before.before.if3.false)).row.used)) (λ c. search rules) (λ c κs. search rules) (λ c κs. search rules) (λ c. search steps)
+    close μ-walk λ t. walk-lts.spec (test-node-reads.Asked, test-node-reads.Learnt, node-reads.Asked, node-reads.Learnt, walk-below t, walk.Post) (walk_at t) walk.Post (λ c. search steps) (λ c. search steps) (λ c κs. search rules) (λ c. search steps) (λ c. search rules) (λ c. search rules) (λ c. search steps) (λ c. search rules) (λ c. search rules) (λ c κs. omega (arith, (c.test_node.ensures.yes c.if-not-test_node.false).row.used)) (λ c κs. omega (arith, (c.test_node.ensures.yes c.if-not-test_node.false).row.used)) (λ c. search rules) (λ c κs. search rules) (λ c κs. search rules) (λ c. search steps)

@@ -10,13 +10,13 @@ ruleset steps = (testing_node, not-true, not-false)
 
 -- a row that stands is in use
 node-requires : tie.Need-node-first-requires
-node-requires c κs = omega (arith, (c.before.test_row.ensures.yes (not-false _ c.if-not-test_row.false)).used)
+node-requires c κs = omega (arith, (c.test_row.ensures.yes c.if-not-test_row.false).used)
 
 node-requires-2 : tie.Need-node-many-requires
-node-requires-2 c κs = omega (arith, (c.before.before.test_row.ensures.yes (not-false _ c.before.if-not-test_row.false)).used)
+node-requires-2 c κs = omega (arith, (c.test_row.ensures.yes c.if-not-test_row.false).used)
 
 test-run-requires : tie.Need-test_run-requires
-test-run-requires c κs = (search rules, c.before.inside.ensures.yes (not-false _ c.if-not-inside.false))
+test-run-requires c κs = (search rules, c.inside.ensures.yes c.if-not-inside.false)
 
 pub test_node_spec : {M : Type 1} → statement M
 test_node_spec =

@@ -1,8 +1,8 @@
 -- `walk::test_nodes` meets its contract: a walk from the root leaves one row of the budget. Assumes nothing.
 use borrow.Author.Rules.{rules}
 use Rattle.segment_test.proofs.Walking.{nodes_rest}
-use Rattle.segment_test.proofs.walk-rest.test_nodes.Statement.{statement}
-use Rattle.segment_test.proofs.walk-rest.test_nodes.Tie as tie
+use Rattle.segment_test.proofs.walk.test_nodes.Statement.{statement}
+use Rattle.segment_test.proofs.walk.test_nodes.Tie as tie
 
 pub test_nodes_spec : {M : Type 1} → statement M
 test_nodes_spec =

@@ -4,5 +4,5 @@ use Rattle.segment_walk.proofs.Windows.{in_window}
 use Rattle.segment_walk.proofs.rows.in_window.Statement.{statement}
 use Rattle.segment_walk.proofs.rows.in_window.Tie as tie
 
-pub in-window-spec : {M : Type 1} → statement M
-in-window-spec = tie.close (tie.spec (λ c κs. search rules) (λ c κs. search rules) (λ c κs. search rules) (λ c. search in_window))
+pub in_window_spec : {M : Type 1} → statement M
+in_window_spec = tie.close (tie.spec (λ c κs. search rules) (λ c κs. search rules) (λ c κs. search rules) (λ c. search in_window))

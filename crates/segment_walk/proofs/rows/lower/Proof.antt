@@ -13,10 +13,10 @@ abbrev decreases-loop-lo : tie.decreases-loop-lo
 decreases-loop-lo entries key lo₀ hi₀ lo hi = hi - lo
 
 loop-again : tie.Need-loop-lo-preserved-then-entries-mid invariant-loop-lo decreases-loop-lo
-loop-again c = between_up c.before.before.before.loop-lo.invariant (search rules) (search rules) refl c.if-entries-mid.true
+loop-again c = between_up c.loop-lo.invariant (search rules) (search rules) refl c.if-entries-mid.true
 
 loop-again-2 : tie.Need-loop-lo-preserved invariant-loop-lo decreases-loop-lo
-loop-again-2 c = between_down c.before.before.before.loop-lo.invariant (search rules) (search rules) refl c.if-entries-mid.false
+loop-again-2 c = between_down c.loop-lo.invariant (search rules) (search rules) refl c.if-entries-mid.false
 
 pub lower_spec : {M : Type 1} → statement M
 lower_spec =

@@ -16,6 +16,6 @@ lower_near_spec =
     tie.close
     (tie.spec invariant-loop-row decreases-loop-row (λ c κs. search rules) (λ c. search parting) (λ c. search parting) (λ c. search rules) (λ c. search rules)
     (λ c. search rules) (λ c. search rules) (λ c. search rules) (λ c. search rules)
-    (λ c. between_found c.before.before.before.before.loop-row.invariant (search rules) c.if-key-entries.true) (λ c. search rules) (λ c. search rules)
+    (λ c. between_found c.loop-row.invariant (search rules) c.if-key-entries.true) (λ c. search rules) (λ c. search rules)
     (λ c. search parting)
     (λ c κs. search rules) (λ c. search parting))
