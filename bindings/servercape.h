@@ -1,4 +1,4 @@
-/* The board's history, for C. Link target/staticlib/libservercape.a, which `rt staticlib servercape` writes; or, once `bindings/install PREFIX` has put it
+/* The board's history, for C. Link target/staticlib/libservercape.a, which `tools/staticlib servercape` writes; or, once `bindings/install PREFIX` has put it
    somewhere, what `pkg-config --cflags --libs servercape` says. docs/RULES.md has the rules, and every refusal.
 
    Every call is proved to give its answer for all slices of any length and content. It returns 0, or the number of the refusal; then nothing

@@ -1,5 +1,5 @@
-/* The calls of servercape.h after one test, for C. Link target/staticlib/libservercape_tested.a beside libservercape.a: `rt staticlib servercape_tested` and
-   `rt staticlib servercape` write them.
+/* The calls of servercape.h after one test, for C. Link target/staticlib/libservercape_tested.a beside libservercape.a: `tools/staticlib servercape_tested` and
+   `tools/staticlib servercape` write them.
 
    Every call of servercape.h but open and load tests all rows of its tables, for refusal 2. The calls here do not: they take the state that the test found, as
    a number.

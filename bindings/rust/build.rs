@@ -1,5 +1,5 @@
 //! Links `libservercape.a` and `libservercape_tested.a`: from the folder that SERVERCAPE_LIB names, or else from the repository's target/staticlib, where
-//! `rt staticlib` writes them.
+//! `tools/staticlib` writes them.
 use std::{env, path::PathBuf, process};
 
 fn main() {
@@ -16,7 +16,7 @@ fn main() {
         println!("cargo:rerun-if-changed={}", library.display());
         if !library.exists() {
             eprintln!("{} is not there.", library.display());
-            eprintln!("Let SERVERCAPE_LIB name the folder that has it, or write it in the repository by `rt staticlib {name}`.");
+            eprintln!("Let SERVERCAPE_LIB name the folder that has it, or write it in the repository by `tools/staticlib {name}`.");
             process::exit(1);
         }
         println!("cargo:rustc-link-lib=static={name}");

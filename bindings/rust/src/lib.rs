@@ -118,7 +118,7 @@
 //! # The library
 //!
 //! The build links `libservercape.a` and `libservercape_tested.a` from the folder that the environment variable `SERVERCAPE_LIB` names, or else from the
-//! repository's `target/staticlib`, where `rt staticlib` writes them. Once written they need no Rattle.
+//! repository's `target/staticlib`, where `tools/staticlib` writes them. Once written they need no Rattle.
 #![cfg_attr(not(any(feature = "std", test)), no_std)]
 #![warn(missing_docs)]
 

@@ -8,7 +8,6 @@
 
 #![tactic(auto)]
 
-
 pub mod blocks;
 pub mod nodes;
 pub mod rows;

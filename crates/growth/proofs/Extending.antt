@@ -167,7 +167,7 @@ module _ {t t' : Tables} (xb : Extends t.blocks t'.blocks) (xn : Extends t.nodes
   tree_kept kind link lo hi (segment.node es l r) h =
       let left : left_at t'.nodes link ≡ left_at t.nodes link = xn.same _ in
       let right : right_at t'.nodes link ≡ right_at t.nodes link = xn.same _ in
-      (row_kept h.0, rw left (tree_kept kind _ lo (segment.mid lo hi) l h.1), rw right (tree_kept kind _ (segment.mid lo hi) hi r h.2))
+      (row_kept h.0, rw left (tree_kept kind (left_at t.nodes link) lo (segment.mid lo hi) l h.1), rw right (tree_kept kind (right_at t.nodes link) (segment.mid lo hi) hi r h.2))
 
   consecutive_kept : Consecutive t.nodes → Consecutive t'.nodes
   consecutive_kept h =

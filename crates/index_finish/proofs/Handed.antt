@@ -27,6 +27,7 @@ use Rattle.index_finish.proofs.Agreeing.{unshared_all}
 -- pieces that follow one another share no cell
 follow_parted : (t : List ℕ) (low : ℕ) (xs : List ℕ) → Follow low (map (piece_at t) xs) → (i j : ℕ) → Mem i xs → Mem j xs → (i ≡ j → ⊥) → (cell : ℕ) → PieceCell t i cell
     → PieceCell t j cell → ⊥
+follow_parted t low mathlib.Core.List.[] f i j x6 _ ne cell p q = elim x6 [ ]
 follow_parted t low (x ∷ xs) f i j (here e) (here d) ne cell p q = ne (e ∙ sym d)
 follow_parted t low (x ∷ xs) f i j (here e) (there n) ne cell p q =
     let p' : PieceCell t x cell = rw e at p in omega (arith, follow_above (piece_at t) (row_end (piece_at t x)) xs j f.2 n, p'.below, q.from)

@@ -38,7 +38,10 @@ unfolding in_order count_from
 in-order-last n zero = let z : n + 0 ≡ n = omega arith in rw z
 in-order-last n (suc many) =
     let z : n + suc many ≡ suc n + many = omega arith in
-    rw (le-ltb (n + suc many) n (omega arith), z) (ap (λ (r : List ℕ). n ∷ r) (in-order-last (suc n) many))
+    let behind : ltb (n + suc many) n ≡ false = le-ltb (n + suc many) n (omega arith) in
+    ap (λ (b : Bool). cond b ((n + suc many) ∷ n ∷ count_from (suc n) many) (n ∷ in_order (λ k. k) (n + suc many) (count_from (suc n) many))) behind
+    ∙ ap (λ (k : ℕ). n ∷ in_order (λ k. k) k (count_from (suc n) many)) z
+    ∙ ap (λ (r : List ℕ). n ∷ r) (in-order-last (suc n) many)
 
 -- its links in order
 pub tree_to_rows : (n : ℕ) → rows (tree_to n) ≡ count_from 1 n

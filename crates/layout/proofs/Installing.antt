@@ -63,7 +63,7 @@ module _ (t : closed.Tables) (blocks' : List ℕ) (same : (k : ℕ) → closed.f
   unfolding closed.TreeAt
   tree_same kind link lo hi segment.hole h = h
   tree_same kind link lo hi (segment.node es l r) h =
-      (row_same h.0, tree_same kind _ lo (segment.mid lo hi) l h.1, tree_same kind _ (segment.mid lo hi) hi r h.2)
+      (row_same h.0, tree_same kind (closed.left_at t.nodes link) lo (segment.mid lo hi) l h.1, tree_same kind (closed.right_at t.nodes link) (segment.mid lo hi) hi r h.2)
 
   closed_same : {kind e : ℕ} {T : segment.Tree} → closed.Closed t kind e T → closed.Closed other kind e T
   closed_same {kind} {e} {T} h = record {

@@ -62,7 +62,7 @@ sorted_all {P} key h = go all_nil h
   where
     go : {ys xs : List ℕ} → All P ys → All P xs → All P (sorted_onto key ys xs)
     go a all_nil = a
-    go a (all_cons {x} p ps) = go (insert_all key x p a) ps
+    go {ys = ys} a (all_cons {x} p ps) = go {ys = insert key x ys} (insert_all key x p a) ps
 
 -- ── its rows ──
 

@@ -4,14 +4,14 @@ use Rattle.file_load.proofs.Building.{build_halves, build_judged}
 use Rattle.file_load.proofs.build.Statement.{statement}
 use Rattle.file_load.proofs.build.Tie as tie
 
-returns-2 : tie.Need-returns-2
+returns-2 : tie.Need-returns
 returns-2 c =
-    let headed = c.before.before.before.before.before.before in
-    let ended = headed.before.before in
-    let nodes = ended.before.before.before.before.before in
-    let blocks = nodes.before.before.before.before.before.before.before.before in
-    build_judged _ _ _ _ _ _ blocks.fill-blocks.ensures nodes.fill-nodes.ensures ended.if1.false
-    headed.put-head.ensures c.judge.ensures
+    let headed = c in
+    let ended = headed in
+    let nodes = ended in
+    let blocks = nodes in
+    build_judged _ _ _ _ _ _ blocks.fill_blocks.ensures nodes.fill_nodes-end.ensures ended.if-end-eq0.false
+    headed.put_head.ensures c.judge.ensures
 
 pub build_spec : {M : Type 1} → statement M
 build_spec =

@@ -15,7 +15,7 @@ loop-again-2 : tie.Need-loop-i-preserved invariant-loop-i decreases-loop-i
 loop-again-2 c =
     let counted = c in
     let read = counted in
-    along_count read.loop-i.invariant (search rules) read.read.ensures (search rules) counted.common-part.ensures
+    along_count read.loop-i.invariant (search rules) read.read-row.ensures (search rules) counted.common-part.ensures
     c.plus.ensures (search rules)
 
 pub hand_on_spec : {M : Type 1} → statement M

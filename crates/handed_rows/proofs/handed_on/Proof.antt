@@ -1,4 +1,6 @@
 -- `handed_rows::handed_on` meets its contract: each return is a step of `Handing`. Assumes nothing.
+use mathlib.Core.Bool.{not}
+use mathlib.Core.Path.{ap}
 use borrow.Author.Rules.{rules}
 use Rattle.handed_rows.proofs.Handing.{handed-not, handed-told}
 use Rattle.handed_rows.proofs.handed_on.Statement.{statement}
@@ -10,7 +12,7 @@ returns-2 c =
     let pieces = taken in
     let rows = pieces in
     let asked = rows in
-    handed-told asked.ends_apart.ensures asked.if-not-ends_apart.false rows.tally_rows.ensures pieces.get-m.ensures pieces.tally_pieces.ensures
+    handed-told asked.ends_apart.ensures (ap not asked.if-not-ends_apart.false) rows.tally_rows.ensures pieces.get-m.ensures pieces.tally_pieces.ensures
     taken.all_taken-all.ensures c.clear_order.ensures
 
 pub handed_on_spec : {M : Type 1} → statement M

@@ -14,10 +14,10 @@ decreases-loop-k blocks₀ n marks k₀ blocks k = n - k
 loop-again : tie.Need-loop-k-preserved-then-row invariant-loop-k decreases-loop-k
 loop-again c =
     let read = c in
-    rows-count read.loop-k.invariant (search rules) read.read.ensures (search rules) c.hand_on.ensures
+    rows-count read.loop-k.invariant (search rules) read.read-row.ensures (search rules) c.hand_on.ensures
 
 loop-again-2 : tie.Need-loop-k-preserved invariant-loop-k decreases-loop-k
-loop-again-2 c = let read = c in rows_pass read.loop-k.invariant (search rules) read.read.ensures
+loop-again-2 c = let read = c in rows_pass read.loop-k.invariant (search rules) read.read-row.ensures
 
 pub tally_rows_spec : {M : Type 1} → statement M
 tally_rows_spec =

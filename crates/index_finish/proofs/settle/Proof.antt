@@ -5,24 +5,24 @@ use Rattle.index_finish.proofs.Settling.{settle_done}
 use Rattle.index_finish.proofs.settle.Statement.{statement}
 use Rattle.index_finish.proofs.settle.Tie as tie
 
-nodes_long : tie.Need-same-length-3
+nodes_long : tie.Need-shape_of-nodes
 nodes_long c = search rules
 
-entries_long : tie.Need-same-length-4
+entries_long : tie.Need-shape_of-entries
 entries_long c = search rules
 
 returns : tie.Need-returns
 returns c =
-    let zeroed = c.before.before in
-    let closed = zeroed.before.before.before.before.before.before in
-    let counted = closed.before.before.before.before in
-    let stated = counted.before.before.before.before in
-    let extracted = stated.before.before.before.before in
-    let kind = extracted.before.before.before in
-    let end = kind.before.before in
-    let start = end.before.before.before.before.before.before in
-    settle_done (omega (arith, start.well-formed)) (omega (arith, start.well-formed)) (nodes_long c) (entries_long c) end.end.ensures kind.kind.ensures
-    extracted.extract-members.ensures stated.set-state.ensures counted.count.ensures closed.close-tree.ensures zeroed.zero.ensures
+    let zeroed = c in
+    let closed = zeroed in
+    let counted = closed in
+    let stated = counted in
+    let extracted = stated in
+    let kind = extracted in
+    let end = kind in
+    let start = end in
+    settle_done (omega (arith, start.well_formed)) (omega (arith, start.well_formed)) (nodes_long c) (entries_long c) end.end-end.ensures kind.kind.ensures
+    extracted.extract_members.ensures stated.set_state.ensures counted.count-all.ensures closed.close_tree.ensures zeroed.zero.ensures
 
 pub settle_spec : {M : Type 1} → statement M
 settle_spec =

@@ -5,11 +5,11 @@ use Rattle.index_record.proofs.Judging.{spacing, sum_fits}
 use Rattle.index_record.proofs.space_refusal.Statement.{statement}
 use Rattle.index_record.proofs.space_refusal.Tie as tie
 
-add-exceeds : tie.Need-overflow-add-exceeds
+add-exceeds : tie.Need-overflow_add-count
 add-exceeds c =
-    let counted = c.before.before in
-    let start = counted.before.before.before.before.before.before.before in
-    omega (arith, sum_fits counted.before.rows2.result counted.count.result start.args.made c.before.exceeds.ensures c.if2.false)
+    let counted = c in
+    let start = counted in
+    omega (arith, sum_fits counted.rows-space.result counted.count-count.result start.args.made c.exceeds.ensures c.if-exceeds.false)
 
 pub space_refusal_spec : {M : Type 1} → statement M
 space_refusal_spec =

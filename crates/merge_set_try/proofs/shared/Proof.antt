@@ -6,12 +6,12 @@ use borrow.Author.Rules.{rules}
 use Rattle.merge_set_try.proofs.shared.Statement.{statement}
 use Rattle.merge_set_try.proofs.shared.Tie as tie
 
-abbrev invariant-loop : tie.invariant-loop
-invariant-loop table₀ i₀ table i = (0 < i) × (i ≤ 92) × (length table ≡ length table₀)
+abbrev invariant-loop-i : tie.invariant-loop-i
+invariant-loop-i table₀ i₀ table i = (0 < i) × (i ≤ 92) × (length table ≡ length table₀)
 
-abbrev decreases-loop : tie.decreases-loop
-decreases-loop table₀ i₀ table i = 92 - i
+abbrev decreases-loop-i : tie.decreases-loop-i
+decreases-loop-i table₀ i₀ table i = 92 - i
 
 pub shared_spec : {M : Type 1} → statement M
 shared_spec =
-    tie.close (tie.spec invariant-loop decreases-loop (λ c κs. search rules) (λ c. search rules) (λ c. search rules) (λ c. search rules) (λ c. search rules) (λ c. search rules) (λ c κs. search rules) (λ c. search rules) (λ c. search rules) (λ c. search rules) (λ c κs. search rules) (λ c. search rules) (λ c. search rules))
+    tie.close (tie.spec invariant-loop-i decreases-loop-i (λ c κs. search rules) (λ c. search rules) (λ c. search rules) (λ c. search rules) (λ c. search rules) (λ c. search rules) (λ c κs. search rules) (λ c. search rules) (λ c. search rules) (λ c. search rules) (λ c κs. search rules) (λ c. search rules) (λ c. search rules))

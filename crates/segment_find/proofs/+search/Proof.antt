@@ -32,12 +32,12 @@ pub +search_spec : {M : Type 1} → statement M
     search'.Post
     (λ c κs. search rules)
     (λ c. search searching)
-    (λ c. omega (arith, deep_place (present c.before.absent.ensures c.if1.false) c.before.before.before.requires.1))
-    (λ c. omega (arith, deep_place (present c.before.absent.ensures c.if1.false) c.before.before.before.requires.1))
+    (λ c. omega (arith, deep_place (present c.absent.ensures c.if-absent.false) c.requires.1))
+    (λ c. omega (arith, deep_place (present c.absent.ensures c.if-absent.false) c.requires.1))
     (λ c κs. search rules)
     (λ c. search rules)
     (λ c κs.
-    let there = present c.before.before.before.absent.ensures c.before.before.if1.false in
-    let start = c.before.before.before.before.before in
-    (omega (arith, start.requires.0, half_falls _ _ _ _ there c.before.half.ensures), deep_half _ _ there start.requires.1 c.before.half.ensures))
+    let there = present c.absent.ensures c.if-absent.false in
+    let start = c in
+    (omega (arith, start.requires.0, half_falls _ _ _ _ there c.half-below.ensures), deep_half _ _ there start.requires.1 c.half-below.ensures))
     (λ c. search searching))

@@ -5,16 +5,16 @@ use Rattle.segment_find.proofs.Extending.{Extended, extended_none, extended_more
 use Rattle.segment_find.proofs.extend_from_self.Statement.{statement}
 use Rattle.segment_find.proofs.extend_from_self.Tie as tie
 
-abbrev invariant-loop : tie.invariant-loop
-invariant-loop entries answer₀ at from count i₀ answer i = (i ≤ count) × Extended entries answer₀ at from answer i
+abbrev invariant-loop-i : tie.invariant-loop-i
+invariant-loop-i entries answer₀ at from count i₀ answer i = (i ≤ count) × Extended entries answer₀ at from answer i
 
-abbrev decreases-loop : tie.decreases-loop
-decreases-loop entries answer₀ at from count i₀ answer i = count - i
+abbrev decreases-loop-i : tie.decreases-loop-i
+decreases-loop-i entries answer₀ at from count i₀ answer i = count - i
 
 pub extend_from_self_spec : {M : Type 1} → statement M
 extend_from_self_spec =
     tie.close
-    (tie.spec invariant-loop decreases-loop (λ c. search rules) (λ c. (search rules, extended_none)) (λ c. search rules) (λ c. search rules) (λ c. search rules)
+    (tie.spec invariant-loop-i decreases-loop-i (λ c. search rules) (λ c. (search rules, extended_none)) (λ c. search rules) (λ c. search rules) (λ c. search rules)
     (λ c. search rules) (λ c. search rules) (λ c. search rules) (λ c. search rules) (λ c. search rules) (λ c. search rules) (λ c. search rules)
-    (λ c. search rules) (λ c. (search rules, extended_more c.before.before.loop.invariant.1)) (λ c. search rules)
-    (λ c. extended_all c.before.loop.invariant.1 (search rules) (search rules)))
+    (λ c. search rules) (λ c. (search rules, extended_more c.loop-i.invariant.1)) (λ c. search rules)
+    (λ c. extended_all c.loop-i.invariant.1 (search rules) (search rules)))

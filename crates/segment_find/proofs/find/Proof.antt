@@ -7,5 +7,5 @@ use Rattle.segment_find.proofs.find.Tie as tie
 pub find_spec : {M : Type 1} → statement M
 find_spec =
     tie.close
-    (tie.spec (λ c κs. search rules) (λ c κs. find_deep c.before.root.ensures (search rules)) (λ c κs. search finding) (λ c. search rules)
+    (tie.spec (λ c κs. search rules) (λ c κs. find_deep c.root-root.ensures (search rules)) (λ c κs. search finding) (λ c. search rules)
     (λ c κs. search finding) (λ c. search rules) (λ c. search rules) (λ c. search finding) (λ c. search finding))

@@ -5,21 +5,21 @@ use Rattle.segment_find.proofs.Windowing.{Windows, windows_empty, windows_more, 
 use Rattle.segment_find.proofs.windows.Statement.{statement}
 use Rattle.segment_find.proofs.windows.Tie as tie
 
-abbrev invariant-loop : tie.invariant-loop
-invariant-loop nodes entries notes₀ depth start stop places k₀ count₀ room₀ notes k count room =
+abbrev invariant-loop-k : tie.invariant-loop-k
+invariant-loop-k nodes entries notes₀ depth start stop places k₀ count₀ room₀ notes k count room =
     Windows nodes entries notes₀ depth start stop places notes k count room
 
-abbrev decreases-loop : tie.decreases-loop
-decreases-loop nodes entries notes₀ depth start stop places k₀ count₀ room₀ notes k count room = depth - k
+abbrev decreases-loop-k : tie.decreases-loop-k
+decreases-loop-k nodes entries notes₀ depth start stop places k₀ count₀ room₀ notes k count room = depth - k
 
 pub windows_spec : {M : Type 1} → statement M
 windows_spec =
     tie.close
-    (tie.spec invariant-loop decreases-loop (λ c. search windowing) (λ c. search rules) (λ c. search rules) (λ c κs. search rules) (λ c. search rules)
+    (tie.spec invariant-loop-k decreases-loop-k (λ c. search windowing) (λ c. search rules) (λ c. search rules) (λ c κs. search rules) (λ c. search rules)
     (λ c. search windowing) (λ c. search rules) (λ c. search rules)
-    (λ c. windows_empty (search rules) (search rules) (search rules) c.before.before.before.in-small-window.ensures c.if2.true) (λ c. search rules)
+    (λ c. windows_empty (search rules) (search rules) (search rules) c.in_small_window-rows.ensures c.if-many-eq0.true) (λ c. search rules)
     (λ c. search rules) (λ c. search rules) (λ c. search rules) (λ c. search rules) (λ c. search rules) (λ c. search rules) (λ c. search rules)
     (λ c.
-    let call = c.before.before.before in
-    windows_more call.before.before.before.loop.invariant (search rules) (search rules) call.in-small-window.ensures (search rules))
+    let call = c in
+    windows_more call.loop-k.invariant (search rules) (search rules) call.in_small_window-rows.ensures (search rules))
     (λ c. search windowing))

@@ -30,20 +30,20 @@ pub +hold_tree_spec : {M : Type 1} → statement M
 +hold_tree_spec =
     close μ-hold-tree λ t. hold-tree-lts.spec (absent-reads.Asked, absent-reads.Learnt, rows-of-reads.Asked, rows-of-reads.Learnt, hold-run-reads.Asked, hold-run-reads.Learnt, half-reads.Asked, half-reads.Learnt, unused-reads.Asked, unused-reads.Learnt, hold-tree-below t, hold-tree.Post) (hold-tree-at t) hold-tree.Post
     (λ c κs. search rules) (λ c. search halves) (λ c κs. search rules)
-    (λ c κs. omega (arith, (present c.before.before.absent.ensures c.before.if1.false).wide)) (λ c. search halves)
-    (λ c. omega (arith, (present c.before.before.before.before.before.absent.ensures c.before.before.before.before.if1.false).wide))
+    (λ c κs. omega (arith, (present c.absent.ensures c.if-absent.false).wide)) (λ c. search halves)
+    (λ c. omega (arith, (present c.absent.ensures c.if-absent.false).wide))
     (λ c. search halves)
     (λ c κs. search rules) (λ c κs. search rules)
     (λ c κs.
-    let test = c.before.before.before.before.before.before.before in
-    (omega (arith, test.before.before.before.before.before.requires.0, half_falls _ _ _ _ (present test.before.absent.ensures test.if1.false) c.before.half.ensures), tt))
+    let test = c in
+    (omega (arith, test.requires.0, half_falls _ _ _ _ (present test.absent.ensures test.if-absent.false) c.half-right.ensures), tt))
     (λ c. search halves) (λ c κs. search rules)
     (λ c κs.
-    let test = c.before.before.before.before.before.before.before.before.before.before.before.before.before in
-    (omega (arith, test.before.before.before.before.before.requires.0, half_falls _ _ _ _ (present test.before.absent.ensures test.if1.false) c.half2.ensures), tt))
+    let test = c in
+    (omega (arith, test.requires.0, half_falls _ _ _ _ (present test.absent.ensures test.if-absent.false) c.half-left.ensures), tt))
     (λ c.
-    let upper = c.before.before.before.before.before.before in
-    let test = upper.before.before.before.before.before.before.before.before in
-    tree_wide test.before.absent.ensures test.if1.false upper.before.before.before.before.before.before.before.rows_of.ensures upper.before.before.before.before.before.before.hold-run.ensures upper.before.before.before.before.if2.false
-    upper.before.before.before.if3.false upper.before.before.half.ensures upper.before.unused.ensures upper.hold-tree.ensures c.before.before.before.before.if4.false
-    c.before.half2.ensures c.hold-tree2.ensures)
+    let upper = c in
+    let test = upper in
+    tree_wide test.absent.ensures test.if-absent.false upper.rows_of-rows.ensures upper.hold_run-own.ensures upper.if-not-own.false
+    upper.if-max-min-le1.false upper.half-right.ensures upper.unused-fresh.ensures upper.hold_tree-above.ensures c.if-not-above.false
+    c.half-left.ensures c.hold_tree.ensures)

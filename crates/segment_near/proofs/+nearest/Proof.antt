@@ -52,7 +52,7 @@ pub +nearest_spec : {M : Type 1} → statement M
     (λ c κs. search rules)
     (λ c κs. search rules)
     (λ c κs.
-    let test = c.before.before.before in
-    (omega (arith, half_falls _ _ _ _ (present test.before.absent.ensures test.if1.false) c.half.ensures, test.before.before.before.before.requires.0), tt))
+    let test = c in
+    (omega (arith, half_falls _ _ _ _ (present test.absent.ensures test.if-absent.false) c.half-half.ensures, test.requires.0), tt))
     (λ c κs. search rules)
     (λ c. search approaching))

@@ -5,4 +5,4 @@ use Rattle.segment_tree.proofs.has_halves.Statement.{statement}
 use Rattle.segment_tree.proofs.has_halves.Tie as tie
 
 pub has_halves_spec : {M : Type 1} → statement M
-has_halves_spec = tie.close (tie.spec (λ c. search rules) (λ c. halves_wide _ _ c.if1.true) (λ c. halves-none _ _ c.if1.false))
+has_halves_spec = tie.close (tie.spec (λ c. search rules) (λ c. halves_wide _ _ c.if-min-max.true) (λ c. halves-none _ _ c.if-min-max.false))

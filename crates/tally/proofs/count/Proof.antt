@@ -6,4 +6,4 @@ use Rattle.tally.proofs.count.Tie as tie
 
 pub count_spec : {M : Type 1} → statement M
 count_spec =
-    tie.close (tie.spec (λ c κs. search rules) (λ c κs. search rules) (λ c κs. search rules) (λ c. search rules) (λ c. count_put c.before.before.before.before.before.before.before.before.args.tally.now c.before.before.before.before.before.before.before.before.args.column c.before.before.before.before.before.get.ensures c.before.before.before.before.raised.ensures c.before.before.put.ensures))
+    tie.close (tie.spec (λ c κs. search rules) (λ c κs. search rules) (λ c κs. search rules) (λ c. search rules) (λ c. count_put c.args.tally.now c.args.column c.get.ensures c.raised-more.ensures c.put.ensures))

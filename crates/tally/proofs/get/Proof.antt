@@ -6,4 +6,4 @@ use Rattle.tally.proofs.get.Tie as tie
 
 pub get_spec : {M : Type 1} → statement M
 get_spec =
-    tie.close (tie.spec (λ c κs. search rules) (λ c. get_column c.before.before.args.tally.now c.before.before.args.column c.get.ensures))
+    tie.close (tie.spec (λ c κs. search rules) (λ c. get_column c.args.tally.now c.args.column c.get.ensures))

@@ -5,15 +5,15 @@ use Rattle.cells_read.proofs.Filling.{Filling, fill_long, fill_past, filling_non
 use Rattle.cells_read.proofs.show.fill.Statement.{statement}
 use Rattle.cells_read.proofs.show.fill.Tie as tie
 
-abbrev invariant-loop : tie.invariant-loop
-invariant-loop out₀ at count value i₀ out i = (i ≤ count) × Filling at value out₀ out i
+abbrev invariant-loop-i : tie.invariant-loop-i
+invariant-loop-i out₀ at count value i₀ out i = (i ≤ count) × Filling at value out₀ out i
 
-abbrev decreases-loop : tie.decreases-loop
-decreases-loop out₀ at count value i₀ out i = count - i
+abbrev decreases-loop-i : tie.decreases-loop-i
+decreases-loop-i out₀ at count value i₀ out i = count - i
 
 pub fill_spec : {M : Type 1} → statement M
 fill_spec =
-    tie.close (tie.spec invariant-loop decreases-loop (λ c. fill_long (search rules)) (λ c. search rules) (λ c. fill_past (search rules) (search rules))
+    tie.close (tie.spec invariant-loop-i decreases-loop-i (λ c. fill_long (search rules)) (λ c. search rules) (λ c. fill_past (search rules) (search rules))
     (λ c. (search rules, filling_none)) (λ c. search rules) (λ c. search rules) (λ c. search rules) (λ c. search rules)
-    (λ c. (search rules, filling_more c.before.loop.invariant.1)) (λ c. search rules)
-    (λ c. filling_all c.before.loop.invariant.1 (search rules) (search rules)))
+    (λ c. (search rules, filling_more c.loop-i.invariant.1)) (λ c. search rules)
+    (λ c. filling_all c.loop-i.invariant.1 (search rules) (search rules)))

@@ -8,11 +8,11 @@ use Rattle.cells_read.proofs.show.show_run.Tie as tie
 
 returns : tie.Need-returns
 returns c =
-    let pre = c.before.before.before.before.before.before.before.before.before.before.before.before.before.before.before.before.before.before.before.before.before.before.requires in
+    let pre = c.requires in
     let laid = pre.1 in
-    let run = c.before.before.before.before.before.before.before.before.before.before.before.before.before.before.before.before.before.before.before.before.before.before.args.run in
-    run-written {many = run.from + (run.past - run.until) - run.from} pre.0 laid c.before.before.before.before.before.before.before.before.before.before.before.before.before.before.before.fill.ensures
-    c.before.before.before.before.before.before.before.before.before.before.before.fill2.ensures c.before.before.before.before.before.before.copy-in.ensures c.before.before.fill3.ensures (omega (arith, laid.goes_on)) (omega (arith, laid.forward)) (omega (arith, laid.forward))
+    let run = c.args.run in
+    run-written {many = run.from + (run.past - run.until) - run.from} pre.0 laid c.fill.ensures
+    c.fill-2.ensures c.copy_in.ensures c.fill-3.ensures (omega (arith, laid.goes_on)) (omega (arith, laid.forward)) (omega (arith, laid.forward))
 
 pub show_run_spec : {M : Type 1} → statement M
 show_run_spec =

@@ -7,13 +7,13 @@ use borrow.Author.Rules.{rules}
 use Rattle.file_fill.proofs.blocks.fill_blocks.Statement.{statement}
 use Rattle.file_fill.proofs.blocks.fill_blocks.Tie as tie
 
-abbrev invariant-loop : tie.invariant-loop
-invariant-loop blocks₀ store₀ file kind count at left₀ rows₀ used₀ place₀ blocks store left rows used place =
+abbrev invariant-loop-left : tie.invariant-loop-left
+invariant-loop-left blocks₀ store₀ file kind count at left₀ rows₀ used₀ place₀ blocks store left rows used place =
     (length blocks ≡ length blocks₀) × (length store ≡ length store₀) × Onward file kind count at blocks₀ store₀ blocks store left rows used place
 
-abbrev decreases-loop : tie.decreases-loop
-decreases-loop blocks₀ store₀ file kind count at left₀ rows₀ used₀ place₀ blocks store left rows used place = left
+abbrev decreases-loop-left : tie.decreases-loop-left
+decreases-loop-left blocks₀ store₀ file kind count at left₀ rows₀ used₀ place₀ blocks store left rows used place = left
 
 pub fill_blocks_spec : {M : Type 1} → statement M
 fill_blocks_spec =
-    tie.close (tie.spec invariant-loop decreases-loop (λ c. (refl, refl, search filling)) (λ c κs. search rules) (λ c. search rules) (λ c. omega (arith, fill_room c.before.before.before.before.before.loop.invariant.2 c.before.first.given.1 c.before.before.before.block_at.ensures)) (λ c κs. search rules) (λ c. omega (arith, fill_room c.before.before.before.before.before.before.before.before.before.before.loop.invariant.2 c.before.before.before.before.before.before.first.given.1 c.before.before.before.before.before.before.before.before.block_at.ensures)) (λ c. omega (arith, fill_room c.before.before.before.before.before.before.before.before.before.before.loop.invariant.2 c.before.before.before.before.before.before.first.given.1 c.before.before.before.before.before.before.before.before.block_at.ensures)) (λ c. omega (arith, fill_room c.before.before.before.before.before.before.before.before.before.before.loop.invariant.2 c.before.before.before.before.before.before.first.given.1 c.before.before.before.before.before.before.before.before.block_at.ensures)) (λ c κs. search rules) (λ c. omega (arith, fill_room c.before.before.before.before.before.before.before.before.before.before.before.before.before.before.loop.invariant.2 c.before.before.before.before.before.before.before.before.before.before.first.given.1 c.before.before.before.before.before.before.before.before.before.before.before.before.block_at.ensures)) (λ c. search rules) (λ c. search rules) (λ c. (search rules, search rules, search filling)) (λ c. search rules) (λ c. search rules) (λ c. search rules) (λ c. search filling) (λ c. search rules) (λ c. search rules) (λ c. search filling))
+    tie.close (tie.spec invariant-loop-left decreases-loop-left (λ c. (refl, refl, search filling)) (λ c κs. search rules) (λ c. search rules) (λ c. omega (arith, fill_room c.loop-left.invariant.2 c.in-Block.is c.block_at.ensures)) (λ c κs. search rules) (λ c. omega (arith, fill_room c.loop-left.invariant.2 c.in-Block.is c.block_at.ensures)) (λ c. omega (arith, fill_room c.loop-left.invariant.2 c.in-Block.is c.block_at.ensures)) (λ c. omega (arith, fill_room c.loop-left.invariant.2 c.in-Block.is c.block_at.ensures)) (λ c κs. search rules) (λ c. omega (arith, fill_room c.loop-left.invariant.2 c.in-Block.is c.block_at.ensures)) (λ c. search rules) (λ c. search rules) (λ c. (search rules, search rules, search filling)) (λ c. search rules) (λ c. search rules) (λ c. search rules) (λ c. search filling) (λ c. search rules) (λ c. search rules) (λ c. search filling))

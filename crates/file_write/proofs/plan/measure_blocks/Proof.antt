@@ -5,14 +5,14 @@ use Rattle.file_write.proofs.Planning.{Measured, sharing}
 use Rattle.file_write.proofs.plan.measure_blocks.Statement.{statement}
 use Rattle.file_write.proofs.plan.measure_blocks.Tie as tie
 
-abbrev invariant-loop : tie.invariant-loop
-invariant-loop blocks count room living₀ next₀ link₀ living next link = (link ≤ count) × Measured blocks room link living next
+abbrev invariant-loop-link : tie.invariant-loop-link
+invariant-loop-link blocks count room living₀ next₀ link₀ living next link = (link ≤ count) × Measured blocks room link living next
 
-abbrev decreases-loop : tie.decreases-loop
-decreases-loop blocks count room living₀ next₀ link₀ living next link = count - link
+abbrev decreases-loop-link : tie.decreases-loop-link
+decreases-loop-link blocks count room living₀ next₀ link₀ living next link = count - link
 
-pub measure-blocks-spec : {M : Type 1} → statement M
-measure-blocks-spec =
-    tie.close (tie.spec invariant-loop decreases-loop (λ c. search sharing) (λ c. search sharing) (λ c. search rules) (λ c κs. search rules) (λ c κs. search rules) (λ c. search rules)
+pub measure_blocks_spec : {M : Type 1} → statement M
+measure_blocks_spec =
+    tie.close (tie.spec invariant-loop-link decreases-loop-link (λ c. search sharing) (λ c. search sharing) (λ c. search rules) (λ c κs. search rules) (λ c κs. search rules) (λ c. search rules)
     (λ c. search sharing) (λ c. search rules) (λ c. search rules) (λ c. search sharing) (λ c. search rules) (λ c. search rules) (λ c. search rules) (λ c. search rules)
     (λ c. search sharing) (λ c. search rules) (λ c. search sharing) (λ c. search sharing))

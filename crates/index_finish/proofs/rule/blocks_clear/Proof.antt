@@ -5,13 +5,13 @@ use Rattle.index_finish.proofs.Clearing.{ClearTo, passing}
 use Rattle.index_finish.proofs.rule.blocks_clear.Statement.{statement}
 use Rattle.index_finish.proofs.rule.blocks_clear.Tie as tie
 
-abbrev invariant-loop : tie.invariant-loop
-invariant-loop pieces blocks n k₀ k = ClearTo pieces blocks k
+abbrev invariant-loop-k : tie.invariant-loop-k
+invariant-loop-k pieces blocks n k₀ k = ClearTo pieces blocks k
 
-abbrev decreases-loop : tie.decreases-loop
-decreases-loop pieces blocks n k₀ k = n - k
+abbrev decreases-loop-k : tie.decreases-loop-k
+decreases-loop-k pieces blocks n k₀ k = n - k
 
 pub blocks_clear_spec : {M : Type 1} → statement M
 blocks_clear_spec =
-    tie.close (tie.spec invariant-loop decreases-loop (λ c. search passing) (λ c. search rules) (λ c κs. search rules) (λ c. search passing) (λ c. search rules)
+    tie.close (tie.spec invariant-loop-k decreases-loop-k (λ c. search passing) (λ c. search rules) (λ c κs. search rules) (λ c. search passing) (λ c. search rules)
     (λ c. search passing) (λ c. search passing))

@@ -4,13 +4,13 @@ use Rattle.index_finish.proofs.Trying.{tried_order, tried_tree}
 use Rattle.index_finish.proofs.trial.blocks_apart.Statement.{statement}
 use Rattle.index_finish.proofs.trial.blocks_apart.Tie as tie
 
-returns-2 : tie.Need-returns-2
+returns-2 : tie.Need-returns
 returns-2 c =
-    let asked = c.before.before.before.before.before.before.before.before in
-    let closed = asked.before.before.before.before.before.before.before.before in
-    let test = closed.before.before.before.before in
-    tried_tree test.before.before.before.count-tree.ensures (search rules) (search rules) (search rules) (search rules) closed.close-tree.ensures asked.tree_apart.ensures
-    c.before.before.before.before.before.before.zero.ensures c.before.before.zero2.ensures
+    let asked = c in
+    let closed = asked in
+    let test = closed in
+    tried_tree test.count_tree-told.ensures (search rules) (search rules) (search rules) (search rules) closed.close_tree.ensures asked.tree_apart-apart.ensures
+    c.zero.ensures c.zero-2.ensures
 
 pub blocks_apart_spec : {M : Type 1} → statement M
 blocks_apart_spec =

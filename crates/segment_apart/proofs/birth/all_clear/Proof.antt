@@ -5,14 +5,14 @@ use Rattle.segment_apart.proofs.Deciding.{Passed, passing}
 use Rattle.segment_apart.proofs.birth.all_clear.Statement.{statement}
 use Rattle.segment_apart.proofs.birth.all_clear.Tie as tie
 
-abbrev invariant-loop : tie.invariant-loop
-invariant-loop blocks nodes entries kind end n k₀ k = (k ≤ n) × Passed blocks nodes entries kind end k
+abbrev invariant-loop-k : tie.invariant-loop-k
+invariant-loop-k blocks nodes entries kind end n k₀ k = (k ≤ n) × Passed blocks nodes entries kind end k
 
-abbrev decreases-loop : tie.decreases-loop
-decreases-loop blocks nodes entries kind end n k₀ k = n - k
+abbrev decreases-loop-k : tie.decreases-loop-k
+decreases-loop-k blocks nodes entries kind end n k₀ k = n - k
 
 pub all_clear_spec : {M : Type 1} → statement M
 all_clear_spec =
     tie.close
-    (tie.spec invariant-loop decreases-loop (λ c. (search rules, search passing)) (λ c κs. search rules) (λ c. search passing) (λ c. search rules) (λ c. search rules)
+    (tie.spec invariant-loop-k decreases-loop-k (λ c. (search rules, search passing)) (λ c κs. search rules) (λ c. search passing) (λ c. search rules) (λ c. search rules)
     (λ c. (search rules, search passing)) (λ c. search passing))

@@ -1,5 +1,6 @@
 -- `build::add_blocks` meets its contract: what is still to come gives the same in the end. Assumes nothing.
-use mathlib.Core.Path.{◌≡◌, refl, ◌∙◌}
+use mathlib.Core.Bool.{not}
+use mathlib.Core.Path.{◌≡◌, refl, ◌∙◌, ap}
 use Prim.Native.Nat.{◌+◌, ◌≤◌, ◌-◌}
 use native.Mathlib.Omega.{arith}
 use lib.ListN.{length}
@@ -9,27 +10,27 @@ use Rattle.segment_tree.proofs.AddingRows.{Onward, onward_start, onward_more, on
 use Rattle.segment_tree.proofs.build.add_blocks.Statement.{statement}
 use Rattle.segment_tree.proofs.build.add_blocks.Tie as tie
 
-abbrev invariant-loop : tie.invariant-loop
-invariant-loop nodes₀ blocks n end kind j₀ nodes j = (j ≤ n) × (length nodes ≡ length nodes₀) × Onward nodes₀ nodes kind end (block_life blocks) n j
+abbrev invariant-loop-j : tie.invariant-loop-j
+invariant-loop-j nodes₀ blocks n end kind j₀ nodes j = (j ≤ n) × (length nodes ≡ length nodes₀) × Onward nodes₀ nodes kind end (block_life blocks) n j
 
-abbrev decreases-loop : tie.decreases-loop
-decreases-loop nodes₀ blocks n end kind j₀ nodes j = n - j
+abbrev decreases-loop-j : tie.decreases-loop-j
+decreases-loop-j nodes₀ blocks n end kind j₀ nodes j = n - j
 
 pub add_blocks_spec : {M : Type 1} → statement M
 add_blocks_spec =
     tie.close
     (tie.spec
-    invariant-loop
-    decreases-loop
+    invariant-loop-j
+    decreases-loop-j
     (λ c. (omega arith, refl, onward_start))
     (λ c. search rules)
     (λ c κs. search rules)
     (λ c κs. search rules)
     (λ c κs. search rules)
     (λ c. search rules)
-    (λ c. onward_spent c.before.before.before.before.before.before.before.before.loop.invariant.2 (omega arith) (block_life_lem c.before.before.before.before.before.before.before.before.before.before.before.args.blocks.now (c.before.before.before.before.before.before.before.before.loop.j + 1) c.before.before.before.before.before.before.get.ensures c.before.before.before.before.before.get2.ensures) c.before.before.before.add-location.ensures c.if1.true)
+    (λ c. onward_spent c.loop-j.invariant.2 (omega arith) (block_life_lem c.args.blocks.now (c.loop-j.j + 1) c.get-created.ensures c.get-destroyed.ensures) c.add_location.ensures (ap not c.if-not-add_location.true))
     (λ c. search rules)
     (λ c. search rules)
-    (λ c. (omega arith, c.before.before.before.add-location.auto.0 ∙ c.before.before.before.before.before.before.before.before.loop.invariant.1, onward_more c.before.before.before.before.before.before.before.before.loop.invariant.2 (omega arith) (block_life_lem c.before.before.before.before.before.before.before.before.before.before.before.args.blocks.now (c.before.before.before.before.before.before.before.before.loop.j + 1) c.before.before.before.before.before.before.get.ensures c.before.before.before.before.before.get2.ensures) c.before.before.before.add-location.ensures c.if1.false))
+    (λ c. (omega arith, c.add_location.auto.nodes ∙ c.loop-j.invariant.1, onward_more c.loop-j.invariant.2 (omega arith) (block_life_lem c.args.blocks.now (c.loop-j.j + 1) c.get-created.ensures c.get-destroyed.ensures) c.add_location.ensures (ap not c.if-not-add_location.false)))
     (λ c. search rules)
-    (λ c. onward_end c.before.loop.invariant.2 (omega arith)))
+    (λ c. onward_end c.loop-j.invariant.2 (omega arith)))

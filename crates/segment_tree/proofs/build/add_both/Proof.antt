@@ -1,4 +1,6 @@
 -- `build::add_both` meets its contract. Assumes nothing.
+use mathlib.Core.Bool.{not}
+use mathlib.Core.Path.{ap}
 use borrow.Author.Rules.{rules}
 use Rattle.segment_tree.proofs.Ways.{both_spent, both_done}
 use Rattle.segment_tree.proofs.build.add_both.Statement.{statement}
@@ -11,8 +13,8 @@ add_both_spec =
     (λ c κs. search rules)
     (λ c κs. search rules)
     (λ c. search rules)
-    (λ c. both_spent c.before.before.before.before.before.before.before.before.before.before.requires c.before.before.before.before.before.before.before.reach.ensures c.before.before.before.add-suffix.ensures c.if1.true)
+    (λ c. both_spent c.requires c.reach-left.ensures c.add_suffix.ensures (ap not c.if-not-add_suffix.true))
     (λ c κs. search rules)
     (λ c κs. search rules)
     (λ c. search rules)
-    (λ c. both_done c.before.before.before.before.before.before.before.before.before.before.before.before.before.before.before.before.before.before.requires c.before.before.before.before.before.before.before.before.before.before.before.before.before.before.before.reach.ensures c.before.before.before.before.before.before.before.before.before.before.before.add-suffix.ensures c.before.before.before.before.before.before.before.before.if1.false c.before.before.before.before.before.before.reach2.ensures c.before.before.add-prefix.ensures))
+    (λ c. both_done c.requires c.reach-left.ensures c.add_suffix.ensures (ap not c.if-not-add_suffix.false) c.reach-right.ensures c.add_prefix.ensures))

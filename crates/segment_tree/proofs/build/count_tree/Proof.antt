@@ -1,4 +1,6 @@
 -- `build::count_tree` meets its contract: each return is a step of `proofs/Counting`. Assumes nothing.
+use mathlib.Core.Bool.{not}
+use mathlib.Core.Path.{ap}
 use borrow.Author.Rules.{rules}
 use Rattle.segment_tree.proofs.Counting.{count_spent_blocks, count_spent_pieces, count_spent_entries, count_all}
 use Rattle.segment_tree.proofs.build.count_tree.Statement.{statement}
@@ -21,6 +23,6 @@ count_tree_spec =
     (λ c κs. search rules)
     (λ c κs. search rules)
     (λ c. search rules)
-    (λ c. count_spent_entries c.before.before.before.before.before.before.before.before.before.before.before.before.before.before.before.before.before.before.before.before.add-blocks.ensures c.before.before.before.before.before.before.before.before.before.before.before.before.before.before.before.before.before.before.before.before.add-blocks.auto.0 c.before.before.before.before.before.before.before.before.before.before.before.before.before.before.before.before.before.if1.false c.before.before.before.before.before.before.before.before.before.before.before.before.before.before.before.add-pieces.ensures c.before.before.before.before.before.before.before.before.before.before.before.before.before.before.before.add-pieces.auto.0 c.before.before.before.before.before.before.before.before.before.before.before.before.if2.false c.before.before.before.before.before.before.before.before.before.before.get.ensures c.before.before.before.before.before.before.before.before.assign-runs.ensures (search rules) c.before.before.before.before.before.rows.ensures c.before.before.before.before.if3.true c.before.before.zero3.ensures)
+    (λ c. count_spent_entries c.add_blocks.ensures c.add_blocks.auto.nodes (ap not c.if-not-add_blocks.false) c.add_pieces.ensures c.add_pieces.auto.nodes (ap not c.if-not-add_pieces.false) c.get-used.ensures c.assign_runs-total.ensures (search rules) c.rows.ensures c.if-rows-total.true c.zero-then-rows-total.ensures)
     (λ c. search rules)
-    (λ c. count_all c.before.before.before.before.before.before.before.before.before.before.before.before.before.before.before.before.add-blocks.ensures c.before.before.before.before.before.before.before.before.before.before.before.before.before.before.before.before.add-blocks.auto.0 c.before.before.before.before.before.before.before.before.before.before.before.before.before.if1.false c.before.before.before.before.before.before.before.before.before.before.before.add-pieces.ensures c.before.before.before.before.before.before.before.before.before.before.before.add-pieces.auto.0 c.before.before.before.before.before.before.before.before.if2.false c.before.before.before.before.before.before.get.ensures c.before.before.before.before.assign-runs.ensures (search rules) c.before.rows.ensures c.if3.false))
+    (λ c. count_all c.add_blocks.ensures c.add_blocks.auto.nodes (ap not c.if-not-add_blocks.false) c.add_pieces.ensures c.add_pieces.auto.nodes (ap not c.if-not-add_pieces.false) c.get-used.ensures c.assign_runs-total.ensures (search rules) c.rows.ensures c.if-rows-total.false))

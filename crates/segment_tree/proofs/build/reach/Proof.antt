@@ -9,5 +9,5 @@ reach_spec =
     tie.close
     (tie.spec (λ c κs. search rules) (λ c. search rules) (λ c. search reaching) (λ c κs. search rules) (λ c κs. search rules) (λ c. search rules)
     (λ c. search reaching) (λ c. search rules) (λ c κs. search rules) (λ c κs. search rules) (λ c κs. search rules) (λ c κs. search rules)
-    (λ c κs. search rules) (λ c. search rules) (λ c. reach_new c.before.before.before.before.before.before.before.before.before.before.before.before.before.before.before.before.before.before.before.before.before.before.before.before.before.get.ensures c.before.before.before.before.before.before.before.before.before.before.before.before.before.before.before.before.before.before.before.before.before.before.before.before.if1.false c.before.before.before.before.before.before.before.before.before.before.before.before.before.before.before.before.before.before.before.before.before.before.get2.ensures c.before.before.before.before.before.before.before.before.before.before.before.before.before.before.before.before.before.before.before.before.before.rows.ensures c.before.before.before.before.before.before.before.before.before.before.before.before.before.before.before.before.before.before.before.before.if2.false
-    c.before.before.before.before.before.before.before.before.before.before.before.before.before.before.before.before.before.before.put.ensures c.before.before.before.before.before.before.before.before.before.before.before.before.before.before.put2.ensures c.before.before.before.before.before.before.before.before.before.before.put3.ensures c.before.before.before.before.before.before.put4.ensures c.before.before.put5.ensures))
+    (λ c κs. search rules) (λ c. search rules) (λ c. reach_new c.get-there.ensures c.if-there-ne0.false c.get-used.ensures c.rows.ensures c.if-rows-used.false
+    c.put.ensures c.put-2.ensures c.put-3.ensures c.put-4.ensures c.put-5.ensures))

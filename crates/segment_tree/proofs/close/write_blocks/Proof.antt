@@ -8,19 +8,19 @@ use Rattle.segment_tree.proofs.WritingAll.{OnwardFrom, onward_start, onward_more
 use Rattle.segment_tree.proofs.close.write_blocks.Statement.{statement}
 use Rattle.segment_tree.proofs.close.write_blocks.Tie as tie
 
-abbrev invariant-loop : tie.invariant-loop
-invariant-loop nodes₀ entries₀ blocks n root end j₀ nodes entries j =
+abbrev invariant-loop-j : tie.invariant-loop-j
+invariant-loop-j nodes₀ entries₀ blocks n root end j₀ nodes entries j =
     (j ≤ n) × (length nodes ≡ length nodes₀) × (length entries ≡ length entries₀) × OnwardFrom blocks nodes₀ entries₀ nodes entries root end n j
 
-abbrev decreases-loop : tie.decreases-loop
-decreases-loop nodes₀ entries₀ blocks n root end j₀ nodes entries j = n - j
+abbrev decreases-loop-j : tie.decreases-loop-j
+decreases-loop-j nodes₀ entries₀ blocks n root end j₀ nodes entries j = n - j
 
 pub write_blocks_spec : {M : Type 1} → statement M
 write_blocks_spec =
     tie.close
     (tie.spec
-    invariant-loop
-    decreases-loop
+    invariant-loop-j
+    decreases-loop-j
     (λ c. (omega arith, refl, refl, onward_start))
     (λ c. search rules)
     (λ c κs. search rules)
@@ -29,12 +29,12 @@ write_blocks_spec =
     (λ c κs. search rules)
     (λ c. search rules)
     (λ c. search rules)
-    (λ c. let turn = c.before.before.before.before.before.before.before.before.before.before.before.loop in let wrote = c.before.before.before.before.write-location in (
+    (λ c. let turn = c.loop-j in let wrote = c.write_location in (
       omega arith,
-      wrote.auto.0 ∙ turn.invariant.1,
-      wrote.auto.1.0 ∙ turn.invariant.2,
-      onward_more turn.invariant.3 (omega arith) c.before.before.before.before.before.before.before.before.before.get.ensures c.before.before.before.before.before.before.before.before.get2.ensures c.before.before.before.before.before.before.before.get3.ensures wrote.ensures,
+      wrote.auto.nodes ∙ turn.invariant.1,
+      wrote.auto.entries ∙ turn.invariant.2,
+      onward_more turn.invariant.3 (omega arith) c.get-cell.ensures c.get-created.ensures c.get-destroyed.ensures wrote.ensures,
     ))
     (λ c. search rules)
     (λ c. search rules)
-    (λ c. onward_spent c.before.loop.invariant.3 (omega arith)))
+    (λ c. onward_spent c.loop-j.invariant.3 (omega arith)))

@@ -14,4 +14,4 @@ write_both_spec =
     (λ c κs. search rules)
     (λ c. search rules)
     (λ c. search rules)
-    (λ c. both_wrote c.before.before.before.before.before.before.before.before.before.before.before.before.before.before.before.before.before.before.before.before.requires c.before.before.before.before.before.before.before.before.before.before.before.before.before.before.before.before.get.ensures c.before.before.before.before.before.before.before.before.before.before.before.before.before.write-suffix.ensures c.before.before.before.before.before.before.before.get2.ensures c.before.before.before.before.write-prefix.ensures))
+    (λ c. both_wrote c.requires c.get-left.ensures c.write_suffix.ensures c.get-right.ensures c.write_prefix.ensures))

@@ -1,5 +1,6 @@
 -- `close::write_location` meets its contract: each turn and each return is a step of `proofs/WritingWays`. Assumes nothing.
-use mathlib.Core.Path.{◌≡◌, refl, sym, ◌∙◌}
+use mathlib.Core.Bool.{not}
+use mathlib.Core.Path.{◌≡◌, refl, sym, ◌∙◌, ap}
 use Prim.Native.Nat.{◌≤◌, ◌-◌}
 use native.Mathlib.Omega.{arith}
 use lib.ListN.{length}
@@ -10,45 +11,45 @@ use Rattle.segment_tree.proofs.WritingWays.{Onto, onto_start, onto-none, onto-co
 use Rattle.segment_tree.proofs.close.write_location.Statement.{statement}
 use Rattle.segment_tree.proofs.close.write_location.Tie as tie
 
-abbrev invariant-loop : tie.invariant-loop
-invariant-loop nodes₀ entries₀ root end created destroyed b cell link₀ lo₀ hi₀ nodes entries link lo hi =
+abbrev invariant-loop-link : tie.invariant-loop-link
+invariant-loop-link nodes₀ entries₀ root end created destroyed b cell link₀ lo₀ hi₀ nodes entries link lo hi =
     (length nodes ≡ length nodes₀) × (length entries ≡ length entries₀) × (hi ≤ end)
     × Onto nodes₀ entries₀ nodes entries root 0 end link lo hi (a_life created destroyed) b cell
 
-abbrev decreases-loop : tie.decreases-loop
-decreases-loop nodes₀ entries₀ root end created destroyed b cell link₀ lo₀ hi₀ nodes entries link lo hi = hi - lo
+abbrev decreases-loop-link : tie.decreases-loop-link
+decreases-loop-link nodes₀ entries₀ root end created destroyed b cell link₀ lo₀ hi₀ nodes entries link lo hi = hi - lo
 
 pub write_location_spec : {M : Type 1} → statement M
 write_location_spec =
     tie.close
     (tie.spec
-    invariant-loop
-    decreases-loop
+    invariant-loop-link
+    decreases-loop-link
     (λ c. (refl, refl, omega arith, onto_start))
     (λ c κs. search rules)
     (λ c κs. search rules)
     (λ c. search rules)
     (λ c. search rules)
-    (λ c. onto-covered c.before.before.before.before.before.before.before.before.before.before.loop.invariant.3 c.before.before.before.before.before.before.before.before.before.loop-test.true (sym c.before.before.before.before.before.before.before.before.covers-node.ensures ∙ c.before.before.before.before.before.before.before.if1.true) c.before.before.before.before.write-entry.ensures)
+    (λ c. onto-covered c.loop-link.invariant.3 c.loop-link-test.true (sym c.covers_node.ensures ∙ c.if-covers_node.true) c.write_entry.ensures)
     (λ c κs. search rules)
     (λ c. search rules)
     (λ c. search rules)
-    (λ c. let turn = c.before.before.before.before.before.loop in onto_narrow turn.invariant.3 c.before.before.before.before.loop-test.true (sym c.before.before.before.covers-node.ensures ∙ c.before.before.if1.false) (narrow_of turn.lo turn.hi c.before.has-halves.ensures c.if2.true))
-    (λ c. omega (arith, wide_of c.before.before.before.before.before.loop.lo c.before.before.before.before.before.loop.hi c.before.has-halves.ensures c.if2.false))
-    (λ c. omega (arith, wide_of c.before.before.before.before.before.loop.lo c.before.before.before.before.before.loop.hi c.before.has-halves.ensures c.if2.false))
-    (λ c κs. splits_of c.before.before.before.before.before.before.before.before.loop-test.true c.before.before.before.before.before.before.before.covers-node.ensures c.before.before.before.before.before.before.if1.false c.before.before.before.before.before.has-halves.ensures c.before.before.before.before.if2.false c.before.before.before.if3.true c.before.before.if4.true)
+    (λ c. let turn = c.loop-link in onto_narrow turn.invariant.3 c.loop-link-test.true (sym c.covers_node.ensures ∙ c.if-covers_node.false) (narrow_of turn.lo turn.hi c.has_halves.ensures (ap not c.if-not-has_halves.true)))
+    (λ c. omega (arith, wide_of c.loop-link.lo c.loop-link.hi c.has_halves.ensures (ap not c.if-not-has_halves.false)))
+    (λ c. omega (arith, wide_of c.loop-link.lo c.loop-link.hi c.has_halves.ensures (ap not c.if-not-has_halves.false)))
+    (λ c κs. splits_of c.loop-link-test.true c.covers_node.ensures c.if-covers_node.false c.has_halves.ensures (ap not c.if-not-has_halves.false) c.if-created-mid.true c.if-mid-destroyed.true)
     (λ c. search rules)
     (λ c. search rules)
-    (λ c. c.before.before.before.before.before.before.before.before.before.before.before.before.before.before.loop.invariant.3.rest _ _ c.before.before.before.before.write-both.ensures)
+    (λ c. c.loop-link.invariant.3.rest _ _ c.write_both.ensures)
     (λ c κs. search rules)
-    (λ c. omega (arith, wide_of c.before.before.before.before.before.before.before.before.before.loop.lo c.before.before.before.before.before.before.before.before.before.loop.hi c.before.before.before.before.before.has-halves.ensures c.before.before.before.before.if2.false))
-    (λ c. let turn = c.before.before.before.before.before.before.before.before.before.loop in (turn.invariant.0, turn.invariant.1, omega (arith, wide_of c.before.before.before.before.before.before.before.before.before.loop.lo c.before.before.before.before.before.before.before.before.before.loop.hi c.before.before.before.before.before.has-halves.ensures c.before.before.before.before.if2.false), onto_left turn.invariant.3 (sym c.before.before.before.before.before.before.before.covers-node.ensures ∙ c.before.before.before.before.before.before.if1.false) (wide_of c.before.before.before.before.before.before.before.before.before.loop.lo c.before.before.before.before.before.before.before.before.before.loop.hi c.before.before.before.before.before.has-halves.ensures c.before.before.before.before.if2.false) c.before.before.before.if3.true c.before.before.if4.false c.get.ensures))
+    (λ c. omega (arith, wide_of c.loop-link.lo c.loop-link.hi c.has_halves.ensures (ap not c.if-not-has_halves.false)))
+    (λ c. let turn = c.loop-link in (turn.invariant.0, turn.invariant.1, omega (arith, wide_of c.loop-link.lo c.loop-link.hi c.has_halves.ensures (ap not c.if-not-has_halves.false)), onto_left turn.invariant.3 (sym c.covers_node.ensures ∙ c.if-covers_node.false) (wide_of c.loop-link.lo c.loop-link.hi c.has_halves.ensures (ap not c.if-not-has_halves.false)) c.if-created-mid.true c.if-mid-destroyed.false c.get-link.ensures))
     (λ c. search rules)
     (λ c. search rules)
-    (λ c. onto_neither c.before.before.before.before.before.before.before.loop.invariant.3 (sym c.before.before.before.before.before.covers-node.ensures ∙ c.before.before.before.before.if1.false) (wide_of c.before.before.before.before.before.before.before.loop.lo c.before.before.before.before.before.before.before.loop.hi c.before.before.before.has-halves.ensures c.before.before.if2.false) c.before.if3.false c.if5.true)
+    (λ c. onto_neither c.loop-link.invariant.3 (sym c.covers_node.ensures ∙ c.if-covers_node.false) (wide_of c.loop-link.lo c.loop-link.hi c.has_halves.ensures (ap not c.if-not-has_halves.false)) c.if-created-mid.false c.if-destroyed-mid.true)
     (λ c κs. search rules)
-    (λ c. omega (arith, wide_of c.before.before.before.before.before.before.before.before.before.loop.lo c.before.before.before.before.before.before.before.before.before.loop.hi c.before.before.before.before.before.has-halves.ensures c.before.before.before.before.if2.false))
-    (λ c. let turn = c.before.before.before.before.before.before.before.before.before.loop in (turn.invariant.0, turn.invariant.1, turn.invariant.2, onto_right turn.invariant.3 (sym c.before.before.before.before.before.before.before.covers-node.ensures ∙ c.before.before.before.before.before.before.if1.false) (wide_of c.before.before.before.before.before.before.before.before.before.loop.lo c.before.before.before.before.before.before.before.before.before.loop.hi c.before.before.before.before.before.has-halves.ensures c.before.before.before.before.if2.false) c.before.before.before.if3.false c.before.before.if5.false c.get2.ensures))
+    (λ c. omega (arith, wide_of c.loop-link.lo c.loop-link.hi c.has_halves.ensures (ap not c.if-not-has_halves.false)))
+    (λ c. let turn = c.loop-link in (turn.invariant.0, turn.invariant.1, turn.invariant.2, onto_right turn.invariant.3 (sym c.covers_node.ensures ∙ c.if-covers_node.false) (wide_of c.loop-link.lo c.loop-link.hi c.has_halves.ensures (ap not c.if-not-has_halves.false)) c.if-created-mid.false c.if-destroyed-mid.false c.get-link-else-created-mid.ensures))
     (λ c. search rules)
     (λ c. search rules)
-    (λ c. onto-none c.before.loop.invariant.3 c.loop-test.false))
+    (λ c. onto-none c.loop-link.invariant.3 c.loop-link-test.false))
