@@ -21,7 +21,7 @@ returns c =
     let kind = extracted in
     let end = kind in
     let start = end in
-    settle_done (omega (arith, start.well_formed)) (omega (arith, start.well_formed)) (nodes_long c) (entries_long c) end.end-end.ensures kind.kind.ensures
+    settle_done (omega (arith, start.well_formed)) (omega (arith, start.well_formed)) (nodes_long c) (entries_long c) end.end-end.ensures kind.kind-kind.ensures
     extracted.extract_members.ensures stated.set_state.ensures counted.count-all.ensures closed.close_tree.ensures zeroed.zero.ensures
 
 pub settle_spec : {M : Type 1} → statement M
