@@ -1,69 +1,61 @@
 -- Each contract is its relation, by computation. Assumes nothing.
-use mathlib.Core.List.{List}
-use Prim.Native.Nat.{ℕ}
-use borrow.Fn.Kinds.{ParamKind, ResultKind, In, Out, Dens}
-use contract.Lifetimes.{Lfts}
-use Rattle.promises.specs.Relations.{Says, Contracts}
+use Rattle.promises.specs.Relations.{Contracts}
 use Rattle.promises.specs.Exported.{Exported}
 use Rattle.promises.specs.ExportedTested.{ExportedTested}
 
-says : {n : ℕ} {ps : List (ParamKind n)} {r : ResultKind n} {Asked : In n ps} {Learnt : Out n ps r} → ((κs : Lfts n) (a : Dens κs ps) → Asked κs a)
-    → Says n ps r Asked Learnt Learnt
-says free = record { free = free; says = λ κs a x e h. h; whole = λ κs a x e h. h }
-
 pub contracts : Contracts
 contracts = record {
-  opening = says (λ κs a. tt);
-  record_op = says (λ κs a. tt);
-  finalize = says (λ κs a. tt);
-  install_calendar = says (λ κs a. tt);
-  install_days = says (λ κs a. tt);
-  block = says (λ κs a. tt);
-  block_bytes_lem = says (λ κs a. tt);
-  find = says (λ κs a. tt);
-  touching = says (λ κs a. tt);
-  next = says (λ κs a. tt);
-  last = says (λ κs a. tt);
-  read_cells = says (λ κs a. tt);
-  clock = says (λ κs a. tt);
-  serialize_to = says (λ κs a. tt);
-  deserialize = says (λ κs a. tt);
-  record_all = says (λ κs a. tt);
-  find_all = says (λ κs a. tt);
-  run = says (λ κs a. tt);
+  opening = record { free = λ κs a g. tt; says = λ κs a g x e h. h; whole = λ κs a g x e h. h };
+  record_op = record { free = λ κs a g. tt; says = λ κs a g x e h. h; whole = λ κs a g x e h. h };
+  finalize = record { free = λ κs a g. tt; says = λ κs a g x e h. h; whole = λ κs a g x e h. h };
+  install_calendar = record { free = λ κs a g. tt; says = λ κs a g x e h. h; whole = λ κs a g x e h. h };
+  install_days = record { free = λ κs a g. tt; says = λ κs a g x e h. h; whole = λ κs a g x e h. h };
+  block = record { free = λ κs a g. tt; says = λ κs a g x e h. h; whole = λ κs a g x e h. h };
+  block_bytes_lem = record { free = λ κs a g. tt; says = λ κs a g x e h. h; whole = λ κs a g x e h. h };
+  find = record { free = λ κs a g. tt; says = λ κs a g x e h. h; whole = λ κs a g x e h. h };
+  touching = record { free = λ κs a g. tt; says = λ κs a g x e h. h; whole = λ κs a g x e h. h };
+  next = record { free = λ κs a g. tt; says = λ κs a g x e h. h; whole = λ κs a g x e h. h };
+  last = record { free = λ κs a g. tt; says = λ κs a g x e h. h; whole = λ κs a g x e h. h };
+  read_cells = record { free = λ κs a g. tt; says = λ κs a g x e h. h; whole = λ κs a g x e h. h };
+  clock = record { free = λ κs a g. tt; says = λ κs a g x e h. h; whole = λ κs a g x e h. h };
+  serialize_to = record { free = λ κs a g. tt; says = λ κs a g x e h. h; whole = λ κs a g x e h. h };
+  deserialize = record { free = λ κs a g. tt; says = λ κs a g x e h. h; whole = λ κs a g x e h. h };
+  record_all = record { free = λ κs a g. tt; says = λ κs a g x e h. h; whole = λ κs a g x e h. h };
+  find_all = record { free = λ κs a g. tt; says = λ κs a g x e h. h; whole = λ κs a g x e h. h };
+  run = record { free = λ κs a g. tt; says = λ κs a g x e h. h; whole = λ κs a g x e h. h };
 }
 
 pub exported : Exported
 exported = record {
-  length_for_lem = says (λ κs a. tt);
-  opening = says (λ κs a. tt);
-  record_op = says (λ κs a. tt);
-  record_all = says (λ κs a. tt);
-  finish = says (λ κs a. tt);
-  install_calendar = says (λ κs a. tt);
-  install_days = says (λ κs a. tt);
-  block = says (λ κs a. tt);
-  find = says (λ κs a. tt);
-  find_all = says (λ κs a. tt);
-  touching = says (λ κs a. tt);
-  next = says (λ κs a. tt);
-  last = says (λ κs a. tt);
-  read_cells = says (λ κs a. tt);
-  write = says (λ κs a. tt);
-  load = says (λ κs a. tt);
-  clock = says (λ κs a. tt);
+  length_for_lem = record { free = λ κs a g. tt; says = λ κs a g x e h. h; whole = λ κs a g x e h. h };
+  opening = record { free = λ κs a g. tt; says = λ κs a g x e h. h; whole = λ κs a g x e h. h };
+  record_op = record { free = λ κs a g. tt; says = λ κs a g x e h. h; whole = λ κs a g x e h. h };
+  record_all = record { free = λ κs a g. tt; says = λ κs a g x e h. h; whole = λ κs a g x e h. h };
+  finish = record { free = λ κs a g. tt; says = λ κs a g x e h. h; whole = λ κs a g x e h. h };
+  install_calendar = record { free = λ κs a g. tt; says = λ κs a g x e h. h; whole = λ κs a g x e h. h };
+  install_days = record { free = λ κs a g. tt; says = λ κs a g x e h. h; whole = λ κs a g x e h. h };
+  block = record { free = λ κs a g. tt; says = λ κs a g x e h. h; whole = λ κs a g x e h. h };
+  find = record { free = λ κs a g. tt; says = λ κs a g x e h. h; whole = λ κs a g x e h. h };
+  find_all = record { free = λ κs a g. tt; says = λ κs a g x e h. h; whole = λ κs a g x e h. h };
+  touching = record { free = λ κs a g. tt; says = λ κs a g x e h. h; whole = λ κs a g x e h. h };
+  next = record { free = λ κs a g. tt; says = λ κs a g x e h. h; whole = λ κs a g x e h. h };
+  last = record { free = λ κs a g. tt; says = λ κs a g x e h. h; whole = λ κs a g x e h. h };
+  read_cells = record { free = λ κs a g. tt; says = λ κs a g x e h. h; whole = λ κs a g x e h. h };
+  write = record { free = λ κs a g. tt; says = λ κs a g x e h. h; whole = λ κs a g x e h. h };
+  load = record { free = λ κs a g. tt; says = λ κs a g x e h. h; whole = λ κs a g x e h. h };
+  clock = record { free = λ κs a g. tt; says = λ κs a g x e h. h; whole = λ κs a g x e h. h };
 }
 
 pub exported_tested : ExportedTested
 exported_tested = record {
-  state = says (λ κs a. tt);
-  record_op = says (λ κs a. tt);
-  block = says (λ κs a. tt);
-  find = says (λ κs a. tt);
-  touching = says (λ κs a. tt);
-  next = says (λ κs a. tt);
-  last = says (λ κs a. tt);
-  read_cells = says (λ κs a. tt);
-  write = says (λ κs a. tt);
-  clock = says (λ κs a. tt);
+  state = record { free = λ κs a g. tt; says = λ κs a g x e h. h; whole = λ κs a g x e h. h };
+  record_op = record { free = λ κs a g. tt; says = λ κs a g x e h. h; whole = λ κs a g x e h. h };
+  block = record { free = λ κs a g. tt; says = λ κs a g x e h. h; whole = λ κs a g x e h. h };
+  find = record { free = λ κs a g. tt; says = λ κs a g x e h. h; whole = λ κs a g x e h. h };
+  touching = record { free = λ κs a g. tt; says = λ κs a g x e h. h; whole = λ κs a g x e h. h };
+  next = record { free = λ κs a g. tt; says = λ κs a g x e h. h; whole = λ κs a g x e h. h };
+  last = record { free = λ κs a g. tt; says = λ κs a g x e h. h; whole = λ κs a g x e h. h };
+  read_cells = record { free = λ κs a g. tt; says = λ κs a g x e h. h; whole = λ κs a g x e h. h };
+  write = record { free = λ κs a g. tt; says = λ κs a g x e h. h; whole = λ κs a g x e h. h };
+  clock = record { free = λ κs a g. tt; says = λ κs a g x e h. h; whole = λ κs a g x e h. h };
 }

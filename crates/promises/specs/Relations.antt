@@ -1,9 +1,12 @@
 -- The contracts of the public calls are the relations by which the theorems link them. Statements alone: the proof stands in proofs/Citing.
 use Rattle.std.specs.Prelude.{List, ℕ, length}
-use borrow.Fn.Kinds.{ParamKind, ResultKind, In, Out, Dens, res_t, ended_of}
+use base.Logic.{emp}
+use borrow.Fn.Claims.{AllOf}
+use borrow.Fn.Read.{ReadAt, no_know, r_top, r_last}
+use borrow.Fn.World.{Pr, w₀, ArgsD, ResD}
 use contract.Lifetimes.{Lfts}
-use denote.Triple.Clauses.{AtExit}
-use Rattle.std.specs.Borrow.{Bor}
+use denote.Triple.Clauses.{Ended, AtExit, Clauses}
+use Rattle.std.specs.Borrow.{Bor, MutBor}
 use Rattle.layout.specs.Tables.{Tables, tables}
 use Rattle.layout.specs.Relations.{OpenedBy, RecordedBy, FinishedBy, InstalledBy, DaysInstalledBy, ClockGivenBy, FoundBy, TouchedBy, NextGivenBy, LastGivenBy, BlockGivenBy}
 use Rattle.layout.specs.Files.{WrittenBy, LoadedBy}
@@ -21,56 +24,68 @@ use Rattle.file_load.specs.Load.{loaded_of}
 use Rattle.record_all.specs.Many.{RecordedAll}
 use Rattle.find_all.specs.Many.{FoundAll}
 use Rattle.board_run.specs.Room.{PrintsBoard}
-use Rattle.index.proofs.Index.open.Kinds as open-kinds
-use Rattle.index.proofs.Index.open.Reads as open-reads
-use Rattle.index.proofs.record_op.Kinds as record-kinds
-use Rattle.index.proofs.record_op.Reads as record-reads
-use Rattle.index.proofs.finalize.Kinds as finish-kinds
-use Rattle.index.proofs.finalize.Reads as finish-reads
-use Rattle.index.proofs.block.Kinds as block-kinds
-use Rattle.index.proofs.block.Reads as block_reads
-use Rattle.index.proofs.block_bytes.Kinds as bytes-kinds
-use Rattle.index.proofs.block_bytes.Reads as bytes-reads
-use Rattle.index.proofs.find.Kinds as find-kinds
-use Rattle.index.proofs.find.Reads as find-reads
-use Rattle.install.proofs.install_calendar.Kinds as install-kinds
-use Rattle.install.proofs.install_calendar.Reads as install-reads
-use Rattle.install.proofs.install_days.Kinds as days-kinds
-use Rattle.install.proofs.install_days.Reads as days-reads
-use Rattle.touching.proofs.touching.Kinds as touching-kinds
-use Rattle.touching.proofs.touching.Reads as touching-reads
-use Rattle.touching.proofs.next.Kinds as next-kinds
-use Rattle.touching.proofs.next.Reads as next-reads
-use Rattle.touching.proofs.last.Kinds as last-kinds
-use Rattle.touching.proofs.last.Reads as last-reads
-use Rattle.cells.proofs.read_cells.Kinds as cells-kinds
-use Rattle.cells.proofs.read_cells.Reads as cells-reads
-use Rattle.clock.proofs.clock.Kinds as clock-kinds
-use Rattle.clock.proofs.clock.Reads as clock-reads
-use Rattle.spacetime_file.proofs.serialize_to.Kinds as write-kinds
-use Rattle.spacetime_file.proofs.serialize_to.Reads as write-reads
-use Rattle.spacetime_file.proofs.deserialize.Kinds as load-kinds
-use Rattle.spacetime_file.proofs.deserialize.Reads as load-reads
-use Rattle.record_all.proofs.record_all.Kinds as all_kinds
-use Rattle.record_all.proofs.record_all.Reads as all-reads
-use Rattle.find_all.proofs.find_all.Kinds as finds-kinds
-use Rattle.find_all.proofs.find_all.Reads as finds-reads
-use Rattle.board_run.proofs.run.Kinds as run-kinds
-use Rattle.board_run.proofs.run.Reads as run-reads
+use Rattle.index.specs.contracts.Index.open as open-contract
+use Rattle.index.specs.contracts.record_op as record-contract
+use Rattle.index.specs.contracts.finalize as finish-contract
+use Rattle.index.specs.contracts.block as block-contract
+use Rattle.index.specs.contracts.block_bytes as bytes-contract
+use Rattle.index.specs.contracts.find as find-contract
+use Rattle.install.specs.contracts.install_calendar as install-contract
+use Rattle.install.specs.contracts.install_days as days-contract
+use Rattle.touching.specs.contracts.touching as touching-contract
+use Rattle.touching.specs.contracts.next as next-contract
+use Rattle.touching.specs.contracts.last as last-contract
+use Rattle.cells.specs.contracts.read_cells as cells-contract
+use Rattle.clock.specs.contracts.clock as clock-contract
+use Rattle.spacetime_file.specs.contracts.serialize_to as write-contract
+use Rattle.spacetime_file.specs.contracts.deserialize as load-contract
+use Rattle.record_all.specs.contracts.record_all as all-contract
+use Rattle.find_all.specs.contracts.find_all as finds-contract
+use Rattle.board_run.specs.contracts.run as run-contract
+
+-- A clause of a contract as the check reads it: what it asks of whoever owes it, and what it tells. It is indexed by the clause, so it is the reading of no other.
+abbrev pub Reading : Pr w₀ → Type 2
+Reading P = ReadAt w₀ (λ w. emp w.𝓤) no_know P
 
 -- A contract as the check reads it: nothing is asked of the caller, and what the caller learns is the relation, no less and no more.
-pub record Says (n : ℕ) (ps : List (ParamKind n)) (r : ResultKind n) (Asked : In n ps) (Learnt Relation : Out n ps r) : Type 0 where
-  pub free : (κs : Lfts n) (a : Dens κs ps) → Asked κs a
-  pub says : (κs : Lfts n) (a : Dens κs ps) (x : (res_t r κs).Denot) (e : AtExit (ended_of n ps r) κs) → Learnt κs a x e → Relation κs a x e
-  pub whole : (κs : Lfts n) (a : Dens κs ps) (x : (res_t r κs).Denot) (e : AtExit (ended_of n ps r) κs) → Relation κs a x e → Learnt κs a x e
+pub record Says (T : Ended) (c : Clauses w₀.𝓤 T) (Asked : (κs : Lfts T.signature.lifetimes) (a : ArgsD T.signature κs) (g : (c κs a).ghost) → Reading ((c κs a).requires g))
+    (Learnt : (κs : Lfts T.signature.lifetimes) (a : ArgsD T.signature κs) (g : (c κs a).ghost) (x : ResD T.signature κs) (e : AtExit T κs) → Reading ((c κs a).ensures g x e))
+    (Relation : (κs : Lfts T.signature.lifetimes) → ArgsD T.signature κs → ResD T.signature κs → AtExit T κs → Type 0) : Type 0 where
+  pub free : (κs : Lfts T.signature.lifetimes) (a : ArgsD T.signature κs) (g : (c κs a).ghost) → AllOf (Asked κs a g).owes
+  pub says : (κs : Lfts T.signature.lifetimes) (a : ArgsD T.signature κs) (g : (c κs a).ghost) (x : ResD T.signature κs) (e : AtExit T κs) → AllOf (Learnt κs a g x e).tells
+      → Relation κs a x e
+  pub whole : (κs : Lfts T.signature.lifetimes) (a : ArgsD T.signature κs) (g : (c κs a).ghost) (x : ResD T.signature κs) (e : AtExit T κs) → Relation κs a x e
+      → AllOf (Learnt κs a g x e).tells
 
 -- ── arguments ──
 
--- The five tables come first in every call: what they hold; and the arguments behind them.
-abbrev pub held : {X : Type 0} → Bor (List ℕ) × (Bor (List ℕ) × (Bor (List ℕ) × (Bor (List ℕ) × (Bor (List ℕ) × X)))) → Tables
+-- The five tables come first in every call, each lent as `&` or `&mut`: what they hold; and the arguments behind them.
+abbrev pub Lent : Type 0
+Lent = Bor (List ℕ)
+
+abbrev pub LentMut : Type 0
+LentMut = MutBor (List ℕ)
+
+abbrev pub held : {X : Type 0} → Lent × (Lent × (Lent × (Lent × (Lent × X)))) → Tables
 held a = tables a.0.now a.1.0.now a.1.1.0.now a.1.1.1.0.now a.1.1.1.1.0.now
 
-abbrev pub behind : {X : Type 0} → Bor (List ℕ) × (Bor (List ℕ) × (Bor (List ℕ) × (Bor (List ℕ) × (Bor (List ℕ) × X)))) → X
+-- of a call that opens or finishes an index
+abbrev pub held_open : {X : Type 0} → LentMut × (LentMut × (Lent × (LentMut × (LentMut × X)))) → Tables
+held_open a = tables a.0.now a.1.0.now a.1.1.0.now a.1.1.1.0.now a.1.1.1.1.0.now
+
+-- of a call that records
+abbrev pub held_record : {X : Type 0} → LentMut × (LentMut × (LentMut × (Lent × (Lent × X)))) → Tables
+held_record a = tables a.0.now a.1.0.now a.1.1.0.now a.1.1.1.0.now a.1.1.1.1.0.now
+
+-- of a call that installs
+abbrev pub held_install : {X : Type 0} → Lent × (LentMut × (Lent × (Lent × (Lent × X)))) → Tables
+held_install a = tables a.0.now a.1.0.now a.1.1.0.now a.1.1.1.0.now a.1.1.1.1.0.now
+
+-- of a call that loads
+abbrev pub held_load : {X : Type 0} → LentMut × (LentMut × (LentMut × (LentMut × (LentMut × X)))) → Tables
+held_load a = tables a.0.now a.1.0.now a.1.1.0.now a.1.1.1.0.now a.1.1.1.1.0.now
+
+abbrev pub behind : {P B S N E X : Type 0} → P × (B × (S × (N × (E × X)))) → X
 behind a = a.1.1.1.1.1
 
 -- ── the calls ──
@@ -78,43 +93,43 @@ behind a = a.1.1.1.1.1
 -- `a` has the arguments at entry, `x` is the answer, `e` has what the arguments hold at exit. A table that a call does not change is lent as `&`: at exit
 -- it holds what it held at entry.
 pub record Contracts : Type 0 where
-  pub opening : Says 5 open-kinds.ps open-kinds.r open-reads.Asked open-reads.Learnt
-      (λ κs a x e. OpenedBy (behind a).0 (behind a).1.0 (held a)
-      (tables (held e).pieces (held e).blocks (held a).store (held e).nodes (held e).entries) (opened_of x))
-  pub record_op : Says 7 record-kinds.ps record-kinds.r record-reads.Asked record-reads.Learnt
-      (λ κs a x e. RecordedBy (length (behind a).0.now) (operation (behind a).1.0 (behind a).1.1.0 (behind a).1.1.1.0.now) (held a)
-      (tables (held e).pieces (held e).blocks (held e).store (held a).nodes (held a).entries) (recorded_of x))
-  pub finalize : Says 5 finish-kinds.ps finish-kinds.r finish-reads.Asked finish-reads.Learnt
-      (λ κs a x e. FinishedBy (held a) (tables (held e).pieces (held e).blocks (held a).store (held e).nodes (held e).entries) (finished_of x))
-  pub install_calendar : Says 6 install-kinds.ps install-kinds.r install-reads.Asked install-reads.Learnt
-      (λ κs a x e. InstalledBy (behind a).0.now (held a) (tables (held a).pieces (held e).blocks (held a).store (held a).nodes (held a).entries) (installed_of x))
-  pub install_days : Says 6 days-kinds.ps days-kinds.r days-reads.Asked days-reads.Learnt
-      (λ κs a x e. DaysInstalledBy (behind a).0.now (held a) (tables (held a).pieces (held e).blocks (held a).store (held a).nodes (held a).entries) (installed_of x))
-  pub block : Says 5 block-kinds.ps block-kinds.r block_reads.Asked block_reads.Learnt
+  pub opening : Says open-contract.ended (open-contract.clauses w₀.𝓛 w₀.𝓜.mem w₀.𝓡.returns) (λ κs a g. r_top) (λ κs a g x e. r_last _)
+      (λ κs a x e. OpenedBy (behind a).0 (behind a).1.0 (held_open a)
+      (tables (held_open e).pieces (held_open e).blocks (held_open a).store (held_open e).nodes (held_open e).entries) (opened_of x))
+  pub record_op : Says record-contract.ended (record-contract.clauses w₀.𝓛 w₀.𝓜.mem w₀.𝓡.returns) (λ κs a g. r_top) (λ κs a g x e. r_last _)
+      (λ κs a x e. RecordedBy (length (behind a).0.now) (operation (behind a).1.0 (behind a).1.1.0 (behind a).1.1.1.0.now) (held_record a)
+      (tables (held_record e).pieces (held_record e).blocks (held_record e).store (held_record a).nodes (held_record a).entries) (recorded_of x))
+  pub finalize : Says finish-contract.ended (finish-contract.clauses w₀.𝓛 w₀.𝓜.mem w₀.𝓡.returns) (λ κs a g. r_top) (λ κs a g x e. r_last _)
+      (λ κs a x e. FinishedBy (held_open a) (tables (held_open e).pieces (held_open e).blocks (held_open a).store (held_open e).nodes (held_open e).entries) (finished_of x))
+  pub install_calendar : Says install-contract.ended (install-contract.clauses w₀.𝓛 w₀.𝓜.mem w₀.𝓡.returns) (λ κs a g. r_top) (λ κs a g x e. r_last _)
+      (λ κs a x e. InstalledBy (behind a).0.now (held_install a) (tables (held_install a).pieces (held_install e).blocks (held_install a).store (held_install a).nodes (held_install a).entries) (installed_of x))
+  pub install_days : Says days-contract.ended (days-contract.clauses w₀.𝓛 w₀.𝓜.mem w₀.𝓡.returns) (λ κs a g. r_top) (λ κs a g x e. r_last _)
+      (λ κs a x e. DaysInstalledBy (behind a).0.now (held_install a) (tables (held_install a).pieces (held_install e).blocks (held_install a).store (held_install a).nodes (held_install a).entries) (installed_of x))
+  pub block : Says block-contract.ended (block-contract.clauses w₀.𝓛 w₀.𝓜.mem w₀.𝓡.returns) (λ κs a g. r_top) (λ κs a g x e. r_last _)
       (λ κs a x e. BlockGivenBy (held a) (behind a).0 (given_of x))
-  pub block_bytes_lem : Says 5 bytes-kinds.ps bytes-kinds.r bytes-reads.Asked bytes-reads.Learnt
+  pub block_bytes_lem : Says bytes-contract.ended (bytes-contract.clauses w₀.𝓛 w₀.𝓜.mem w₀.𝓡.returns) (λ κs a g. r_top) (λ κs a g x e. r_last _)
       (λ κs a x e. BytesGivenBy (held a) (behind a).0 x.now)
-  pub find : Says 6 find-kinds.ps find-kinds.r find-reads.Asked find-reads.Learnt
+  pub find : Says find-contract.ended (find-contract.clauses w₀.𝓛 w₀.𝓜.mem w₀.𝓡.returns) (λ κs a g. r_top) (λ κs a g x e. r_last _)
       (λ κs a x e. FoundBy (held a) (behind a).0 (behind a).1.0 (behind a).1.1.0 (behind a).1.1.1.0.now (behind e).1.1.1.0.now (found_of x))
-  pub touching : Says 6 touching-kinds.ps touching-kinds.r touching-reads.Asked touching-reads.Learnt
+  pub touching : Says touching-contract.ended (touching-contract.clauses w₀.𝓛 w₀.𝓜.mem w₀.𝓡.returns) (λ κs a g. r_top) (λ κs a g x e. r_last _)
       (λ κs a x e. TouchedBy (held a) (behind a).0 (behind a).1.0 (behind a).1.1.0 (behind a).1.1.1.0.now (behind e).1.1.1.0.now (touching_of x))
-  pub next : Says 5 next-kinds.ps next-kinds.r next-reads.Asked next-reads.Learnt
+  pub next : Says next-contract.ended (next-contract.clauses w₀.𝓛 w₀.𝓜.mem w₀.𝓡.returns) (λ κs a g. r_top) (λ κs a g x e. r_last _)
       (λ κs a x e. NextGivenBy (held a) (behind a).0 (behind a).1.0 (neighbour_of x))
-  pub last : Says 5 last-kinds.ps last-kinds.r last-reads.Asked last-reads.Learnt
+  pub last : Says last-contract.ended (last-contract.clauses w₀.𝓛 w₀.𝓜.mem w₀.𝓡.returns) (λ κs a g. r_top) (λ κs a g x e. r_last _)
       (λ κs a x e. LastGivenBy (held a) (behind a).0 (behind a).1.0 (neighbour_of x))
-  pub read_cells : Says 7 cells-kinds.ps cells-kinds.r cells-reads.Asked cells-reads.Learnt
+  pub read_cells : Says cells-contract.ended (cells-contract.clauses w₀.𝓛 w₀.𝓜.mem w₀.𝓡.returns) (λ κs a g. r_top) (λ κs a g x e. r_last _)
       (λ κs a x e. CellsReadBy (held a) (behind a).0 (behind a).1.0 (behind a).1.1.0 (behind a).1.1.1.0.now (behind e).1.1.1.0.now
       (behind a).1.1.1.1.0.now (behind e).1.1.1.1.0.now (read_of x))
-  pub clock : Says 5 clock-kinds.ps clock-kinds.r clock-reads.Asked clock-reads.Learnt
+  pub clock : Says clock-contract.ended (clock-contract.clauses w₀.𝓛 w₀.𝓜.mem w₀.𝓡.returns) (λ κs a g. r_top) (λ κs a g x e. r_last _)
       (λ κs a x e. ClockGivenBy (held a) (behind a).0 (told_of x))
-  pub serialize_to : Says 6 write-kinds.ps write-kinds.r write-reads.Asked write-reads.Learnt
+  pub serialize_to : Says write-contract.ended (write-contract.clauses w₀.𝓛 w₀.𝓜.mem w₀.𝓡.returns) (λ κs a g. r_top) (λ κs a g x e. r_last _)
       (λ κs a x e. WrittenBy (held a) (behind a).0.now (behind e).0.now (written_of x))
-  pub deserialize : Says 6 load-kinds.ps load-kinds.r load-reads.Asked load-reads.Learnt
-      (λ κs a x e. LoadedBy (behind a).0.now (behind a).1.0 (held a) (held e) (loaded_of x))
-  pub record_all : Says 8 all_kinds.ps all_kinds.r all-reads.Asked all-reads.Learnt
-      (λ κs a x e. RecordedAll (length (behind a).0.now) (behind a).1.0.now (held a)
-      (tables (held e).pieces (held e).blocks (held e).store (held a).nodes (held a).entries) (behind a).1.1.0.now (behind e).1.1.0.now x.count x.next)
-  pub find_all : Says 8 finds-kinds.ps finds-kinds.r finds-reads.Asked finds-reads.Learnt
+  pub deserialize : Says load-contract.ended (load-contract.clauses w₀.𝓛 w₀.𝓜.mem w₀.𝓡.returns) (λ κs a g. r_top) (λ κs a g x e. r_last _)
+      (λ κs a x e. LoadedBy (behind a).0.now (behind a).1.0 (held_load a) (held_load e) (loaded_of x))
+  pub record_all : Says all-contract.ended (all-contract.clauses w₀.𝓛 w₀.𝓜.mem w₀.𝓡.returns) (λ κs a g. r_top) (λ κs a g x e. r_last _)
+      (λ κs a x e. RecordedAll (length (behind a).0.now) (behind a).1.0.now (held_record a)
+      (tables (held_record e).pieces (held_record e).blocks (held_record e).store (held_record a).nodes (held_record a).entries) (behind a).1.1.0.now (behind e).1.1.0.now x.count x.next)
+  pub find_all : Says finds-contract.ended (finds-contract.clauses w₀.𝓛 w₀.𝓜.mem w₀.𝓡.returns) (λ κs a g. r_top) (λ κs a g x e. r_last _)
       (λ κs a x e. FoundAll (held a) (behind a).0.now (behind a).1.0.now (behind e).1.0.now (behind a).1.1.0.now (behind e).1.1.0.now x)
   -- and the program `board`, but for reading and writing
-  pub run : Says 2 run-kinds.ps run-kinds.r run-reads.Asked run-reads.Learnt (λ κs a x e. PrintsBoard a.0.now a.1.0.now e.1.0.now x)
+  pub run : Says run-contract.ended (run-contract.clauses w₀.𝓛 w₀.𝓜.mem w₀.𝓡.returns) (λ κs a g. r_top) (λ κs a g x e. r_last _) (λ κs a x e. PrintsBoard a.0.now a.1.0.now e.1.0.now x)

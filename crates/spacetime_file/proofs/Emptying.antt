@@ -59,10 +59,13 @@ read_end file at h = rw (number_cut 1 file at (omega arith)) refl
 
 -- ── blocks of no life alone ──
 
-none_has : (es ks : List ℕ) → es ≡ [] → those_with es ks ≡ []
+nil_has : (ks : List ℕ) → those_with [] ks ≡ []
 unfolding those_with has
-none_has es [] e = refl
-none_has es (k ∷ ks) e = rw e (none_has [] ks refl)
+nil_has [] = refl
+nil_has (k ∷ ks) = nil_has ks
+
+none_has : (es ks : List ℕ) → es ≡ [] → those_with es ks ≡ []
+none_has es ks e = subst (λ (x : List ℕ). those_with x ks ≡ []) (sym e) (nil_has ks)
 
 -- every entry is a block's that has a life
 no_entries : (es : List ℕ) (n : ℕ) → All (λ k. k < n) es → ((k : ℕ) → k < n → has k es ≡ false) → es ≡ []

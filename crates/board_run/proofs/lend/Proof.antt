@@ -15,7 +15,7 @@ zeroed n = length-replicate n 0
 returns : tie.Need-returns
 returns c =
     lend_lines (zeroed board_lent.pieces) (zeroed board_lent.blocks) (zeroed board_lent.store) (zeroed board_lent.nodes) (zeroed board_lent.entries)
-    c.before.before.before.before.before.before.before.play.ensures
+    c.play.ensures
 
 pub lend_spec : {M : Type 1} → statement M
 lend_spec =

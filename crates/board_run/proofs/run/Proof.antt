@@ -6,13 +6,13 @@ use Rattle.board_run.proofs.Running.{run_short, run_long}
 use Rattle.board_run.proofs.run.Statement.{statement}
 use Rattle.board_run.proofs.run.Tie as tie
 
-returns : tie.Need-returns
+returns : tie.Need-returns-then-input-lt-INPUT
 returns c = search (run_short, rules)
 
-slice-aggregate-run-first : tie.Need-slice-aggregate-run-first
-slice-aggregate-run-first c = sym (length-take-le 65536 c.before.before.before.before.args.input.now (search rules))
+slice-aggregate-run-first : tie.Need-slice_bounds-run_first-end
+slice-aggregate-run-first c = sym (length-take-le 65536 c.args.input.now (search rules))
 
-returns-2 : tie.Need-returns-2
+returns-2 : tie.Need-returns
 returns-2 c = search (run_long, rules)
 
 pub run_spec : {M : Type 1} → statement M

@@ -6,12 +6,12 @@ use borrow.Author.Rules.{rules}
 use Rattle.garbage_try.proofs.fill.Statement.{statement}
 use Rattle.garbage_try.proofs.fill.Tie as tie
 
-abbrev invariant-loop : tie.invariant-loop
-invariant-loop table₀ way i₀ table i = length table ≡ length table₀
+abbrev invariant-loop-i : tie.invariant-loop-i
+invariant-loop-i table₀ way i₀ table i = length table ≡ length table₀
 
-abbrev decreases-loop : tie.decreases-loop
-decreases-loop table₀ way i₀ table i = length table₀ - i
+abbrev decreases-loop-i : tie.decreases-loop-i
+decreases-loop-i table₀ way i₀ table i = length table₀ - i
 
 pub fill_spec : {M : Type 1} → statement M
 fill_spec =
-    tie.close (tie.spec invariant-loop decreases-loop (λ c. search rules) (λ c κs. search rules) (λ c. search rules) (λ c. search rules) (λ c. search rules) (λ c. search rules) (λ c. search rules) (λ c. search rules) (λ c. search rules))
+    tie.close (tie.spec invariant-loop-i decreases-loop-i (λ c. search rules) (λ c κs. search rules) (λ c. search rules) (λ c. search rules) (λ c. search rules) (λ c. search rules) (λ c. search rules) (λ c. search rules) (λ c. search rules))

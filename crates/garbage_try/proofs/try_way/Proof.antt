@@ -6,12 +6,12 @@ use borrow.Author.Rules.{rules}
 use Rattle.garbage_try.proofs.try_way.Statement.{statement}
 use Rattle.garbage_try.proofs.try_way.Tie as tie
 
-abbrev invariant-loop : tie.invariant-loop
-invariant-loop tally₀ way many₀ tally many = (length tally ≡ length tally₀)
+abbrev invariant-loop-many : tie.invariant-loop-many
+invariant-loop-many tally₀ way many₀ tally many = (length tally ≡ length tally₀)
 
-abbrev decreases-loop : tie.decreases-loop
-decreases-loop tally₀ way many₀ tally many = 41 - many
+abbrev decreases-loop-many : tie.decreases-loop-many
+decreases-loop-many tally₀ way many₀ tally many = 41 - many
 
 pub try_way_spec : {M : Type 1} → statement M
 try_way_spec =
-    tie.close (tie.spec invariant-loop decreases-loop (λ c. search rules) (λ c κs. search rules) (λ c. search rules) (λ c κs. search rules) (λ c. search rules) (λ c. search rules) (λ c. search rules) (λ c. search rules) (λ c. search rules))
+    tie.close (tie.spec invariant-loop-many decreases-loop-many (λ c. search rules) (λ c κs. search rules) (λ c. search rules) (λ c κs. search rules) (λ c. search rules) (λ c. search rules) (λ c. search rules) (λ c. search rules) (λ c. search rules))

@@ -12,16 +12,8 @@ nodes_long c = search rules
 
 returns-3 : tie.Need-returns
 returns-3 c =
-    let counted = c in
-    let many = counted in
-    let tested = many in
-    let kind = tested in
-    let end = kind in
-    let count = end in
-    let zeros = count in
-    let start = zeros in
-    prepare_counted (omega (arith, start.well_formed)) (omega (arith, start.well_formed)) zeros.blank.ensures (ap not count.if-not-blank.false) count.count-n, .count_tree.ensures end.end.ensures
-    kind.kind.ensures tested.all_apart.ensures (ap not many.if-not-all_apart.false) many.get-m.ensures counted.count_tree.ensures (nodes_long c)
+    prepare_counted (omega (arith, c.well_formed)) (omega (arith, c.well_formed)) c.blank.ensures (ap not c.if-not-blank.false) c.count-n.ensures c.end-end.ensures
+    c.kind-kind.ensures c.all_apart.ensures (ap not c.if-not-all_apart.false) c.get-m.ensures c.count_tree.ensures (nodes_long c)
 
 pub prepare_spec : {M : Type 1} → statement M
 prepare_spec =

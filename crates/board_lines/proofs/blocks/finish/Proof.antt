@@ -4,10 +4,10 @@ use Rattle.board_lines.proofs.Listing.{finishing}
 use Rattle.board_lines.proofs.blocks.finish.Statement.{statement}
 use Rattle.board_lines.proofs.blocks.finish.Tie as tie
 
-returns : tie.Need-returns
+returns : tie.Need-returns-in-Refused
 returns c = search (finishing, rules)
 
-returns-2 : tie.Need-returns-2
+returns-2 : tie.Need-returns-in-Finished
 returns-2 c = search (finishing, rules)
 
 pub finish_spec : {M : Type 1} → statement M

@@ -7,23 +7,23 @@ use Rattle.board_lines.proofs.Listing.{Listing, listing_none, listing-on, listin
 use Rattle.board_lines.proofs.blocks.list.Statement.{statement}
 use Rattle.board_lines.proofs.blocks.list.Tie as tie
 
-abbrev invariant-loop : tie.invariant-loop
-invariant-loop blocks store out₀ from count number₀ at₀ out number at = (length out ≡ length out₀) × Listing blocks store out₀ from number out at
+abbrev invariant-loop-number : tie.invariant-loop-number
+invariant-loop-number blocks store out₀ from count number₀ at₀ out number at = (length out ≡ length out₀) × Listing blocks store out₀ from number out at
 
-abbrev decreases-loop : tie.decreases-loop
-decreases-loop blocks store out₀ from count number₀ at₀ out number at = count - number
+abbrev decreases-loop-number : tie.decreases-loop-number
+decreases-loop-number blocks store out₀ from count number₀ at₀ out number at = count - number
 
-loop-holds : tie.Need-loop-init invariant-loop decreases-loop
+loop-holds : tie.Need-loop-number-init invariant-loop-number decreases-loop-number
 loop-holds c = (search rules, listing_none _ _ _ _)
 
-loop-again : tie.Need-loop-preserved invariant-loop decreases-loop
+loop-again : tie.Need-loop-number-preserved invariant-loop-number decreases-loop-number
 loop-again c = (search rules, search (rules, listing-on))
 
-returns : tie.Need-returns invariant-loop decreases-loop
+returns : tie.Need-returns invariant-loop-number decreases-loop-number
 returns c = search (rules, listing_all)
 
 pub list_spec : {M : Type 1} → statement M
 list_spec =
     tie.close
-    (tie.spec invariant-loop decreases-loop (λ c κs. search rules) loop-holds (λ c κs. search rules) (λ c. search rules) (λ c. search rules) loop-again
+    (tie.spec invariant-loop-number decreases-loop-number (λ c κs. search rules) loop-holds (λ c κs. search rules) (λ c. search rules) (λ c. search rules) loop-again
     (λ c. search rules) returns)

@@ -4,10 +4,10 @@ use Rattle.board_lines.proofs.Listing.{listing_one}
 use Rattle.board_lines.proofs.blocks.list_one.Statement.{statement}
 use Rattle.board_lines.proofs.blocks.list_one.Tie as tie
 
-returns : tie.Need-returns
+returns : tie.Need-returns-in-Refused
 returns c = search listing_one
 
-returns-2 : tie.Need-returns-2
+returns-2 : tie.Need-returns-in-Block
 returns-2 c = search listing_one
 
 pub list_one_spec : {M : Type 1} → statement M

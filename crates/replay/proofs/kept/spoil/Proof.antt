@@ -3,12 +3,12 @@ use Rattle.std.proofs.Common.{◌≡◌, ◌-◌, length, rules}
 use Rattle.replay.proofs.kept.spoil.Statement.{statement}
 use Rattle.replay.proofs.kept.spoil.Tie as tie
 
-abbrev invariant-loop : tie.invariant-loop
-invariant-loop table₀ i₀ table i = length table ≡ length table₀
+abbrev invariant-loop-i : tie.invariant-loop-i
+invariant-loop-i table₀ i₀ table i = length table ≡ length table₀
 
-abbrev decreases-loop : tie.decreases-loop
-decreases-loop table₀ i₀ table i = length table₀ - i
+abbrev decreases-loop-i : tie.decreases-loop-i
+decreases-loop-i table₀ i₀ table i = length table₀ - i
 
 pub spoil_spec : {M : Type 1} → statement M
 spoil_spec =
-    tie.close (tie.spec invariant-loop decreases-loop (λ c. search rules) (λ c. search rules) (λ c. search rules) (λ c. search rules) (λ c. search rules) (λ c. search rules) (λ c. search rules) (λ c. search rules))
+    tie.close (tie.spec invariant-loop-i decreases-loop-i (λ c. search rules) (λ c. search rules) (λ c. search rules) (λ c. search rules) (λ c. search rules) (λ c. search rules) (λ c. search rules) (λ c. search rules))
