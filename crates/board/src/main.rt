@@ -2,6 +2,8 @@
 
 #![tactic(auto)]
 
+ghost use Rattle.std.specs.Prelude.{◌≡◌, length};
+
 use std::io::{self, Print};
 
 // As much of the input is read as `board_run` plays.
