@@ -61,7 +61,7 @@ fn oracle() -> Option<Rust> {
     let here = Path::new(env!("CARGO_MANIFEST_DIR"));
     let folder = std::env::var("ORACLE").map(PathBuf::from).unwrap_or_else(|_| here.join("../../shared/oracle"));
     if !folder.join("rust/Cargo.toml").exists() {
-        println!("The Rust is not at {}: the comparison is with the document alone. `rt run replay` replays the stored list of answers.", folder.display());
+        println!("The Rust is not at {}: the comparison is with the document alone. `rt run <stdin` in crates/replay replays the stored list of answers.", folder.display());
         return None;
     }
     println!("The Rust: {}/rust, the published source over its stand-ins.", folder.display());
