@@ -22,7 +22,7 @@ loop-holds c = (search rules, search rules, search rules, search rules, search (
 returns : tie.Need-returns-in-End invariant-loop-count decreases-loop-count
 returns c = search (turn_end, rules)
 
-sub-record-one : tie.Need-overflow-sub-record-one invariant-loop-count decreases-loop-count
+sub-record-one : tie.Need-slice_bounds-record_one-count invariant-loop-count decreases-loop-count
 sub-record-one c = search (rules, item_forward)
 
 part-record-one-start : tie.Need-slice_bounds-record_one-start invariant-loop-count decreases-loop-count

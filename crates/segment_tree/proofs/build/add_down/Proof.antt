@@ -39,7 +39,7 @@ add_down_spec =
     (λ c. omega (arith, wide_of c.loop-link.lo c.loop-link.hi c.has_halves.ensures (ap not c.if-not-has_halves.false)))
     (λ c. let turn = c.loop-link in (c.reach-link.auto.nodes ∙ turn.invariant.0, omega (arith, wide_of c.loop-link.lo c.loop-link.hi c.has_halves.ensures (ap not c.if-not-has_halves.false)), down_left turn.invariant.2 c.loop-link-test.true c.covers_node.ensures c.if-covers_node.false c.has_halves.ensures (ap not c.if-not-has_halves.false) c.if-created-mid.true c.if-mid-destroyed.false c.reach-link.ensures))
     (λ c. search rules)
-    (λ c. down_neither c.loop-link.invariant.2 c.loop-link-test.true c.covers_node.ensures c.if-covers_node.false c.has_halves.ensures (ap not c.if-not-has_halves.false) c.if-created-mid.false c.if-destroyed-mid.true)
+    (λ c. down_neither c.loop-link.invariant.2 c.loop-link-test.true c.covers_node.ensures c.if-covers_node.false c.has_halves.ensures (ap not c.if-not-has_halves.false) c.if-created-mid.false (search rules))
     (λ c κs. search rules)
     (λ c. omega (arith, wide_of c.loop-link.lo c.loop-link.hi c.has_halves.ensures (ap not c.if-not-has_halves.false)))
     (λ c. let turn = c.loop-link in (c.reach-link-else-created-mid.auto.nodes ∙ turn.invariant.0, turn.invariant.1, down_right turn.invariant.2 c.loop-link-test.true c.covers_node.ensures c.if-covers_node.false c.has_halves.ensures (ap not c.if-not-has_halves.false) c.if-created-mid.false c.if-destroyed-mid.false c.reach-link-else-created-mid.ensures))

@@ -24,7 +24,7 @@ write_prefix_spec =
     (λ c κs. search rules)
     (λ c. search rules)
     (λ c. search rules)
-    (λ c. onto_prefix_covered c.loop-link.invariant.2 c.loop-link-test.true c.if-hi-destroyed.true c.write_entry.ensures)
+    (λ c. onto_prefix_covered c.loop-link.invariant.2 c.loop-link-test.true (search rules) c.write_entry.ensures)
     (λ c. search rules)
     (λ c. search rules)
     (λ c κs. search rules)
