@@ -7,4 +7,4 @@ use Rattle.index_record.proofs.refusal.Tie as tie
 
 pub refusal_spec : {M : Type 1} → statement M
 refusal_spec =
-    tie.close (tie.spec (λ c κs. search rules) (λ c. search (judging, arith)) (λ c κs. search rules) (λ c. search (judging, arith)) (λ c κs. search rules) (λ c. search (judging, arith)) (λ c κs. search rules) (λ c. search (judging, arith)) (λ c. search (cell_fits, arith)) (λ c. search (judging, arith)))
+    tie.close (tie.spec (λ c κs. search rules) (λ c. search (judging, arith)) (λ c κs. search rules) (λ c. search (judging, arith)) (λ c κs. search rules) (λ c. search (judging, arith)) (λ c κs. search rules) (λ c. search (judging, arith)) (λ c. search (cell_fits, judging, arith)) (λ c. search (judging, arith)))
