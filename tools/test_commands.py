@@ -150,6 +150,14 @@ class Boardfile(unittest.TestCase):
         self.assertEqual(run([*BOARDFILE, "--test"]), (0, b"boardfile: ok\n", ""))
 
 
+class Copies(unittest.TestCase):
+    def test_copies(self):
+        """The packages for Python and Rust carry these files themselves, since the check takes no links."""
+        for copy, of in (("bindings/python/servercape/boardfile.py", "tools/boardfile.py"), ("bindings/rust/NOTICE", "NOTICE")):
+            if os.path.exists(os.path.join(ROOT, copy)):
+                self.assertEqual(content(os.path.join(ROOT, copy)), content(os.path.join(ROOT, of)), copy)
+
+
 class Readme(unittest.TestCase):
     def setUp(self):
         self.lines = content(os.path.join(ROOT, "README.md")).decode().split("\n")
