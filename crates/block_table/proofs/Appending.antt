@@ -10,7 +10,7 @@ use Rattle.lists.specs.Lists.{count_from}
 use Rattle.lists.proofs.Stores.{sets-append, get_d_sets_in, get_d_sets_out, set-sets}
 use Rattle.history.specs.Lent.{row_width, block_head}
 use Rattle.history.specs.Words.{Block}
-use Rattle.tables.specs.Columns.{block_column, block_base, head_count, block_first, block_length, block_created, block_destroyed, block_offset, block_owner, block_next, block_spare}
+use Rattle.tables.specs.Columns.{block_column, block_base, head_count, block_first, block_length, block_created, block_destroyed, block_offset, block_owner}
 use Rattle.block_table.specs.Blocks.{BlockRow, no_row, shown_block, block_of_row, blocks_of, SameRows, block_at, head_place, block_count}
 use Rattle.block_table.specs.Appended.{block_row, block_rows, appended, Countable, WroteRow, AppendedRow}
 use Rattle.block_table.proofs.Blocks.{blocks_append}
@@ -158,33 +158,9 @@ appended_blocks store rs b room =
     ap (block_of_row store (appended rs b)) e
     ∙ row_shown store (appended rs b) (block_count b + 1 + i) (get_or rs i no_row) (λ c k. appended_row rs no_row b i c room h k)))
 
--- ── `write_row`, `append` ──
+-- ── `append` ──
 
--- eight stores, one after the other, are the row
-pub write_row_done : {b b₁ b₂ b₃ b₄ b₅ b₆ b₇ b₈ : List ℕ} {link : ℕ} (p : BlockRow)
-    → b₁ ≡ set b (row_width * link + (block_base + block_first)) p.first → b₂ ≡ set b₁ (row_width * link + (block_base + block_length)) p.size
-    → b₃ ≡ set b₂ (row_width * link + (block_base + block_created)) p.created → b₄ ≡ set b₃ (row_width * link + (block_base + block_destroyed)) p.destroyed
-    → b₅ ≡ set b₄ (row_width * link + (block_base + block_offset)) p.offset → b₆ ≡ set b₅ (row_width * link + (block_base + block_owner)) p.owner
-    → b₇ ≡ set b₆ (row_width * link + (block_base + block_next)) 0 → b₈ ≡ set b₇ (row_width * link + (block_base + block_spare)) 0
-    → WroteRow b b₈ link p
-write_row_done {b} {link = link} p e₁ e₂ e₃ e₄ e₅ e₆ e₇ e₈ =
-    let at : ℕ = block_at link in
-    let i₁ : row_width * link + (block_base + block_length) ≡ suc at = omega arith in
-    let i₂ : row_width * link + (block_base + block_created) ≡ suc (suc at) = omega arith in
-    let i₃ : row_width * link + (block_base + block_destroyed) ≡ suc (suc (suc at)) = omega arith in
-    let i₄ : row_width * link + (block_base + block_offset) ≡ suc (suc (suc (suc at))) = omega arith in
-    let i₅ : row_width * link + (block_base + block_owner) ≡ suc (suc (suc (suc (suc at)))) = omega arith in
-    let i₆ : row_width * link + (block_base + block_next) ≡ suc (suc (suc (suc (suc (suc at))))) = omega arith in
-    let i₇ : row_width * link + (block_base + block_spare) ≡ suc (suc (suc (suc (suc (suc (suc at)))))) = omega arith in
-    record { is = rw (e₈, e₇, e₆, e₅, e₄, e₃, e₂, e₁, i₁, i₂, i₃, i₄, i₅, i₆, i₇) }
-
-pub append_full : {b : List ℕ} {count : ℕ} {p : BlockRow} → count ≡ block_count b → count ≡ 18446744073709551615 → AppendedRow b b p
-append_full e z = record { done = λ c. absurd (omega (arith, c.fits)) }
-
-pub append_done : {b b₁ b₂ : List ℕ} {count : ℕ} {p : BlockRow} → count ≡ block_count b → WroteRow b b₁ (count + 1) p
-    → b₂ ≡ set b₁ (head_place head_count) (count + 1) → AppendedRow b b₂ p
+pub append_done : {b b₁ b₂ : List ℕ} {link : ℕ} {p : BlockRow} → link ≡ block_count b + 1 → WroteRow b b₁ link p → b₂ ≡ set b₁ (head_place head_count) link
+    → AppendedRow b b₂ p
 unfolding appended block_rows
 append_done e w e₂ = record { done = λ c. rw (e₂, w.is, e) }
-
--- the steps, for `search` at a return
-pub ruleset appending = (append_full, append_done)

@@ -3,12 +3,9 @@ use mathlib.Core.Path.{◌≡◌, sym, ap, ◌∙◌}
 use mathlib.Core.List.{List, [], ◌∷◌, ◌++◌, map}
 use Prim.Native.Nat.{ℕ, suc, ◌+◌, ◌-◌, ◌≤◌, ◌<◌}
 use native.Mathlib.Omega.{arith}
-use borrow.Author.Tests.{ltb-true, ltb-false}
-use lib.Dec.{ltb}
 use lib.ListN.{length, get_or, take, drop, length-drop}
 use lib.Seq.{length-take-le, take-take}
 use Rattle.lists.specs.Lists.{count_from}
-use Rattle.lists.specs.Tests.{Decides}
 use Rattle.lists.proofs.Lists.{count_from_length, count_from_at}
 use Rattle.lists.proofs.Counting.{all_count_from, count_from_append}
 use Rattle.lists.proofs.Maps.{map-append, length_of_map, get_d_of_map, map_all}
@@ -16,17 +13,8 @@ use Rattle.lists.proofs.Parts.{drop-take}
 use Rattle.history.specs.Words.{Block, a_block, first_cell}
 use Rattle.history.specs.Tree.{no_block, key_in}
 use Rattle.tables.specs.Columns.{block_column, block_first, block_length, block_created, block_destroyed, block_offset, block_owner, block_next}
-use Rattle.block_table.specs.Blocks.{first_cell_at, StartsBefore, length_at, offset_at, BlockRow, shown_block, bytes_at, block_of_row, blocks_of, SameRows, Stored}
+use Rattle.block_table.specs.Blocks.{first_cell_at, length_at, offset_at, BlockRow, shown_block, bytes_at, block_of_row, blocks_of, SameRows, Stored}
 use Rattle.block_table.proofs.Keeping.{kept_column}
-
--- ── the return of `starts_before` ──
-
-pub starts_first : {t : List ℕ} {one other f g : ℕ} → f ≡ first_cell_at t one → g ≡ first_cell_at t other → Decides (ltb f g) (StartsBefore t one other)
-starts_first {t} {one} {other} {f} {g} ef eg =
-    record {
-      yes = λ e. record { is = omega (arith, ltb-true f g e) };
-      not = λ e s. omega (arith, ltb-false f g e, s.is);
-    }
 
 -- ── one row ──
 

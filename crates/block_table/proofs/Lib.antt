@@ -1,4 +1,3 @@
 pub mod Keeping
 pub mod Blocks
 pub mod Appending
-pub mod RowsTested

@@ -3,6 +3,7 @@ use Rattle.std.specs.Prelude.{◌≡◌, List, map, ℕ, ◌+◌, ◌*◌, ◌�
 use Rattle.lists.specs.Lists.{count_from}
 use Rattle.history.specs.Lent.{row_width, block_head}
 use Rattle.history.specs.Words.{Block, a_block}
+use Rattle.block_table.specs.declared.Block.{Block as RowBlock}
 use Rattle.tables.specs.Columns.{block_column, block_base, block_first, block_length, block_created, block_destroyed, block_offset, block_owner, head_count}
 
 -- ── columns ──
@@ -49,14 +50,9 @@ Room blocks n = block_head + row_width * n ≤ length blocks
 
 -- ── blocks ──
 
--- a block as a row of the table says it: its bytes are named by their offset in the store
-pub record BlockRow : Type 0 where
-  pub first : ℕ
-  pub size : ℕ
-  pub created : ℕ
-  pub destroyed : ℕ
-  pub offset : ℕ
-  pub owner : ℕ
+-- a block as a row of the table says it, the code's own: its bytes are named by their offset in the store
+abbrev pub BlockRow : Type 0
+BlockRow = RowBlock
 
 abbrev pub no_row : BlockRow
 no_row = record { first = 0; size = 0; created = 0; destroyed = 0; offset = 0; owner = 0 }

@@ -1,12 +1,11 @@
 -- What document 01 asks of the rows of a block table. Definitions alone.
 use Rattle.std.specs.Prelude.{◌≡◌, List, ℕ, ◌+◌, ◌-◌, ◌^◌, ◌≤◌, ◌<◌}
+use Rattle.block_table.specs.declared.rows.Bounds.{Bounds as RowBounds}
 use Rattle.block_table.specs.Blocks.{first_cell_at, length_at, created_at, destroyed_at, offset_at, owner_at}
 
--- what is the same for all rows of an index: its kind, end tick and store use
-pub record Bounds : Type 0 where
-  pub kind : ℕ
-  pub end : ℕ
-  pub used : ℕ
+-- what is the same for all rows of an index, the code's own: its kind, end tick and store use
+abbrev pub Bounds : Type 0
+Bounds = RowBounds
 
 -- not empty, no end wrapping, inside the store's used part; created ≤ destroyed ≤ E; of the index's kind
 pub record RowSound (blocks : List ℕ) (b : Bounds) (link : ℕ) : Type 0 where

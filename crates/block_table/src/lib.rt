@@ -117,6 +117,17 @@ pub fn set_first(blocks: &mut [u64], value: u64)
 
 // ── rows ──
 
+// A block as its row says it: so many cells from `first` on; their bytes stand in the store from `offset` on. The owner is the kind of the block.
+#[derive(Clone, Copy)]
+pub struct Block {
+    pub first: u64,
+    pub size: u64,
+    pub created: u64,
+    pub destroyed: u64,
+    pub offset: u64,
+    pub owner: u64,
+}
+
 // What is read of a row at once.
 #[derive(Clone, Copy)]
 pub struct Row {
@@ -132,16 +143,14 @@ pub fn read(blocks: &[u64], link: u64) -> Row
     ensures { Reads blocks.now link result }
 {
     let row = link as usize;
-    if block::HEAD <= blocks.len() {
-        if row <= (blocks.len() - block::HEAD) / tables::ROW {
-            return Row {
-                first: blocks[tables::ROW * row + (block::BASE + block::FIRST)],
-                length: blocks[tables::ROW * row + (block::BASE + block::LENGTH)],
-                created: blocks[tables::ROW * row + (block::BASE + block::CREATED)],
-                destroyed: blocks[tables::ROW * row + (block::BASE + block::DESTROYED)],
-                next: blocks[tables::ROW * row + (block::BASE + block::NEXT)],
-            };
-        }
+    if block::HEAD <= blocks.len() && row <= (blocks.len() - block::HEAD) / tables::ROW {
+        return Row {
+            first: blocks[tables::ROW * row + (block::BASE + block::FIRST)],
+            length: blocks[tables::ROW * row + (block::BASE + block::LENGTH)],
+            created: blocks[tables::ROW * row + (block::BASE + block::CREATED)],
+            destroyed: blocks[tables::ROW * row + (block::BASE + block::DESTROYED)],
+            next: blocks[tables::ROW * row + (block::BASE + block::NEXT)],
+        };
     }
     Row {
         first: block::get(blocks, link, block::FIRST),
@@ -160,55 +169,27 @@ pub fn starts_before(blocks: &[u64], one: u64, other: u64) -> bool
 }
 
 // Writes the row of a link. It is in no order yet.
-pub fn write_row(
-    blocks: &mut [u64],
-    link: u64,
-    first: u64,
-    length: u64,
-    created: u64,
-    destroyed: u64,
-    offset: u64,
-    owner: u64,
-)
-    ensures { WroteRow blocks.old blocks.new link
-        (record { first = first; size = length; created = created; destroyed = destroyed; offset = offset; owner = owner }) }
+pub fn write_row(blocks: &mut [u64], link: u64, block: Block)
+    ensures { WroteRow blocks.old blocks.new link block }
 {
-    block::put(blocks, link, block::FIRST, first);
-    block::put(blocks, link, block::LENGTH, length);
-    block::put(blocks, link, block::CREATED, created);
-    block::put(blocks, link, block::DESTROYED, destroyed);
-    block::put(blocks, link, block::OFFSET, offset);
-    block::put(blocks, link, block::OWNER, owner);
+    block::put(blocks, link, block::FIRST, block.first);
+    block::put(blocks, link, block::LENGTH, block.size);
+    block::put(blocks, link, block::CREATED, block.created);
+    block::put(blocks, link, block::DESTROYED, block.destroyed);
+    block::put(blocks, link, block::OFFSET, block.offset);
+    block::put(blocks, link, block::OWNER, block.owner);
     block::put(blocks, link, block::NEXT, 0);
     block::put(blocks, link, block::SPARE, 0);
 }
 
 // Appends a block behind those that the table has.
-pub fn append(
-    blocks: &mut [u64],
-    first: u64,
-    length: u64,
-    created: u64,
-    destroyed: u64,
-    offset: u64,
-    owner: u64,
-)
-    ensures { AppendedRow blocks.old blocks.new
-        (record { first = first; size = length; created = created; destroyed = destroyed; offset = offset; owner = owner }) }
+#[tactic(auto, using(crate::proofs::Appending::append_done))]
+pub fn append(blocks: &mut [u64], block: Block)
+    ensures { AppendedRow blocks.old blocks.new block }
 {
-    let many = count(blocks);
-    if many == u64::MAX {
+    let Some(link) = count(blocks).checked_add(1) else {
         return;
-    }
-    write_row(
-        blocks,
-        many + 1,
-        first,
-        length,
-        created,
-        destroyed,
-        offset,
-        owner,
-    );
-    set_count(blocks, many + 1);
+    };
+    write_row(blocks, link, block);
+    set_count(blocks, link);
 }

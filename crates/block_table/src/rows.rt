@@ -4,47 +4,39 @@ ghost use Rattle.block_table.specs.Rows.{RowSound, RowsSound};
 
 use tables::block;
 
+// What is the same for all rows of an index: its kind, end tick and store use.
+#[derive(Clone, Copy)]
+pub struct Bounds {
+    pub kind: u64,
+    pub end: u64,
+    pub used: u64,
+}
+
 // Whether a row is sound. It subtracts and does not add: in tables that nobody has tested a sum may pass 2^64.
-fn test_row(blocks: &[u64], link: u64, kind: u64, end: u64, used: u64) -> bool
-    ensures { Decides result (RowSound blocks.now (record { kind = kind; end = end; used = used }) link) }
+fn test_row(blocks: &[u64], link: u64, bounds: Bounds) -> bool
+    ensures { Decides result (RowSound blocks.now bounds link) }
 {
     let first = block::get(blocks, link, block::FIRST);
     let length = block::get(blocks, link, block::LENGTH);
-    if length == 0 {
-        return false;
-    }
-    if u64::MAX - first < length {
-        return false;
-    }
-    if used < length {
-        return false;
-    }
-    if used - length < block::get(blocks, link, block::OFFSET) {
-        return false;
-    }
     let destroyed = block::get(blocks, link, block::DESTROYED);
-    if destroyed < block::get(blocks, link, block::CREATED) {
-        return false;
-    }
-    if end < destroyed {
-        return false;
-    }
-    if block::get(blocks, link, block::OWNER) == kind {
-        return true;
-    }
-    false
+    length != 0
+        && length <= u64::MAX - first
+        && length <= bounds.used
+        && block::get(blocks, link, block::OFFSET) <= bounds.used - length
+        && block::get(blocks, link, block::CREATED) <= destroyed
+        && destroyed <= bounds.end
+        && block::get(blocks, link, block::OWNER) == bounds.kind
 }
 
-// Whether the rows 1 to n are sound. Linear in n, and ends at the first fault.
+// Whether the rows 1 to n are sound. Linear in n, and ends at the first fault: from the last row down, so that a count past the table ends at once.
 pub fn test_rows(blocks: &[u64], n: u64, kind: u64, end: u64, used: u64) -> bool
     ensures { Decides result (RowsSound blocks.now (record { kind = kind; end = end; used = used }) 0 n) }
 {
-    let mut link = n;
-    while 0 < link {
-        if !test_row(blocks, link, kind, end, used) {
+    let bounds = Bounds { kind, end, used };
+    for k in (0..n).rev() {
+        if !test_row(blocks, k + 1, bounds) {
             return false;
         }
-        link -= 1;
     }
     true
 }

@@ -1,20 +1,19 @@
 -- What stands at a position of the input: a step for each return of `opening` and `record_at`. Assumes nothing.
 use mathlib.Core.Path.{◌≡◌, refl, sym, ◌∙◌}
-use mathlib.Core.Logic.{◌⊎◌, ⊎_elim}
+use mathlib.Core.Logic.{⊎_elim}
 use mathlib.Core.Bool.{true, false}
+use Rattle.std.proofs.Common.{Some, None, Ok, Err}
 use mathlib.Core.List.{List}
 use Prim.Native.Nat.{ℕ, ◌+◌, ◌-◌, ◌≤◌, ◌<◌}
 use native.Mathlib.Omega.{arith}
 use lib.Dec.{eqb}
-use lib.ListN.{length, take, drop, length-drop}
-use lib.Seq.{length-take-le}
+use lib.ListN.{length, get_or, take, drop, length-drop}
+use lib.Seq.{length-take-le, drop-cons}
 use borrow.Author.Tests.{le-leb, lt-leb, eq-eqb, ne_eqb}
 use Rattle.lists.proofs.Numbers.{le_or_lt, bool_cases}
 use Rattle.history.specs.File.{number_of, got, fault, onward, ◌>>=◌, give, refuse◌unless◌, field, number}
 use Rattle.history.specs.Printed.{read_record, Booking}
 use Rattle.board_input.specs.Input.{NumberAt, start_of, item_from, item_at, record_front, first_record}
-use Rattle.board_input.specs.declared.Start.TheVariants.{Short, Open}
-use Rattle.board_input.specs.declared.Item.TheVariants.{End, Bad, Record}
 
 -- ── numbers ──
 
@@ -36,8 +35,13 @@ module _ (input : List ℕ) where
 -- ── the returns of `opening` ──
 
 module _ (input : List ℕ) where
+  -- a number of one byte is the byte
+  one_byte : (at : ℕ) → at + 1 ≤ length input → number_at input at 1 ≡ get_or input at 0
+  unfolding number_of
+  one_byte at h = let inside : at < length input = omega arith in rw (drop-cons input at 0 inside) (omega arith)
+
   -- too short to open with
-  pub start_short : length input < first_record → Short ≡ start_of input
+  pub start_short : length input < first_record → None ≡ start_of input
   unfolding start_of
   start_short h =
       ⊎_elim
@@ -46,9 +50,9 @@ module _ (input : List ℕ) where
       (le_or_lt (0 + 8) (length input))
 
   -- end tick and kind
-  pub start_open : {end kind : ℕ} → first_record ≤ length input → NumberAt input 0 8 end → NumberAt input 8 1 kind → Open end kind ≡ start_of input
+  pub start_open : {end : ℕ} → first_record ≤ length input → NumberAt input 0 8 end → Some (record { end = end; kind = get_or input 8 0 }) ≡ start_of input
   unfolding start_of
-  start_open h e k = rw (number_here input 8 0 (omega arith), number_here input 1 8 h, ← e.says, ← k.says) refl
+  start_open h e = rw (number_here input 8 0 (omega arith), number_here input 1 8 h, one_byte 8 h, ← e.says) refl
 
 -- ── the returns of `record_at` ──
 
@@ -58,7 +62,7 @@ marked = 0x4fb7
 
 module _ (input : List ℕ) (at : ℕ) where
   -- nothing is left
-  pub item_end : length input ≤ at → End ≡ item_at input at
+  pub item_end : length input ≤ at → None ≡ item_at input at
   unfolding item_at
   item_end h = rw (le-leb (length input) at h) refl
 
@@ -69,20 +73,20 @@ module _ (input : List ℕ) (at : ℕ) where
 
   -- a mark that stands inside: it is wrong, or right and a later field is cut
   module _ (whole : at + 2 ≤ length input) where
-    pub wrong_mark : eqb (number_at input at 2) marked ≡ false → item_from at (read_record input at) ≡ Bad
+    pub wrong_mark : eqb (number_at input at 2) marked ≡ false → item_from at (read_record input at) ≡ Some (Err (record {}))
     unfolding read_record ◌>>=◌ onward refuse◌unless◌
     wrong_mark e = rw (number_here input 2 at whole, e) refl
 
     module _ (mark : eqb (number_at input at 2) marked ≡ true) where
-      tick_cut : length input < at + 2 + 8 → item_from at (read_record input at) ≡ Bad
+      tick_cut : length input < at + 2 + 8 → item_from at (read_record input at) ≡ Some (Err (record {}))
       unfolding read_record ◌>>=◌ onward refuse◌unless◌
       tick_cut h = rw (number_here input 2 at whole, mark, number_past input 8 (at + 2) h) refl
 
-      first_cut : at + 2 + 8 ≤ length input → length input < at + 2 + 8 + 8 → item_from at (read_record input at) ≡ Bad
+      first_cut : at + 2 + 8 ≤ length input → length input < at + 2 + 8 + 8 → item_from at (read_record input at) ≡ Some (Err (record {}))
       unfolding read_record ◌>>=◌ onward refuse◌unless◌
       first_cut k h = rw (number_here input 2 at whole, mark, number_here input 8 (at + 2) k, number_past input 8 (at + 2 + 8) h) refl
 
-      length_cut : at + 2 + 8 + 8 ≤ length input → length input < at + 2 + 8 + 8 + 2 → item_from at (read_record input at) ≡ Bad
+      length_cut : at + 2 + 8 + 8 ≤ length input → length input < at + 2 + 8 + 8 + 2 → item_from at (read_record input at) ≡ Some (Err (record {}))
       unfolding read_record ◌>>=◌ onward refuse◌unless◌
       length_cut k h =
           rw (
@@ -94,12 +98,12 @@ module _ (input : List ℕ) (at : ℕ) where
           )
           refl
 
-  mark_cut : length input < at + 2 → item_from at (read_record input at) ≡ Bad
+  mark_cut : length input < at + 2 → item_from at (read_record input at) ≡ Some (Err (record {}))
   unfolding read_record ◌>>=◌ onward
   mark_cut h = rw (number_past input 2 at h) refl
 
   -- whatever its mark, a record whose front is cut is none
-  pub front_cut : length input < at + record_front → item_from at (read_record input at) ≡ Bad
+  pub front_cut : length input < at + record_front → item_from at (read_record input at) ≡ Some (Err (record {}))
   front_cut h =
       ⊎_elim
       (λ whole.
@@ -137,11 +141,11 @@ module _ (input : List ℕ) (at : ℕ) where
       refl
 
   -- the front is cut
-  pub item_short : at < length input → length input - at < record_front → Bad ≡ item_at input at
+  pub item_short : at < length input → length input - at < record_front → Some (Err (record {})) ≡ item_at input at
   item_short h k = sym (front_cut (omega arith)) ∙ item_within h
 
   -- the mark is wrong
-  pub item_wrong : {mark : ℕ} → record_front ≤ length input - at → NumberAt input at 2 mark → (mark ≡ marked → ⊥) → Bad ≡ item_at input at
+  pub item_wrong : {mark : ℕ} → record_front ≤ length input - at → NumberAt input at 2 mark → (mark ≡ marked → ⊥) → Some (Err (record {})) ≡ item_at input at
   item_wrong {mark} h m n =
       let e : eqb (number_at input at 2) marked ≡ false = ne_eqb (number_at input at 2) marked (λ p. n (m.says ∙ p)) in
       sym (wrong_mark (omega arith) e) ∙ item_within (omega arith)
@@ -155,14 +159,16 @@ module _ (input : List ℕ) (at : ℕ) where
         let are : cells ≡ cells_at = rw there at is-length.says in
         rw are (front_whole (omega arith) (eq-eqb (number_at input at 2) marked (sym is-mark.says ∙ right)))
 
-    pub item_cut : length input - (at + record_front) < cells → Bad ≡ item_at input at
+    pub item_cut : length input - (at + record_front) < cells → Some (Err (record {})) ≡ item_at input at
     unfolding onward field
     item_cut h = sym (rw (marks, lt-leb (at + record_front + cells) (length input) (omega arith)) refl) ∙ item_within (omega arith)
 
     pub item_record : {tick first : ℕ} → cells ≤ length input - (at + record_front) → NumberAt input (at + 2) 8 tick → NumberAt input (at + 2 + 8) 8 first
-        → Record tick first (at + record_front) cells (at + record_front + cells) ≡ item_at input at
+        → Some (Ok (record { tick = tick; first = first; start = at + record_front; length = cells; next = at + record_front + cells })) ≡ item_at input at
     unfolding onward field
     item_record h t f =
         let sized : length (take cells (drop (at + record_front) input)) ≡ cells =
         length-take-le cells (drop (at + record_front) input) (rw (length-drop (at + record_front) input) h) in
         sym (rw (marks, le-leb (at + record_front + cells) (length input) (omega arith), sized, ← t.says, ← f.says) refl) ∙ item_within (omega arith)
+
+pub ruleset refusing = (item_end, item_short, item_wrong)

@@ -1,8 +1,9 @@
 -- Going from record to record by `record_at`, from the first one on, gives the records of the input: the laws of `records_at`, one for each thing that
 -- may stand at a position. Assumes nothing.
-use mathlib.Core.Path.{◌≡◌, refl, sym, ◌∙◌, ap, ap₂}
-use mathlib.Core.Logic.{◌⊎◌, ⊎_elim}
+use mathlib.Core.Path.{◌≡◌, refl, sym, ◌∙◌, ap, ap₂, subst}
+use mathlib.Core.Logic.{⊎_elim}
 use mathlib.Core.Bool.{Bool, true, false, cond}
+use Rattle.std.proofs.Common.{Some, None, Ok, Err}
 use mathlib.Core.List.{List, []}
 use Prim.Native.Nat.{ℕ, zero, suc, ◌+◌, ◌-◌, ◌≤◌, ◌<◌}
 use native.Mathlib.Omega.{arith}
@@ -15,8 +16,8 @@ use Rattle.history.specs.File.{Read, got, fault, onward, field, number}
 use Rattle.history.specs.Printed.{Records, bad, all, onto, next_record, read_record, records_from, input_of, Booking}
 use Rattle.history.proofs.FileYields.{got_value, got_next, fault_got}
 use Rattle.board_input.specs.Input.{start_from, start_of, item_from, item_at, records_at, input_from, records_of, record_front, first_record}
-use Rattle.board_input.specs.declared.Start.TheVariants.{Short, Open}
-use Rattle.board_input.specs.declared.Item.TheVariants.{End, Bad, Record}
+use Rattle.board_input.specs.declared.Start.{Start}
+use Rattle.board_input.specs.declared.Record.{Record}
 use Rattle.board_input.proofs.Records.{number_at, marked, cells_at, booking_at, number_here, start_short, front_cut, wrong_mark, front_whole}
 
 -- ── a record that was read ──
@@ -28,18 +29,16 @@ pub record Stands (input : List ℕ) (at : ℕ) (o : Booking) (n : ℕ) : Type 0
   pub inside : n ≤ length input
 
 -- the record at a position, and those behind it
-pub record OneMore (input : List ℕ) (k at tick first start cells next : ℕ) : Type 0 where
-  pub records : records_at k input at ≡ onto (record { tick = tick; first = first; bytes = take cells (drop start input) }) (records_at (suc k) input next)
-  pub behind : at < start
-  pub ends : next ≡ start + cells
-  pub inside : next ≤ length input
+pub record OneMore (input : List ℕ) (k at : ℕ) (r : Record) : Type 0 where
+  pub records : records_at k input at
+      ≡ onto (record { tick = r.tick; first = r.first; bytes = take r.length (drop r.start input) }) (records_at (suc k) input r.next)
+  pub behind : at < r.start
+  pub ends : r.next ≡ r.start + r.length
+  pub inside : r.next ≤ length input
 
 -- what is bad was not read
-bad_record : (at : ℕ) {r : Read Booking} {o : Booking} {n : ℕ} → item_from at r ≡ Bad → r ≡ got o n → ⊥
-bad_record at {r} {o} {n} e g =
-    let f : Record o.tick o.first (at + record_front) (length o.bytes) n ≡ Bad = rw g at e in
-    let z : ◌≡◌ {A = ℕ} 0 1 = cc in
-    omega arith
+bad_record : (at : ℕ) {r : Read Booking} {o : Booking} {n : ℕ} → item_from at r ≡ Some (Err (record {})) → r ≡ got o n → ⊥
+bad_record at e g = let f = rw g at e in cc
 
 module _ (input : List ℕ) (at : ℕ) where
   -- the bytes behind a whole front
@@ -109,52 +108,31 @@ module _ (input : List ℕ) where
 
 -- ── what stands at a position ──
 
--- the same answer is the same record
-same : {input : List ℕ} {k at t f s c n t' f' s' c' n' : ℕ} → Record t f s c n ≡ Record t' f' s' c' n'
-    → OneMore input k at t' f' s' c' n' → OneMore input k at t f s c n
-same {input} {k} {at} {t} {f} {s} {c} {n} {t'} {f'} {s'} {c'} {n'} e m =
-    let a : t ≡ t' = cc in
-    let b : f ≡ f' = cc in
-    let d : s ≡ s' = cc in
-    let g : c ≡ c' = cc in
-    let h : n ≡ n' = cc in
-    rw (a, b, d, g, h) m
-
--- no two answers are equal
-end_record : {t f s c n : ℕ} → End ≡ Record t f s c n → ⊥
-end_record e = let z : ◌≡◌ {A = ℕ} 0 1 = cc in omega arith
-
-bad_end : Bad ≡ End → ⊥
-bad_end e = let z : ◌≡◌ {A = ℕ} 0 1 = cc in omega arith
-
-bad_records : {t f s c n : ℕ} → Bad ≡ Record t f s c n → ⊥
-bad_records e = let z : ◌≡◌ {A = ℕ} 0 1 = cc in omega arith
-
 module _ (input : List ℕ) (k at : ℕ) where
-  pub records_end : End ≡ item_at input at → records_at k input at ≡ all []
+  pub records_end : None ≡ item_at input at → records_at k input at ≡ all []
   unfolding item_at
   records_end e = go (leb (length input) at) refl (read_record input at) e
     where
-      go : (t : Bool) → leb (length input) at ≡ t → (r : Read Booking) → End ≡ cond t End (item_from at r) → records_at k input at ≡ all []
+      go : (t : Bool) → leb (length input) at ≡ t → (r : Read Booking) → None ≡ cond t None (item_from at r) → records_at k input at ≡ all []
       go true h r e = records_none input (length input) k at (leb-true (length input) at h)
-      go false h (got o n) e = absurd (end_record e)
-      go false h (fault i) e = absurd (bad_end (sym e))
+      go false h (got o n) e = cc
+      go false h (fault i) e = cc
 
-  pub records_bad : Bad ≡ item_at input at → records_at k input at ≡ bad k
+  pub records_bad : Some (Err (record {})) ≡ item_at input at → records_at k input at ≡ bad k
   unfolding item_at
   records_bad e = go (leb (length input) at) refl (read_record input at) refl e
     where
-      go : (t : Bool) → leb (length input) at ≡ t → (r : Read Booking) → read_record input at ≡ r → Bad ≡ cond t End (item_from at r)
+      go : (t : Bool) → leb (length input) at ≡ t → (r : Read Booking) → read_record input at ≡ r → Some (Err (record {})) ≡ cond t None (item_from at r)
           → records_at k input at ≡ bad k
-      go true h r q e = absurd (bad_end e)
-      go false h (got o n) q e = absurd (bad_records e)
+      go true h r q e = cc
+      go false h (got o n) q e = cc
       go false h (fault i) q e =
           let within : at < length input = leb-false (length input) at h in
           ap (λ (f : ℕ). records_from f k input at) (suc_of (length input) (omega arith)) ∙ records_fault input (length input - 1) k at within q
 
   -- the record that was read, and those behind it
   one_more : {o : Booking} {n : ℕ} → at < length input → read_record input at ≡ got o n
-      → OneMore input k at o.tick o.first (at + record_front) (length o.bytes) n
+      → OneMore input k at (record { tick = o.tick; first = o.first; start = at + record_front; length = length o.bytes; next = n })
   one_more {o} {n} within q =
       let s : Stands input at o n = record_stands input at q in
       let there : records_at k input at ≡ onto o (records_at (suc k) input n) =
@@ -169,21 +147,19 @@ module _ (input : List ℕ) (k at : ℕ) where
         inside = s.inside;
       }
 
-  pub records_on : {tick first start cells next : ℕ} → Record tick first start cells next ≡ item_at input at → OneMore input k at tick first start cells next
+  pub records_on : {r : Record} → Some (Ok r) ≡ item_at input at → OneMore input k at r
   unfolding item_at
-  records_on {tick} {first} {start} {cells} {next} e = go (leb (length input) at) refl (read_record input at) refl e
+  records_on {r} e = go (leb (length input) at) refl (read_record input at) refl e
     where
-      go : (t : Bool) → leb (length input) at ≡ t → (r : Read Booking) → read_record input at ≡ r
-          → Record tick first start cells next ≡ cond t End (item_from at r)
-          → OneMore input k at tick first start cells next
-      go true h r q e = absurd (end_record (sym e))
-      go false h (fault i) q e = absurd (bad_records (sym e))
-      go false h (got o n) q e = same e (one_more (leb-false (length input) at h) q)
+      go : (t : Bool) → leb (length input) at ≡ t → (b : Read Booking) → read_record input at ≡ b → Some (Ok r) ≡ cond t None (item_from at b)
+          → OneMore input k at r
+      go true h b q e = cc
+      go false h (fault i) q e = cc
+      go false h (got o n) q e =
+          let same : record { tick = o.tick; first = o.first; start = at + record_front; length = length o.bytes; next = n } ≡ r = cc in
+          subst (OneMore input k at) same (one_more (leb-false (length input) at h) q)
 
 -- ── the whole input ──
-
-short_open : {e k : ℕ} → Short ≡ Open e k → ⊥
-short_open h = let z : ◌≡◌ {A = ℕ} 0 1 = cc in omega arith
 
 -- what the two fields in front say of all
 module _ (rest : ℕ → Records) where
@@ -191,26 +167,28 @@ module _ (rest : ℕ → Records) where
   unfolding input_of
   whole_input e x kind at = refl
 
-  input_open : (r s : Read ℕ) {e k : ℕ} → Open e k ≡ start_from r s → ((input_of r s rest).end ≡ e) × ((input_of r s rest).kind ≡ k)
+  input_open : (r s : Read ℕ) {o : Start} → Some o ≡ start_from r s → ((input_of r s rest).end ≡ o.end) × ((input_of r s rest).kind ≡ o.kind)
   unfolding input_of
-  input_open (got a x) (got b y) h = ((cc), (cc))
-  input_open (got a x) (fault n) h = absurd (short_open (sym h))
-  input_open (fault n) s h = absurd (short_open (sym h))
+  input_open (got a x) (got b y) {o} h =
+      let same : o ≡ record { end = a; kind = b } = cc in
+      (sym (ap (λ (s : Start). s.end) same), sym (ap (λ (s : Start). s.kind) same))
+  input_open (got a x) (fault n) h = cc
+  input_open (fault n) s h = cc
 
-  input_short : (r s : Read ℕ) → Short ≡ start_from r s → (input_of r s rest).records ≡ bad 0
+  input_short : (r s : Read ℕ) → None ≡ start_from r s → (input_of r s rest).records ≡ bad 0
   unfolding input_of
-  input_short (got a x) (got b y) h = absurd (short_open h)
+  input_short (got a x) (got b y) h = cc
   input_short (got a x) (fault n) h = refl
   input_short (fault n) s h = refl
 
 module _ (input : List ℕ) where
   -- the answer of `opening` is the input's end tick and kind ..
-  pub start_says : {e k : ℕ} → Open e k ≡ start_of input → ((input_from input).end ≡ e) × ((input_from input).kind ≡ k)
+  pub start_says : {o : Start} → Some o ≡ start_of input → ((input_from input).end ≡ o.end) × ((input_from input).kind ≡ o.kind)
   unfolding start_of input_from
   start_says h = input_open (records_at 1 input) (number 8 input 0) (number 1 input 8) h
 
   -- .. or record 0 is bad
-  pub start_bad : Short ≡ start_of input → records_of input ≡ bad 0
+  pub start_bad : None ≡ start_of input → records_of input ≡ bad 0
   unfolding start_of input_from
   start_bad h = input_short (records_at 1 input) (number 8 input 0) (number 1 input 8) h
 

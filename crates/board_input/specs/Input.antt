@@ -1,20 +1,12 @@
 -- What the functions of `input` answer, by what history says of the input. Definitions alone: their laws stand in proofs/.
-use Rattle.std.specs.Prelude.{◌≡◌, cond, List, ℕ, ◌+◌, ◌^◌, ◌<◌, leb, length, get_or, take, drop}
+use Rattle.std.specs.Prelude.{◌≡◌, cond, Option, Some, None, Result, Ok, Err, List, ℕ, ◌+◌, ◌^◌, ◌<◌, leb, length, take, drop}
 use Rattle.history.specs.File.{number_of, Read, got, fault, number}
 use Rattle.history.specs.Printed.{Records, bad, all, read_record, records_from, Input, input_of, Booking}
 use Rattle.board_input.specs.declared.Start.{Start}
-use Rattle.board_input.specs.declared.Start.TheVariants.{Short, Open}
-use Rattle.board_input.specs.declared.Item.{Item}
-use Rattle.board_input.specs.declared.Item.TheVariants.{End, Bad, Record}
-use Rattle.board_input.specs.declared.Check.{Check}
-use Rattle.board_input.specs.declared.Check.TheVariants.{Good, Bad as BadAt}
+use Rattle.board_input.specs.declared.Record.{Record}
+use Rattle.board_input.specs.declared.BadRecord.{BadRecord}
 
 -- ── bytes and numbers ──
-
--- the byte at `at + i`, 0 past the end
-pub record ByteAt (input : List ℕ) (at i byte : ℕ) : Type 0 where
-  pub says : byte ≡ get_or input (at + i) 0
-  pub small : byte < 256
 
 -- the number of so many bytes, little-endian
 pub record NumberAt (input : List ℕ) (at width value : ℕ) : Type 0 where
@@ -24,12 +16,12 @@ pub record NumberAt (input : List ℕ) (at width value : ℕ) : Type 0 where
 -- ── the opening ──
 
 -- E (8 bytes), kind (1)
-abbrev pub start_from : (end kind : Read ℕ) → Start
-start_from (got e x) (got kind y) = Open e kind
-start_from (got e x) (fault n) = Short
-start_from (fault n) kind = Short
+abbrev pub start_from : (end kind : Read ℕ) → Option Start
+start_from (got e x) (got kind y) = Some (record { end = e; kind = kind })
+start_from (got e x) (fault n) = None
+start_from (fault n) kind = None
 
-unfoldable pub start_of : (input : List ℕ) → Start
+unfoldable pub start_of : (input : List ℕ) → Option Start
 start_of input = start_from (number 8 input 0) (number 1 input 8)
 
 -- ── a record ──
@@ -38,12 +30,13 @@ start_of input = start_from (number 8 input 0) (number 1 input 8)
 abbrev pub record_front : ℕ
 record_front = 20
 
-abbrev pub item_from : (at : ℕ) → Read Booking → Item
-item_from at (got o next) = Record o.tick o.first (at + record_front) (length o.bytes) next
-item_from at (fault n) = Bad
+abbrev pub item_from : (at : ℕ) → Read Booking → Option (Result Record BadRecord)
+item_from at (got o next) =
+    Some (Ok (record { tick = o.tick; first = o.first; start = at + record_front; length = length o.bytes; next = next }))
+item_from at (fault n) = Some (Err (record {}))
 
-unfoldable pub item_at : (input : List ℕ) (at : ℕ) → Item
-item_at input at = cond (leb (length input) at) End (item_from at (read_record input at))
+unfoldable pub item_at : (input : List ℕ) (at : ℕ) → Option (Result Record BadRecord)
+item_at input at = cond (leb (length input) at) None (item_from at (read_record input at))
 
 -- ── the records ──
 
@@ -62,6 +55,6 @@ input_from input = input_of (number 8 input 0) (number 1 input 8) (records_at 1 
 abbrev pub records_of : (input : List ℕ) → Records
 records_of input = (input_from input).records
 
-abbrev pub check_of : Records → Check
-check_of (bad k) = BadAt k
-check_of (all os) = Good
+abbrev pub check_of : Records → Result Unit ℕ
+check_of (bad k) = Err k
+check_of (all os) = Ok tt

@@ -8,9 +8,9 @@
 
 #![tactic(auto)]
 
-ghost use Rattle.std.specs.Prelude.{◌≡◌, ◌≤◌, ◌<◌};
+ghost use Rattle.std.specs.Prelude.{◌≡◌, ◌+◌, ◌≤◌, length};
 ghost use Rattle.board_input.specs.Walk.{LawOfInput};
-ghost use Rattle.board_input.specs.Input.{ByteAt, NumberAt, start_of, item_at, check_of, records_of};
+ghost use Rattle.board_input.specs.Input.{NumberAt, start_of, item_at, check_of, records_of};
 
 // Widths of the fields, in bytes.
 const NUMBER: usize = 8;
@@ -28,137 +28,98 @@ const FRONT: usize = MARK + NUMBER + NUMBER + LENGTH;
 pub const RECORDS: usize = NUMBER + KIND;
 
 // What the index is opened with.
-#[derive(Clone, Copy)]
-pub enum Start {
-    Short,
-    Open { end: u64, kind: u8 },
+#[derive(Clone, Copy, Debug, PartialEq, Eq)]
+pub struct Start {
+    pub end: u64,
+    pub kind: u8,
 }
 
-// What stands at a position: the input's end, a wrong mark or a cut record, or a record whose bytes are the `length` bytes from `start` on.
-#[derive(Clone, Copy)]
-pub enum Item {
-    End,
-    Bad,
-    Record {
-        tick: u64,
-        first: u64,
-        start: usize,
-        length: usize,
-        next: usize,
-    },
+// A record, whose bytes are the `length` bytes from `start` on.
+#[derive(Clone, Copy, Debug, PartialEq, Eq)]
+pub struct Record {
+    pub tick: u64,
+    pub first: u64,
+    pub start: usize,
+    pub length: usize,
+    pub next: usize,
 }
 
-// The first wrong mark or cut record, or none.
-#[derive(Clone, Copy)]
-pub enum Check {
-    Good,
-    Bad(u64),
-}
+// A wrong mark, or a record that the input's end cuts.
+#[derive(Clone, Copy, Debug, PartialEq, Eq)]
+pub struct BadRecord;
 
-fn wide(x: u8) -> u64
-    ensures { (result ≡ x) × (result < 256) }
-{
-    x as u64
-}
-
-// The byte at `at + i`, 0 past the end.
-fn byte_at(input: &[u8], at: usize, i: usize) -> u64
-    ensures { ByteAt input.now at i result }
-{
-    if at < input.len() {
-        if i < input.len() - at {
-            return wide(input[at + i]);
-        }
-    }
-    0
-}
-
-// The number of `width` bytes from `at` on, little-endian, so the last byte is read first; those past the end count as zeros.
+// The number of the `width` bytes from `at` on, little-endian, so the last byte is read first.
+#[tactic(auto, using(crate::proofs::Numbers::reading))]
 fn number_at(input: &[u8], at: usize, width: usize) -> u64
-    requires { width ≤ 8 }
+    requires inside { at + width ≤ length input.now }
+    requires few { width ≤ 8 }
     ensures { NumberAt input.now at width result }
 {
-    let mut value: u64 = 0;
-    let mut i = 0;
-    while i < width {
-        i += 1;
-        value = value * 256 + byte_at(input, at, width - i);
+    let mut value = 0;
+    for i in (0..width).rev() {
+        value = value * 256 + u64::from(input[at + i]);
     }
     value
 }
 
-// The end tick and the kind.
-pub fn opening(input: &[u8]) -> Start
+// The end tick and the kind; none where the input is too short.
+#[tactic(auto, using(crate::proofs::Records::start_short))]
+pub fn opening(input: &[u8]) -> Option<Start>
     ensures { result ≡ start_of input.now }
 {
     if input.len() < RECORDS {
-        return Start::Short;
+        return None;
     }
-    Start::Open {
-        end: number_at(input, 0, NUMBER),
-        kind: number_at(input, NUMBER, KIND) as u8,
-    }
+    let end = number_at(input, 0, NUMBER);
+    let kind = input[NUMBER];
+    Some(Start { end, kind })
 }
 
-// What stands at `at`.
-pub fn record_at(input: &[u8], at: usize) -> Item
+// What stands at `at`: nothing at the input's end, else a record or a bad one.
+#[tactic(auto, using(crate::proofs::Records::refusing))]
+pub fn record_at(input: &[u8], at: usize) -> Option<Result<Record, BadRecord>>
     ensures { result ≡ item_at input.now at }
 {
     if input.len() <= at {
-        return Item::End;
+        return None;
     }
-    if input.len() - at < FRONT {
-        return Item::Bad;
-    }
-    if number_at(input, at, MARK) != MARKED {
-        return Item::Bad;
+    if input.len() - at < FRONT || number_at(input, at, MARK) != MARKED {
+        return Some(Err(BadRecord));
     }
     let start = at + FRONT;
     let length = number_at(input, start - LENGTH, LENGTH) as usize;
     if input.len() - start < length {
-        return Item::Bad;
+        return Some(Err(BadRecord));
     }
-    Item::Record {
+    Some(Ok(Record {
         tick: number_at(input, at + MARK, NUMBER),
         first: number_at(input, at + MARK + NUMBER, NUMBER),
         start,
         length,
         next: start + length,
-    }
+    }))
 }
 
-// Looks for the first wrong mark or cut record. Records count from 1; input too short to open with is record 0.
-pub fn check_records(input: &[u8]) -> Check
+// Looks for the first wrong mark or cut record, whose number is the error. Records count from 1; input too short to open with is record 0.
+#[tactic(auto, using(crate::proofs::Checking::checking))]
+pub fn check_records(input: &[u8]) -> Result<(), u64>
     ensures { result ≡ check_of (records_of input.now) }
 {
     if input.len() < RECORDS {
-        return Check::Bad(0);
+        return Err(0);
     }
     let mut at = RECORDS;
-    let mut k: u64 = 1;
-    loop {
-        match record_at(input, at) {
-            Item::End => {
-                return Check::Good;
-            }
-            Item::Bad => {
-                return Check::Bad(k);
-            }
-            Item::Record {
-                tick: _,
-                first: _,
-                start: _,
-                length: _,
-                next,
-            } => {
-                at = next;
-                k += 1;
-            }
-        }
+    let mut k = 1;
+    while let Some(item) = record_at(input, at) {
+        let Ok(record) = item else { return Err(k) };
+        at = record.next;
+        k += 1;
     }
+    Ok(())
 }
 
 // What the answers above say of the input, as part of the build.
+#[tactic(auto, using(crate::proofs::Meeting::law_of_input))]
 pub fn law_of_input()
     ensures { LawOfInput }
 {}

@@ -27,13 +27,13 @@ use Rattle.layout.specs.Formed.{WellFormed, WellFormedForFinish}
 use Rattle.layout.specs.Reads.{values_of}
 use Rattle.layout.specs.Relations.{Fields, block_in, FinishLeaves}
 use Rattle.layout.proofs.ReadLaws.{block_there}
-use Rattle.index_read.specs.Answers.{given_of}
+use Rattle.std.specs.Prelude.{Ok, Err, Result as Told}
+use Rattle.refusals.specs.declared.Refusal.{Refusal}
+use Rattle.refusals.specs.Numbers.{number_of, answer_by}
+use Rattle.index_read.specs.Answers.{fields_given}
 use Rattle.index_read.specs.Reads.{BlockClosed}
-use Rattle.index_read.specs.declared.Given.{Given}
-use Rattle.index_read.specs.declared.Given.TheVariants.{Block as IsBlock, Refused}
-use Rattle.index_finish.specs.Answers.{finished_of, FinishesOpen}
-use Rattle.index_finish.specs.declared.Finished.{Finished}
-use Rattle.index_finish.specs.declared.Finished.TheVariants.{Finished as IsFinished, Refused as FinishRefused}
+use Rattle.index_read.specs.declared.Block.{Block as Given}
+use Rattle.index_finish.specs.Answers.{FinishesOpen}
 use Rattle.lists.specs.Puts.{Put}
 use Rattle.board_text.specs.Line.{block_line_of}
 use Rattle.lists.proofs.Puts.{put_none, put_append}
@@ -42,31 +42,31 @@ use Rattle.board_lines.specs.Lines.{Standing, ListedOne, Listed, FinishPut}
 
 -- ── the returns of `list_one` ──
 
-module _ {blocks store : List ℕ} {k : ℕ} {r : Given} (d : BlockClosed blocks k (given_of r)) where
-  pub one_none : {n at : ℕ} {out : List ℕ} → r ≡ Refused n → ListedOne blocks store k out at out at
-  one_none {n} e =
+module _ {blocks store : List ℕ} {k : ℕ} {r : Told Given Refusal} (d : BlockClosed blocks k (answer_by fields_given r)) where
+  pub one_none : {x : Refusal} {at : ℕ} {out : List ℕ} → r ≡ Err x → ListedOne blocks store k out at out at
+  one_none {x} e =
       record {
         line = λ pieces nodes entries l enc s done below.
-            let given : ◌≡◌ {A = Answer Block} (refused n) (block_answer l k) = rw e at ((d.given pieces store nodes entries).closed l enc s done).bytes_there in
-            let never : ◌≡◌ {A = Answer Block} (refused n) (accepted (block_by l k)) = given ∙ block_there enc done k below in
+            let given : ◌≡◌ {A = Answer Block} (refused (number_of x)) (block_answer l k) = rw e at ((d.given pieces store nodes entries).closed l enc s done).bytes_there in
+            let never : ◌≡◌ {A = Answer Block} (refused (number_of x)) (accepted (block_by l k)) = given ∙ block_there enc done k below in
             let z : ◌≡◌ {A = ℕ} 0 1 = cc in
             absurd (omega arith);
       }
 
-  pub one_line : {kind first n created destroyed offset at next : ℕ} {bytes out out' : List ℕ} → r ≡ IsBlock kind first n created destroyed offset
-      → bytes ≡ part_of store offset n → Put out at (block_line_of first created destroyed bytes) out' next → ListedOne blocks store k out at out' next
-  one_line {kind} {first} {n} {created} {destroyed} {offset} {at} {next} {bytes} {out} {out'} e part put =
+  pub one_line : {b : Given} {at next : ℕ} {bytes out out' : List ℕ} → r ≡ Ok b
+      → bytes ≡ part_of store b.offset b.length → Put out at (block_line_of b.first b.created b.destroyed bytes) out' next → ListedOne blocks store k out at out' next
+  one_line {b} {at} {next} {bytes} {out} {out'} e part put =
       record {
         line = λ pieces nodes entries l enc s done below.
             let g = (d.given pieces store nodes entries).closed l enc s done in
-            let f : Fields = record { kind = kind; first = first; length = n; created = created; destroyed = destroyed; offset = offset } in
-            let same : given_of r ≡ accepted f = ap given_of e in
+            let f : Fields = fields_given b in
+            let same : answer_by fields_given r ≡ accepted f = ap (answer_by fields_given) e in
             let given : ◌≡◌ {A = Answer Block} (accepted (block_in store f)) (accepted (block_by l k)) =
             ap (values_of (block_in store)) (sym same) ∙ g.bytes_there ∙ block_there enc done k below in
             let block : block_in store f ≡ block_by l k = cc in
-            let whole : bytes ≡ take n (drop offset store) = part ∙ part-whole store offset n (g.whole f same) in
-            let text : block_line_of first created destroyed bytes ≡ block_line (block_by l k) =
-            ap (block_line_of first created destroyed) whole ∙ sym (law_of_lines.in_parts (block_in store f)) ∙ ap block_line block in
+            let whole : bytes ≡ take f.length (drop f.offset store) = part ∙ part-whole store f.offset f.length (g.whole f same) in
+            let text : block_line_of f.first f.created f.destroyed bytes ≡ block_line (block_by l k) =
+            ap (block_line_of f.first f.created f.destroyed) whole ∙ sym (law_of_lines.in_parts (block_in store f)) ∙ ap block_line block in
             subst (λ (x : List ℕ). Put out at x out' next) text put;
       }
 
@@ -139,20 +139,20 @@ given {pieces} {blocks} {store} {nodes} {entries} fits d l s =
     let w : WellFormedForFinish t = record { ledger = l; encodes = s.encodes; sound = s.law.sound; blank = λ _. s.blank } in
     (d.done store fits state formed).formed w
 
-module _ {pieces blocks store nodes entries pieces' blocks' nodes' entries' : List ℕ} {r : Finished} (fits : length store < 2 ^ 64)
-    (d : FinishesOpen pieces blocks nodes entries pieces' blocks' nodes' entries' (finished_of r)) where
-  pub finish_refused : {n at next : ℕ} {out out' : List ℕ} → r ≡ FinishRefused n → Put out at (refused_line finish_text n) out' next
+module _ {pieces blocks store nodes entries pieces' blocks' nodes' entries' : List ℕ} {r : Told Unit Refusal} (fits : length store < 2 ^ 64)
+    (d : FinishesOpen pieces blocks nodes entries pieces' blocks' nodes' entries' (answer_by (λ _. done) r)) where
+  pub finish_refused : {n at next : ℕ} {out out' : List ℕ} {x : Refusal} → r ≡ Err x → n ≡ number_of x → Put out at (refused_line finish_text n) out' next
       → FinishPut (tables pieces blocks store nodes entries) out at out' next
   unfolding answer_to last_lines
-  finish_refused e put = record { lines = λ l s. rw (← (given fits d l s).0, e) put }
+  finish_refused e m put = record { lines = λ l s. rw (← (given fits d l s).0, e, ← m) put }
 
-  pub finish_listed : {at next : ℕ} {out out' : List ℕ} → r ≡ IsFinished → Listed blocks' store out at out' next
+  pub finish_listed : {at next : ℕ} {out out' : List ℕ} {u : Unit} → r ≡ Ok u → Listed blocks' store out at out' next
       → FinishPut (tables pieces blocks store nodes entries) out at out' next
   unfolding answer_to last_lines after leaves accepted_by
   finish_listed {at} {next} {out} {out'} e listed =
       record {
         lines = λ l s.
-            go l (finish_answer l) (sym (given fits d l s).0 ∙ ap finished_of e) (law_after l s.calls finish_call s.law).sound.sound
+            go l (finish_answer l) (sym (given fits d l s).0 ∙ ap (answer_by (λ _. done)) e) (law_after l s.calls finish_call s.law).sound.sound
             (given fits d l s).1;
       }
     where
@@ -161,5 +161,3 @@ module _ {pieces blocks store nodes entries pieces' blocks' nodes' entries' : Li
           → Put out at (last_lines (leaves a l (finish_by l)) a) out' next
       go l (accepted u) h sound x = listed.lines pieces' nodes' entries' (finish_by l) x.0 sound (finish_done l)
       go l (refused n) h sound x = let z : ◌≡◌ {A = ℕ} 0 1 = cc in absurd (omega arith)
-
-pub ruleset finishing = (finish_refused, finish_listed)

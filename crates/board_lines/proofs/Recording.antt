@@ -1,5 +1,7 @@
 -- Records: one step for each return of `record_one` and `record_all`, and for a turn of its loop. Assumes nothing.
-use mathlib.Core.Path.{◌≡◌, refl, sym, ◌∙◌}
+use mathlib.Core.Path.{◌≡◌, refl, sym, ◌∙◌, subst}
+use Rattle.std.proofs.Common.{Some, None, Ok, Err}
+use Rattle.std.specs.Prelude.{Option, Result}
 use mathlib.Core.List.{List, [], ◌∷◌, ◌++◌, append_assoc}
 use Prim.Native.Nat.{ℕ, suc, ◌+◌, ◌-◌, ◌^◌, ◌≤◌, ◌<◌}
 use native.Mathlib.Numerals.{add-one}
@@ -12,14 +14,13 @@ use Rattle.history.specs.Calls.{record_call, answer_to, after}
 use Rattle.history.specs.Printed.{board_scratch, op_line, lines_from, refused_line, op_text, decimal, Booking, operation_of}
 use Rattle.layout.specs.Tables.{tables}
 use Rattle.layout.specs.Relations.{RecordLeaves}
-use Rattle.index_record.specs.Calls.{recorded_of, RecordedOpen}
-use Rattle.index_record.specs.declared.Recorded.{Recorded}
-use Rattle.index_record.specs.declared.Recorded.TheVariants.{Read, Update, Refused}
+use Rattle.refusals.specs.declared.Refusal.{Refusal}
+use Rattle.refusals.specs.Numbers.{number_of, answer_by}
+use Rattle.index_record.specs.Calls.{recorded, RecordedOpen}
 use Rattle.board_input.specs.Input.{item_at, first_record}
 use Rattle.board_input.specs.Walk.{Walk, walk_end, walk_on}
 use Rattle.lists.specs.Puts.{Put}
-use Rattle.board_input.specs.declared.Item.{Item}
-use Rattle.board_input.specs.declared.Item.TheVariants.{End, Bad, Record}
+use Rattle.board_input.specs.declared.Record.{Record}
 use Rattle.board_input.proofs.Walking.{OneMore, records_on}
 use Rattle.lists.proofs.Puts.{put_none, put_append}
 use Rattle.board_lines.specs.Lines.{Standing, RecordedOne, Midway, RecordedAll}
@@ -27,9 +28,9 @@ use Rattle.board_lines.proofs.Standing.{record_stands}
 
 -- ── the returns of `record_one` ──
 
-module _ {pieces blocks store pieces' blocks' store' : List ℕ} {o : Operation} {r : Recorded} (d : RecordedOpen pieces blocks store pieces' blocks' store' o r) where
+module _ {pieces blocks store pieces' blocks' store' : List ℕ} {o : Operation} {r : Result (Option ℕ) Refusal} (d : RecordedOpen pieces blocks store pieces' blocks' store' o r) where
   given : (nodes entries : List ℕ) (l : Ledger) → Standing (tables pieces blocks store nodes entries) l
-      → (recorded_of r ≡ record_answer l board_scratch o)
+      → (answer_by recorded r ≡ record_answer l board_scratch o)
       × RecordLeaves (record_answer l board_scratch o) l o (tables pieces blocks store nodes entries) (tables pieces' blocks' store' nodes entries)
   given nodes entries l s = d.formed nodes entries l board_scratch refl s.encodes s.law.sound.sound s.unfinished
 
@@ -37,24 +38,18 @@ module _ {pieces blocks store pieces' blocks' store' : List ℕ} {o : Operation}
       → Standing (tables pieces' blocks' store' nodes entries) (after l (record_call board_scratch o))
   left nodes entries l s = record_stands o _ _ l s (given nodes entries l s).1
 
-  answer : (nodes entries : List ℕ) (l : Ledger) → Standing (tables pieces blocks store nodes entries) l → recorded_of r ≡ answer_to l (record_call board_scratch o)
+  answer : (nodes entries : List ℕ) (l : Ledger) → Standing (tables pieces blocks store nodes entries) l → answer_by recorded r ≡ answer_to l (record_call board_scratch o)
   unfolding answer_to
   answer nodes entries l s = (given nodes entries l s).0
 
-  pub one_read : {k at : ℕ} {out : List ℕ} → r ≡ Read → RecordedOne pieces blocks store pieces' blocks' store' o k out at out at
+  pub one_taken : {k at : ℕ} {out : List ℕ} {cell : Option ℕ} → r ≡ Ok cell → RecordedOne pieces blocks store pieces' blocks' store' o k out at out at
   unfolding op_line
-  one_read {k} {at} {out} e = record { line = λ nodes entries l s. rw (← (answer nodes entries l s), e) (put_none out at); left = left }
+  one_taken {k} {at} {out} e = record { line = λ nodes entries l s. rw (← (answer nodes entries l s), e) (put_none out at); left = left }
 
-  pub one_update : {k at cell : ℕ} {out : List ℕ} → r ≡ Update cell → RecordedOne pieces blocks store pieces' blocks' store' o k out at out at
-  unfolding op_line
-  one_update {k} {at} {cell} {out} e = record { line = λ nodes entries l s. rw (← (answer nodes entries l s), e) (put_none out at); left = left }
-
-  pub one_refused : {n k at next : ℕ} {out out' : List ℕ} → r ≡ Refused n → Put out at (refused_line (op_text ++ decimal k []) n) out' next
+  pub one_refused : {n k at next : ℕ} {out out' : List ℕ} {x : Refusal} → r ≡ Err x → n ≡ number_of x → Put out at (refused_line (op_text ++ decimal k []) n) out' next
       → RecordedOne pieces blocks store pieces' blocks' store' o k out at out' next
   unfolding op_line
-  one_refused e p = record { line = λ nodes entries l s. rw (← (answer nodes entries l s), e) p; left = left }
-
-pub ruleset recording_one = (one_read, one_update, one_refused)
+  one_refused e m p = record { line = λ nodes entries l s. rw (← (answer nodes entries l s), e, ← m) p; left = left }
 
 -- ── the loop of `record_all` ──
 
@@ -69,22 +64,6 @@ turn_first input pieces blocks store out from = record {
   counted = omega arith;
   turned = λ nodes entries l os s w. (os, w, record { ledger = l; standing = s; text = []; put = put_none out from; rest = refl });
 }
-
--- two answers that are the same record
-same_record : {tick first start cells next tick' first' start' cells' next' : ℕ} (input : List ℕ)
-    → Record tick first start cells next ≡ Record tick' first' start' cells' next'
-    → ◌≡◌ {A = Booking} (record { tick = tick; first = first; bytes = take cells (drop start input) }) (record { tick = tick'; first = first'; bytes = take cells' (drop start' input) })
-    × (next ≡ next')
-same_record input e = ((cc), (cc))
-
-end_record : {tick first start cells next : ℕ} → End ≡ Record tick first start cells next → ⊥
-end_record e = let z : ◌≡◌ {A = ℕ} 0 1 = cc in omega arith
-
-bad_end : Bad ≡ End → ⊥
-bad_end e = let z : ◌≡◌ {A = ℕ} 0 1 = cc in omega arith
-
-bad_record : {tick first start cells next : ℕ} → Bad ≡ Record tick first start cells next → ⊥
-bad_record e = let z : ◌≡◌ {A = ℕ} 0 1 = cc in omega arith
 
 -- one record further: its line is put behind the others
 midway_on : {lines pieces blocks store pieces' blocks' store' nodes entries out₀ out out' : List ℕ} {k from at next : ℕ} (b : Booking) {bs : List Booking}
@@ -103,65 +82,53 @@ midway_on {nodes} {entries} {k} b d m =
       rest = m.rest ∙ sym (append_assoc m.text (op_line k (answer_to l call)) _);
     }
 
-module _ {input pieces₀ blocks₀ store₀ out₀ pieces blocks store out : List ℕ} {from position k at : ℕ} {r : Item}
-    (turn : Turning input pieces₀ blocks₀ store₀ out₀ from pieces blocks store out position k at) (stands : r ≡ item_at input position) where
-  module _ {tick first start cells next : ℕ} (e : r ≡ Record tick first start cells next) where
-    more : OneMore input k position tick first start cells next
-    more = records_on input k position (sym e ∙ stands)
+module _ {input pieces₀ blocks₀ store₀ out₀ pieces blocks store out : List ℕ} {from position k at : ℕ}
+    (turn : Turning input pieces₀ blocks₀ store₀ out₀ from pieces blocks store out position k at) where
+  module _ {r : Record} (e : Some (Ok r) ≡ item_at input position) where
+    more : OneMore input k position r
+    more = records_on input k position e
 
-    pub turn_inside : next ≤ length input
+    pub turn_inside : r.next ≤ length input
     turn_inside = more.inside
 
-    pub turn_forward : start ≤ next
+    pub turn_forward : r.start ≤ r.next
     turn_forward = omega (arith, more.ends)
 
-    turn_less : position < next
+    pub turn_less : position < r.next
     turn_less = omega (arith, more.behind, more.ends)
-
-    pub turn_shorter : length input - next < length input - position
-    turn_shorter = omega (arith, turn_less, turn_inside)
 
     -- there are fewer records than bytes
     pub turn_count : length input < 2 ^ 64 → k + 1 < 2 ^ 64
     turn_count h = omega (arith, turn.counted, turn_less, turn_inside)
 
     pub turn_on : {pieces' blocks' store' out' : List ℕ} {at' : ℕ}
-        → RecordedOne pieces blocks store pieces' blocks' store' (record { tick = tick; first = first; bytes = take (next - start) (drop start input) }) k out at out' at'
-        → Turning input pieces₀ blocks₀ store₀ out₀ from pieces' blocks' store' out' next (k + 1) at'
+        → RecordedOne pieces blocks store pieces' blocks' store' (record { tick = r.tick; first = r.first; bytes = take (r.next - r.start) (drop r.start input) }) k out at out' at'
+        → Turning input pieces₀ blocks₀ store₀ out₀ from pieces' blocks' store' out' r.next (k + 1) at'
     turn_on {pieces'} {blocks'} {store'} {out'} {at'} d =
-        let width : next - start ≡ cells = omega (arith, more.ends) in
-        let one : RecordedOne pieces blocks store pieces' blocks' store' (record { tick = tick; first = first; bytes = take cells (drop start input) }) k out at out' at' = rw width at d in
+        let width : r.next - r.start ≡ r.length = omega (arith, more.ends) in
         rw (add-one k)
         (record {
           counted = omega (arith, turn.counted, turn_less);
-          turned = λ nodes entries l os s w. go one nodes entries (turn.turned nodes entries l os s w);
+          turned = λ nodes entries l os s w. go r e (rw width at d) nodes entries (turn.turned nodes entries l os s w);
         })
       where
-        go : {lines : List ℕ} → RecordedOne pieces blocks store pieces' blocks' store' (record { tick = tick; first = first; bytes = take cells (drop start input) }) k out at out' at'
+        go : {lines : List ℕ} (r : Record) → Some (Ok r) ≡ item_at input position
+            → RecordedOne pieces blocks store pieces' blocks' store' (record { tick = r.tick; first = r.first; bytes = take r.length (drop r.start input) }) k out at out' at'
             → (nodes entries : List ℕ) → (rest : List Booking) × Walk input position rest × Midway lines k rest (tables pieces blocks store nodes entries) out₀ from out at
-            → (rest : List Booking) × Walk input next rest × Midway lines (suc k) rest (tables pieces' blocks' store' nodes entries) out₀ from out' at'
-        go one nodes entries (rest, walk_end h, m) = absurd (end_record (h ∙ sym stands ∙ e))
-        go one nodes entries (rest, walk_on {tick = t} {first = f} {start = s} {cells = c} {next = n} {os = os} h w, m) =
-            let same = same_record input (h ∙ sym stands ∙ e) in
-            (os, rw same.1 at w, midway_on (record { tick = tick; first = first; bytes = take cells (drop start input) }) one (rw same.0 at m))
+            → (rest : List Booking) × Walk input r.next rest × Midway lines (suc k) rest (tables pieces' blocks' store' nodes entries) out₀ from out' at'
+        go r e one nodes entries (rest, walk_end h, m) = let never = e ∙ sym h in cc
+        go {lines} r e one nodes entries (rest, walk_on {r = r'} {os = os} h w, m) =
+            let same : r' ≡ r = let both = h ∙ sym e in cc in
+            let here = subst (λ (x : Record). Walk input x.next os) same w in
+            let met = subst (λ (x : Record). Midway lines k (record { tick = x.tick; first = x.first; bytes = take x.length (drop x.start input) } ∷ os) (tables pieces blocks store nodes entries) out₀ from out at) same m in
+            (os, here, midway_on _ one met)
 
-  -- at the end, which no bad record can be
-  pub turn_end : r ≡ End → RecordedAll input pieces₀ blocks₀ store₀ pieces blocks store out₀ from out at
+  -- where no record stands, which no bad one can be
+  pub turn_end : ((r : Record) → Some (Ok r) ≡ item_at input position → ⊥) → RecordedAll input pieces₀ blocks₀ store₀ pieces blocks store out₀ from out at
   unfolding lines_from
-  turn_end e = record { recorded = λ nodes entries l os s w. go (turn.turned nodes entries l os s w) }
+  turn_end none = record { recorded = λ nodes entries l os s w. go (turn.turned nodes entries l os s w) }
     where
       go : {lines : List ℕ} {nodes entries : List ℕ} → (rest : List Booking) × Walk input position rest × Midway lines k rest (tables pieces blocks store nodes entries) out₀ from out at
           → Midway lines 0 [] (tables pieces blocks store nodes entries) out₀ from out at
       go (rest, walk_end h, m) = record { ledger = m.ledger; standing = m.standing; text = m.text; put = m.put; rest = m.rest }
-      go (rest, walk_on h w, m) = absurd (end_record (sym e ∙ stands ∙ sym h))
-
-  -- among good records none is bad
-  pub turn_bad : r ≡ Bad → RecordedAll input pieces₀ blocks₀ store₀ pieces blocks store out₀ from out at
-  turn_bad e = record { recorded = λ nodes entries l os s w. go (turn.turned nodes entries l os s w) }
-    where
-      go : {lines : List ℕ} {nodes entries : List ℕ} → (rest : List Booking) × Walk input position rest × Midway lines k rest (tables pieces blocks store nodes entries) out₀ from out at
-          → Midway lines 0 [] (tables pieces blocks store nodes entries) out₀ from out at
-      go (rest, walk_end h, m) = absurd (bad_end (sym e ∙ stands ∙ sym h))
-      go (rest, walk_on h w, m) = absurd (bad_record (sym e ∙ stands ∙ sym h))
-
-pub ruleset recording_all = (turn_end, turn_bad)
+      go (rest, walk_on {r = r} h w, m) = absurd (none r h)

@@ -1,20 +1,19 @@
 -- The tables between calls: opening makes them stand for the ledger, and record keeps them so. Assumes nothing.
 use mathlib.Core.Path.{◌≡◌, refl, ◌∙◌}
-use mathlib.Core.Bool.{Bool, true, false}
+use mathlib.Core.Bool.{false}
 use mathlib.Core.List.{[], ◌∷◌}
 use Prim.Native.Nat.{ℕ}
 use Rattle.history.specs.Words.{Operation}
 use Rattle.history.specs.Lent.{too_short}
 use Rattle.history.specs.Ledger.{Opening, Ledger, opened, finished, is_read, record_by}
-use Rattle.history.specs.Results.{Result, done}
+use Rattle.history.specs.Results.{Result}
 use Rattle.history.specs.Refusals.{Answer, accepted, refused, open_answer, record_answer}
 use Rattle.history.specs.Calls.{record_call, answer_to, accepted_by, leaves, after, after_all, noted, history}
 use Rattle.history.specs.Law.{LedgerLaw}
 use Rattle.history.specs.Printed.{board_scratch}
 use Rattle.history.proofs.EveryList.{the_law, law_after}
 use Rattle.layout.specs.Tables.{Tables, lengths_of}
-use Rattle.layout.specs.Formed.{Blank}
-use Rattle.layout.specs.Relations.{opening_of, opened_tables, RecordedTables, RecordLeaves}
+use Rattle.layout.specs.Relations.{opening_of, opened_tables, RecordLeaves}
 use Rattle.layout.proofs.Recording.{record_blank, record_open}
 use Rattle.layout.proofs.Opening.{opened_encodes, opened_blank}
 use Rattle.board_lines.specs.Lines.{Standing}

@@ -2,25 +2,15 @@
 ghost use Rattle.layout.specs.Tables.{tables};
 ghost use Rattle.board_lines.specs.Lines.{ListedOne, Listed, FinishPut};
 
-use index_finish::Finished;
-use index_read::Given;
-
 // The line of the block of a number.
 fn list_one(blocks: &[u64], store: &[u8], number: u64, out: &mut [u8], at: usize) -> usize
     ensures { ListedOne blocks.now store.now number out.old at out.new result }
 {
     match index_read::block_closed(blocks, number) {
-        Given::Refused(_) => at,
-        Given::Block {
-            kind: _,
-            first,
-            length,
-            created,
-            destroyed,
-            offset,
-        } => {
-            let bytes = tables::part(store, offset, length);
-            board_text::block_line(out, at, first, created, destroyed, bytes)
+        Err(_) => at,
+        Ok(block) => {
+            let bytes = tables::part(store, block.offset, block.length);
+            board_text::block_line(out, at, block.first, block.created, block.destroyed, bytes)
         }
     }
 }
@@ -30,11 +20,9 @@ fn list(blocks: &[u64], store: &[u8], out: &mut [u8], from: usize) -> usize
     ensures { Listed blocks.now store.now out.old from out.new result }
 {
     let count = block_table::count(blocks);
-    let mut number = 0;
     let mut at = from;
-    while number < count {
+    for number in 0..count {
         at = list_one(blocks, store, number, out, at);
-        number += 1;
     }
     at
 }
@@ -53,7 +41,7 @@ pub fn finish(
         out.old at out.new result }
 {
     match index_finish::finish_open(pieces, blocks, nodes, entries) {
-        Finished::Refused(number) => board_text::finish_refused(out, at, number),
-        Finished::Finished => list(blocks, store, out, at),
+        Ok(()) => list(blocks, store, out, at),
+        Err(refusal) => board_text::finish_refused(out, at, u64::from(refusal)),
     }
 }

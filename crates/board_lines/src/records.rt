@@ -2,9 +2,6 @@
 ghost use Rattle.index_record.specs.Calls.{operation};
 ghost use Rattle.board_lines.specs.Lines.{RecordedOne, RecordedAll};
 
-use board_input::Item;
-use index_record::Recorded;
-
 // Records an operation; a refused one is record k, and its line is put. Nothing is written to a scratch, so none is made.
 fn record_one(
     pieces: &mut [u64],
@@ -21,13 +18,12 @@ fn record_one(
         (operation tick first bytes.now) k out.old at out.new result }
 {
     match index_record::record_open(pieces, blocks, store, tick, first, bytes) {
-        Recorded::Read => at,
-        Recorded::Update(_) => at,
-        Recorded::Refused(number) => board_text::op_refused(out, at, k, number),
+        Ok(_) => at,
+        Err(refusal) => board_text::op_refused(out, at, k, u64::from(refusal)),
     }
 }
 
-// Records the operations of the input, and puts a line for each refused one.
+// Records the operations of the input, of which none is bad, and puts a line for each refused one.
 pub fn record_all(
     input: &[u8],
     pieces: &mut [u64],
@@ -40,37 +36,23 @@ pub fn record_all(
         out.old from out.new result }
 {
     let mut position = board_input::RECORDS;
-    let mut k: u64 = 1;
+    let mut k = 1;
     let mut at = from;
-    loop {
-        match board_input::record_at(input, position) {
-            Item::End => {
-                return at;
-            }
-            Item::Bad => {
-                return at;
-            }
-            Item::Record {
-                tick,
-                first,
-                start,
-                length: _,
-                next,
-            } => {
-                at = record_one(
-                    pieces,
-                    blocks,
-                    store,
-                    tick,
-                    first,
-                    &input[start..next],
-                    k,
-                    out,
-                    at,
-                );
-                position = next;
-                k += 1;
-            }
-        }
+    while let Some(Ok(record)) = board_input::record_at(input, position) {
+        let bytes = &input[record.start..record.next];
+        at = record_one(
+            pieces,
+            blocks,
+            store,
+            record.tick,
+            record.first,
+            bytes,
+            k,
+            out,
+            at,
+        );
+        position = record.next;
+        k += 1;
     }
+    at
 }

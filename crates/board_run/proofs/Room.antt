@@ -1,6 +1,7 @@
 -- How much is printed at most: lines, then the last lines by the sizes of all blocks, then how many records there are. Assumes nothing.
 use mathlib.Core.Path.{◌≡◌, refl, sym, ◌∙◌, ap}
-use mathlib.Core.Logic.{◌⊎◌, ⊎_elim}
+use mathlib.Core.Logic.{⊎_elim}
+use Rattle.std.proofs.Common.{Some, None, Ok}
 use mathlib.Core.Bool.{Bool, true, false, cond}
 use mathlib.Core.List.{List, [], ◌∷◌, ◌++◌, map, flat_map}
 use Prim.Native.Nat.{ℕ, suc, ◌+◌, ◌*◌, ◌≤◌, ◌<◌}
@@ -11,7 +12,7 @@ use Rattle.lists.proofs.Numbers.{le_or_lt}
 use Rattle.lists.proofs.Maps.{length_of_map}
 use Rattle.history.specs.Words.{Operation, Block, size, block_of, first_cell}
 use Rattle.history.specs.Ledger.{Opening, Ledger, opened, settled, finish_by}
-use Rattle.history.specs.Results.{Result, done}
+use Rattle.history.specs.Results.{Result}
 use Rattle.history.specs.Refusals.{Answer, accepted, refused, open_answer}
 use Rattle.history.specs.Calls.{Call, record_call, finish_call, answer_to, accepted_by, leaves, after, after_all, history, noted}
 use Rattle.history.specs.Law.{LedgerLaw}
@@ -21,7 +22,7 @@ use Rattle.history.proofs.EveryList.{the_law, law_after, opening_kept}
 use Rattle.board_input.specs.Input.{item_from, item_at, input_from, records_of, first_record}
 use Rattle.board_input.specs.Walk.{Walk, walk_end, walk_on}
 use Rattle.board_text.specs.Line.{block_line_of, block_front}
-use Rattle.board_input.specs.declared.Item.TheVariants.{End, Record}
+use Rattle.board_input.specs.declared.Record.{Record}
 use Rattle.board_input.proofs.Walking.{records_on, records_short}
 use Rattle.board_input.proofs.Meeting.{law_of_input}
 use Rattle.board_text.proofs.Lines.{law_of_lines}
@@ -139,25 +140,25 @@ lines_length (b ∷ bs) k l r =
 
 -- ── how many records there are ──
 
-item_start : (input : List ℕ) (at : ℕ) {tick first start cells next : ℕ} → Record tick first start cells next ≡ item_at input at → start ≡ at + 20
+item_start : (input : List ℕ) (at : ℕ) {r : Record} → Some (Ok r) ≡ item_at input at → r.start ≡ at + 20
 unfolding item_at
-item_start input at {tick} {first} {start} {cells} {next} e = go (leb (length input) at) (read_record input at) e
+item_start input at {r} e = go (leb (length input) at) (read_record input at) e
   where
-    go : (t : Bool) (r : Read Booking) → Record tick first start cells next ≡ cond t End (item_from at r) → start ≡ at + 20
-    go true r e = let z : ◌≡◌ {A = ℕ} 0 1 = cc in absurd (omega arith)
+    go : (t : Bool) (b : Read Booking) → Some (Ok r) ≡ cond t None (item_from at b) → r.start ≡ at + 20
+    go true b e = cc
     go false (got b n) e = cc
-    go false (fault i) e = let z : ◌≡◌ {A = ℕ} 0 1 = cc in absurd (omega arith)
+    go false (fault i) e = cc
 
 walk_count : {input : List ℕ} {at : ℕ} {bs : List Booking} → Walk input at bs → at ≤ length input → 20 * length bs + at ≤ length input
 walk_count (walk_end h) inside = omega arith
-walk_count {input} {at} (walk_on {next = next} h w) inside =
+walk_count {input} {at} (walk_on h w) inside =
     let more = records_on input 0 at h in
     omega (arith, item_start input at h, more.ends, more.inside, walk_count w more.inside)
 
 few_records : (input : List ℕ) (bs : List Booking) → length input ≤ 65536 → records_of input ≡ all bs → length bs ≤ 3276
 few_records input bs fits e = ⊎_elim
     (λ (h : first_record ≤ length input). let c = walk_count (law_of_input.all_met input bs e) h in omega arith)
-    (λ (h : length input < first_record). let f : bad 0 ≡ all bs = sym (records_short input h) ∙ e in let z : ◌≡◌ {A = ℕ} 0 1 = cc in absurd (omega arith))
+    (λ (h : length input < first_record). let f : bad 0 ≡ all bs = sym (records_short input h) ∙ e in cc)
     (le_or_lt first_record (length input))
 
 -- ── the whole ──

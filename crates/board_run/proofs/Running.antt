@@ -1,8 +1,11 @@
 -- The whole: one step for each return of `play_open`, `play`, `lend`, `run_first` and `run`. Assumes nothing.
 use mathlib.Core.Path.{◌≡◌, refl, sym, ◌∙◌, ap, subst}
+use Rattle.std.proofs.Common.{Some, None, Ok, Err}
 use mathlib.Core.Bool.{false}
+use mathlib.Core.Logic.{⊎_elim}
+use Rattle.lists.proofs.Numbers.{le_or_lt}
 use mathlib.Core.List.{List, [], ◌∷◌, ◌++◌}
-use Prim.Native.Nat.{ℕ, ◌≤◌, ◌<◌}
+use Prim.Native.Nat.{min, ℕ, ◌≤◌, ◌<◌}
 use native.Mathlib.Omega.{arith}
 use lib.ListN.{length, take, length-take}
 use lib.Seq.{take_all, length-take-le, length-sets}
@@ -12,15 +15,12 @@ use Rattle.history.specs.Refusals.{Answer, accepted, refused, open_answer}
 use Rattle.history.specs.Printed.{Records, bad, all, input_most, board_lent, header_text, bad_record_text, open_text, newline, decimal, refused_line, lines_from, open_lines, record_lines, printed, Booking, board_opening}
 use Rattle.layout.specs.Tables.{Tables, tables}
 use Rattle.layout.specs.Relations.{opening_of, opened_tables, left_by, OpenedBy}
-use Rattle.index.specs.Answers.{opened_of}
-use Rattle.index.specs.declared.Opened.{Opened}
-use Rattle.index.specs.declared.Opened.TheVariants.{Opened as IsOpened, Refused}
+use Rattle.std.specs.Prelude.{Result as Told}
+use Rattle.refusals.specs.declared.Refusal.{Refusal}
+use Rattle.refusals.specs.Numbers.{number_of, answer_by}
 use Rattle.board_input.specs.Input.{start_of, records_of, check_of}
 use Rattle.lists.specs.Puts.{Put}
 use Rattle.board_input.specs.declared.Start.{Start}
-use Rattle.board_input.specs.declared.Start.TheVariants.{Short, Open}
-use Rattle.board_input.specs.declared.Check.{Check}
-use Rattle.board_input.specs.declared.Check.TheVariants.{Good, Bad}
 use Rattle.lists.proofs.Puts.{put_append}
 use Rattle.board_input.proofs.Meeting.{law_of_input}
 use Rattle.board_text.proofs.Lines.{law_of_lines}
@@ -58,32 +58,30 @@ board_fits : too_short board_lent ≡ false
 unfolding too_short
 board_fits = refl
 
-module _ {end kind : ℕ} {t t' : Tables} {r : Opened} (d : OpenedBy end kind t t' (opened_of r)) where
-  pub play_refused : {n next : ℕ} {input out out' : List ℕ} → r ≡ Refused n → Put out 0 (refused_line open_text n) out' next → PlayPut t input end kind out out' next
-  play_refused {n} e put =
+module _ {end kind : ℕ} {t t' : Tables} {r : Told Unit Refusal} (d : OpenedBy end kind t t' (answer_by (λ u. u) r)) where
+  pub play_refused : {n next : ℕ} {input out out' : List ℕ} {x : Refusal} → r ≡ Err x → n ≡ number_of x → Put out 0 (refused_line open_text n) out' next → PlayPut t input end kind out out' next
+  play_refused {n} e m put =
       record {
         lines = λ lent os w.
             let answer : open_answer (board_opening end kind) ≡ refused n =
-            ap (λ (x : Lent). open_answer (opening_for end kind x)) (sym lent) ∙ sym d.answered ∙ ap opened_of e in
+            ap (λ (x : Lent). open_answer (opening_for end kind x)) (sym lent) ∙ sym d.answered ∙ ap (answer_by (λ u. u)) e ∙ ap refused (sym m) in
             rw (lines_refused end kind n os answer) put;
       }
 
-  pub play_opened : {next : ℕ} {input out out' : List ℕ} → r ≡ IsOpened → OpenPut t' input out out' next → PlayPut t input end kind out out' next
+  pub play_opened : {next : ℕ} {input out out' : List ℕ} {u : Unit} → r ≡ Ok u → OpenPut t' input out out' next → PlayPut t input end kind out out' next
   unfolding left_by
   play_opened {next} {input} {out} {out'} e puts =
       record {
         lines = λ lent os w.
-            let taken : open_answer (opening_of end kind t) ≡ accepted tt = sym d.answered ∙ ap opened_of e in
+            let taken : open_answer (opening_of end kind t) ≡ accepted tt = sym d.answered ∙ ap (answer_by (λ u. u)) e in
             let same : opening_of end kind t ≡ board_opening end kind = ap (opening_for end kind) lent in
-            let left : t' ≡ opened_tables end kind t = d.left ∙ ap (λ (x : Answer Unit). left_by x t (opened_tables end kind t)) (ap opened_of e) in
+            let left : t' ≡ opened_tables end kind t = d.left ∙ ap (λ (x : Answer Unit). left_by x t (opened_tables end kind t)) (ap (answer_by (λ u. u)) e) in
             let stands : Standing t' (opened (opening_of end kind t)) =
             subst (λ (x : Tables). Standing x (opened (opening_of end kind t))) (sym left) (opened_stands end kind t (ap too_short lent ∙ board_fits) taken) in
             let text : record_lines end kind (all os) ≡ header_text ++ (newline ∷ lines_from 1 (opened (opening_of end kind t)) os) =
             lines_taken end kind os (ap open_answer (sym same) ∙ taken) ∙ ap (λ (a : Opening). header_text ++ (newline ∷ lines_from 1 (opened a) os)) (sym same) in
             subst (λ (x : List ℕ). Put out 0 x out' next) (sym text) (puts.lines (opened (opening_of end kind t)) stands os w);
       }
-
-pub ruleset playing = (play_refused, play_opened)
 
 -- ── `lend` ──
 
@@ -96,35 +94,33 @@ lend_lines a b c d e puts = record { lines = puts.lines (rw (a, b, c, d, e)) }
 -- ── `run_first` ──
 
 -- what is found bad is bad, and what is found good has records
-found_bad : (x : Records) (k : ℕ) → check_of x ≡ Bad k → x ≡ bad k
+found_bad : (x : Records) (k : ℕ) → Err k ≡ check_of x → x ≡ bad k
 found_bad (bad n) k e = let same : n ≡ k = cc in ap bad same
-found_bad (all os) k e = let z : ◌≡◌ {A = ℕ} 0 1 = cc in absurd (omega arith)
+found_bad (all os) k e = cc
 
-found_good : (x : Records) → check_of x ≡ Good → (os : List Booking) × (x ≡ all os)
-found_good (bad n) e = let z : ◌≡◌ {A = ℕ} 0 1 = cc in absurd (omega arith)
+found_good : (x : Records) → Ok tt ≡ check_of x → (os : List Booking) × (x ≡ all os)
+found_good (bad n) e = let never = e in absurd (cc)
 found_good (all os) e = (os, refl)
 
 bad_lines : (input : List ℕ) (k : ℕ) → records_of input ≡ bad k → printed_of input ≡ bad_record_text ++ decimal k (newline ∷ [])
 unfolding printed_of record_lines
 bad_lines input k e = rw e
 
-module _ (input : List ℕ) {out out' : List ℕ} {next : ℕ} {r : Start} (starts : r ≡ start_of input) where
-  pub first_short : r ≡ Short → Put out 0 (bad_record_text ++ decimal 0 (newline ∷ [])) out' next → Put out 0 (printed_of input) out' next
-  first_short e put = rw (bad_lines input 0 (law_of_input.too_short input (sym e ∙ starts))) put
+module _ (input : List ℕ) {out out' : List ℕ} {next : ℕ} where
+  pub first_short : None ≡ start_of input → Put out 0 (bad_record_text ++ decimal 0 (newline ∷ [])) out' next → Put out 0 (printed_of input) out' next
+  first_short e put = rw (bad_lines input 0 (law_of_input.too_short input e)) put
 
-  pub first_bad : {c : Check} {k : ℕ} → c ≡ check_of (records_of input) → c ≡ Bad k → Put out 0 (bad_record_text ++ decimal k (newline ∷ [])) out' next
+  pub first_bad : {k : ℕ} → Err k ≡ check_of (records_of input) → Put out 0 (bad_record_text ++ decimal k (newline ∷ [])) out' next
       → Put out 0 (printed_of input) out' next
-  first_bad {k = k} checks e put = rw (bad_lines input k (found_bad (records_of input) k (sym checks ∙ e))) put
+  first_bad {k = k} e put = rw (bad_lines input k (found_bad (records_of input) k e)) put
 
-  pub first_good : {c : Check} {end kind : ℕ} → r ≡ Open end kind → c ≡ check_of (records_of input) → c ≡ Good → LendPut input end kind out out' next
+  pub first_good : {s : Start} → Some s ≡ start_of input → Ok tt ≡ check_of (records_of input) → LendPut input s.end s.kind out out' next
       → Put out 0 (printed_of input) out' next
   unfolding printed_of
-  first_good {end = end} {kind = kind} o checks e puts =
-      let found = found_good (records_of input) (sym checks ∙ e) in
-      let says = law_of_input.opened_with input end kind (sym o ∙ starts) in
+  first_good {s} starts e puts =
+      let found = found_good (records_of input) e in
+      let says = law_of_input.opened_with input s starts in
       rw (says.0, says.1, found.1) (puts.lines found.0 (law_of_input.all_met input found.0 found.1))
-
-pub ruleset running_first = (first_short, first_bad, first_good)
 
 -- ── `run` ──
 
@@ -145,8 +141,13 @@ prints input {out} {out'} {next} put =
       counts = sym (length-take-le next out' inside);
     }
 
-pub run_short : (input : List ℕ) {out out' : List ℕ} {next : ℕ} → length input < 65536 → Put out 0 (printed_of input) out' next → PrintsBoard input out out' next
-run_short input h put = prints input (rw (first_bytes input, take_all input_most input (omega arith)) put)
-
-pub run_long : (input : List ℕ) {out out' : List ℕ} {next : ℕ} → Put out 0 (printed_of (take 65536 input)) out' next → PrintsBoard input out out' next
-run_long input put = prints input (rw (first_bytes input) put)
+-- the first bytes, or all where there are fewer
+pub run_lines : (input : List ℕ) (n : ℕ) {out out' : List ℕ} {next : ℕ} → n ≡ min (length input) 65536 → Put out 0 (printed_of (take n input)) out' next
+    → PrintsBoard input out out' next
+run_lines input n e put =
+    let same : take n input ≡ take 65536 input =
+    ⊎_elim
+    (λ (h : 65536 ≤ length input). let most : n ≡ 65536 = omega arith in ap (λ (m : ℕ). take m input) most)
+    (λ (h : length input < 65536). take_all n input (omega arith) ∙ sym (take_all 65536 input (omega arith)))
+    (le_or_lt 65536 (length input)) in
+    prints input (rw (first_bytes input, ← same) put)

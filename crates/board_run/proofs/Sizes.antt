@@ -1,6 +1,6 @@
 -- Every byte of an accepted update stands in one piece or one block: the sizes of all add up to the store use. Assumes nothing.
 use mathlib.Core.Path.{◌≡◌, refl, sym, ◌∙◌, ap}
-use mathlib.Core.Logic.{◌⊎◌, ⊎_elim}
+use mathlib.Core.Logic.{⊎_elim}
 use mathlib.Core.Bool.{Bool, true, false, cond}
 use mathlib.Core.Option
 use mathlib.Core.Option.{Option, none, some, Option-elim}
@@ -13,7 +13,7 @@ use borrow.Author.Tests.{ltb-true, ltb-false}
 use Rattle.lists.proofs.Numbers.{le_or_lt}
 use Rattle.history.specs.Words.{Stretch, Operation, Piece, Block, size, ends, stretch_of, piece_of, block_of, clip, clip_piece, below, inside, above}
 use Rattle.history.specs.Ledger.{Moment, Ledger, opened, Opening, is_read, read_by, update_by, record_by, settled}
-use Rattle.history.specs.Results.{Result, done}
+use Rattle.history.specs.Results.{Result}
 use Rattle.history.specs.Refusals.{Answer, accepted, refused}
 use Rattle.history.specs.Calls.{record_call, answer_to, accepted_by, leaves, after}
 use Rattle.history.proofs.Clip.{part, part-ends}

@@ -1,9 +1,8 @@
 -- What each part of the program puts into the buffer. A name with a prime is the slice at exit. Definitions alone.
 use Rattle.std.specs.Prelude.{◌≡◌, List, ◌∷◌, ◌++◌, ℕ}
-use Rattle.history.specs.Words.{Operation}
 use Rattle.history.specs.Ledger.{Ledger}
 use Rattle.history.specs.Printed.{header_text, newline, all, board_lent, lines_from, record_lines, Booking}
-use Rattle.layout.specs.Tables.{Tables, tables, lengths_of}
+use Rattle.layout.specs.Tables.{Tables, lengths_of}
 use Rattle.board_input.specs.Input.{input_from, records_of, first_record}
 use Rattle.board_input.specs.Walk.{Walk}
 use Rattle.lists.specs.Puts.{Put}

@@ -14,9 +14,8 @@ ghost use Rattle.board_run.specs.Runs.{OpenPut, PlayPut, LendPut, printed_of};
 ghost use Rattle.board_run.specs.Room.{output_most, PrintsBoard};
 ghost use Rattle.lists.specs.Puts.{Put};
 
-use board_input::{Check, Start};
 use board_lines::{blocks, records};
-use index::{Index, Opened};
+use index::Index;
 use tables::{block, entry, node, piece};
 
 // What is lent: 512 pieces, 1,024 blocks, 65,536 store bytes, 1,024 nodes, 4,096 entries, each table behind its head.
@@ -75,8 +74,8 @@ fn play(
         input.now end kind out.old out.new result }
 {
     match Index::open(pieces, blocks, store, nodes, entries, end, kind) {
-        Opened::Refused(number) => board_text::open_refused(out, 0, number),
-        Opened::Opened => play_open(input, pieces, blocks, store, nodes, entries, out),
+        Ok(()) => play_open(input, pieces, blocks, store, nodes, entries, out),
+        Err(refusal) => board_text::open_refused(out, 0, u64::from(refusal)),
     }
 }
 
@@ -106,12 +105,12 @@ fn lend(input: &[u8], end: u64, kind: u8, out: &mut [u8]) -> usize
 fn run_first(input: &[u8], out: &mut [u8]) -> usize
     ensures { Put out.old 0 (printed_of input.now) out.new result }
 {
-    match board_input::opening(input) {
-        Start::Short => board_text::bad_record(out, 0, 0),
-        Start::Open { end, kind } => match board_input::check_records(input) {
-            Check::Bad(k) => board_text::bad_record(out, 0, k),
-            Check::Good => lend(input, end, kind, out),
-        },
+    let Some(start) = board_input::opening(input) else {
+        return board_text::bad_record(out, 0, 0);
+    };
+    match board_input::check_records(input) {
+        Ok(()) => lend(input, start.end, start.kind, out),
+        Err(k) => board_text::bad_record(out, 0, k),
     }
 }
 
@@ -119,8 +118,5 @@ fn run_first(input: &[u8], out: &mut [u8]) -> usize
 pub fn run(input: &[u8], out: &mut [u8]) -> usize
     ensures { PrintsBoard input.now out.old out.new result }
 {
-    if input.len() < INPUT {
-        return run_first(input, out);
-    }
-    run_first(&input[..INPUT], out)
+    run_first(&input[..input.len().min(INPUT)], out)
 }

@@ -30,20 +30,19 @@ fn digit(d: u64) -> u8
     requires { d < 10 }
     ensures { result ≡ Printed·digit d }
 {
-    48 + d as u8
+    b'0' + d as u8
 }
 
+#[tactic(auto, using(crate::proofs::Digits::hex_low, crate::proofs::Digits::hex_high))]
 fn hex_digit(d: u8) -> u8
     requires { d < 16 }
     ensures { result ≡ hex_digit d }
 {
-    if d < 10 {
-        return 48 + d;
-    }
-    87 + d
+    if d < 10 { b'0' + d } else { b'a' + (d - 10) }
 }
 
 // One character.
+#[tactic(auto, using(lists::proofs::Puts::put_past))]
 pub fn put(out: &mut [u8], at: usize, character: u8) -> usize
     ensures { Put out.old at (character ∷ []) out.new result }
 {
@@ -59,10 +58,8 @@ pub fn text(out: &mut [u8], at: usize, characters: &[u8]) -> usize
     ensures { Put out.old at characters.now out.new result }
 {
     let mut next = at;
-    let mut i = 0;
-    while i < characters.len() {
-        next = put(out, next, characters[i]);
-        i += 1;
+    for &character in characters {
+        next = put(out, next, character);
     }
     next
 }
@@ -70,6 +67,7 @@ pub fn text(out: &mut [u8], at: usize, characters: &[u8]) -> usize
 // ── numbers ──
 
 // A number in decimal. Its digits are spelled from the last to the first.
+#[tactic(auto, using(crate::proofs::Digits::spelling_none, crate::proofs::Digits::spelling_room))]
 pub fn decimal(out: &mut [u8], at: usize, n: u64) -> usize
     ensures { Put out.old at (Printed·decimal n []) out.new result }
 {
@@ -94,14 +92,13 @@ fn hex_byte(out: &mut [u8], at: usize, byte: u8) -> usize
 }
 
 // Bytes in lower-case hexadecimal.
+#[tactic(auto, using(crate::proofs::Lines::hex_all))]
 pub fn hex(out: &mut [u8], at: usize, bytes: &[u8]) -> usize
     ensures { Put out.old at (hex_bytes bytes.now []) out.new result }
 {
     let mut next = at;
-    let mut i = 0;
-    while i < bytes.len() {
-        next = hex_byte(out, next, bytes[i]);
-        i += 1;
+    for &byte in bytes {
+        next = hex_byte(out, next, byte);
     }
     next
 }
@@ -110,8 +107,7 @@ pub fn hex(out: &mut [u8], at: usize, bytes: &[u8]) -> usize
 fn label(out: &mut [u8], at: usize, cell: u64) -> usize
     ensures { Put out.old at (four_digits (clock_label [] cell) []) out.new result }
 {
-    let none = [0; 0];
-    let n = days::cell_label(&none, cell);
+    let n = days::cell_label(&[], cell);
     let digits = [
         digit(n / 1000 % 10),
         digit(n / 100 % 10),
@@ -223,6 +219,7 @@ pub fn finish_refused(out: &mut [u8], at: usize, number: u64) -> usize
 }
 
 // A block's line is its parts, as part of the build.
+#[tactic(auto, using(crate::proofs::Lines::law_of_lines))]
 pub fn law_of_lines()
     ensures { LawOfLines }
 {}

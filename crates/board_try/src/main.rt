@@ -7,6 +7,7 @@
 ghost use Rattle.std.specs.Prelude.{◌≡◌, ◌<◌, ◌^◌, length};
 
 use std::io::{self, Print, Stdout};
+use tally::Tally;
 
 // As much data is read.
 const DATA: usize = 1000000;
@@ -15,24 +16,15 @@ const BOARDS: usize = 1000;
 // Bytes of a count or a length.
 const NUMBER: usize = 4;
 
-fn wide(x: u8) -> usize
-    ensures { result < 256 }
-{
-    x as usize
-}
-
 // The number at a position of the data, little-endian; 0 where there is none.
 fn number_at(data: &[u8], at: usize) -> usize
     ensures { result < 2 ^ 32 }
 {
-    if data.len() < NUMBER {
+    if data.len() < NUMBER || data.len() - NUMBER < at {
         return 0;
     }
-    if data.len() - NUMBER < at {
-        return 0;
-    }
-    let low = wide(data[at]) + 256 * wide(data[at + 1]);
-    let high = wide(data[at + 2]) + 256 * wide(data[at + 3]);
+    let low = usize::from(data[at]) + 256 * usize::from(data[at + 1]);
+    let high = usize::from(data[at + 2]) + 256 * usize::from(data[at + 3]);
     low + 65536 * high
 }
 
@@ -54,34 +46,28 @@ fn prints(input: &[u8], wanted: &[u8], out: &mut [u8]) -> bool {
 }
 
 // Prints the number of a board that differs.
-fn say(stdout: &Stdout, tally: &[u64]) {
+fn say(stdout: &Stdout, board: u64) {
     let mut line = [0; tally::LINE];
     let _is_written = stdout.write_all(b"differs: ").is_ok();
-    tally::print_count(stdout, &mut line, tally, tally::COMPARED, b"\n");
+    tally::print_count(stdout, &mut line, board, b"\n");
 }
 
 // Plays the board at a position.
-fn play_one(stdout: &Stdout, tally: &mut [u64], data: &[u8], at: usize, out: &mut [u8]) {
+fn play_one(stdout: &Stdout, tally: &mut Tally, data: &[u8], at: usize, out: &mut [u8]) {
     let input = text_at(data, at);
     let wanted = text_at(data, behind(data, at));
     let alike = prints(input, wanted, out);
     if !alike {
-        say(stdout, tally);
+        say(stdout, tally.compared);
     }
-    tally::compare(tally, alike);
+    tally.compare(alike);
 }
 
-fn play_all(stdout: &Stdout, tally: &mut [u64], data: &[u8], out: &mut [u8]) {
-    let count = number_at(data, 0);
+fn play_all(stdout: &Stdout, tally: &mut Tally, data: &[u8], out: &mut [u8]) {
     let mut at = NUMBER;
-    let mut boards: usize = 0;
-    while boards < BOARDS {
-        if count <= boards {
-            return;
-        }
+    for _ in 0..number_at(data, 0).min(BOARDS) {
         play_one(stdout, tally, data, at, out);
         at = behind(data, behind(data, at));
-        boards += 1;
     }
 }
 
@@ -93,19 +79,13 @@ fn buffer() -> [u8; DATA]
 
 fn main(rt: HostRuntime) -> io::Result<()> {
     let stdout = rt.stdout();
-    let mut tally = [0; 8];
+    let mut tally = Tally::default();
     let mut line = [0; tally::LINE];
     let mut data = buffer();
     let mut out = board_run::buffer();
     let given = read_full::read_full(&mut rt.reader(), &mut data)?;
     play_all(&stdout, &mut tally, &data[..given], &mut out);
-    tally::print_count(
-        &stdout,
-        &mut line,
-        &tally,
-        tally::COMPARED,
-        b" boards compared, ",
-    );
-    tally::print_count(&stdout, &mut line, &tally, tally::DIFFER, b" differ\n");
+    tally::print_count(&stdout, &mut line, tally.compared, b" boards compared, ");
+    tally::print_count(&stdout, &mut line, tally.differ, b" differ\n");
     Ok(())
 }

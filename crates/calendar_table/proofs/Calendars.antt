@@ -3,18 +3,15 @@ use mathlib.Core.Path.{◌≡◌, refl, sym, ap, ap₂, ◌∙◌}
 use mathlib.Core.Logic.{◌⊎◌, inl, inr}
 use mathlib.Core.Bool.{Bool, true, false, false≢true}
 use mathlib.Core.Option.{Option, none, some}
-use mathlib.Core.List.{List, ◌∷◌}
-use Prim.Native.Nat.{ℕ, zero, suc, ◌+◌, ◌-◌, ◌*◌, ◌≤◌, ◌<◌}
+use mathlib.Core.List.{List, [], ◌∷◌}
+use Prim.Native.Nat.{ℕ, zero, suc, ◌+◌, ◌*◌, ◌≤◌, ◌<◌}
 use native.Mathlib.Omega.{arith}
-use native.Mathlib.Nat.{zero-add}
-use lib.ListN.{length, get_or, set, take, drop, length-drop, drop_of_length-le, get_or-eq_default}
-use lib.Seq.{sets, length-sets, get_or-drop, take_all}
-use borrow.Author.Rules.{rules}
-use Rattle.lists.specs.Lists.{count_from}
+use lib.ListN.{length, get_or, set, drop_of_length-le}
+use lib.Seq.{sets, length-sets, get_or-drop}
+use Rattle.std.specs.List.{slice_range}
+use Rattle.std.proofs.lemmas.Slice.{between_to_end}
 use Rattle.lists.specs.Tests.{Decides}
 use Rattle.lists.proofs.Numbers.{confirm, refute}
-use Rattle.lists.proofs.Lists.{count_from_at, count_from_length}
-use Rattle.lists.proofs.Maps.{get_d_of_map, length_of_map}
 use Rattle.lists.proofs.Stores.{get_d_sets_in, get_d_sets_out}
 use Rattle.history.specs.Lent.{row_width}
 use Rattle.history.specs.Days.{Day, days_of}
@@ -22,6 +19,7 @@ use Rattle.history.specs.Hours.{Calendar, calendar_width, calendar_of, closed_ce
 use Rattle.history.proofs.HoursLaws.{calendar_alike}
 use Rattle.tables.specs.Columns.{front_calendar, front_days}
 use Rattle.day_table.specs.DayLists.{list_in, DaysIn}
+use Rattle.day_table.proofs.DayLists.{padded_at, padded_length}
 use Rattle.calendar_table.specs.Calendars.{flag_of, flag_in, numbers_in, CalendarIn, ClosedTold, CalendarFormed, calendar_numbers, installed_in}
 
 -- ── one calendar ──
@@ -94,27 +92,21 @@ module _ (blocks : List ℕ) where
 
 -- ── what install leaves ──
 
--- a number of a calendar as it is written
-number-written : (numbers : List ℕ) (i : ℕ) → i < calendar_width → get_or (calendar_numbers numbers) i 0 ≡ get_or numbers i 0
-number-written numbers i h =
-    get_d_of_map (λ j. get_or numbers j 0) (count_from 0 calendar_width) i 0 0 (rw (count_from_length 0 calendar_width) h)
-    ∙ ap (λ j. get_or numbers j 0) (count_from_at 0 calendar_width i h ∙ zero-add i)
-
 pub written-length : (numbers : List ℕ) → length (1 ∷ calendar_numbers numbers) ≡ suc calendar_width
-written-length numbers = ap suc (length_of_map (λ j. get_or numbers j 0) (count_from 0 calendar_width) ∙ count_from_length 0 calendar_width)
+written-length numbers = ap suc (padded_length numbers calendar_width)
 
 pub installed_in_lem : (blocks numbers : List ℕ) → front_days ≤ length blocks → CalendarIn (installed_in blocks numbers) (some (calendar_of numbers))
 installed_in_lem blocks numbers room = record {
   flag = written 0 (omega arith);
   numbers = λ c e.
       calendar_alike (numbers_in (installed_in blocks numbers)) numbers
-      (λ i h. get_or-drop (front_calendar + 1) (installed_in blocks numbers) i 0 ∙ at i ∙ written (suc i) (omega arith) ∙ number-written numbers i h)
+      (λ i h. get_or-drop (front_calendar + 1) (installed_in blocks numbers) i 0 ∙ at i ∙ written (suc i) (omega arith) ∙ padded_at numbers calendar_width i h)
       ∙ some_same e;
 }
   where
     written : (j : ℕ) → j < suc calendar_width → get_or (installed_in blocks numbers) (front_calendar + j) 0 ≡ get_or (1 ∷ calendar_numbers numbers) j 0
     written j h =
-        get_d_sets_in (1 ∷ calendar_numbers numbers) blocks front_calendar j (omega (arith, written-length numbers)) (omega (arith, written-length numbers))
+        get_d_sets_in (1 ∷ calendar_numbers numbers) blocks front_calendar j (omega (arith, padded_length numbers calendar_width)) (omega (arith, padded_length numbers calendar_width))
 
     at : (i : ℕ) → get_or (installed_in blocks numbers) (front_calendar + 1 + i) 0 ≡ get_or (installed_in blocks numbers) (front_calendar + suc i) 0
     at i = ap (λ (j : ℕ). get_or (installed_in blocks numbers) j 0) (omega arith)
@@ -122,7 +114,7 @@ installed_in_lem blocks numbers room = record {
 -- the head's row of link 0, and all rows, are as they were
 pub installed_other : (blocks numbers : List ℕ) (i : ℕ) → (i < front_calendar) ⊎ (front_days ≤ i) → get_or (installed_in blocks numbers) i 0 ≡ get_or blocks i 0
 installed_other blocks numbers i (inl h) = get_d_sets_out (1 ∷ calendar_numbers numbers) blocks front_calendar i (inl h)
-installed_other blocks numbers i (inr h) = get_d_sets_out (1 ∷ calendar_numbers numbers) blocks front_calendar i (inr (omega (arith, written-length numbers)))
+installed_other blocks numbers i (inr h) = get_d_sets_out (1 ∷ calendar_numbers numbers) blocks front_calendar i (inr (omega (arith, padded_length numbers calendar_width)))
 
 pub installed_length : (blocks numbers : List ℕ) → length (installed_in blocks numbers) ≡ length blocks
 installed_length blocks numbers = length-sets blocks front_calendar (1 ∷ calendar_numbers numbers)
@@ -130,48 +122,37 @@ installed_length blocks numbers = length-sets blocks front_calendar (1 ∷ calen
 -- ── the returns of the reads ──
 
 module _ (blocks : List ℕ) where
-  pub flag_past : length blocks ≤ front_calendar → 0 ≡ flag_in blocks
-  flag_past h = sym (get_or-eq_default blocks 0 {n = front_calendar} h)
-
-  pub numbers_none : length blocks ≤ front_calendar → take (0 - 0) (drop 0 blocks) ≡ numbers_in blocks
+  pub numbers_none : length blocks ≤ front_calendar → [] ≡ numbers_in blocks
   numbers_none h = sym (drop_of_length-le blocks {i = front_calendar + 1} (omega arith))
 
-  pub numbers_some : (to : ℕ) → to ≡ length blocks → front_calendar < length blocks → take (to - (front_calendar + 1)) (drop (front_calendar + 1) blocks) ≡ numbers_in blocks
-  numbers_some to e h = take_all (to - (front_calendar + 1)) (drop (front_calendar + 1) blocks) (omega (arith, length-drop (front_calendar + 1) blocks))
+  pub numbers_some : (rest : List ℕ) → rest ≡ slice_range blocks (front_calendar + 1) (length blocks) → rest ≡ numbers_in blocks
+  numbers_some rest s = s ∙ between_to_end blocks (front_calendar + 1) (length blocks) (omega arith)
 
-  module _ (n first : ℕ) (bytes : List ℕ) (f : n ≡ flag_in blocks) where
-    pub closed_none : n ≡ 0 → ClosedTold blocks first bytes false
+  module _ (first : ℕ) (bytes : List ℕ) where
+    pub closed_none : flag_in blocks ≡ 0 → ClosedTold blocks first bytes false
     closed_none z = record { says = go }
       where
         go : (days : List Day) (x : Option Calendar) → DaysIn blocks days → CalendarIn blocks x → false ≡ closed_by days x first bytes
         go days none d h = refl
         go days (some c) d h = absurd (omega (arith, h.flag))
 
-    pub closed_some : (numbers list : List ℕ) (r : Bool) → numbers ≡ numbers_in blocks → list ≡ list_in blocks → (n ≡ 0 → ⊥)
-        → r ≡ closed_cell (days_of list) (calendar_of numbers) first bytes → ClosedTold blocks first bytes r
-    closed_some numbers list r e g z is = record { says = go }
+    pub closed_some : (r : Bool) → (flag_in blocks ≡ 0 → ⊥) → r ≡ closed_cell (days_of (list_in blocks)) (calendar_of (numbers_in blocks)) first bytes
+        → ClosedTold blocks first bytes r
+    closed_some r z is = record { says = go }
       where
         go : (days : List Day) (x : Option Calendar) → DaysIn blocks days → CalendarIn blocks x → r ≡ closed_by days x first bytes
         go days none d h = absurd (omega (arith, h.flag))
-        go days (some c) d h =
-            is ∙ ap₂ (λ (ds : List Day) (k : Calendar). closed_cell ds k first bytes) (ap days_of g ∙ d.is) (ap calendar_of e ∙ h.numbers c refl)
+        go days (some c) d h = is ∙ ap₂ (λ (ds : List Day) (k : Calendar). closed_cell ds k first bytes) d.is (h.numbers c refl)
 
-  module _ (n : ℕ) (f : n ≡ flag_in blocks) where
-    pub formed_none : n ≡ 0 → Decides true (CalendarFormed blocks)
-    formed_none z = confirm (record { flag = omega arith; taken = λ e. absurd (omega arith) })
+  pub formed_none : flag_in blocks ≡ 0 → Decides true (CalendarFormed blocks)
+  formed_none z = confirm (record { flag = omega arith; taken = λ e. absurd (omega arith) })
 
-    pub formed_no_flag : (n ≡ 0 → ⊥) → (n ≡ 1 → ⊥) → Decides false (CalendarFormed blocks)
-    formed_no_flag z o = refute (λ s. omega (arith, s.flag))
+  pub formed_no_flag : (flag_in blocks ≡ 0 → ⊥) → (flag_in blocks ≡ 1 → ⊥) → Decides false (CalendarFormed blocks)
+  formed_no_flag z o = refute (λ s. omega (arith, s.flag))
 
-    pub formed_taken : (numbers : List ℕ) (r : Bool) → numbers ≡ numbers_in blocks → n ≡ 1 → r ≡ calendar_taken (calendar_of numbers) → Decides r (CalendarFormed blocks)
-    formed_taken numbers r e o is = record {
-      yes = λ t. record { flag = omega arith; taken = λ _. ap (λ (xs : List ℕ). calendar_taken (calendar_of xs)) (sym e) ∙ sym is ∙ t };
-      not = λ t s. false≢true (sym t ∙ is ∙ ap (λ (xs : List ℕ). calendar_taken (calendar_of xs)) e ∙ s.taken (omega arith));
-    }
-
-pub ruleset reading = (flag_past, numbers_none, numbers_some, rules)
-
-pub ruleset judging = (closed_none, closed_some, formed_none, formed_no_flag, formed_taken, rules)
+  pub formed_taken : (r : Bool) → flag_in blocks ≡ 1 → r ≡ calendar_taken (calendar_of (numbers_in blocks)) → Decides r (CalendarFormed blocks)
+  formed_taken r o is =
+      record { yes = λ t. record { flag = omega arith; taken = λ _. sym is ∙ t }; not = λ t s. false≢true (sym t ∙ is ∙ s.taken o) }
 
 -- ── `install` ──
 

@@ -22,49 +22,43 @@ const WIDTH: usize = 1272;
 fn flag(blocks: &[u64]) -> u64
     ensures { result ≡ flag_in blocks.now }
 {
-    if block::CALENDAR < blocks.len() {
-        return blocks[block::CALENDAR];
-    }
-    0
+    days::number(blocks, block::CALENDAR)
 }
 
 // The numbers behind the flag.
+#[tactic(auto, using(crate::proofs::Calendars::numbers_none))]
 fn numbers<'a>(blocks: &'a [u64]) -> &'a [u64]
     ensures { result.now ≡ numbers_in blocks.now }
 {
-    if blocks.len() <= block::CALENDAR {
-        return &blocks[0..0];
+    match blocks.get(block::CALENDAR + 1..) {
+        Some(numbers) => numbers,
+        None => &[],
     }
-    let to = blocks.len();
-    &blocks[block::CALENDAR + 1..to]
 }
 
 // Whether some byte that is not 0 falls on a cell that the calendar closes; days and labels go by the list that stands behind it. Without a calendar this
 // is one test.
+#[tactic(auto, using(crate::proofs::Calendars::closed_none, crate::proofs::Calendars::closed_some))]
 pub fn closed(blocks: &[u64], first: u64, bytes: &[u8]) -> bool
     ensures { ClosedTold blocks.now first bytes.now result }
 {
-    if flag(blocks) == 0 {
-        return false;
-    }
-    hours::closed_cell(numbers(blocks), day_table::list(blocks), first, bytes)
+    flag(blocks) != 0 && hours::closed_cell(numbers(blocks), day_table::list(blocks), first, bytes)
 }
 
 // Whether there is no calendar, or one that install takes.
+#[tactic(auto, using(crate::proofs::Calendars::formed_none, crate::proofs::Calendars::formed_no_flag, crate::proofs::Calendars::formed_taken))]
 pub fn formed(blocks: &[u64]) -> bool
     ensures { Decides result (CalendarFormed blocks.now) }
 {
-    let flag = flag(blocks);
-    if flag == 0 {
-        return true;
+    match flag(blocks) {
+        0 => true,
+        INSTALLED => hours::takes(numbers(blocks)),
+        _ => false,
     }
-    if flag != INSTALLED {
-        return false;
-    }
-    hours::takes(numbers(blocks))
 }
 
 // Writes a calendar in place of the one before, all its numbers, so that nothing of that one stays.
+#[tactic(auto, using(crate::proofs::Calendars::install_done))]
 pub fn install(blocks: &mut [u64], calendar: &[u64])
     ensures { blocks.new ≡ installed_in blocks.old calendar.now }
 {

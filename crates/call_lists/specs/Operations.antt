@@ -1,9 +1,8 @@
 -- Operations in a row of bytes. Definitions alone.
-use Rattle.std.specs.Prelude.{◌≡◌, List, ℕ, ◌-◌, ◌≤◌, ◌<◌, length, take, drop}
+use Rattle.std.specs.Prelude.{◌≡◌, Option, Some, None, List, ℕ, ◌-◌, ◌≤◌, ◌<◌, length, take, drop}
 use Rattle.history.specs.Words.{Operation}
 use Rattle.history.specs.File.{got, fault, Reader, number, field, give, ◌>>=◌}
 use Rattle.call_lists.specs.declared.Item.{Item}
-use Rattle.call_lists.specs.declared.Item.TheVariants.{Operation as An, End}
 
 abbrev pub an_operation : (tick first : ℕ) (bytes : List ℕ) → Operation
 an_operation tick first bytes = record { tick = tick; first = first; bytes = bytes }
@@ -18,12 +17,12 @@ read_operation = do
   give (an_operation tick first bytes)
 
 -- the operation at a position, with the next one; or that it is cut
-abbrev pub ReadAs : Item → (list : List ℕ) (at : ℕ) → Type 0
-ReadAs (An tick first start next) list at =
-    (read_operation list at ≡ got (an_operation tick first (take (next - start) (drop start list))) next)
-    × (start ≤ next) × (next ≤ length list) × (at < next)
-ReadAs End list at = (n : ℕ) × (read_operation list at ≡ fault n)
+abbrev pub ReadAs : Option Item → (list : List ℕ) (at : ℕ) → Type 0
+ReadAs (Some i) list at =
+    (read_operation list at ≡ got (an_operation i.tick i.first (take (i.next - i.start) (drop i.start list))) i.next)
+    × (i.start ≤ i.next) × (i.next ≤ length list) × (at < i.next)
+ReadAs None list at = (n : ℕ) × (read_operation list at ≡ fault n)
 
 -- `operation_at`
-pub record ItemRead (list : List ℕ) (at : ℕ) (r : Item) : Type 0 where
+pub record ItemRead (list : List ℕ) (at : ℕ) (r : Option Item) : Type 0 where
   pub says : ReadAs r list at

@@ -9,46 +9,36 @@ ghost use Rattle.std.specs.Prelude.{◌≡◌, [], ◌∷◌, ◌+◌, ◌≤◌
 ghost use Rattle.std.proofs.lemmas.List.Edits.{sets};
 ghost use Rattle.call_lists.specs.Operations.{ItemRead};
 
-use fields::Field;
-
-// An operation of the list, its bytes from `start` up to `next`; or that the list ends before or inside one.
+// An operation of the list, its bytes from `start` up to `next`.
 #[derive(Clone, Copy)]
-pub enum Item {
-    Operation {
-        tick: u64,
-        first: u64,
-        start: usize,
-        next: usize,
-    },
-    End,
+pub struct Item {
+    pub tick: u64,
+    pub first: u64,
+    pub start: usize,
+    pub next: usize,
 }
 
-// The operation at a position: tick, first cell and length, 8 bytes each, then its bytes.
-pub fn operation_at(list: &[u8], at: usize) -> Item
+// The operation at a position: tick, first cell and length, 8 bytes each, then its bytes. None where the list ends before or inside one.
+pub fn operation_at(list: &[u8], at: usize) -> Option<Item>
     ensures { ItemRead list.now at result }
 {
-    let Field::Got(tick, first_at) = fields::number_at(list, at) else {
-        return Item::End;
-    };
-    let Field::Got(first, length_at) = fields::number_at(list, first_at) else {
-        return Item::End;
-    };
-    let Field::Got(length, start) = fields::number_at(list, length_at) else {
-        return Item::End;
-    };
+    let (tick, first_at) = fields::number_at(list, at)?;
+    let (first, length_at) = fields::number_at(list, first_at)?;
+    let (length, start) = fields::number_at(list, length_at)?;
     let size = length as usize;
     if list.len() - start < size {
-        return Item::End;
+        return None;
     }
-    Item::Operation {
+    Some(Item {
         tick,
         first,
         start,
         next: start + size,
-    }
+    })
 }
 
 // Puts the numbers of an answer at their place.
+#[tactic(auto, using(crate::proofs::Threes::three_put))]
 pub fn put_three(answers: &mut [u64], at: usize, refusal: u64, one: u64, other: u64)
     requires { at + 3 ≤ length answers.old }
     ensures { answers.new ≡ sets answers.old at (refusal ∷ one ∷ other ∷ []) }

@@ -7,11 +7,10 @@
 #![tactic(auto)]
 
 ghost use Rattle.layout.specs.Tables.{tables};
-ghost use Rattle.cells_read.specs.Answers.{read_of};
+ghost use Rattle.refusals.specs.Numbers.{answer_by};
 ghost use Rattle.cells.specs.Answers.{CellsReadBy};
 
-pub use cells_read::Read;
-use index_test::State;
+use refusals::Refusal;
 
 // The cells of [start, end) at a tick, into two lent slices.
 pub fn read_cells(
@@ -25,16 +24,10 @@ pub fn read_cells(
     end: u64,
     bytes: &mut [u8],
     held: &mut [u8],
-) -> Read
+) -> Result<(), Refusal>
     ensures { CellsReadBy (tables pieces.now blocks.now store.now nodes.now entries.now) tick start end
-        bytes.old bytes.new held.old held.new (read_of result) }
+        bytes.old bytes.new held.old held.new (answer_by (λ _. tt) result) }
 {
-    let state = index_test::test(pieces, blocks, store, nodes, entries);
-    match state {
-        State::Bad => Read::Refused(2),
-        State::Open => Read::Refused(4),
-        State::Closed => cells_read::read_closed(
-            blocks, store, nodes, entries, tick, start, end, bytes, held,
-        ),
-    }
+    index_test::test(pieces, blocks, store, nodes, entries).closed()?;
+    cells_read::read_closed(blocks, store, nodes, entries, tick, start, end, bytes, held)
 }

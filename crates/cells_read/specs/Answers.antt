@@ -1,16 +1,9 @@
--- What the answer of read cells means, and what is handed out of a closed index. Definitions alone.
+-- What read cells hands out of a closed index. Definitions alone.
 use Rattle.std.specs.Prelude.{◌≡◌, List, ℕ, length}
 use Rattle.history.specs.Reads.{Cells}
-use Rattle.history.specs.Refusals.{Answer, accepted, refused, cells_answer}
+use Rattle.history.specs.Refusals.{Answer, cells_answer}
 use Rattle.layout.specs.Tables.{tables}
 use Rattle.layout.specs.Reads.{values_of, filled_by, ClosedBy}
-use Rattle.cells_read.specs.declared.Read.{Read}
-use Rattle.cells_read.specs.declared.Read.TheVariants.{Filled, Refused}
-
--- document 01's number and values for each case
-abbrev pub read_of : Read → Answer Unit
-read_of Filled = accepted tt
-read_of (Refused n) = refused n
 
 -- the answer is without values: the cells are in the two slices
 pub record CellsHanded (bytes bytes' held held' : List ℕ) (answer : Answer Unit) (x : Answer Cells) : Type 0 where

@@ -1,24 +1,20 @@
 // Read cells of a closed index, without the test of its tables: for callers that have tested them. It goes from block to block, each found by a search
 // of the tree (crate `runs`), and writes every cell of the range once.
 //
-//   specs/Answers   what the answer means, and what is handed out
+//   specs/Answers   what is handed out
 //   show            specs/Shows   proofs/Filling, Showing   cells written run by run
 //   lib             proofs/Reading                          14, 15 and 16
 
 #![tactic(auto)]
 
-ghost use Rattle.cells_read.specs.Answers.{read_of, ReadClosed};
+ghost use Rattle.refusals.specs.Numbers.{answer_by};
+ghost use Rattle.cells_read.specs.Answers.{ReadClosed};
 
 mod show;
 
-// The answer of read cells: both slices are filled, or nothing has changed.
-#[derive(Clone, Copy)]
-pub enum Read {
-    Filled,
-    Refused(u64),
-}
+use refusals::Refusal;
 
-// The cells of [start, end) at a tick: 14, 15 and 16 in their order.
+// The cells of [start, end) at a tick: 14, 15 and 16 in their order. Both slices are filled, or nothing has changed.
 pub fn read_closed(
     blocks: &[u64],
     store: &[u8],
@@ -29,26 +25,23 @@ pub fn read_closed(
     end: u64,
     bytes: &mut [u8],
     held: &mut [u8],
-) -> Read
+) -> Result<(), Refusal>
     ensures { ReadClosed blocks.now store.now nodes.now entries.now tick start end
-        bytes.old bytes.new held.old held.new (read_of result) }
+        bytes.old bytes.new held.old held.new (answer_by (λ _. tt) result) }
 {
     if block_table::end(blocks) <= tick {
-        return Read::Refused(14);
+        return Err(Refusal::NoSuchTick);
     }
     if end < start {
-        return Read::Refused(15);
+        return Err(Refusal::OutOfRange);
     }
     let many = (end - start) as usize;
-    if bytes.len() < many {
-        return Read::Refused(16);
-    }
-    if held.len() < many {
-        return Read::Refused(16);
+    if bytes.len() < many || held.len() < many {
+        return Err(Refusal::ResultTooLong);
     }
     let kind = block_table::kind(blocks);
     show::show(
         blocks, store, nodes, entries, kind, tick, start, end, bytes, held,
     );
-    Read::Filled
+    Ok(())
 }

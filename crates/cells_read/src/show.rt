@@ -9,16 +9,8 @@ use runs::Run;
 fn fill(out: &mut [u8], at: usize, count: usize, value: u8)
     ensures { FilledWith at count value out.old out.new }
 {
-    if out.len() < count {
-        return;
-    }
-    if out.len() - count < at {
-        return;
-    }
-    let mut i = 0;
-    while i < count {
-        out[at + i] = value;
-        i += 1;
+    if count <= out.len() && at <= out.len() - count {
+        out[at..at + count].fill(value);
     }
 }
 

@@ -2,24 +2,27 @@
 use mathlib.Core.Path.{◌≡◌, refl, sym, ap, ◌∙◌}
 use mathlib.Core.List.{List}
 use Prim.Native.Nat.{ℕ}
-use borrow.Author.Rules.{rules}
 use Rattle.history.specs.Days.{Day, days_of}
 use Rattle.history.specs.Reads.{clock_label}
 use Rattle.history.specs.Refusals.{Answer, accepted, refused}
 use Rattle.day_table.specs.DayLists.{list_in}
 use Rattle.layout.specs.Tables.{tables}
+use Rattle.layout.specs.Reads.{HandedOut}
 use Rattle.layout.specs.Formed.{WellFormed}
 use Rattle.layout.specs.Relations.{ClockGivenBy}
 use Rattle.layout.proofs.ReadLaws.{clock_there, out_refused}
 use Rattle.index_test.specs.Board.{Outcome}
 use Rattle.index_test.specs.declared.State.{State}
-use Rattle.index_test.specs.declared.State.TheVariants.{Bad, Open, Closed}
-use Rattle.index_test.proofs.Told.{told_open, told_closed, read_2}
+use Rattle.index_test.specs.States.{when_formed}
+use Rattle.index_test.proofs.Told.{formed_taken, read_not_formed}
+use Rattle.std.specs.Prelude.{Result, Ok, Err}
+use Rattle.refusals.specs.declared.Refusal.{Refusal}
+use Rattle.refusals.specs.Numbers.{number_of}
 use Rattle.clock.specs.Answers.{ClockTold}
 
 -- ── `clock_formed` ──
 
-pub label_told : (blocks list : List ℕ) (cell n : ℕ) → list ≡ list_in blocks → n ≡ clock_label (days_of list) cell → ClockTold blocks cell (accepted n)
+pub label_told : (blocks list : List ℕ) (cell n : ℕ) → list ≡ list_in blocks → n ≡ clock_label (days_of list) cell → ClockTold blocks cell n
 label_told blocks list cell n e is = record {
   given = λ pieces store nodes entries l enc.
       rw (clock_there enc cell)
@@ -28,19 +31,14 @@ label_told blocks list cell n e is = record {
 
 -- ── `clock` ──
 
-pub formed_told : {pieces blocks store nodes entries : List ℕ} {cell : ℕ} {a : Answer ℕ} → WellFormed (tables pieces blocks store nodes entries) → ClockTold blocks cell a
-    → ClockGivenBy (tables pieces blocks store nodes entries) cell a
+pub formed_told : {pieces blocks store nodes entries : List ℕ} {cell n : ℕ} → WellFormed (tables pieces blocks store nodes entries) → ClockTold blocks cell n
+    → ClockGivenBy (tables pieces blocks store nodes entries) cell (accepted n)
 formed_told {pieces} {blocks} {store} {nodes} {entries} w f =
     record { read = record { formed = λ l enc _. f.given pieces store nodes entries l enc; unformed = λ n. absurd (n w) } }
 
-module _ {pieces blocks store nodes entries : List ℕ} {cell : ℕ} {r : State} (told : Outcome r (tables pieces blocks store nodes entries)) where
-  pub clock_bad : r ≡ Bad → ClockGivenBy (tables pieces blocks store nodes entries) cell (refused 2)
-  clock_bad e = record { read = read_2 told e out_refused }
+module _ {pieces blocks store nodes entries : List ℕ} {cell : ℕ} (r : State) {s : Result Unit Refusal} (told : Outcome r (tables pieces blocks store nodes entries)) (is : s ≡ when_formed r) where
+  pub clock_refused : {e : Refusal} → s ≡ Err e → ClockGivenBy (tables pieces blocks store nodes entries) cell (refused (number_of e))
+  clock_refused q = record { read = read_not_formed (λ n. HandedOut (λ (x : ℕ). x) (refused n)) r told (sym is ∙ q) out_refused }
 
-  pub clock_opened : {a : Answer ℕ} → r ≡ Open → ClockTold blocks cell a → ClockGivenBy (tables pieces blocks store nodes entries) cell a
-  clock_opened e f = formed_told (told_open told e).formed f
-
-  pub clock_closed : {a : Answer ℕ} → r ≡ Closed → ClockTold blocks cell a → ClockGivenBy (tables pieces blocks store nodes entries) cell a
-  clock_closed e f = formed_told (told_closed told e).formed f
-
-pub ruleset telling = (label_told, clock_bad, clock_opened, clock_closed, rules)
+  pub clock_told : {u : Unit} {n : ℕ} → s ≡ Ok u → ClockTold blocks cell n → ClockGivenBy (tables pieces blocks store nodes entries) cell (accepted n)
+  clock_told q f = formed_told (formed_taken r told (sym is ∙ q)) f

@@ -8,56 +8,38 @@
 ghost use Rattle.std.specs.Prelude.{◌+◌, ◌≤◌, length};
 ghost use Rattle.comparison.specs.Comparison.{Matching, Compared};
 
-use tables::piece;
-
-// The first cell that differs, or that none does.
-#[derive(Clone, Copy)]
-pub enum Difference {
-    Cell(u64),
-    Nothing,
-}
+use piece_table::Piece;
 
 // How many of the bytes from `from` on are the store's from `at` on, `run` at most.
 fn matching(store: &[u8], at: usize, bytes: &[u8], from: usize, run: usize) -> usize
     requires { (at + run ≤ length store.now) × (from + run ≤ length bytes.now) }
     ensures { Matching store.now at bytes.now from run result }
 {
-    let mut j = 0;
-    while j < run {
+    for j in 0..run {
         if store[at + j] != bytes[from + j] {
             return j;
         }
-        j += 1;
     }
-    j
+    run
 }
 
-// Compares the operation's bytes from `first` on with the piece of a link.
-pub fn first_difference(
-    pieces: &[u64],
-    store: &[u8],
-    link: u64,
-    first: u64,
-    bytes: &[u8],
-) -> Difference
-    ensures { Compared pieces.now store.now link first bytes.now result }
+// Compares the operation's bytes from `first` on with a piece: the first cell that differs, or none.
+#[tactic(auto, using(crate::proofs::Comparing::comparing))]
+pub fn first_difference(store: &[u8], piece: Piece, first: u64, bytes: &[u8]) -> Option<u64>
+    ensures { Compared store.now piece first bytes.now result }
 {
-    let was = tables::get(pieces, link, piece::FIRST);
-    let skip = tables::minus(first, was);
-    let from = tables::minus(was, first);
-    let ours = tables::minus(bytes.len() as u64, from);
-    let theirs = tables::minus(tables::get(pieces, link, piece::LENGTH), skip);
-    let run = tables::smaller(theirs, ours);
-    let at = tables::plus(tables::get(pieces, link, piece::OFFSET), skip);
-    if run == 0 {
-        return Difference::Nothing;
-    }
-    if tables::minus(store.len() as u64, at) < run {
-        return Difference::Nothing;
+    let skip = first.saturating_sub(piece.first);
+    let from = piece.first.saturating_sub(first);
+    let ours = (bytes.len() as u64).saturating_sub(from);
+    let theirs = piece.size.saturating_sub(skip);
+    let run = theirs.min(ours);
+    let at = piece.offset.saturating_add(skip);
+    if run == 0 || (store.len() as u64).saturating_sub(at) < run {
+        return None;
     }
     let same = matching(store, at as usize, bytes, from as usize, run as usize) as u64;
     if run <= same {
-        return Difference::Nothing;
+        return None;
     }
-    Difference::Cell(tables::plus(tables::plus(first, from), same))
+    Some(first.saturating_add(from).saturating_add(same))
 }

@@ -3,12 +3,13 @@ use mathlib.Core.Path.{◌≡◌, refl, sym, ap, ◌∙◌}
 use mathlib.Core.Logic.{◌⊎◌, inl, inr, ⊎_elim}
 use mathlib.Core.Bool.{Bool, true, false, false≢true}
 use mathlib.Core.List.{List, [], ◌∷◌}
-use Prim.Native.Nat.{ℕ, suc, ◌+◌, ◌-◌, ◌*◌, ◌≤◌, ◌<◌, min}
+use Prim.Native.Nat.{ℕ, suc, ◌+◌, ◌*◌, ◌≤◌, ◌<◌, min}
 use native.Mathlib.Omega.{arith}
 use native.Mathlib.Nat.{zero-add}
-use lib.ListN.{length, get_or, take, drop, length-take, length-drop, drop_of_length-le, get_or-eq_default}
+use lib.ListN.{length, get_or, take, drop, length-drop, drop_of_length-le}
 use lib.Seq.{length-take-le, length-sets, get_or-take, get_or-drop, take_all, take-nil}
-use borrow.Author.Rules.{rules}
+use Rattle.std.specs.List.{slice_range}
+use Rattle.std.proofs.lemmas.Slice.{between_to_end}
 use Rattle.lists.specs.Lists.{count_from}
 use Rattle.lists.specs.Tests.{Decides}
 use Rattle.lists.proofs.Numbers.{refute, le_or_lt}
@@ -18,7 +19,7 @@ use Rattle.lists.proofs.Stores.{get_d_sets_in, get_d_sets_out}
 use Rattle.history.specs.Days.{Day, most_days, days_of, days_taken}
 use Rattle.tables.specs.Columns.{front_days, front_mark_count}
 use Rattle.days.proofs.Pairs.{days_count, days_alike}
-use Rattle.day_table.specs.DayLists.{count_in, list_in, DaysIn, DaysFormed, day_numbers, days_installed_in}
+use Rattle.day_table.specs.DayLists.{count_in, list_in, DaysIn, DaysFormed, padded, day_numbers, days_installed_in}
 
 -- ── one list ──
 
@@ -86,14 +87,14 @@ days_formed blocks days h t = record { few = h.few; taken = ap days_taken h.is �
 
 -- ── what install leaves ──
 
--- a number as it is written
-number-written : (numbers : List ℕ) (i : ℕ) → i < 2 * most_days → get_or (day_numbers numbers) i 0 ≡ get_or numbers i 0
-number-written numbers i h =
-    get_d_of_map (λ j. get_or numbers j 0) (count_from 0 (2 * most_days)) i 0 0 (rw (count_from_length 0 (2 * most_days)) h)
-    ∙ ap (λ j. get_or numbers j 0) (count_from_at 0 (2 * most_days) i h ∙ zero-add i)
+-- a number as it is written, and how many are
+pub padded_at : (numbers : List ℕ) (width i : ℕ) → i < width → get_or (padded numbers width) i 0 ≡ get_or numbers i 0
+padded_at numbers width i h =
+    get_d_of_map (λ j. get_or numbers j 0) (count_from 0 width) i 0 0 (rw (count_from_length 0 width) h)
+    ∙ ap (λ j. get_or numbers j 0) (count_from_at 0 width i h ∙ zero-add i)
 
-pub days_written-length : (numbers : List ℕ) → length (length (days_of numbers) ∷ day_numbers numbers) ≡ suc (2 * most_days)
-days_written-length numbers = ap suc (length_of_map (λ j. get_or numbers j 0) (count_from 0 (2 * most_days)) ∙ count_from_length 0 (2 * most_days))
+pub padded_length : (numbers : List ℕ) (width : ℕ) → length (padded numbers width) ≡ width
+padded_length numbers width = length_of_map (λ j. get_or numbers j 0) (count_from 0 width) ∙ count_from_length 0 width
 
 pub days_installed_length : (blocks numbers : List ℕ) → length (days_installed_in blocks numbers) ≡ length blocks
 days_installed_length blocks numbers = length-sets blocks front_days (length (days_of numbers) ∷ day_numbers numbers)
@@ -107,7 +108,7 @@ days_installed_in_lem blocks numbers room few =
       few = omega arith;
       is =
           days_alike n (list_in after) numbers (list_days after room' n count few) refl
-          (λ i h. list_at after room' n count few i h ∙ at i ∙ written (suc i) (omega arith) ∙ number-written numbers i (omega arith));
+          (λ i h. list_at after room' n count few i h ∙ at i ∙ written (suc i) (omega arith) ∙ padded_at numbers (2 * most_days) i (omega arith));
     }
   where
     n : ℕ
@@ -118,7 +119,7 @@ days_installed_in_lem blocks numbers room few =
 
     written : (j : ℕ) → j < suc (2 * most_days) → get_or after (front_days + j) 0 ≡ get_or (n ∷ day_numbers numbers) j 0
     written j h =
-        get_d_sets_in (n ∷ day_numbers numbers) blocks front_days j (omega (arith, days_written-length numbers)) (omega (arith, days_written-length numbers))
+        get_d_sets_in (n ∷ day_numbers numbers) blocks front_days j (omega (arith, padded_length numbers (2 * most_days))) (omega (arith, padded_length numbers (2 * most_days)))
 
     at : (i : ℕ) → get_or after (front_days + 1 + i) 0 ≡ get_or after (front_days + suc i) 0
     at i = ap (λ (j : ℕ). get_or after j 0) (omega arith)
@@ -127,42 +128,29 @@ days_installed_in_lem blocks numbers room few =
 pub days_installed_other : (blocks numbers : List ℕ) (i : ℕ) → (i < front_days) ⊎ (front_mark_count ≤ i) → get_or (days_installed_in blocks numbers) i 0 ≡ get_or blocks i 0
 days_installed_other blocks numbers i (inl h) = get_d_sets_out (length (days_of numbers) ∷ day_numbers numbers) blocks front_days i (inl h)
 days_installed_other blocks numbers i (inr h) =
-    get_d_sets_out (length (days_of numbers) ∷ day_numbers numbers) blocks front_days i (inr (omega (arith, days_written-length numbers)))
+    get_d_sets_out (length (days_of numbers) ∷ day_numbers numbers) blocks front_days i (inr (omega (arith, padded_length numbers (2 * most_days))))
 
 -- ── the returns of the reads ──
 
 module _ (blocks : List ℕ) where
-  pub count_past : length blocks ≤ front_days → 0 ≡ count_in blocks
-  count_past h = sym (get_or-eq_default blocks 0 {n = front_days} h)
-
-  pub list_none : length blocks ≤ front_days → take (0 - 0) (drop 0 blocks) ≡ list_in blocks
+  pub list_none : length blocks ≤ front_days → [] ≡ list_in blocks
   list_none h =
       let gone : drop (front_days + 1) blocks ≡ [] = drop_of_length-le blocks {i = front_days + 1} (omega arith) in
       sym (ap (take (2 * min (count_in blocks) most_days)) gone ∙ take-nil (2 * min (count_in blocks) most_days))
 
-  pub list_some : (n m to : ℕ) → n ≡ count_in blocks → m ≡ min n most_days → to ≡ min (front_days + 1 + 2 * m) (length blocks)
-      → take (to - (front_days + 1)) (drop (front_days + 1) blocks) ≡ list_in blocks
-  list_some n m to e f g =
+  pub list_some : (rest : List ℕ) (many : ℕ) → rest ≡ slice_range blocks (front_days + 1) (length blocks)
+      → many ≡ min (2 * min (count_in blocks) most_days) (length rest) → take many rest ≡ list_in blocks
+  list_some rest many s g =
+      let e : rest ≡ drop (front_days + 1) blocks = s ∙ between_to_end blocks (front_days + 1) (length blocks) (omega arith) in
       ⊎_elim
       (λ h.
-      let whole : to - (front_days + 1) ≡ 2 * m = omega arith in
-      rw (whole, f, e))
-      (λ h.
-      take_all (to - (front_days + 1)) (drop (front_days + 1) blocks) (omega (arith, length-drop (front_days + 1) blocks))
-      ∙ sym (rw (← e, ← f) (take_all (2 * m) (drop (front_days + 1) blocks) (omega (arith, length-drop (front_days + 1) blocks)))))
-      (le_or_lt (front_days + 1 + 2 * m) (length blocks))
+      let whole : many ≡ 2 * min (count_in blocks) most_days = omega arith in
+      rw (whole, e))
+      (λ h. take_all many rest (omega arith) ∙ sym (rw (← e) (take_all (2 * min (count_in blocks) most_days) rest (omega arith))))
+      (le_or_lt (2 * min (count_in blocks) most_days) (length rest))
 
-  pub formed_many : (n : ℕ) → n ≡ count_in blocks → most_days < n → Decides false (DaysFormed blocks)
-  formed_many n e h = refute (λ s. omega (arith, s.few))
+  pub formed_many : most_days < count_in blocks → Decides false (DaysFormed blocks)
+  formed_many h = refute (λ s. omega (arith, s.few))
 
-  pub formed_rest : (n : ℕ) (numbers : List ℕ) (r : Bool) → n ≡ count_in blocks → n ≤ most_days → numbers ≡ list_in blocks → r ≡ days_taken (days_of numbers)
-      → Decides r (DaysFormed blocks)
-  formed_rest n numbers r e few f is =
-      record {
-        yes = λ t. record { few = omega arith; taken = ap (λ (xs : List ℕ). days_taken (days_of xs)) (sym f) ∙ sym is ∙ t };
-        not = λ t s. false≢true (sym t ∙ is ∙ ap (λ (xs : List ℕ). days_taken (days_of xs)) f ∙ s.taken);
-      }
-
-pub ruleset reading = (count_past, list_none, list_some, rules)
-
-pub ruleset judging = (formed_many, formed_rest, rules)
+  pub formed_rest : (r : Bool) → count_in blocks ≤ most_days → r ≡ days_taken (days_of (list_in blocks)) → Decides r (DaysFormed blocks)
+  formed_rest r few is = record { yes = λ t. record { few = few; taken = sym is ∙ t }; not = λ t s. false≢true (sym t ∙ is ∙ s.taken) }

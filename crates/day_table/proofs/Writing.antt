@@ -1,11 +1,10 @@
 -- Numbers written one after the other: what is left to write, at each turn. Assumes nothing.
 use mathlib.Core.Path.{◌≡◌, refl, sym, ap, ◌∙◌}
-use mathlib.Core.List.{List, ◌∷◌, map}
+use mathlib.Core.List.{List, map}
 use Prim.Native.Nat.{ℕ, suc, ◌+◌, ◌-◌, ◌*◌, ◌≤◌, ◌<◌}
 use native.Mathlib.Omega.{arith}
 use lib.ListN.{length, get_or, set, length-set}
 use lib.Seq.{sets}
-use borrow.Author.Rules.{rules}
 use Rattle.lists.specs.Lists.{count_from}
 use Rattle.history.specs.Lent.{row_width}
 use Rattle.history.specs.Days.{days_of}
@@ -41,7 +40,7 @@ module _ (before numbers : List ℕ) (at width : ℕ) where
   pub write_done : (now : List ℕ) (i : ℕ) → WriteRest before numbers now at width i → width ≤ i → now ≡ sets before at (padded numbers width)
   write_done now i w h = sym (w.rest ∙ rw (rows_none (λ j. get_or numbers j 0) i width h))
 
-pub ruleset writing = (write_start, write_more, write_done, rules)
+pub ruleset writing = (write_start, write_more, write_done)
 
 -- ── `install` ──
 

@@ -15,55 +15,50 @@ ghost use Rattle.day_table.specs.DayLists.{count_in, list_in, DaysFormed, padded
 use tables::block;
 
 // The most days, and the numbers of as many pairs.
-const MOST: u64 = 64;
+const MOST: u64 = days::MOST as u64;
 
-const WIDTH: usize = 128;
+const WIDTH: usize = 2 * days::MOST;
 
 // How many days there are said to be.
 fn count(blocks: &[u64]) -> u64
     ensures { result ≡ count_in blocks.now }
 {
-    if block::DAYS < blocks.len() {
-        return blocks[block::DAYS];
-    }
-    0
+    days::number(blocks, block::DAYS)
 }
 
 // The list, as it stands in the table: the numbers of those days that have a place.
+#[tactic(auto, using(crate::proofs::DayLists::list_none, crate::proofs::DayLists::list_some))]
 pub fn list<'a>(blocks: &'a [u64]) -> &'a [u64]
     ensures { result.now ≡ list_in blocks.now }
 {
-    if blocks.len() <= block::DAYS {
-        return &blocks[0..0];
-    }
-    let wanted = block::DAYS as u64 + 1 + 2 * tables::smaller(count(blocks), MOST);
-    let to = tables::smaller(wanted, blocks.len() as u64) as usize;
-    &blocks[block::DAYS + 1..to]
+    let Some(rest) = blocks.get(block::DAYS + 1..) else {
+        return &[];
+    };
+    let many = 2 * count(blocks).min(MOST) as usize;
+    &rest[..many.min(rest.len())]
 }
 
 // Whether the list is one that install takes. The count is tested first: no more than 64 days are looked at.
+#[tactic(auto, using(crate::proofs::DayLists::formed_many, crate::proofs::DayLists::formed_rest))]
 pub fn formed(blocks: &[u64]) -> bool
     ensures { Decides result (DaysFormed blocks.now) }
 {
-    if MOST < count(blocks) {
-        return false;
-    }
-    days::takes(list(blocks))
+    count(blocks) <= MOST && days::takes(list(blocks))
 }
 
 // Writes `width` numbers from place `at` on, zeros where the slice is shorter.
+#[tactic(auto, using(crate::proofs::Writing::writing))]
 pub fn write(table: &mut [u64], at: usize, width: usize, numbers: &[u64])
     requires { at + width < 2 ^ 32 }
     ensures { table.new ≡ sets table.old at (padded numbers.now width) }
 {
-    let mut i = 0;
-    while i < width {
+    for i in 0..width {
         tables::put(table, 0, at + i, days::number(numbers, i));
-        i += 1;
     }
 }
 
 // Writes a list in place of the one before, all its numbers, so that nothing of that one stays.
+#[tactic(auto, using(crate::proofs::Writing::install_done))]
 pub fn install(blocks: &mut [u64], days: &[u64])
     ensures { blocks.new ≡ days_installed_in blocks.old days.now }
 {

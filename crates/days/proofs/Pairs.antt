@@ -3,14 +3,9 @@ use mathlib.Core.Path.{◌≡◌, refl, sym, ap, ◌∙◌}
 use mathlib.Core.List.{List, [], ◌∷◌}
 use Prim.Native.Nat.{ℕ, zero, suc, ◌+◌, ◌*◌, ◌/◌, ◌%◌, ◌≤◌, ◌<◌}
 use native.Mathlib.Omega.{arith}
-use lib.ListN.{length, get_or, drop, length-drop, drop_of_length-le, get_or-eq_default}
+use lib.ListN.{length, get_or, drop, length-drop, drop_of_length-le}
 use lib.Seq.{get_or-drop, drop-drop}
 use Rattle.history.specs.Days.{Day, days_of}
-
--- ── numbers ──
-
-pub past_end : (numbers : List ℕ) (at : ℕ) → length numbers ≤ at → 0 ≡ get_or numbers at 0
-past_end numbers at h = sym (get_or-eq_default numbers 0 {n = at} h)
 
 -- ── pairs ──
 

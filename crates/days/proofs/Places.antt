@@ -1,12 +1,11 @@
 -- The place of a minute: one step for each return of the walk; a place lies in its day, and goes on with the minutes of that day, whatever the list.
 -- Assumes nothing.
-use mathlib.Core.Path.{◌≡◌, refl, sym, ap, ap₂, ◌∙◌}
+use mathlib.Core.Path.{◌≡◌, refl, sym, ap, ◌∙◌}
 use mathlib.Core.Logic.{inl, inr}
 use mathlib.Core.List.{List, [], ◌∷◌}
 use Prim.Native.Nat.{ℕ, suc, ◌+◌, ◌-◌, ◌*◌, ◌/◌, ◌%◌, ◌^◌, ◌≤◌, ◌<◌}
 use native.Mathlib.Omega.{arith}
 use native.Mathlib.Numerals.{add-one}
-use borrow.Author.Rules.{rules}
 use lib.ListN.{length, get_or, drop}
 use Rattle.lists.proofs.Numbers.{lt_or_le}
 use Rattle.history.specs.Days.{Day, day_minutes, days_of, Place, unlisted, place_from, place_of}
@@ -27,9 +26,6 @@ pub record Walks (l : List ℕ) (m k from left : ℕ) : Type 0 where
 pub walks_start : (l : List ℕ) (m : ℕ) → m < 2 ^ 32 → length l < 2 ^ 64 → Walks l m 0 0 m
 walks_start l m h s = record { below = omega arith; same = refl; fits = omega arith; early = h; short = omega (arith, days_count l) }
 
-pub gap_none : (from day : ℕ) → day < from → 0 ≡ day - from
-gap_none from day h = omega arith
-
 -- a place that is the minute's
 moved : {p q : Place} {d i n : ℕ} → p ≡ q → Placed p d i n → Placed q d i n
 moved e p = record {
@@ -37,10 +33,6 @@ moved e p = record {
   at_minute = p.at_minute ∙ ap (λ (x : Place). x.minute) e;
   of_length = p.of_length ∙ ap (λ (x : Place). x.length) e;
 }
-
-pub unlisted-placed : (from left : ℕ) → Placed (unlisted from left) (from + left / day_minutes) (left % day_minutes) day_minutes
-unfolding unlisted
-unlisted-placed from left = record { in-day = refl; at_minute = refl; of_length = refl }
 
 module _ (l : List ℕ) (m k from left day gap n : ℕ) (walks : Walks l m k from left) (e : n ≡ length (days_of l)) (more : k < n) (d : day ≡ get_or l (2 * k) 0)
     (g : gap ≡ day - from) where
@@ -79,7 +71,7 @@ pub place_later : (l : List ℕ) (m k from left n : ℕ) {a b c : ℕ} → Walks
 unfolding place_from
 place_later l m k from left n walks e h p = moved (rw (days_end l k (omega arith)) at walks.same) p
 
-pub ruleset walking = (walks_start, place_earlier, day_fits, place_here, walks_more, place_later, rules)
+pub ruleset walking = (walks_start, place_earlier, day_fits, place_here, walks_more, place_later)
 
 -- ── the place goes on ──
 

@@ -1,11 +1,11 @@
 -- What the functions of this crate ensure, beside the definitions of `Days` (crate history). Definitions alone: their laws stand in proofs/.
-use Rattle.std.specs.Prelude.{◌≡◌, List, ℕ, zero, suc, ◌+◌, ◌≤◌, ◌<◌}
+use Rattle.std.specs.Prelude.{◌≡◌, List, ℕ, suc, ◌+◌, ◌≤◌, ◌<◌, Option, Some, None}
 use Rattle.history.specs.Days.{Day, Place, day_of, shown_on, label_minute}
 
--- the least day that may stand at pair k, when `last` is the day of the pair before
-unfoldable pub least_after : (k last : ℕ) → ℕ
-least_after zero last = 0
-least_after (suc k) last = suc last
+-- the least day that may stand behind the day before, if there is one
+abbrev pub least_after : (before : Option ℕ) → ℕ
+least_after None = 0
+least_after (Some last) = suc last
 
 -- `day`, `minute` and `length` are those of a place
 pub record Placed (place : Place) (day minute length : ℕ) : Type 0 where

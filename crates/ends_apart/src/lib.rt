@@ -3,13 +3,14 @@
 // several updates, a row is held against the rows of its tick one by one.
 //
 //   specs/Rows       what a row says, and which cells it has
-//   specs/Turns      H1, and what the test says
-//   proofs/Turning   one step for each return and each turn
+//   specs/Turns      H1, the rows of the last tick, and what the test says
+//   proofs/Turning   a row more: one step for each turn, and for each return of `with`
 
 #![tactic(auto)]
 
+ghost use Rattle.std.specs.Prelude.{IfSome};
 ghost use Rattle.lists.specs.Tests.{Decides};
-ghost use Rattle.ends_apart.specs.Turns.{EndsBy, Parted, ClearBack, Follows, SeenApart};
+ghost use Rattle.ends_apart.specs.Turns.{EndsBy, Parted, ClearBack, SeenApart};
 
 use block_table::Row;
 
@@ -20,82 +21,91 @@ const MANY: u64 = 64;
 fn ends_by(row: Row, place: u64) -> bool
     ensures { Decides result (EndsBy row place) }
 {
-    if place < row.first {
-        return false;
-    }
-    row.length <= place - row.first
+    row.first <= place && row.length <= place - row.first
 }
 
 // Whether the row has no life or shares no cell with the other.
 fn parted(row: Row, own: Row) -> bool
     ensures { Parted row own result }
 {
-    if row.destroyed <= row.created {
-        return true;
-    }
-    if ends_by(row, own.first) {
-        return true;
-    }
-    ends_by(own, row.first)
+    row.destroyed <= row.created || ends_by(row, own.first) || ends_by(own, row.first)
 }
 
 // Whether each of the rows above `low` up to k is parted from the other; of many nothing is said.
 fn clear_back(blocks: &[u64], low: u64, k: u64, own: Row) -> bool
     ensures { ClearBack blocks.now low k own result }
 {
-    if MANY < tables::minus(k, low) {
+    if MANY < k.saturating_sub(low) {
         return false;
     }
-    let mut i = low;
-    while i < k {
-        i += 1;
-        let row = block_table::read(blocks, i);
-        if !parted(row, own) {
+    for i in low..k {
+        if !parted(block_table::read(blocks, i + 1), own) {
             return false;
         }
     }
     true
 }
 
-// Whether the rows above `low` up to k, none of which ends after `top`, share no cell with the other.
-fn follows(blocks: &[u64], low: u64, k: u64, top: u64, own: Row) -> bool
-    ensures { Follows blocks.now low k top own result }
-{
-    if top <= own.first {
-        return true;
-    }
-    clear_back(blocks, low, k, own)
+// The rows of the last tick that was met: those above `low`, none of which ends after `top`.
+#[derive(Clone, Copy)]
+struct Run {
+    tick: u64,
+    top: u64,
+    low: u64,
 }
 
-// Whether the rows 1 to n are seen to have H1; if not, nothing is said. Rows above `low` are those of the last tick, and `top` is the highest end of
-// them. Linear. To be called only where the table has n rows.
+impl Run {
+    ghost use Rattle.ends_apart.specs.Turns.{Follows, Continues};
+
+    // Whether the rows of the run up to k share no cell with the other.
+    fn clear_of(self, blocks: &[u64], k: u64, own: Row) -> bool
+        ensures { Follows blocks.now self k own result }
+    {
+        self.top <= own.first || clear_back(blocks, self.low, k, own)
+    }
+
+    // The last run with the row behind k, or none where that may share a cell with a row of its tick.
+    #[tactic(auto, using(crate::proofs::Turning::going))]
+    fn with(self, blocks: &[u64], k: u64, row: Row) -> Option<Run>
+        ensures { IfSome result (Continues blocks.now self k row) }
+    {
+        if row.destroyed <= row.created {
+            return Some(self);
+        }
+        let end = row.first.saturating_add(row.length);
+        if self.tick < row.destroyed {
+            return Some(Run {
+                tick: row.destroyed,
+                top: end,
+                low: k,
+            });
+        }
+        if row.destroyed < self.tick || !self.clear_of(blocks, k, row) {
+            return None;
+        }
+        Some(Run {
+            top: self.top.max(end),
+            ..self
+        })
+    }
+}
+
+// Whether the rows 1 to n are seen to have H1; if not, nothing is said. Linear. To be called only where the table has n rows.
+#[tactic(auto, using(crate::proofs::Turning::turning))]
 pub fn ends_apart(blocks: &[u64], n: u64) -> bool
     ensures { SeenApart blocks.now n result }
 {
-    let mut tick = 0;
-    let mut top = 0;
-    let mut low = 0;
-    let mut k = 0;
-    while k < n {
+    let mut run = Run {
+        tick: 0,
+        top: 0,
+        low: 0,
+    };
+    for k in 0..n {
         let row = block_table::read(blocks, k + 1);
-        let end = tables::plus(row.first, row.length);
-        if row.destroyed <= row.created {
-            k += 1;
-        } else if tick < row.destroyed {
-            tick = row.destroyed;
-            top = end;
-            low = k;
-            k += 1;
-        } else {
-            if row.destroyed < tick {
-                return false;
-            }
-            if !follows(blocks, low, k, top, row) {
-                return false;
-            }
-            top = tables::larger(top, end);
-            k += 1;
-        }
+        let Some(next) = run.with(blocks, k, row) else {
+            return false;
+        };
+        run = next;
     }
     true
 }

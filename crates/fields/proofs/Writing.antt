@@ -1,56 +1,71 @@
--- Fields written byte after byte: one step for the turn of `put` and for each return of `put`, `put_half` and `put_number`. Assumes nothing.
-use mathlib.Core.Path.{◌≡◌, refl, sym, ◌∙◌}
-use mathlib.Core.List.{List, ◌++◌}
-use Prim.Native.Nat.{ℕ, suc, ◌+◌, ◌-◌, ◌/◌, ◌%◌, ◌≤◌, ◌<◌}
+-- Bytes put over a part of a slice: as `sets` has it. Assumes nothing.
+use mathlib.Core.Path.{◌≡◌, refl, sym, ◌∙◌, ap}
+use lib.Seq.{length-sets}
+use mathlib.Core.List.{List}
+use mathlib.Core.Logic.{inl, inr}
+use Prim.Native.Nat.{ℕ, ◌+◌, ◌/◌, ◌%◌, ◌-◌, ◌≤◌, min}
 use native.Mathlib.Omega.{arith}
-use native.Mathlib.Numerals.{add-one}
-use lib.ListN.{length, set}
-use lib.Seq.{sets}
-use Rattle.lists.proofs.Numbers.{suc_of}
+use lib.ListN.{length, take, drop, set, length-take}
+use borrow.Rule.Slice.PartMut.{put_mid}
+use Rattle.std.proofs.lemmas.List.{take-append-drop, take_all}
+use Rattle.std.proofs.Common.{append_assoc}
+use Rattle.std.proofs.lemmas.Bool.{cases_lt}
+use Rattle.std.proofs.lemmas.List.Edits.{sets, sets-eq, paste_all}
+use Rattle.std.proofs.lemmas.Slice.{put_mid-paste}
+use Rattle.std.specs.Int.{w64, to_le_bytes}
 use Rattle.lists.proofs.Stores.{sets-append, sets-past}
 use Rattle.history.specs.File.{bytes_of}
-use Rattle.history.proofs.FileNumbers.{bytes_of-length}
 
--- ── byte after byte ──
+-- bytes over a part that is as long as they are
+put_mid-sets : (out : List ℕ) (at k : ℕ) (part bytes : List ℕ) → at + k ≤ length out → k ≡ length bytes → part ≡ bytes
+    → put_mid at k out part ≡ sets out at bytes
+put_mid-sets out at k part bytes room n e =
+    let m : at + k ≡ at + length bytes = omega arith in
+    put_mid-paste at k out part bytes k e refl n ∙ paste_all out at bytes k n
+    ∙ rw (m, ← append_assoc) (sym (sets-eq bytes out at (omega arith)))
 
--- writing the bytes that are left gives the same as writing all of them gave at first
-pub record Writes (whole out : List ℕ) (place left rest : ℕ) : Type 0 where
-  pub same : sets out place (bytes_of left rest) ≡ whole
+-- what goes in of bytes is all of them, or ends where the slice does
+sets-cut : (out : List ℕ) (at n : ℕ) (bytes : List ℕ) → n ≡ min (length bytes) (length out - at) → sets out at (take n bytes) ≡ sets out at bytes
+sets-cut out at n bytes m =
+    elim (cases_lt n (length bytes)) [
+      | inl h ↦
+          let past : length (sets out at (take n bytes)) ≤ at + length (take n bytes) = simp (length-sets, length-take) (omega arith) in
+          let rest = sets-past (drop n bytes) (sets out at (take n bytes)) (at + length (take n bytes)) past in
+          sym (rw take-append-drop at (sets-append out at (take n bytes) (drop n bytes)) ∙ rest)
+      | inr h ↦ rw (take_all n bytes h) refl
+    ]
 
-module _ {whole out : List ℕ} {place left rest : ℕ} (w : Writes whole out place left rest) where
-  pub put_turn : {byte : ℕ} → byte ≡ rest % 256 → 0 < left → Writes whole (set out place byte) (place + 1) (left - 1) (rest / 256)
-  unfolding bytes_of
-  put_turn {byte} e h = record { same = rw (e, add-one) (rw (suc_of left (λ z. omega arith)) at w.same) }
+-- as many of the bytes as go in
+pub put_mid-cut : (out : List ℕ) (at n k : ℕ) (part bytes : List ℕ) → at ≤ length out → n ≡ min (length bytes) (length out - at) → k ≡ n
+    → part ≡ take n bytes → put_mid at k out part ≡ sets out at bytes
+put_mid-cut out at n k part bytes h m j e =
+    let long : k ≡ length (take n bytes) = simp length-take (omega arith) in
+    put_mid-sets out at k part (take n bytes) (omega arith) long e ∙ sets-cut out at n bytes m
 
-  pub put_done : left ≤ 0 → out ≡ whole
-  unfolding bytes_of
-  put_done h =
-      let z : left ≡ 0 = omega arith in
-      rw z at w.same
+pub put-past : (out : List ℕ) (at : ℕ) (bytes : List ℕ) → length out ≤ at → out ≡ sets out at bytes
+put-past out at bytes h = sym (sets-past bytes out at h)
 
-  -- what is left goes past the end
-  pub put_past : length out ≤ place → out ≡ whole
-  put_past h = sym (sets-past (bytes_of left rest) out place h) ∙ w.same
+-- ── the lowest byte, and all eight ──
 
--- ── four bytes, and four more ──
-
-pub put_half_four : (out : List ℕ) (at value : ℕ) {a b c d : ℕ} → a ≡ value % 256 → b ≡ value / 256 % 256 → c ≡ value / 256 / 256 % 256
-    → d ≡ value / 256 / 256 / 256 % 256 → set (set (set (set out at a) (at + 1) b) (at + 2) c) (at + 3) d ≡ sets out at (bytes_of 4 value)
+pub put_one : (out : List ℕ) (at value : ℕ) → set out at (value % 256) ≡ sets out at (bytes_of 1 value)
 unfolding bytes_of
-put_half_four out at value p q r s =
-    let two : at + 2 ≡ suc (suc at) = omega arith in
-    let three : at + 3 ≡ suc (suc (suc at)) = omega arith in
-    rw (p, q, r, s, add-one, two, three) refl
+put_one out at value = refl
 
-bytes_of-halves : (value : ℕ) → bytes_of 8 value ≡ bytes_of 4 value ++ bytes_of 4 (value / 4294967296)
+pub eight_bytes : (value : ℕ) → to_le_bytes w64 value ≡ bytes_of 8 value
 unfolding bytes_of
-bytes_of-halves value =
-    let e : value / 256 / 256 / 256 / 256 ≡ value / 4294967296 = omega arith in
-    rw e refl
+eight_bytes value =
+    let p : value / 65536 ≡ value / 256 / 256 = omega arith in
+    let q : value / 16777216 ≡ value / 256 / 256 / 256 = omega arith in
+    let r : value / 4294967296 ≡ value / 256 / 256 / 256 / 256 = omega arith in
+    let s : value / 1099511627776 ≡ value / 256 / 256 / 256 / 256 / 256 = omega arith in
+    let t : value / 281474976710656 ≡ value / 256 / 256 / 256 / 256 / 256 / 256 = omega arith in
+    let u : value / 72057594037927936 ≡ value / 256 / 256 / 256 / 256 / 256 / 256 / 256 = omega arith in
+    rw (p, q, r, s, t, u) refl
 
-pub put_number-halves : (out : List ℕ) (at value : ℕ) {half all : List ℕ} → half ≡ sets out at (bytes_of 4 value)
-    → all ≡ sets half (at + 4) (bytes_of 4 (value / 4294967296)) → all ≡ sets out at (bytes_of 8 value)
-put_number-halves out at value p q =
-    q ∙ rw (p, bytes_of-halves value, sets-append out at (bytes_of 4 value) (bytes_of 4 (value / 4294967296)), bytes_of-length 4 value) refl
+pub put_eight : (out : List ℕ) (at k value : ℕ) (part bytes : List ℕ) → bytes ≡ to_le_bytes w64 value → part ≡ bytes → k ≡ 8 → at + 8 ≤ length out
+    → put_mid at k out part ≡ sets out at (bytes_of 8 value)
+put_eight out at k value part bytes b e n room =
+    let long : k ≡ length bytes = rw b n in
+    put_mid-sets out at k part bytes (omega arith) long e ∙ ap (λ (l : List ℕ). sets out at l) (b ∙ eight_bytes value)
 
-pub ruleset writing = (put_turn, put_done, put_past, put_half_four, put_number-halves)
+pub ruleset writing = (put_mid-cut, put-past, put_one, put_eight, eight_bytes)

@@ -1,68 +1,43 @@
 // Fields written to a lent slice. Past its end nothing changes.
-ghost use Rattle.std.specs.Prelude.{◌≡◌, ◌+◌, ◌%◌, ◌≤◌, length};
+ghost use Rattle.std.specs.Prelude.{◌≡◌};
 ghost use Rattle.std.proofs.lemmas.List.Edits.{sets};
 ghost use Rattle.history.specs.File.{bytes_of};
 
-use crate::{BASE, HALF, UPPER, WIDTH};
+use crate::WIDTH;
 
-// The lowest digit of a number.
-fn low(value: u64) -> u8
-    ensures { result ≡ value % 256 }
-{
-    (value % BASE) as u8
-}
+// A number has digits to this base, the lowest first.
+const BASE: u64 = 256;
 
-// Writes the lowest `width` bytes of a value from place `at` on.
-fn put(out: &mut [u8], at: usize, width: usize, value: u64)
-    ensures { out.new ≡ sets out.old at (bytes_of width value) }
+// Writes bytes from place `at` on, as many as go in.
+#[tactic(auto, using(crate::proofs::Writing::writing))]
+fn put(out: &mut [u8], at: usize, bytes: &[u8])
+    ensures { out.new ≡ sets out.old at bytes.now }
 {
-    let mut place = at;
-    let mut left = width;
-    let mut rest = value;
-    while 0 < left {
-        if out.len() <= place {
-            return;
-        }
-        out[place] = low(rest);
-        place += 1;
-        left -= 1;
-        rest = rest / BASE;
+    if at < out.len() {
+        let n = bytes.len().min(out.len() - at);
+        out[at..at + n].copy_from_slice(&bytes[..n]);
     }
-}
-
-// Writes the lowest four bytes of a value, all of which go in.
-fn put_half(out: &mut [u8], at: usize, value: u64)
-    requires { at + 4 ≤ length out.old }
-    ensures { out.new ≡ sets out.old at (bytes_of 4 value) }
-{
-    let second = value / BASE;
-    let third = second / BASE;
-    let fourth = third / BASE;
-    out[at] = low(value);
-    out[at + 1] = low(second);
-    out[at + 2] = low(third);
-    out[at + 3] = low(fourth);
 }
 
 // Writes a byte, the lowest of a value.
+#[tactic(auto, using(crate::proofs::Writing::writing))]
 pub fn put_byte(out: &mut [u8], at: usize, value: u64)
     ensures { out.new ≡ sets out.old at (bytes_of 1 value) }
 {
-    put(out, at, 1, value)
+    if at < out.len() {
+        out[at] = (value % BASE) as u8;
+    }
 }
 
 // Writes a number: with one test, where all of it goes in.
+#[tactic(auto, using(crate::proofs::Writing::writing))]
 pub fn put_number(out: &mut [u8], at: usize, value: u64)
     ensures { out.new ≡ sets out.old at (bytes_of 8 value) }
 {
-    if out.len() < WIDTH {
-        put(out, at, WIDTH, value);
-        return;
+    let bytes = value.to_le_bytes();
+    if WIDTH <= out.len() && at <= out.len() - WIDTH {
+        out[at..at + WIDTH].copy_from_slice(&bytes);
+    } else {
+        put(out, at, &bytes);
     }
-    if out.len() - WIDTH < at {
-        put(out, at, WIDTH, value);
-        return;
-    }
-    put_half(out, at, value);
-    put_half(out, at + HALF, value / UPPER);
 }

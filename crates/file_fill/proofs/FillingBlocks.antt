@@ -12,11 +12,10 @@ use Rattle.history.specs.Words.{Block, size}
 use Rattle.history.specs.File.{got, onward, ◌>>=◌, give, many, read_block}
 use Rattle.history.proofs.FileYields.{got_value, got_next, fault_got}
 use Rattle.tables.specs.Columns.{block_base}
-use Rattle.file_scan.specs.declared.rows.BlockRow.{BlockRow}
-use Rattle.file_scan.specs.declared.rows.BlockRow.TheVariants as block
+use Rattle.std.specs.Prelude.{Ok, Err}
 use Rattle.file_scan.specs.Rows.{block_row}
 use Rattle.file_scan.proofs.Readers.{onward_got}
-use Rattle.file_scan.proofs.RowReads.{block_passes}
+use Rattle.file_scan.proofs.RowReads.{block_passes, block_of}
 use Rattle.file_scan.proofs.RowSays.{Says, block_says, block_fault}
 use Rattle.file_scan.proofs.RowBytes.{block_bytes_lem}
 use Rattle.layout.specs.Rows.{block_numbers, blocks_numbers}
@@ -74,9 +73,9 @@ fill_start file kind count at blocks store =
 
 module _ {file : List ℕ} {kind count at : ℕ} {blocks₀ store₀ blocks store : List ℕ} {left rows used place : ℕ}
     (o : Onward file kind count at blocks₀ store₀ blocks store left rows used place) where
-  module _ {row : BlockRow} {a b c d q n : ℕ} (t : row ≡ block.Block a b c d q n) (e : row ≡ block_row place (read_block kind file place)) where
+  module _ {a b c d q n : ℕ} (e : Ok (block_of a b c d q n) ≡ block_row place (read_block kind file place)) where
     said : Says place (read_block kind file place) a b c d q n
-    said = block_says place (read_block kind file place) (sym t ∙ e)
+    said = block_says place (read_block kind file place) e
 
     pub fill_room : (rows + 1 ≤ n) × (used + b ≤ n) × (q ≤ n) × (n ≤ length file)
     fill_room =
@@ -102,23 +101,27 @@ module _ {file : List ℕ} {kind count at : ℕ} {blocks₀ store₀ blocks stor
           ∙ ap (λ (l : List ℕ). sets store used l)
           (ap₂ (λ (x y : ℕ). take x (drop y file)) long s.place_is ∙ sym (block_bytes_lem kind file place s.read).bytes)
 
-      pub fill_turn : 0 < left → Onward file kind count at blocks₀ store₀ blocks₁ store₁ (left - 1) (rows + 1) (used + b) n
-      fill_turn h =
+      turn : 0 < left → Onward file kind count at blocks₀ store₀ blocks₁ store₁ (left - 1) (rows + 1) (used + b) n
+      turn h =
           record {
             few = fill_room.0;
             low = fill_room.1;
             rest = λ b s r. o.rest b s (blocks_front said.block said.read put_is copied_is (rw said.cells_are at r) h);
           }
 
-  pub fill_fault : {row : BlockRow} {i : ℕ} → row ≡ block.Fault i → row ≡ block_row place (read_block kind file place) → 0 < left
-      → FilledBlocks file kind count at blocks₀ store₀ blocks store
+      pub fill_turn : {rest : ℕ} → left ≡ suc rest → Onward file kind count at blocks₀ store₀ blocks₁ store₁ rest (rows + 1) (used + b) n
+      fill_turn {rest} h =
+          let one : rest ≡ left - 1 = omega arith in
+          rw one (turn (omega arith))
+
+  pub fill_fault : {i : ℕ} → Err i ≡ block_row place (read_block kind file place) → 0 < left → FilledBlocks file kind count at blocks₀ store₀ blocks store
   unfolding many ◌>>=◌ onward give
-  fill_fault t e h = o.rest blocks store (record { numbers = λ bs n g. absurd (none g); bytes = λ bs n g. absurd (none g) })
+  fill_fault e h = o.rest blocks store (record { numbers = λ bs n g. absurd (none g); bytes = λ bs n g. absurd (none g) })
     where
       none : {bs : List Block} {n : ℕ} → many (read_block kind) left file place ≡ got bs n → ⊥
       none {bs} {n} g =
           let one : many (read_block kind) (suc (left - 1)) file place ≡ got bs n = rw (suc_of left (λ z. omega arith)) at g in
-          fault_got (rw (block_fault place (read_block kind file place) (sym t ∙ e)) at one)
+          fault_got (rw (block_fault place (read_block kind file place) e) at one)
 
   pub fill_done : left ≤ 0 → FilledBlocks file kind count at blocks₀ store₀ blocks store
   unfolding many give blocks_numbers flat_map
@@ -128,5 +131,3 @@ module _ {file : List ℕ} {kind count at : ℕ} {blocks₀ store₀ blocks stor
       empty {bs} {n} g =
           let z : left ≡ 0 = omega arith in
           got_value (rw z at g)
-
-pub ruleset filling = (fill_start, fill_turn, fill_fault, fill_done)

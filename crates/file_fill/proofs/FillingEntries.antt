@@ -1,5 +1,5 @@
 -- Entries written one after the other: one step for the turn of `fill_entries` and for each of its returns. Assumes nothing.
-use mathlib.Core.Path.{◌≡◌, refl, sym, ◌∙◌, ap}
+use mathlib.Core.Path.{◌≡◌, refl, sym, ◌∙◌}
 use mathlib.Core.List.{List, [], ◌∷◌}
 use Prim.Native.Nat.{ℕ, suc, ◌+◌, ◌*◌, ◌-◌, ◌≤◌, ◌<◌}
 use native.Mathlib.Omega.{arith}
@@ -7,11 +7,8 @@ use lib.ListN.{length}
 use lib.Seq.{sets}
 use Rattle.lists.proofs.Numbers.{suc_of}
 use Rattle.history.specs.Lent.{entry_width, entry_head}
-use Rattle.history.specs.File.{got, onward, ◌>>=◌, give, number, many}
+use Rattle.history.specs.File.{got, fault, onward, ◌>>=◌, give, number, many}
 use Rattle.history.proofs.FileYields.{got_value, got_next, fault_got}
-use Rattle.fields.specs.Fields.{read_of}
-use Rattle.fields.specs.declared.Field.{Field}
-use Rattle.fields.specs.declared.Field.TheVariants.{Got, End}
 use Rattle.file_scan.proofs.Readers.{onward_got, number_passes}
 use Rattle.layout.specs.Rows.{entry_numbers}
 use Rattle.file_fill.specs.Fill.{first_cell_of, entry_place, FilledEntries}
@@ -26,9 +23,9 @@ entries_start blocks file at first count entries h = record { few = h; rest = λ
 
 module _ {blocks file : List ℕ} {at first count : ℕ} {start entries : List ℕ} {place row left : ℕ}
     (o : Onward blocks file at first count start entries place row left) where
-  module _ {f : Field} {v n : ℕ} (t : f ≡ Got v n) (e : read_of f ≡ number 8 file place) where
+  module _ {v n : ℕ} (e : got v n ≡ number 8 file place) where
     read : number 8 file place ≡ got v n
-    read = sym e ∙ ap read_of t
+    read = sym e
 
     pub entries_room : (row + 1 ≤ n) × (n ≤ length file)
     entries_room =
@@ -55,17 +52,19 @@ module _ {blocks file : List ℕ} {at first count : ℕ} {start entries : List �
               h.rows xs m₂ later ∙ rw (put, key, p) refl in
               rw (← (got_value r₂), x_is) all
 
-      pub entries_turn : 0 < left → Onward blocks file at first count start entries₁ n (row + 1) (left - 1)
-      entries_turn h = record { few = entries_room.0; rest = λ e r. o.rest e (front r h) }
+      pub entries_turn : {row₁ rest : ℕ} → row₁ ≡ row + 1 → left ≡ suc rest → Onward blocks file at first count start entries₁ n row₁ rest
+      entries_turn {row₁} {rest} p h =
+          let one : rest ≡ left - 1 = omega arith in
+          rw (p, one) (record { few = entries_room.0; rest = λ e r. o.rest e (front r (omega arith)) })
 
-  pub entries_end : {f : Field} → f ≡ End → read_of f ≡ number 8 file place → 0 < left → FilledEntries blocks file at first count start entries
+  pub entries_end : fault 17 ≡ number 8 file place → 0 < left → FilledEntries blocks file at first count start entries
   unfolding many ◌>>=◌ onward give
-  entries_end t e h = o.rest entries (record { rows = λ ks n g. absurd (none g) })
+  entries_end e h = o.rest entries (record { rows = λ ks n g. absurd (none g) })
     where
       none : {ks : List ℕ} {n : ℕ} → many (number 8) left file place ≡ got ks n → ⊥
       none {ks} {n} g =
           let one : many (number 8) (suc (left - 1)) file place ≡ got ks n = rw (suc_of left (λ z. omega arith)) at g in
-          fault_got (rw (← e, t) at one)
+          fault_got (rw (← e) at one)
 
   pub entries_done : left ≤ 0 → FilledEntries blocks file at first count start entries
   unfolding many give entry_numbers
@@ -75,5 +74,3 @@ module _ {blocks file : List ℕ} {at first count : ℕ} {start entries : List �
       empty {ks} {n} g =
           let z : left ≡ 0 = omega arith in
           got_value (rw z at g)
-
-pub ruleset entering = (entries_start, entries_turn, entries_end, entries_done)

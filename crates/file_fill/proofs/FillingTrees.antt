@@ -1,6 +1,6 @@
 -- Nodes written by halves: one step for each return of `fill_tree`. Assumes nothing.
 use mathlib.Core.Path.{◌≡◌, refl, sym, ◌∙◌, ap, ap₂}
-use mathlib.Core.Logic.{◌⊎◌, ⊎_elim}
+use mathlib.Core.Logic.{⊎_elim}
 use mathlib.Core.Bool.{true, false, ◌&&◌, true≢false}
 use mathlib.Core.List.{List, [], ◌∷◌, ◌++◌}
 use Prim.Native.Nat.{ℕ, suc, ◌+◌, ◌*◌, ◌-◌, ◌≤◌, ◌<◌}
@@ -12,7 +12,7 @@ use Rattle.lists.proofs.Numbers.{and_left, and_right, and_both, lt_or_le, bool_c
 use Rattle.lists.proofs.Stores.{sets-append, sets_before}
 use Rattle.history.specs.Lent.{row_width, entry_width}
 use Rattle.history.specs.Tree.{Tree, hole, node, mid, node_count, entry_count, entries_in}
-use Rattle.history.specs.File.{Nodes, absent, present, got, fault, onward, many, read_root, tree_from}
+use Rattle.history.specs.File.{Nodes, absent, present, got, fault, onward, read_root, tree_from}
 use Rattle.history.proofs.FileYields.{got_value, got_next, fault_got}
 use Rattle.history.proofs.TreeCounts.{entry_count_in}
 use Rattle.file_scan.specs.Rows.{row_head, head_absent, head_present, read_head}
@@ -20,12 +20,11 @@ use Rattle.file_scan.proofs.Readers.{onward_got, Passes, numbers_at, many_got}
 use Rattle.file_scan.proofs.RowReads.{head_passes}
 use Rattle.file_scan.proofs.RowBytes.{head_entries}
 use Rattle.file_scan.proofs.Forest.{root_parts}
-use Rattle.file_fill.specs.declared.nodes.Half.{Half}
 use Rattle.file_fill.specs.declared.nodes.Half.TheVariants as half
 use Rattle.file_fill.specs.declared.nodes.Filled.{Filled}
-use Rattle.file_fill.specs.declared.nodes.Filled.TheVariants as filled
+use Rattle.std.specs.Prelude.{Option, Some, None}
 use Rattle.layout.specs.Rows.{entry_numbers, root_link, node_numbers}
-use Rattle.file_fill.specs.Fill.{is_place, right_start, fits, half_of, first_cell_of, entry_place, FilledEntries, TreeLeft, FilledTree}
+use Rattle.file_fill.specs.Fill.{filled, is_place, right_start, fits, half_of, first_cell_of, entry_place, FilledEntries, TreeLeft, FilledTree}
 use Rattle.file_fill.proofs.Places.{place_some, half_is_absent, half_is_wrong, half_is_there, There}
 
 -- ── the reading of a tree ──
@@ -126,14 +125,16 @@ entries_joined key xs ys zs = entry_numbers_append key xs (ys ++ zs) ∙ ap (λ 
 
 -- ── answers ──
 
-tree_same : {a b c d a' b' c' d' : ℕ} → a ≡ a' → b ≡ b' → c ≡ c' → d ≡ d' → filled.Tree a b c d ≡ filled.Tree a' b' c' d'
+tree_same : {a b c d a' b' c' d' : ℕ} → a ≡ a' → b ≡ b' → c ≡ c' → d ≡ d' → filled a b c d ≡ filled a' b' c' d'
 tree_same p q r s = rw (p, q, r, s) refl
 
-pub tree_parts : {a b c d a' b' c' d' : ℕ} → filled.Tree a b c d ≡ filled.Tree a' b' c' d' → (a ≡ a') × (b ≡ b') × (c ≡ c') × (d ≡ d')
-tree_parts e = (cc, cc, cc, cc)
+pub tree_parts : {f : Filled} {a b c d : ℕ} → Some f ≡ filled a b c d → (f.root ≡ a) × (f.rows ≡ b) × (f.runs ≡ c) × (f.next ≡ d)
+tree_parts {f} {a} {b} {c} {d} e =
+    let same : f ≡ record { root = a; rows = b; runs = c; next = d } = cc in
+    rw same (refl, refl, refl, refl)
 
-pub tree_not_wrong : {a b c d : ℕ} → filled.Tree a b c d ≡ filled.Wrong → ⊥
-tree_not_wrong e = let z : ◌≡◌ {A = ℕ} 0 1 = cc in omega arith
+pub tree_not_wrong : {f : Filled} → Some f ≡ None → ⊥
+tree_not_wrong e = cc
 
 fits_parts : (lo hi a b c : ℕ) (es : List ℕ) (l r : Nodes) → fits lo hi (present a b c es l r) ≡ true
     → (fits lo (mid lo hi) l ≡ true) × (fits (right_start lo hi) hi r ≡ true)
@@ -159,39 +160,40 @@ fits_unless lo hi a b c es l r p h f g =
 
 -- ── no node, or not this one ──
 
-module _ (blocks file : List ℕ) (kind lo hi at rows runs : ℕ) {nodes entries : List ℕ} {h : Half} (e : h ≡ half_of lo hi at (read_head file at)) where
-  pub tree_wrong : h ≡ half.Wrong → FilledTree blocks file kind lo hi at rows runs nodes entries nodes entries filled.Wrong
-  tree_wrong t = record { right = λ x next read f. absurd (never x next read f); wrong = λ x next read f. refl; bound = λ q. absurd (tree_not_wrong (sym q)) }
+module _ (blocks file : List ℕ) (kind lo hi at rows runs : ℕ) {nodes entries : List ℕ} where
+  pub tree_wrong : None ≡ half_of lo hi at (read_head file at) → FilledTree blocks file kind lo hi at rows runs nodes entries nodes entries None
+  tree_wrong e = record { right = λ x next read f. absurd (never x next read f); wrong = λ x next read f. refl; bound = λ q. absurd (tree_not_wrong (sym q)) }
     where
       never : (x : Nodes) (next : ℕ) → read_root file at ≡ got x next → fits lo hi x ≡ true → ⊥
       never x next read f =
-          half_is_wrong lo hi at (read_head file at) (sym t ∙ e) (λ i g. root_fault file at read g)
+          half_is_wrong lo hi at (read_head file at) e (λ i g. root_fault file at read g)
           (λ a b c es n g p. root_present file at read g (λ l r q a₁ a₂ is. fits_not lo hi a b c es l r p (rw (← is) at f)))
 
-  pub tree_absent : {n : ℕ} → h ≡ half.Absent n → rows ≤ at → runs ≤ at → FilledTree blocks file kind lo hi at rows runs nodes entries nodes entries (filled.Tree 0 rows runs n)
+  pub tree_absent : {n : ℕ} → Some (half.Absent n) ≡ half_of lo hi at (read_head file at) → rows ≤ at → runs ≤ at
+      → FilledTree blocks file kind lo hi at rows runs nodes entries nodes entries (filled 0 rows runs n)
   unfolding tree_from root_link node_count entry_count node_numbers entries_in entry_numbers fits
-  tree_absent {n} t few low =
+  tree_absent {n} e few low =
       record {
         right = λ x next read f.
             let is = root_absent file at read g in
             rw (is.0, is.1)
             (record { answered = tree_same refl (omega arith) (omega arith) refl; node_rows_lem = refl; entry_rows_lem = refl });
         wrong = λ x next read f. absurd (true≢false (rw (root_absent file at read g).0 at f));
-        bound = λ q. let s = tree_parts q in (omega (arith, s.1, s.3, p.place), omega (arith, s.2, s.3, p.place));
+        bound = λ q. let s = tree_parts (sym q) in (omega (arith, s.1, s.3, p.place), omega (arith, s.2, s.3, p.place));
       }
     where
       g : read_head file at ≡ got head_absent n
-      g = half_is_absent lo hi at (read_head file at) (sym t ∙ e)
+      g = half_is_absent lo hi at (read_head file at) e
 
       p : Passes file at 1 n
       p = head_passes file at g
 
 -- ── a node ──
 
-module _ (blocks file : List ℕ) (kind lo hi at rows runs : ℕ) {h : Half} {count q n : ℕ} (e : h ≡ half_of lo hi at (read_head file at))
-    (t : h ≡ half.Present count q n) where
+module _ (blocks file : List ℕ) (kind lo hi at rows runs : ℕ) {count q n : ℕ}
+    (e : Some (half.Present count q n) ≡ half_of lo hi at (read_head file at)) where
   there : There lo hi at (read_head file at) count q n
-  there = half_is_there lo hi at (read_head file at) (sym t ∙ e)
+  there = half_is_there lo hi at (read_head file at) e
 
   abbrev es : List ℕ
   es = there.entries
@@ -209,7 +211,7 @@ module _ (blocks file : List ℕ) (kind lo hi at rows runs : ℕ) {h : Half} {co
       (omega (arith, passed.place), omega (arith, passed.place, c), passed.inside, omega (arith, b), some)
 
   module _ {m f : ℕ} (mid_is : lo < hi → m ≡ mid lo hi) (start_is : lo < hi → f ≡ right_start lo hi) {nodes entries entries₁ nodes₁ entries₂ : List ℕ}
-      (filled-es : FilledEntries blocks file q runs count entries entries₁) {rl : Filled}
+      (filled-es : FilledEntries blocks file q runs count entries entries₁) {rl : Option Filled}
       (left : FilledTree blocks file kind lo m n (rows + 1) (runs + count) nodes entries₁ nodes₁ entries₂ rl) where
     left_is : FilledTree blocks file kind lo (mid lo hi) n (suc rows) (runs + length es) nodes entries₁ nodes₁ entries₂ rl
     left_is =
@@ -224,7 +226,7 @@ module _ (blocks file : List ℕ) (kind lo hi at rows runs : ℕ) {h : Half} {co
         let room : q + 8 * count ≤ length file = omega (arith, passed.place, passed.inside) in
         filled-es.rows es (q + 8 * count) (many_got file q count room ∙ ap (λ (l : List ℕ). got l (q + 8 * count)) listed)
 
-    pub tree_left_wrong : rl ≡ filled.Wrong → FilledTree blocks file kind lo hi at rows runs nodes entries nodes₁ entries₂ filled.Wrong
+    pub tree_left_wrong : rl ≡ None → FilledTree blocks file kind lo hi at rows runs nodes entries nodes₁ entries₂ None
     tree_left_wrong w = record {
       right = λ x next read fx.
           root_present file at read there.read λ l r p a₁ a₂ is.
@@ -234,12 +236,12 @@ module _ (blocks file : List ℕ) (kind lo hi at rows runs : ℕ) {h : Half} {co
       bound = λ z. absurd (tree_not_wrong (sym z));
     }
 
-    module _ {x lrows lruns p : ℕ} (tl : rl ≡ filled.Tree x lrows lruns p) {nodes₂ entries₃ : List ℕ} {rr : Filled}
-        (right : FilledTree blocks file kind f hi p lrows lruns nodes₁ entries₂ nodes₂ entries₃ rr) where
+    module _ {lf : Filled} (tl : rl ≡ Some lf) {nodes₂ entries₃ : List ℕ} {rr : Option Filled}
+        (right : FilledTree blocks file kind f hi lf.next lf.rows lf.runs nodes₁ entries₂ nodes₂ entries₃ rr) where
       -- what is known of both where the left half fits
       module _ (l : Nodes) (p₁ : ℕ) (fl : TreeLeft blocks kind lo (mid lo hi) (suc rows) (runs + length es) (tree_from l) p₁ nodes entries₁ nodes₁ entries₂ rl) where
-        left_answered : (x ≡ root_link (suc rows) (tree_from l)) × (lrows ≡ suc rows + node_count (tree_from l))
-            × (lruns ≡ runs + length es + entry_count (tree_from l)) × (p ≡ p₁)
+        left_answered : (lf.root ≡ root_link (suc rows) (tree_from l)) × (lf.rows ≡ suc rows + node_count (tree_from l))
+            × (lf.runs ≡ runs + length es + entry_count (tree_from l)) × (lf.next ≡ p₁)
         left_answered = tree_parts (sym tl ∙ fl.answered)
 
         right_is : FilledTree blocks file kind (right_start lo hi) hi p₁ (suc rows + node_count (tree_from l)) (runs + length es + entry_count (tree_from l))
@@ -248,7 +250,7 @@ module _ (blocks file : List ℕ) (kind lo hi at rows runs : ℕ) {h : Half} {co
             let s = left_answered in
             rw (start_is some, s.1, s.2, s.3) at right
 
-      pub tree_right_wrong : rr ≡ filled.Wrong → FilledTree blocks file kind lo hi at rows runs nodes entries nodes₂ entries₃ filled.Wrong
+      pub tree_right_wrong : rr ≡ None → FilledTree blocks file kind lo hi at rows runs nodes entries nodes₂ entries₃ None
       tree_right_wrong w = record {
         right = λ y next read fy.
             root_present file at read there.read λ l r p₁ a₁ a₂ is.
@@ -259,12 +261,12 @@ module _ (blocks file : List ℕ) (kind lo hi at rows runs : ℕ) {h : Half} {co
         bound = λ z. absurd (tree_not_wrong (sym z));
       }
 
-      module _ {y rrows rruns p₂ : ℕ} (tr : rr ≡ filled.Tree y rrows rruns p₂) {nodes₃ : List ℕ}
-          (put : nodes₃ ≡ sets nodes₂ (row_width * (rows + 1) + 0) (lo ∷ hi ∷ x ∷ y ∷ runs ∷ count ∷ kind ∷ 0 ∷ [])) where
+      module _ {rf : Filled} (tr : rr ≡ Some rf) {nodes₃ : List ℕ}
+          (put : nodes₃ ≡ sets nodes₂ (row_width * (rows + 1) + 0) (lo ∷ hi ∷ lf.root ∷ rf.root ∷ runs ∷ count ∷ kind ∷ 0 ∷ [])) where
         -- both halves fit
         both : (l r : Nodes) (p₁ next : ℕ) → read_root file p₁ ≡ got r next → fits (right_start lo hi) hi r ≡ true
             → TreeLeft blocks kind lo (mid lo hi) (suc rows) (runs + length es) (tree_from l) p₁ nodes entries₁ nodes₁ entries₂ rl
-            → TreeLeft blocks kind lo hi rows runs (node es (tree_from l) (tree_from r)) next nodes entries nodes₃ entries₃ (filled.Tree (rows + 1) rrows rruns p₂)
+            → TreeLeft blocks kind lo hi rows runs (node es (tree_from l) (tree_from r)) next nodes entries nodes₃ entries₃ (filled (rows + 1) rf.rows rf.runs rf.next)
         unfolding root_link node_count entry_count node_numbers entries_in
         both l r p₁ next read fr fl =
             let L = tree_from l in
@@ -296,7 +298,7 @@ module _ (blocks file : List ℕ) (kind lo hi at rows runs : ℕ) {h : Half} {co
               entry_rows_lem = all ∙ ap (λ (u : List ℕ). sets entries (entry_place runs) u) (sym (entries_joined key es (entries_in L) (entries_in R)));
             }
 
-        pub tree_both : FilledTree blocks file kind lo hi at rows runs nodes entries nodes₃ entries₃ (filled.Tree (rows + 1) rrows rruns p₂)
+        pub tree_both : FilledTree blocks file kind lo hi at rows runs nodes entries nodes₃ entries₃ (filled (rows + 1) rf.rows rf.runs rf.next)
         unfolding tree_from
         tree_both = record {
           right = λ z next read fz.
@@ -305,7 +307,7 @@ module _ (blocks file : List ℕ) (kind lo hi at rows runs : ℕ) {h : Half} {co
               rw (← is) (both l r p₁ next a₂ parts.1 (left_is.right l p₁ a₁ parts.0));
           wrong = λ z next read fz. absurd (never z next read fz);
           bound = λ w.
-              let s = tree_parts w in
+              let s = tree_parts (sym w) in
               let b = right.bound tr in
               (omega (arith, s.1, s.3, b.0), omega (arith, s.2, s.3, b.1));
         }

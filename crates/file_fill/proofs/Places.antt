@@ -1,25 +1,28 @@
 -- Where a node should stand: one step for each return of `is_place`, `right_start`, `half_at`, `root_end`, `root_in` and `first_cell`. Assumes nothing.
-use mathlib.Core.Path.{◌≡◌, refl, sym, ◌∙◌}
+use mathlib.Core.Path.{◌≡◌, refl}
 use mathlib.Core.Logic.{◌⊎◌, ⊎_elim}
-use mathlib.Core.Bool.{Bool, true, false, ◌&&◌, not}
+use mathlib.Core.Bool.{true, false, ◌&&◌, and-false}
 use mathlib.Core.List.{List}
-use Prim.Native.Nat.{ℕ, ◌+◌, ◌-◌, ◌/◌, ◌^◌, ◌≤◌, ◌<◌}
+use Prim.Native.Nat.{ℕ, ◌+◌, ◌-◌, ◌^◌, ◌≤◌, ◌<◌}
 use native.Mathlib.Omega.{arith}
 use native.Mathlib.Numerals.{add-one}
 use lib.Dec.{ltb, eqb}
 use lib.ListN.{length}
-use borrow.Author.Tests.{ltb-true, lt-ltb, le-ltb, le-leb, lt-leb, eq-eqb, ne_eqb, not-true, not-false}
+use borrow.Author.Tests.{ltb-true, lt-ltb, le-ltb, le-leb, lt-leb, eq-eqb, ne_eqb}
 use Rattle.lists.proofs.Numbers.{bool_cases, and_left}
 use Rattle.history.specs.Tree.{mid}
 use Rattle.history.specs.File.{Read, got, fault}
 use Rattle.tables.specs.Columns.{block_column, block_first}
 use Rattle.tables.proofs.Past.{read_past}
+use Rattle.std.specs.Prelude.{Some, None, Result, Ok, Err}
+use Rattle.std.specs.Result.{result_ok}
+use Rattle.refusals.specs.declared.Refusal.{Refusal}
+use Rattle.file_scan.specs.Faults.{numbered}
 use Rattle.file_scan.specs.declared.rows.NodeRow.{NodeRow}
 use Rattle.file_scan.specs.declared.rows.NodeRow.TheVariants as node
 use Rattle.file_scan.specs.Rows.{row_head, Head, head_absent, head_present, node_row}
 use Rattle.file_scan.proofs.RowSays.{row_present, row_absent, row_fault}
 use Rattle.file_fill.specs.declared.nodes.Half.TheVariants as half
-use Rattle.layout.specs.Rows.{root_in}
 use Rattle.file_fill.specs.Fill.{is_place, right_start, half_of, root_end, first_cell_of}
 
 -- ── the returns of `is_place` ──
@@ -53,80 +56,97 @@ pub ruleset placing = (place_none, place_low, place_high, place_middle)
 -- ── the returns of `right_start` ──
 
 module _ (lo hi : ℕ) where
-  pub start_past : hi ≤ lo → lo < hi → hi ≡ right_start lo hi
-  start_past h k = absurd (omega arith)
-
   pub start_narrow : hi - lo ≤ 1 → lo < hi → hi ≡ right_start lo hi
   unfolding right_start
   start_narrow h k = rw (le-ltb (lo + 1) hi (omega arith)) refl
 
-  pub start_middle : 1 < hi - lo → lo < hi → lo + (hi - lo) / 2 ≡ right_start lo hi
+  pub start_middle : 1 < hi - lo → mid lo hi ≡ right_start lo hi
   unfolding right_start
-  start_middle h k = rw (lt-ltb (lo + 1) hi (omega arith)) (omega arith)
-
-pub ruleset starting = (start_past, start_narrow, start_middle)
+  start_middle h = rw (lt-ltb (lo + 1) hi (omega arith)) refl
 
 -- ── the returns of `half_at` and `root_end` ──
 
-module _ (lo hi at : ℕ) {row : NodeRow} (o : Read Head) (e : row ≡ node_row at o) where
-  pub half_fault : {i : ℕ} → row ≡ node.Fault i → half.Wrong ≡ half_of lo hi at o
+module _ (lo hi at : ℕ) (o : Read Head) where
+  pub half_fault : (r : Result NodeRow Refusal) → None ≡ result_ok r → numbered r ≡ node_row at o → None ≡ half_of lo hi at o
   unfolding half_of
-  half_fault t = rw (row_fault at o (sym t ∙ e)) refl
+  half_fault (Ok x) t e = absurd (cc)
+  half_fault (Err f) t e = rw (row_fault at o e) refl
 
-  pub half_absent : {n : ℕ} → row ≡ node.Absent n → half.Absent n ≡ half_of lo hi at o
+  pub half_absent : (r : Result NodeRow Refusal) {n : ℕ} → Some (node.Absent n) ≡ result_ok r → numbered r ≡ node_row at o
+      → Some (half.Absent n) ≡ half_of lo hi at o
   unfolding half_of
-  half_absent t = rw (row_absent at o (sym t ∙ e)) refl
+  half_absent (Ok x) {n} t e =
+      let same : x ≡ node.Absent n = cc in
+      rw (row_absent at o (rw same at e)) refl
+  half_absent (Err f) t e = absurd (cc)
 
-  module _ {a b c d q n : ℕ} (t : row ≡ node.Present a b c d q n) {r : Bool} (place : r ≡ is_place lo hi a b c) where
-    pub half_wrong : not r ≡ true → half.Wrong ≡ half_of lo hi at o
+  module _ {a b c d q n : ℕ} where
+    pub half_wrong : (r : Result NodeRow Refusal) → Some (node.Present a b c d q n) ≡ result_ok r → numbered r ≡ node_row at o
+        → false ≡ is_place lo hi a b c → None ≡ half_of lo hi at o
     unfolding half_of
-    half_wrong h = row_present at o (sym t ∙ e) λ es g z w. rw (g, ← place, not-true r h) refl
+    half_wrong (Ok x) t e place =
+        let same : x ≡ node.Present a b c d q n = cc in
+        row_present at o (rw same at e) λ es g z w. rw (g, ← place) refl
+    half_wrong (Err f) t e place = absurd (cc)
 
-    pub half_present : not r ≡ false → half.Present d q n ≡ half_of lo hi at o
+    pub half_present : (r : Result NodeRow Refusal) → Some (node.Present a b c d q n) ≡ result_ok r → numbered r ≡ node_row at o
+        → true ≡ is_place lo hi a b c → Some (half.Present d q n) ≡ half_of lo hi at o
     unfolding half_of
-    half_present h = row_present at o (sym t ∙ e) λ es g z w. rw (g, ← place, not-false r h, z, w) refl
+    half_present (Ok x) t e place =
+        let same : x ≡ node.Present a b c d q n = cc in
+        row_present at o (rw same at e) λ es g z w. rw (g, ← place, z, w) refl
+    half_present (Err f) t e place = absurd (cc)
 
-pub ruleset halving = (half_fault, half_absent, half_wrong, half_present)
-
-module _ (at : ℕ) {row : NodeRow} (o : Read Head) (e : row ≡ node_row at o) where
-  pub end_fault : {i : ℕ} → row ≡ node.Fault i → 0 ≡ root_end o
+module _ (at : ℕ) (o : Read Head) where
+  pub end_fault : (r : Result NodeRow Refusal) → None ≡ result_ok r → numbered r ≡ node_row at o → None ≡ root_end o
   unfolding root_end
-  end_fault t = rw (row_fault at o (sym t ∙ e)) refl
+  end_fault (Ok x) t e = absurd (cc)
+  end_fault (Err f) t e = rw (row_fault at o e) refl
 
-  pub end_absent : {n : ℕ} → row ≡ node.Absent n → 0 ≡ root_end o
+  pub end_absent : (r : Result NodeRow Refusal) {n : ℕ} → Some (node.Absent n) ≡ result_ok r → numbered r ≡ node_row at o → None ≡ root_end o
   unfolding root_end
-  end_absent t = rw (row_absent at o (sym t ∙ e)) refl
+  end_absent (Ok x) {n} t e =
+      let same : x ≡ node.Absent n = cc in
+      rw (row_absent at o (rw same at e)) refl
+  end_absent (Err f) t e = absurd (cc)
 
-  module _ {a b c d q n : ℕ} (t : row ≡ node.Present a b c d q n) where
-    pub end_late : 2 ^ 63 < b → 0 ≡ root_end o
+  module _ {a b c d q n : ℕ} where
+    pub end_out_of_range : (r : Result NodeRow Refusal) → Some (node.Present a b c d q n) ≡ result_ok r → numbered r ≡ node_row at o
+        → ((b ≡ 0) ⊎ ((b ≡ 0 → ⊥) × (2 ^ 63 < b))) → None ≡ root_end o
     unfolding root_end
-    end_late h = row_present at o (sym t ∙ e) λ es g z w. rw (g, lt-leb b (2 ^ 63) h) refl
+    end_out_of_range (Ok x) t e h =
+        let same : x ≡ node.Present a b c d q n = cc in
+        row_present at o (rw same at e) λ es g z w.
+        ⊎_elim (λ p. rw (g, le-ltb 0 b (omega arith)) refl) (λ p. rw (g, lt-leb b (2 ^ 63) p.1, and-false (ltb 0 b)) refl) h
+    end_out_of_range (Err f) t e h = absurd (cc)
 
-    pub end_there : b ≤ 2 ^ 63 → b ≡ root_end o
+    pub end_there : (r : Result NodeRow Refusal) → Some (node.Present a b c d q n) ≡ result_ok r → numbered r ≡ node_row at o → (b ≡ 0 → ⊥) → b ≤ 2 ^ 63
+        → Some b ≡ root_end o
     unfolding root_end
-    end_there h = row_present at o (sym t ∙ e) λ es g z w. rw (g, le-leb b (2 ^ 63) h) refl
-
-pub ruleset ending = (end_fault, end_absent, end_late, end_there)
+    end_there (Ok x) t e p h =
+        let same : x ≡ node.Present a b c d q n = cc in
+        row_present at o (rw same at e) λ es g z w. rw (g, lt-ltb 0 b (omega arith), le-leb b (2 ^ 63) h) refl
+    end_there (Err f) t e p h = absurd (cc)
 
 -- ── what half_at says of the reading ──
 
-pub half_is_absent : (lo hi at : ℕ) {n : ℕ} (o : Read Head) → half.Absent n ≡ half_of lo hi at o → o ≡ got head_absent n
+pub half_is_absent : (lo hi at : ℕ) {n : ℕ} (o : Read Head) → Some (half.Absent n) ≡ half_of lo hi at o → o ≡ got head_absent n
 unfolding half_of
 half_is_absent lo hi at (got head_absent m) e = cc
 half_is_absent lo hi at (got (head_present a b c es) m) e =
     ⊎_elim
-    (λ p. absurd (let w = rw p at e in let z : ◌≡◌ {A = ℕ} 0 1 = cc in omega arith))
-    (λ p. absurd (let w = rw p at e in let z : ◌≡◌ {A = ℕ} 0 1 = cc in omega arith))
+    (λ p. absurd (let w = rw p at e in cc))
+    (λ p. absurd (let w = rw p at e in cc))
     (bool_cases (is_place lo hi a b c))
-half_is_absent lo hi at (fault i) e = absurd (let z : ◌≡◌ {A = ℕ} 0 1 = cc in omega arith)
+half_is_absent lo hi at (fault i) e = absurd (cc)
 
-pub half_is_wrong : (lo hi at : ℕ) {G : Type 0} (o : Read Head) → half.Wrong ≡ half_of lo hi at o
+pub half_is_wrong : (lo hi at : ℕ) {G : Type 0} (o : Read Head) → None ≡ half_of lo hi at o
     → ((i : ℕ) → o ≡ fault i → G) → ((a b c : ℕ) (es : List ℕ) (n : ℕ) → o ≡ got (head_present a b c es) n → is_place lo hi a b c ≡ false → G) → G
 unfolding half_of
-half_is_wrong lo hi at (got head_absent m) e f g = absurd (let z : ◌≡◌ {A = ℕ} 0 1 = cc in omega arith)
+half_is_wrong lo hi at (got head_absent m) e f g = absurd (cc)
 half_is_wrong lo hi at (got (head_present a b c es) m) e f g =
     ⊎_elim
-    (λ p. absurd (let w = rw p at e in let z : ◌≡◌ {A = ℕ} 0 1 = cc in omega arith))
+    (λ p. absurd (let w = rw p at e in cc))
     (λ p. g a b c es m refl p)
     (bool_cases (is_place lo hi a b c))
 half_is_wrong lo hi at (fault i) e f g = f i refl
@@ -142,23 +162,17 @@ pub record There (lo hi at : ℕ) (o : Read Head) (count place next : ℕ) : Typ
   pub many : length entries ≡ count
   pub behind : place ≡ at + row_head
 
-pub half_is_there : (lo hi at : ℕ) {d q n : ℕ} (o : Read Head) → half.Present d q n ≡ half_of lo hi at o → There lo hi at o d q n
+pub half_is_there : (lo hi at : ℕ) {d q n : ℕ} (o : Read Head) → Some (half.Present d q n) ≡ half_of lo hi at o → There lo hi at o d q n
 unfolding half_of
-half_is_there lo hi at (got head_absent m) e = absurd (let z : ◌≡◌ {A = ℕ} 0 1 = cc in omega arith)
+half_is_there lo hi at (got head_absent m) e = absurd (cc)
 half_is_there lo hi at (got (head_present a b c es) m) e =
     ⊎_elim
     (λ p. let w = rw p at e in record { low = a; high = b; middle = c; entries = es; read = cc; stands = p; many = cc; behind = cc })
-    (λ p. absurd (let w = rw p at e in let z : ◌≡◌ {A = ℕ} 0 1 = cc in omega arith))
+    (λ p. absurd (let w = rw p at e in cc))
     (bool_cases (is_place lo hi a b c))
-half_is_there lo hi at (fault i) e = absurd (let z : ◌≡◌ {A = ℕ} 0 1 = cc in omega arith)
+half_is_there lo hi at (fault i) e = absurd (cc)
 
--- ── the returns of `root_in` and `first_cell` ──
-
-pub root_here : (kind col : ℕ) → kind ≡ col → 1 ≡ root_in kind col
-root_here kind col h = rw (eq-eqb kind col h) refl
-
-pub root_elsewhere : (kind col : ℕ) → (kind ≡ col → ⊥) → 0 ≡ root_in kind col
-root_elsewhere kind col h = rw (ne_eqb kind col h) refl
+-- ── the returns of `first_cell` ──
 
 pub cell_there : (blocks : List ℕ) (k : ℕ) {r : ℕ} → r ≡ block_column blocks (k + 1) block_first → r ≡ first_cell_of blocks k
 cell_there blocks k e = rw add-one at e
@@ -166,4 +180,4 @@ cell_there blocks k e = rw add-one at e
 pub cell_past : (blocks : List ℕ) (k : ℕ) → length blocks ≤ k → 0 ≡ first_cell_of blocks k
 cell_past blocks k h = read_past blocks _ (omega arith)
 
-pub ruleset reading = (root_here, root_elsewhere, cell_there, cell_past)
+pub ruleset reading = (cell_there, cell_past)

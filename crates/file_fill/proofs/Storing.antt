@@ -1,32 +1,26 @@
 -- Rows written: one step for each return of the functions that write a row, and numbers written in front of others; zeros from the start on. Assumes nothing.
-use mathlib.Core.Path.{◌≡◌, refl, sym, ◌∙◌, ap}
+use mathlib.Core.Path.{◌≡◌, refl, sym, ◌∙◌}
 use mathlib.Core.List.{List, [], ◌∷◌, ◌++◌}
-use Prim.Native.Nat.{ℕ, suc, ◌+◌, ◌-◌, ◌*◌, ◌≤◌, ◌<◌}
+use Prim.Native.Nat.{ℕ, suc, min, ◌+◌, ◌-◌, ◌*◌, ◌≤◌, ◌<◌}
 use native.Mathlib.Omega.{arith}
-use lib.ListN.{length, set, replicate, length-replicate, replicate-append-replicate}
-use lib.Seq.{sets, set_comm}
+use lib.ListN.{length, set, get_or, take, drop, length-take, replicate, length-replicate, replicate-append-replicate}
+use lib.Seq.{sets}
+use mathlib.Core.Logic.{inl, inr}
+use Rattle.std.proofs.lemmas.Bool.{cases_lt}
+use Rattle.std.proofs.lemmas.List.{take_more}
+use Rattle.std.proofs.lemmas.List.Edits.{sets-eq}
 use Rattle.lists.proofs.Stores.{sets-append}
-use Rattle.history.specs.Lent.{row_width, entry_width, entry_head}
+use Rattle.history.specs.Lent.{entry_width, entry_head}
 use Rattle.tables.proofs.Past.{sets_front}
-use Rattle.layout.specs.Rows.{root_in, node_head_numbers}
 
 -- ── a row ──
 
-module _ (t : List ℕ) (link col a b c d : ℕ) where
-  pub half_put : {t₁ t₂ t₃ t₄ : List ℕ} → t₁ ≡ set t (row_width * link + col) a → t₂ ≡ set t₁ (row_width * link + (col + 1)) b
-      → t₃ ≡ set t₂ (row_width * link + (col + 2)) c → t₄ ≡ set t₃ (row_width * link + (col + 3)) d
-      → t₄ ≡ sets t (row_width * link + col) (a ∷ b ∷ c ∷ d ∷ [])
-  half_put p q r s =
-      let one : row_width * link + (col + 1) ≡ suc (row_width * link + col) = omega arith in
-      let two : row_width * link + (col + 2) ≡ suc (suc (row_width * link + col)) = omega arith in
-      let three : row_width * link + (col + 3) ≡ suc (suc (suc (row_width * link + col))) = omega arith in
-      s ∙ rw (r, q, p, one, two, three) refl
-
-  pub row_put : (e f g h : ℕ) {half all : List ℕ} → half ≡ sets t (row_width * link + col) (a ∷ b ∷ c ∷ d ∷ [])
-      → all ≡ sets half (row_width * link + (col + 4)) (e ∷ f ∷ g ∷ h ∷ []) → all ≡ sets t (row_width * link + col) (a ∷ b ∷ c ∷ d ∷ e ∷ f ∷ g ∷ h ∷ [])
-  row_put e f g h p q =
-      let four : row_width * link + (col + 4) ≡ suc (suc (suc (suc (row_width * link + col)))) = omega arith in
-      q ∙ rw (p, four) refl
+-- one number more
+pub row_more : (t : List ℕ) (p q i : ℕ) (row : List ℕ) {u v : List ℕ} → u ≡ sets t p (take i row) → v ≡ set u q (get_or row i 0) → q ≡ p + i
+    → i < length row → v ≡ sets t p (take (i + 1) row)
+row_more t p q i row a b e h =
+    let long : length (take i row) ≡ i = simp length-take (omega arith) in
+    b ∙ rw (a, e, take_more row i 0 h, sets-append t p (take i row) (get_or row i 0 ∷ []), long) refl
 
 pub entry_put : (t : List ℕ) (row number cell : ℕ) {t₁ t₂ : List ℕ} → t₁ ≡ set t (entry_head + (entry_width * row + 0)) number
     → t₂ ≡ set t₁ (entry_head + (entry_width * row + 1)) cell → t₂ ≡ sets t (entry_head + entry_width * row) (number ∷ cell ∷ [])
@@ -35,20 +29,7 @@ entry_put t row number cell p q =
     let one : entry_head + (entry_width * row + 1) ≡ suc (entry_head + entry_width * row) = omega arith in
     q ∙ rw (p, none, one) refl
 
--- the head of the node table is the row of link 0
-pub head_put : (t : List ℕ) (kind count : ℕ) {a b c d e : ℕ} {t' : List ℕ} → a ≡ root_in kind 0 → b ≡ root_in kind 1 → c ≡ root_in kind 2 → d ≡ root_in kind 3
-    → e ≡ root_in kind 4 → t' ≡ sets t (row_width * 0 + 0) (a ∷ b ∷ c ∷ d ∷ e ∷ count ∷ 0 ∷ 0 ∷ []) → t' ≡ sets t 0 (node_head_numbers kind count)
-head_put t kind count p q r s u w = rw (← p, ← q, ← r, ← s, ← u) w
-
-pub ruleset putting = (half_put, row_put, entry_put, head_put)
-
 -- ── zeros ──
-
--- one zero more
-pub zeros_more : (l : List ℕ) (i : ℕ) → set (sets l 0 (replicate i 0)) i 0 ≡ sets l 0 (replicate (i + 1) 0)
-zeros_more l i =
-    let z : 0 + i ≡ i = omega arith in
-    sym (rw (← replicate-append-replicate {A = ℕ} i 1 0, sets-append l 0 (replicate i 0) (0 ∷ []), length-replicate {A = ℕ} i 0, z))
 
 -- zeros up to the end of the table are all that are written
 pub zeros-cut : (l : List ℕ) (n i : ℕ) → i ≤ n → length l ≤ i → sets l 0 (replicate i 0) ≡ sets l 0 (replicate n 0)
@@ -59,3 +40,18 @@ zeros-cut l n i h k =
 -- n of them are all
 pub zeros_upto : (l : List ℕ) (n i : ℕ) → i ≤ n → n ≤ i → sets l 0 (replicate i 0) ≡ sets l 0 (replicate n 0)
 zeros_upto l n i h k = let e : i ≡ n = omega arith in rw e
+
+-- as many zeros as the table holds are all that are written
+zeros_held : (t : List ℕ) (n m : ℕ) → m ≡ min n (length t) → sets t 0 (replicate m 0) ≡ sets t 0 (replicate n 0)
+zeros_held t n m e = elim (cases_lt m n) [
+  | inl h ↦ zeros-cut t n m (omega arith) (omega arith)
+  | inr h ↦ zeros_upto t n m (omega arith) h
+]
+
+pub zeros_put : (t zeros : List ℕ) (n m : ℕ) → m ≡ min n (length t) → zeros ≡ replicate m 0 → zeros ++ drop m t ≡ sets t 0 (replicate n 0)
+zeros_put t zeros n m e z =
+    let long : length (replicate {A = ℕ} m 0) ≡ m = length-replicate {A = ℕ} m 0 in
+    let room : 0 + length (replicate {A = ℕ} m 0) ≤ length t = omega arith in
+    let none : 0 + m ≡ m = omega arith in
+    let all = rw (long, none) at (sets-eq (replicate {A = ℕ} m 0) t 0 room) in
+    rw z (sym all ∙ zeros_held t n m e)

@@ -1,5 +1,5 @@
 -- What the second pass writes of what the file's reader in `history` gives: the numbers of each table, by equality. Definitions alone.
-use Rattle.std.specs.Prelude.{◌≡◌, Bool, true, false, cond, ◌&&◌, ℕ, suc, ◌+◌, ◌*◌, ◌^◌, ◌≤◌, leb, ltb, eqb, length, replicate}
+use Rattle.std.specs.Prelude.{◌≡◌, Option, Some, None, Bool, true, false, cond, ◌&&◌, ℕ, suc, ◌+◌, ◌*◌, ◌^◌, ◌≤◌, leb, ltb, eqb, length, replicate}
 use mathlib.Core.List.{List, flat_map}
 use Rattle.std.proofs.lemmas.List.Edits.{sets}
 use Rattle.history.specs.Lent.{row_width, entry_width, entry_head}
@@ -12,7 +12,6 @@ use Rattle.file_scan.specs.Rows.{row_head, Head, head_absent, head_present}
 use Rattle.file_fill.specs.declared.nodes.Half.{Half}
 use Rattle.file_fill.specs.declared.nodes.Half.TheVariants as half
 use Rattle.file_fill.specs.declared.nodes.Filled.{Filled}
-use Rattle.file_fill.specs.declared.nodes.Filled.TheVariants as filled
 
 -- ── zeros ──
 
@@ -47,16 +46,20 @@ unfoldable pub fits : (lo hi : ℕ) → Nodes → Bool
 fits lo hi absent = true
 fits lo hi (present low high middle es l r) = is_place lo hi low high middle && (fits lo (mid lo hi) l && fits (right_start lo hi) hi r)
 
-unfoldable pub half_of : (lo hi at : ℕ) → Read Head → Half
-half_of lo hi at (got head_absent next) = half.Absent next
-half_of lo hi at (got (head_present low high middle es) next) = cond (is_place lo hi low high middle) (half.Present (length es) (at + row_head) next) half.Wrong
-half_of lo hi at (fault n) = half.Wrong
+unfoldable pub half_of : (lo hi at : ℕ) → Read Head → Option Half
+half_of lo hi at (got head_absent next) = Some (half.Absent next)
+half_of lo hi at (got (head_present low high middle es) next) = cond (is_place lo hi low high middle) (Some (half.Present (length es) (at + row_head) next)) None
+half_of lo hi at (fault n) = None
 
 -- the end tick that the root says, if it is in range
-unfoldable pub root_end : Read Head → ℕ
-root_end (got head_absent next) = 0
-root_end (got (head_present low high middle es) next) = cond (leb high (2 ^ 63)) high 0
-root_end (fault n) = 0
+unfoldable pub root_end : Read Head → Option ℕ
+root_end (got head_absent next) = None
+root_end (got (head_present low high middle es) next) = cond (ltb 0 high && leb high (2 ^ 63)) (Some high) None
+root_end (fault n) = None
+
+-- a tree that was filled
+abbrev pub filled : (root rows runs next : ℕ) → Option Filled
+filled root rows runs next = Some (record { root = root; rows = rows; runs = runs; next = next })
 
 -- ── entries ──
 
@@ -74,27 +77,27 @@ pub record FilledEntries (blocks file : List ℕ) (at first count : ℕ) (entrie
 -- ── nodes ──
 
 -- what a tree that fits leaves
-pub record TreeLeft (blocks : List ℕ) (kind lo hi rows runs : ℕ) (T : Tree) (next : ℕ) (nodes entries nodes' entries' : List ℕ) (r : Filled) : Type 0 where
-  pub answered : r ≡ filled.Tree (root_link rows T) (rows + node_count T) (runs + entry_count T) next
+pub record TreeLeft (blocks : List ℕ) (kind lo hi rows runs : ℕ) (T : Tree) (next : ℕ) (nodes entries nodes' entries' : List ℕ) (r : Option Filled) : Type 0 where
+  pub answered : r ≡ filled (root_link rows T) (rows + node_count T) (runs + entry_count T) next
   pub node_rows_lem : nodes' ≡ sets nodes (row_width * suc rows) (node_numbers kind lo hi rows runs T)
   pub entry_rows_lem : entries' ≡ sets entries (entry_place runs) (entry_numbers (first_cell_of blocks) (entries_in T))
 
 -- of a tree that is read: whether it fits, and its rows and entries behind those in use
-pub record FilledTree (blocks file : List ℕ) (kind lo hi at rows runs : ℕ) (nodes entries nodes' entries' : List ℕ) (r : Filled) : Type 0 where
+pub record FilledTree (blocks file : List ℕ) (kind lo hi at rows runs : ℕ) (nodes entries nodes' entries' : List ℕ) (r : Option Filled) : Type 0 where
   pub right : (t : Nodes) (next : ℕ) → read_root file at ≡ got t next → fits lo hi t ≡ true
       → TreeLeft blocks kind lo hi rows runs (tree_from t) next nodes entries nodes' entries' r
-  pub wrong : (t : Nodes) (next : ℕ) → read_root file at ≡ got t next → fits lo hi t ≡ false → r ≡ filled.Wrong
+  pub wrong : (t : Nodes) (next : ℕ) → read_root file at ≡ got t next → fits lo hi t ≡ false → r ≡ None
   -- each row and each entry has bytes of its own
-  pub bound : {root more runs' next : ℕ} → r ≡ filled.Tree root more runs' next → (more ≤ next) × (runs' ≤ next)
+  pub bound : {f : Filled} → r ≡ Some f → (f.rows ≤ f.next) × (f.runs ≤ f.next)
 
 -- ── the whole ──
 
 -- what nodes that keep rule 21 leave: the heads, and the rows behind them
-pub record NodesLeft (blocks : List ℕ) (kind : ℕ) (t : Nodes) (nodes entries nodes' entries' : List ℕ) (r : ℕ) : Type 0 where
-  pub ends : r ≡ end_of t
+pub record NodesLeft (blocks : List ℕ) (kind : ℕ) (t : Nodes) (nodes entries nodes' entries' : List ℕ) (r : Option ℕ) : Type 0 where
+  pub ends : r ≡ Some (end_of t)
   pub node_rows_lem : nodes' ≡ sets nodes 0 (tree_numbers kind (end_of t) (tree_from t))
   pub entry_rows_lem : entries' ≡ sets entries 0 (run_numbers (first_cell_of blocks) (tree_from t))
 
-pub record FilledNodes (blocks file : List ℕ) (kind at : ℕ) (nodes entries nodes' entries' : List ℕ) (r : ℕ) : Type 0 where
+pub record FilledNodes (blocks file : List ℕ) (kind at : ℕ) (nodes entries nodes' entries' : List ℕ) (r : Option ℕ) : Type 0 where
   pub right : (t : Nodes) (next : ℕ) → read_root file at ≡ got t next → rule21 t ≡ true → NodesLeft blocks kind t nodes entries nodes' entries' r
-  pub wrong : (t : Nodes) (next : ℕ) → read_root file at ≡ got t next → rule21 t ≡ false → r ≡ 0
+  pub wrong : (t : Nodes) (next : ℕ) → read_root file at ≡ got t next → rule21 t ≡ false → r ≡ None

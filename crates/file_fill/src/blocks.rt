@@ -17,42 +17,26 @@ pub fn fill_blocks(
 )
     ensures { FilledBlocks file.now kind count at blocks.old store.old blocks.new store.new }
 {
-    let mut left = count;
-    let mut rows: u64 = 0;
     let mut used: u64 = 0;
     let mut place = at;
-    while 0 < left {
-        match rows::block_at(file, kind, place) {
-            BlockRow::Block {
+    for rows in 0..count {
+        let Ok(
+            BlockRow {
                 first,
                 length,
                 created,
                 destroyed,
                 bytes,
                 next,
-            } => {
-                rows += 1;
-                put_row(
-                    blocks,
-                    block::BASE,
-                    rows,
-                    first,
-                    length,
-                    created,
-                    destroyed,
-                    used,
-                    kind,
-                    0,
-                    0,
-                );
-                tables::copy_in(store, used as usize, &file[bytes..next]);
-                used += length;
-                place = next;
-                left -= 1;
-            }
-            BlockRow::Fault { .. } => {
-                return;
-            }
-        }
+            },
+        ) = rows::block_at(file, kind, place)
+        else {
+            return;
+        };
+        let row = [first, length, created, destroyed, used, kind, 0, 0];
+        put_row(blocks, block::BASE, rows + 1, row);
+        tables::copy_in(store, used as usize, &file[bytes..next]);
+        used += length;
+        place = next;
     }
 }

@@ -5,16 +5,15 @@ ghost use Rattle.std.proofs.lemmas.List.Edits.{sets};
 ghost use Rattle.history.specs.Lent.{entry_width, entry_head};
 ghost use Rattle.history.specs.Tree.{mid};
 ghost use Rattle.file_scan.specs.Rows.{read_head};
-ghost use Rattle.layout.specs.Rows.{root_in};
+ghost use Rattle.layout.specs.Rows.{root_in, node_head_numbers};
 ghost use Rattle.file_fill.specs.Fill.{first_cell_of, is_place, right_start, half_of, root_end, FilledEntries, FilledTree, FilledNodes};
 
 use crate::rows::put_row;
-use fields::{Field, reader};
 use file_scan::rows;
 use file_scan::rows::NodeRow;
 use tables::{block, entry};
 
-// What stands at a position where the node of an interval is awaited: that node, no node, or anything else.
+// What stands at a position where the node of an interval is awaited: that node, or no node.
 #[derive(Clone, Copy)]
 pub enum Half {
     Present {
@@ -25,62 +24,50 @@ pub enum Half {
     Absent {
         next: usize,
     },
-    Wrong,
 }
 
 // A tree that was filled: the link of its root, or 0 for none; how many node and entry rows are in use, and the position behind it.
 #[derive(Clone, Copy)]
-pub enum Filled {
-    Tree(u64, u64, u64, usize),
-    Wrong,
+pub struct Filled {
+    pub root: u64,
+    pub rows: u64,
+    pub runs: u64,
+    pub next: usize,
 }
 
 // Whether a node that says low, high and middle is the node [min, max), which has a tick.
+#[tactic(auto, unfolding(crate::specs::Fill::is_place))]
 fn is_place(min: u64, max: u64, low: u64, high: u64, middle: u64) -> bool
     ensures { result ≡ is_place min max low high middle }
 {
-    if max <= min {
-        return false;
-    }
-    if low != min {
-        return false;
-    }
-    if high != max {
-        return false;
-    }
-    middle == middle_of(min, max)
+    min < max && low == min && high == max && middle == middle_of(min, max)
 }
 
 // The middle of [min, max).
 fn middle_of(min: u64, max: u64) -> u64
     ensures { min < max → result ≡ mid min max }
 {
-    if max <= min {
-        return min;
-    }
-    min + (max - min) / 2
+    min + max.saturating_sub(min) / 2
 }
 
 // Where the right half of [min, max) starts. A node of width 1 has none: from max on no node can stand.
+
 fn right_start(min: u64, max: u64) -> u64
     ensures { min < max → result ≡ right_start min max }
 {
-    if max <= min {
-        return max;
+    if max.saturating_sub(min) <= 1 {
+        max
+    } else {
+        middle_of(min, max)
     }
-    if max - min <= 1 {
-        return max;
-    }
-    min + (max - min) / 2
 }
 
 // The node at a position, if it is [min, max).
-fn half_at(file: &[u8], at: usize, min: u64, max: u64) -> Half
+fn half_at(file: &[u8], at: usize, min: u64, max: u64) -> Option<Half>
     ensures { result ≡ half_of min max at (read_head file.now at) }
 {
-    match rows::node_at(file, at) {
-        NodeRow::Fault { .. } => Half::Wrong,
-        NodeRow::Absent { next } => Half::Absent { next: next },
+    match rows::node_at(file, at).ok()? {
+        NodeRow::Absent { next } => Some(Half::Absent { next }),
         NodeRow::Present {
             min: low,
             max: high,
@@ -90,18 +77,19 @@ fn half_at(file: &[u8], at: usize, min: u64, max: u64) -> Half
             next,
         } => {
             if !is_place(min, max, low, high, middle) {
-                return Half::Wrong;
+                return None;
             }
-            Half::Present {
-                count: count,
-                entries: entries,
-                next: next,
-            }
+            Some(Half::Present {
+                count,
+                entries,
+                next,
+            })
         }
     }
 }
 
 // The first cell of a block by its number, which the file may give too high: then 0.
+
 fn first_cell(blocks: &[u64], number: u64) -> u64
     ensures { result ≡ first_cell_of blocks.now number }
 {
@@ -112,6 +100,7 @@ fn first_cell(blocks: &[u64], number: u64) -> u64
 }
 
 // One entry row.
+
 fn put_entry(entries: &mut [u64], row: u64, number: u64, cell: u64)
     ensures { entries.new ≡ sets entries.old (entry_head + entry_width * row) (number ∷ cell ∷ []) }
 {
@@ -125,21 +114,17 @@ fn fill_entries(entries: &mut [u64], blocks: &[u64], file: &[u8], at: usize, fir
     ensures { FilledEntries blocks.now file.now at first count entries.old entries.new }
 {
     let mut place = at;
-    let mut row = first;
-    let mut left = count;
-    while 0 < left {
-        let Field::Got(number, next) = reader::number_from(file, place) else {
+    for more in 0..count {
+        let Some((number, next)) = fields::number_at(file, place) else {
             return;
         };
-        put_entry(entries, row, number, first_cell(blocks, number));
-        row += 1;
+        put_entry(entries, first + more, number, first_cell(blocks, number));
         place = next;
-        left -= 1;
     }
 }
 
-// Fills the tree at a position, whose root is to be [min, max), behind the node and entry rows in use. The interval halves: at most 65 calls deep for
-// an end up to 2^63. Linear in the nodes and entries met.
+// Fills the tree at a position, whose root is to be [min, max), behind the node and entry rows in use; none if it is not. The interval halves: at most
+// 65 calls deep for an end up to 2^63. Linear in the nodes and entries met.
 fn fill_tree(
     nodes: &mut [u64],
     entries: &mut [u64],
@@ -151,14 +136,19 @@ fn fill_tree(
     at: usize,
     rows: u64,
     runs: u64,
-) -> Filled
+) -> Option<Filled>
     requires rows_le_at { rows ≤ at }
     requires runs_le_at { runs ≤ at }
     ensures { FilledTree blocks.now file.now kind min max at rows runs nodes.old entries.old nodes.new entries.new result }
 {
-    match half_at(file, at, min, max) {
-        Half::Wrong => Filled::Wrong,
-        Half::Absent { next } => Filled::Tree(0, rows, runs, next),
+    let half = half_at(file, at, min, max)?;
+    match half {
+        Half::Absent { next } => Some(Filled {
+            root: 0,
+            rows,
+            runs,
+            next,
+        }),
         Half::Present {
             count,
             entries: entries_at,
@@ -169,34 +159,33 @@ fn fill_tree(
             let mid = middle_of(min, max);
             let from = right_start(min, max);
             fill_entries(entries, blocks, file, entries_at, runs, count);
-            let Filled::Tree(left, rows_left, runs_left, right_at) = fill_tree(
+            let left = fill_tree(
                 nodes, entries, blocks, file, kind, min, mid, next, link, more,
-            ) else {
-                return Filled::Wrong;
-            };
-            let Filled::Tree(right, rows_all, runs_all, behind) = fill_tree(
-                nodes, entries, blocks, file, kind, from, max, right_at, rows_left, runs_left,
-            ) else {
-                return Filled::Wrong;
-            };
-            put_row(nodes, 0, link, min, max, left, right, runs, count, kind, 0);
-            Filled::Tree(link, rows_all, runs_all, behind)
+            )?;
+            let right = fill_tree(
+                nodes, entries, blocks, file, kind, from, max, left.next, left.rows, left.runs,
+            )?;
+            let row = [min, max, left.root, right.root, runs, count, kind, 0];
+            put_row(nodes, 0, link, row);
+            Some(Filled {
+                root: link,
+                ..right
+            })
         }
     }
 }
 
-// The end tick that the root at a position says; 0 without a root, or where it is out of range.
-fn root_end(file: &[u8], at: usize) -> u64
+// The end tick that the root at a position says; none without a root, or where it is out of range.
+fn root_end(file: &[u8], at: usize) -> Option<u64>
     ensures { result ≡ root_end (read_head file.now at) }
 {
-    match rows::node_at(file, at) {
-        NodeRow::Fault { .. } => 0,
-        NodeRow::Absent { .. } => 0,
+    match rows::node_at(file, at).ok()? {
+        NodeRow::Absent { .. } => None,
         NodeRow::Present { max, .. } => {
-            if block::MAX_END_TICK < max {
-                return 0;
+            if max == 0 || block::MAX_END_TICK < max {
+                return None;
             }
-            max
+            Some(max)
         }
     }
 }
@@ -205,25 +194,22 @@ fn root_end(file: &[u8], at: usize) -> u64
 fn root_in(kind: u64, col: u64) -> u64
     ensures { result ≡ root_in kind col }
 {
-    if kind == col {
-        return 1;
-    }
-    0
+    u64::from(kind == col)
 }
 
 // The head of the node table: one root, and the count.
 fn put_node_head(nodes: &mut [u64], kind: u64, count: u64)
-    ensures { nodes.new ≡ sets nodes.old 0 (root_in kind 0 ∷ root_in kind 1 ∷ root_in kind 2 ∷ root_in kind 3 ∷ root_in kind 4 ∷ count ∷ 0 ∷ 0 ∷ []) }
+    ensures { nodes.new ≡ sets nodes.old 0 (node_head_numbers kind count) }
 {
     let a = root_in(kind, 0);
     let b = root_in(kind, 1);
     let c = root_in(kind, 2);
     let d = root_in(kind, 3);
     let e = root_in(kind, 4);
-    put_row(nodes, 0, 0, a, b, c, d, e, count, 0, 0);
+    put_row(nodes, 0, 0, [a, b, c, d, e, count, 0, 0]);
 }
 
-// Fills the nodes at a position, with their entries, and the heads of the two tables. Gives the end tick, or 0 where rule 21 is broken.
+// Fills the nodes at a position, with their entries, and the heads of the two tables. Gives the end tick; none where rule 21 is broken.
 pub fn fill_nodes(
     nodes: &mut [u64],
     entries: &mut [u64],
@@ -231,19 +217,12 @@ pub fn fill_nodes(
     file: &[u8],
     kind: u64,
     at: usize,
-) -> u64
+) -> Option<u64>
     ensures { FilledNodes blocks.now file.now kind at nodes.old entries.old nodes.new entries.new result }
 {
-    let end = root_end(file, at);
-    if end == 0 {
-        return 0;
-    }
-    match fill_tree(nodes, entries, blocks, file, kind, 0, end, at, 0, 0) {
-        Filled::Wrong => 0,
-        Filled::Tree(_, rows, runs, _) => {
-            put_node_head(nodes, kind, rows);
-            put_row(entries, 0, 0, runs, 0, 0, 0, 0, 0, 0, 0);
-            end
-        }
-    }
+    let end = root_end(file, at)?;
+    let filled = fill_tree(nodes, entries, blocks, file, kind, 0, end, at, 0, 0)?;
+    put_node_head(nodes, kind, filled.rows);
+    put_row(entries, 0, 0, [filled.runs, 0, 0, 0, 0, 0, 0, 0]);
+    Some(end)
 }

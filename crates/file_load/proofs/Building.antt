@@ -1,12 +1,16 @@
 -- The second pass and the tests behind it: one step for each return of `put_head` and `build`. Assumes nothing.
 use mathlib.Core.Path.{◌≡◌, refl, sym, ap, ◌∙◌}
-use mathlib.Core.Logic.{◌⊎◌, inl, inr, ⊎_elim}
+use mathlib.Core.Logic.{inl, inr, ⊎_elim}
 use mathlib.Core.Bool.{Bool, true, false, cond}
 use mathlib.Core.List.{List, [], ◌∷◌, ◌++◌}
-use Prim.Native.Nat.{ℕ, ◌+◌, ◌*◌, ◌^◌, ◌<◌}
+use Prim.Native.Nat.{ℕ, ◌+◌, ◌*◌, ◌<◌}
 use native.Mathlib.Omega.{arith}
 use lib.ListN.{length, replicate, length-replicate}
 use lib.Seq.{sets}
+use Rattle.std.specs.Prelude.{Option, Some, None, Err, ok_or}
+use Rattle.refusals.specs.declared.Refusal.{Refusal}
+use Rattle.refusals.specs.declared.Refusal.TheVariants.{FileTree}
+use Rattle.refusals.specs.Numbers.{number_of}
 use Rattle.lists.proofs.Stores.{sets-append}
 use Rattle.lists.proofs.Numbers.{bool_cases, lt_or_le}
 use Rattle.history.specs.Lent.{row_width}
@@ -84,29 +88,35 @@ no_block_lem e (b ∷ bs) T h = absurd (omega arith)
 
 -- ── the returns of `build` ──
 
-module _ (file : List ℕ) (kind n used start root : ℕ) {blocks store nodes entries b₁ store' nodes' entries' : List ℕ} {e : ℕ}
+halves_is : (o : Option ℕ) {f : Refusal} → Err f ≡ ok_or o FileTree → (o ≡ None) × (f ≡ FileTree)
+halves_is None e = (refl, cc)
+halves_is (Some x) e = absurd (cc)
+
+module _ (file : List ℕ) (kind n used start root : ℕ) {blocks store nodes entries b₁ store' nodes' entries' : List ℕ} (o : Option ℕ)
     (filled_blocks : FilledBlocks file kind n start blocks store b₁ store')
-    (filled-nodes : FilledNodes b₁ file kind root nodes entries nodes' entries' e) where
+    (filled-nodes : FilledNodes b₁ file kind root nodes entries nodes' entries' o) where
   -- 21
-  pub build_halves : e ≡ 0 → Built file kind n used start root blocks store nodes entries b₁ store' nodes' entries' 21
-  build_halves z = record {
-    answered = λ f pieces r room. sym (is f r);
-    stands = λ f pieces r room v. absurd (let w : 21 ≡ 0 = sym (is f r) ∙ v in omega arith);
-  }
+  pub build_halves : {i : Refusal} → Err i ≡ ok_or o FileTree → Built file kind n used start root blocks store nodes entries b₁ store' nodes' entries' (number_of i)
+  build_halves z =
+      let (none, broken) = halves_is o z in
+      rw broken
+      (record {
+        answered = λ f pieces r room. sym (is none f r);
+        stands = λ f pieces r room v. absurd (let w : 21 ≡ 0 = sym (is none f r) ∙ v in omega arith);
+      })
     where
-      is : (f : File) → PartsAt file kind n used start root f → verdict f ≡ 21
-      is f r =
+      is : o ≡ None → (f : File) → PartsAt file kind n used start root f → verdict f ≡ 21
+      is none f r =
           ⊎_elim
-          (λ y.
-          let ends = (filled-nodes.right f.nodes r.nodes_end r.nodes y).ends in
-          absurd (omega (arith, ((rule21_decides f.nodes).yes y).some_tick)))
+          (λ y. let ends = sym none ∙ (filled-nodes.right f.nodes r.nodes_end r.nodes y).ends in absurd (cc))
           (λ y. verdict_21 f y) (bool_cases (rule21 f.nodes))
 
-  module _ (some_end : e ≡ 0 → ⊥) {b₂ : List ℕ}
+  module _ {e : ℕ} (some_end : o ≡ Some e) {b₂ : List ℕ}
       (head : HeadPut b₁ b₂ e kind n used)
       {r : ℕ} (judged : Judged (lent b₂ nodes' entries') kind e n r) where
     keeps_21 : (f : File) → PartsAt file kind n used start root f → rule21 f.nodes ≡ true
-    keeps_21 f q = ⊎_elim (λ y. y) (λ y. absurd (some_end (filled-nodes.wrong f.nodes q.nodes_end q.nodes y))) (bool_cases (rule21 f.nodes))
+    keeps_21 f q =
+        ⊎_elim (λ y. y) (λ y. let ends = sym some_end ∙ filled-nodes.wrong f.nodes q.nodes_end q.nodes y in absurd (cc)) (bool_cases (rule21 f.nodes))
 
     filled : (f : File) (pieces : List ℕ) → PartsAt file kind n used start root f → rule20 (lengths_of (tables pieces blocks store nodes entries)) f ≡ true
         → Filled f kind n used e blocks store nodes entries b₁ b₂ store' nodes' entries'
@@ -115,7 +125,7 @@ module _ (file : List ℕ) (kind n used start root : ℕ) {blocks store nodes en
         record {
           rows_are = filled_blocks.rows f.blocks root q.blocks;
           bytes_are = filled_blocks.bytes f.blocks root q.blocks;
-          tree_is = filled-nodes.right f.nodes q.nodes_end q.nodes (keeps_21 f q);
+          tree_is = rw some_end at (filled-nodes.right f.nodes q.nodes_end q.nodes (keeps_21 f q));
           head_is = head.is;
           count = q.count;
           bytes = q.bytes;

@@ -1,20 +1,23 @@
 -- The whole loader: one step for each return of `load`. Assumes nothing.
 use mathlib.Core.Path.{◌≡◌, refl, sym, ◌∙◌, ap}
-use mathlib.Core.Logic.{◌⊎◌, ⊎_elim}
-use mathlib.Core.Bool.{Bool, true, false, not}
+use mathlib.Core.Logic.{⊎_elim}
+use mathlib.Core.Bool.{Bool, true, false}
 use mathlib.Core.List.{List}
 use Prim.Native.Nat.{ℕ, ◌+◌, ◌≤◌, ◌<◌}
 use native.Mathlib.Omega.{arith}
 use lib.ListN.{length, replicate}
-use borrow.Author.Tests.{lt-ltb, le-ltb, not-true, not-false}
+use borrow.Author.Tests.{lt-ltb, le-ltb}
 use Rattle.lists.proofs.Numbers.{bool_cases}
 use Rattle.history.specs.Lent.{Lent}
 use Rattle.history.specs.Rules.{rule23, apart}
 use Rattle.history.specs.Refusals.{accepted, refused}
 use Rattle.history.specs.File.{got, fault, File, read_file, tree_from, end_of, rule20, rule21, rule22, loaded_from, load}
 use Rattle.history.proofs.FileLoad.{load_fault, load_room, load-halves, load_blocks, load_entries, load_disjoint, load-taken}
-use Rattle.file_scan.specs.declared.Scanned.{Scanned}
-use Rattle.file_scan.specs.declared.Scanned.TheVariants as scan
+use Rattle.std.specs.Prelude.{Ok, Err}
+use Rattle.file_scan.specs.declared.Counts.{Counts}
+use Rattle.refusals.specs.declared.Refusal.{Refusal}
+use Rattle.refusals.specs.Numbers.{number_of}
+use Rattle.refusals.proofs.Numbers.{some_number}
 use Rattle.file_scan.specs.Counts.{scan_of}
 use Rattle.file_scan.proofs.Readers.{number_passes}
 use Rattle.file_scan.proofs.FileParts.{file_parts, Counted, scan_counts, scan_fault}
@@ -76,44 +79,43 @@ module _ (file : List ℕ) (at : ℕ) (t : Tables) where
 -- ── the returns of `load` ──
 
 -- the blocks begin inside the file
-pub load_start : (file : List ℕ) (at : ℕ) {s : Scanned} {kind n bytes rows runs root next : ℕ} → s ≡ scan_of at (read_file file at)
-    → s ≡ scan.Counts kind n bytes rows runs root next → at + 9 ≤ length file
-load_start file at scanned e =
-    scan_counts at (read_file file at) (sym e ∙ scanned) λ f r c. (number_passes file (at + 1) 8 (file_parts file at r).count).inside
+pub load_start : (file : List ℕ) (at : ℕ) {c : Counts} → Ok c ≡ scan_of at (read_file file at) → at + 9 ≤ length file
+load_start file at scanned =
+    scan_counts at (read_file file at) scanned λ f r c. (number_passes file (at + 1) 8 (file_parts file at r).count).inside
 
-module _ (file : List ℕ) (at : ℕ) (pieces blocks store nodes entries : List ℕ) {s : Scanned} (scanned : s ≡ scan_of at (read_file file at)) where
+module _ (file : List ℕ) (at : ℕ) (pieces blocks store nodes entries : List ℕ) where
   abbrev t : Tables
   t = tables pieces blocks store nodes entries
 
-  pub load_scan : {i : ℕ} → s ≡ scan.Fault i → LoadedBy file at t t (refused i)
-  load_scan {i} e =
-      let r = scan_fault at (read_file file at) (sym e ∙ scanned) in
+  pub load_scan : {i : ℕ} → Err i ≡ scan_of at (read_file file at) → LoadedBy file at t t (refused i)
+  load_scan {i} scanned =
+      let r = scan_fault at (read_file file at) scanned in
       by_low file at t i (load_fault (lengths_of t) file at i r) (omega (arith, low_file.low file at i r))
 
-  module _ {kind n bytes rows runs root next : ℕ} (e : s ≡ scan.Counts kind n bytes rows runs root next) where
-    said : {G : Type 0} → ((f : File) → read_file file at ≡ got f next → Counted at f kind n bytes rows runs root → G) → G
-    said g = scan_counts at (read_file file at) (sym e ∙ scanned) g
+  module _ {counts : Counts} (scanned : Ok counts ≡ scan_of at (read_file file at)) where
+    said : {G : Type 0} → ((f : File) → read_file file at ≡ got f counts.next → Counted at f counts.kind counts.blocks counts.bytes counts.nodes counts.entries counts.nodes_at → G) → G
+    said g = scan_counts at (read_file file at) scanned g
 
-    module _ {room : Bool} (tested : room ≡ room_for (length blocks) (length store) (length nodes) (length entries) n bytes rows runs) where
+    module _ {room : Bool} (tested : room ≡ room_for (length blocks) (length store) (length nodes) (length entries) counts.blocks counts.bytes counts.nodes counts.entries) where
       -- the test of the counts is rule 20
-      room_is : (f : File) → Counted at f kind n bytes rows runs root → rule20 (lengths_of t) f ≡ room
+      room_is : (f : File) → Counted at f counts.kind counts.blocks counts.bytes counts.nodes counts.entries counts.nodes_at → rule20 (lengths_of t) f ≡ room
       unfolding rule20 room_for
       room_is f c = sym (tested ∙ rw (c.same_blocks, c.same_bytes, c.same_nodes, c.same_entries) refl)
 
-      pub load_full : not room ≡ true → LoadedBy file at t t (refused 20)
+      pub load_full : room ≡ false → LoadedBy file at t t (refused 20)
       load_full h =
           said λ f r c.
-          by_low file at t 20 (load_room (lengths_of t) file at f next r (room_is f c ∙ not-true room h)) (omega arith)
+          by_low file at t 20 (load_room (lengths_of t) file at f counts.next r (room_is f c ∙ h)) (omega arith)
 
-      module _ (fits : not room ≡ false) {blocks' store' nodes' entries' : List ℕ} {number : ℕ}
-          (built : Built file kind n bytes (at + 9) root blocks store nodes entries blocks' store' nodes' entries' number) where
+      module _ (fits : room ≡ true) {blocks' store' nodes' entries' : List ℕ} {number : ℕ}
+          (built : Built file counts.kind counts.blocks counts.bytes (at + 9) counts.nodes_at blocks store nodes entries blocks' store' nodes' entries' number) where
         -- the parts of the file, where they stand
-        parts : (f : File) → read_file file at ≡ got f next → Counted at f kind n bytes rows runs root → PartsAt file kind n bytes (at + 9) root f
+        parts : (f : File) → read_file file at ≡ got f counts.next → Counted at f counts.kind counts.blocks counts.bytes counts.nodes counts.entries counts.nodes_at → PartsAt file counts.kind counts.blocks counts.bytes (at + 9) counts.nodes_at f
         parts f r c =
             let p = file_parts file at r in
             record {
               blocks = rw (c.same_kind, c.same_blocks, c.same_start) p.blocks;
-              nodes_end = next;
+              nodes_end = counts.next;
               nodes = rw c.same_start p.nodes;
               own_kind = c.same_kind;
               known_kind = omega (arith, p.low, c.same_kind);
@@ -121,18 +123,18 @@ module _ (file : List ℕ) (at : ℕ) (pieces blocks store nodes entries : List 
               bytes = c.same_bytes;
             }
 
-        room_there : (f : File) → Counted at f kind n bytes rows runs root → rule20 (lengths_of t) f ≡ true
-        room_there f c = room_is f c ∙ not-false room fits
+        room_there : (f : File) → Counted at f counts.kind counts.blocks counts.bytes counts.nodes counts.entries counts.nodes_at → rule20 (lengths_of t) f ≡ true
+        room_there f c = room_is f c ∙ fits
 
-        pub load_broken : {pieces'' blocks'' store'' nodes'' entries'' : List ℕ} → (number ≡ 0 → ⊥) → pieces'' ≡ zeros pieces
+        pub load_broken : {pieces'' blocks'' store'' nodes'' entries'' : List ℕ} (i : Refusal) → number ≡ number_of i → pieces'' ≡ zeros pieces
             → Zeroed blocks' store' nodes' entries' blocks'' store'' nodes'' entries''
             → length blocks' ≡ length blocks → length store' ≡ length store → length nodes' ≡ length nodes → length entries' ≡ length entries
             → LoadedBy file at t (tables pieces'' blocks'' store'' nodes'' entries'') (refused number)
-        load_broken h p z bl sl nl el =
+        load_broken i h p z bl sl nl el =
             said λ f r c.
             let is : number ≡ verdict f = built.answered f pieces (parts f r c) (room_there f c) in
-            let a = answers (lengths_of t) file at f next r (room_there f c) in
-            let broken : verdict f ≡ 0 → ⊥ = λ v. h (is ∙ v) in
+            let a = answers (lengths_of t) file at f counts.next r (room_there f c) in
+            let broken : verdict f ≡ 0 → ⊥ = λ v. some_number i (sym h ∙ is ∙ v) in
             let all : tables _ _ _ _ _ ≡ zeroed_tables t =
             tables_same p (z.blocks_are ∙ ap (λ (k : ℕ). replicate k 0) bl) (z.store_is ∙ ap (λ (k : ℕ). replicate k 0) sl)
             (z.nodes_are ∙ ap (λ (k : ℕ). replicate k 0) nl) (z.entries_are ∙ ap (λ (k : ℕ). replicate k 0) el) in
@@ -142,13 +144,13 @@ module _ (file : List ℕ) (at : ℕ) (pieces blocks store nodes entries : List 
             tables_same p q r s u = λ i. tables (p i) (q i) (r i) (s i) (u i)
 
         pub load_right : {pieces'' : List ℕ} → number ≡ 0 → pieces'' ≡ zeros pieces
-            → LoadedBy file at t (tables pieces'' blocks' store' nodes' entries') (accepted next)
+            → LoadedBy file at t (tables pieces'' blocks' store' nodes' entries') (accepted counts.next)
         unfolding position_of
         load_right h p =
             said λ f r c.
             let is : number ≡ verdict f = built.answered f pieces (parts f r c) (room_there f c) in
             let v : verdict f ≡ 0 = sym is ∙ h in
-            let a = (answers (lengths_of t) file at f next r (room_there f c)).taken v in
+            let a = (answers (lengths_of t) file at f counts.next r (room_there f c)).taken v in
             record {
               answered = rw a refl;
               left = rw a (rw p (built.stands f pieces (parts f r c) (room_there f c) v));

@@ -1,12 +1,13 @@
 -- Tables that were filled from a file stand for its index. Assumes nothing.
 use mathlib.Core.Path.{◌≡◌, refl, sym, ◌∙◌, ap, ap₂, subst}
-use mathlib.Core.Logic.{◌⊎◌, inl, inr, ⊎_elim}
+use mathlib.Core.Logic.{inl, inr, ⊎_elim}
 use mathlib.Core.Bool.{true, false, true≢false, false≢true}
 use mathlib.Core.List.{List, [], ◌∷◌, ◌++◌}
-use Prim.Native.Nat.{ℕ, suc, ◌+◌, ◌*◌, ◌-◌, ◌/◌, ◌^◌, ◌≤◌, ◌<◌, max}
+use Prim.Native.Nat.{ℕ, suc, ◌+◌, ◌*◌, ◌-◌, ◌/◌, ◌≤◌, ◌<◌, max}
 use native.Mathlib.Omega.{arith}
 use lib.ListN.{length, get_or, replicate, length-append, length-replicate}
 use lib.Seq.{sets, length-sets}
+use Rattle.std.specs.Prelude.{Some}
 use Rattle.lists.specs.Lists.{All, all_nil, all_cons, has, count_from}
 use Rattle.lists.proofs.Lists.{all_at, all_map, count_from_length}
 use Rattle.lists.proofs.Numbers.{bool_cases, lt_or_le}
@@ -42,6 +43,9 @@ use Rattle.file_load.proofs.Holding.{HoldsAt, written_holds, holds_left, holds_r
 use Rattle.file_load.proofs.Rows.{numbers_length, bytes_length, filled_blocks, filled_stored}
 use Rattle.file_load.proofs.Trees.{entries_used_lem, tree_closed}
 
+end_is : {a b : ℕ} → Some a ≡ Some b → a ≡ b
+end_is e = cc
+
 -- ── roots ──
 
 -- E is above 0, so there is a root
@@ -70,7 +74,7 @@ entry_numbers_same key key' (k ∷ ks) (all_cons e es) = ap₂ (λ (x : ℕ) (xs
 pub record Filled (f : File) (kind n used e : ℕ) (blocks store nodes entries rows headed-rows store' nodes' entries' : List ℕ) : Type 0 where
   pub rows_are : rows ≡ sets blocks (row_width * 1 + block_base) (blocks_numbers 0 f.blocks)
   pub bytes_are : store' ≡ sets store 0 (bytes_of_all f.blocks)
-  pub tree_is : NodesLeft rows kind f.nodes nodes entries nodes' entries' e
+  pub tree_is : NodesLeft rows kind f.nodes nodes entries nodes' entries' (Some e)
   pub head_is : headed-rows ≡ sets rows 0 (loaded_head e kind n used)
   pub count : n ≡ length f.blocks
   pub bytes : used ≡ bytes_in f.blocks
@@ -162,7 +166,7 @@ module _ {f : File} {kind n used e : ℕ} {blocks store nodes entries b₁ b₂ 
   unfolding loaded_rows
   loaded_rows_lem =
       let same : block_list ≡ loaded_head (end_of f.nodes) f.kind (length bs) (length (bytes_of_all bs)) ++ blocks_numbers 0 bs =
-      rw (F.tree_is.ends, F.own_kind, F.count, F.bytes, bytes_length bs) in
+      rw ((end_is F.tree_is.ends), F.own_kind, F.count, F.bytes, bytes_length bs) in
       whole ∙ ap (λ (v : List ℕ). sets blocks 0 v) same
 
   block_list_long : length block_list ≡ block_head + row_width * n
@@ -250,20 +254,20 @@ module _ {f : File} {kind n used e : ℕ} {blocks store nodes entries b₁ b₂ 
       room = omega (arith, head_long, block_fits);
       stored = record { inside = λ link a b. omega (arith, stored.inside link a b, used_fits) };
       rooted = root_there;
-      holds = λ h. rw F.tree_is.ends (closed (omega (arith, entries_long)));
+      holds = λ h. rw (end_is F.tree_is.ends) (closed (omega (arith, entries_long)));
       inside = λ h.
           let long : entry_head ≤ length entries = omega (arith, entries_long) in
           let u = entries_used_lem (lent b₂ nodes' entries') kind (end_of f.nodes) T (first_cell_of b₁) F.known_kind root_there F.rule_21.halves keys nodes_hold (entries_hold long) (omega (arith, nodes_long, node_fits)) (omega (arith, entries_long, entry_fits long)) in
           omega (arith, u, entries_long, entry_fits long);
       headless = λ h.
-          rw (blocks_are, F.tree_is.ends)
+          rw (blocks_are, (end_is F.tree_is.ends))
           (λ a.
           ⊎_elim (λ y. absurd (none_entered (omega (arith, F.entry_room, entries_long)) a y)) (λ y. y) (bool_cases (rule23 (end_of f.nodes) bs T)));
     }
 
     -- so the judgement is the file's
     pub judged_is : {r : ℕ} → Judged (lent b₂ nodes' entries') kind e n r → r ≡ judgement (end_of f.nodes) bs T
-    judged_is j = j.is store' T ready ∙ ap₂ (λ (x : ℕ) (ys : List Block). judgement x ys T) F.tree_is.ends blocks_are
+    judged_is j = j.is store' T ready ∙ ap₂ (λ (x : ℕ) (ys : List Block). judgement x ys T) (end_is F.tree_is.ends) blocks_are
 
     -- ── the index ──
 
@@ -306,7 +310,7 @@ module _ {f : File} {kind n used e : ℕ} {blocks store nodes entries b₁ b₂ 
               entries = omega (arith, entries_long, entries_headed);
             });
         state = head_column head_state (omega arith);
-        end = head_column head_end (omega arith) ∙ F.tree_is.ends;
+        end = head_column head_end (omega arith) ∙ (end_is F.tree_is.ends);
         kind = head_column head_kind (omega arith) ∙ F.own_kind;
         last = head_column head_last (omega arith);
         used = used_is;

@@ -5,25 +5,15 @@ use Rattle.history.specs.Lent.{row_width, entry_width, block_head, node_head, en
 use Rattle.history.specs.Words.{Block}
 use Rattle.history.specs.Tree.{Tree}
 use Rattle.history.specs.Rules.{rule23, apart, is_hole}
-use Rattle.history.specs.Refusals.{Answer, accepted, refused}
 use Rattle.history.specs.File.{File, got, many, read_block, read_root, loaded_from, end_of, tree_from, rule20, rule21, rule22}
 use Rattle.tables.specs.Columns.{block_column, block_first, block_length, block_created, block_destroyed}
 use Rattle.block_table.specs.Blocks.{Room, blocks_of, Stored}
 use Rattle.segment_table.specs.Closed as closed
 use Rattle.segment_table.specs.Closed.{Closed}
 use Rattle.file_scan.specs.Counts.{bytes_in}
-use Rattle.layout.specs.Tables.{Tables, tables, lengths_of}
+use Rattle.layout.specs.Tables.{tables, lengths_of}
 use Rattle.layout.specs.Relations.{zeros}
 use Rattle.layout.specs.Files.{loaded_head, LoadedTables}
-use Rattle.file_load.specs.declared.Loaded.{Loaded}
-use Rattle.file_load.specs.declared.Loaded.TheVariants.{Next, Refused}
-
--- ── the answer ──
-
--- the next position, or document 01's number
-abbrev pub loaded_of : Loaded → Answer ℕ
-loaded_of (Next position) = accepted position
-loaded_of (Refused number) = refused number
 
 -- ── 20 ──
 

@@ -8,6 +8,7 @@
 //
 //   room              20
 //   judge             22 to 24, on filled tables
+//   specs/Faults      the numbers of 21 to 24, or 0
 //   specs/Load        what each part answers
 //   proofs/Holding    numbers that stand in a table
 //   proofs/Rows       the filled block rows are the file's blocks
@@ -19,52 +20,31 @@
 
 #![tactic(auto)]
 
-ghost use Rattle.std.specs.Prelude.{◌≡◌, length, replicate};
 ghost use Rattle.layout.specs.Tables.{tables};
 ghost use Rattle.layout.specs.Files.{LoadedBy};
-ghost use Rattle.file_load.specs.Load.{loaded_of, HeadPut, Built, Zeroed};
+ghost use Rattle.refusals.specs.Numbers.{answer_by};
+ghost use Rattle.file_load.specs.Faults.{told};
+ghost use Rattle.file_load.specs.Load.{HeadPut, Built, Zeroed};
 
 use file_fill::{blocks, nodes, rows};
-use file_scan::Scanned;
+use file_scan::Counts;
+use refusals::Refusal;
 use tables::block;
 
 mod judge;
 mod room;
 
-// The next position, or the refusal's number in document 01.
-#[derive(Clone, Copy)]
-pub enum Loaded {
-    Next(usize),
-    Refused(u64),
-}
-
 // Bytes in front of the blocks: the kind and the block count.
 const FRONT: usize = 1 + fields::WIDTH;
-
-// 20, and 21 where the second pass finds it.
-const ROOM: u64 = 20;
-
-const HALVES: u64 = 21;
-
-// Every byte of the store becomes 0.
-fn zero_bytes(store: &mut [u8])
-    ensures { store.new ≡ replicate (length store.old) 0 }
-{
-    let mut i = 0;
-    while i < store.len() {
-        store[i] = 0;
-        i += 1;
-    }
-}
 
 // Everything but the pieces becomes zeros.
 fn zero_all(blocks: &mut [u64], store: &mut [u8], nodes: &mut [u64], entries: &mut [u64])
     ensures { Zeroed blocks.old store.old nodes.old entries.old blocks.new store.new nodes.new entries.new }
 {
-    tables::zero(blocks);
-    zero_bytes(store);
-    tables::zero(nodes);
-    tables::zero(entries);
+    blocks.fill(0);
+    store.fill(0);
+    nodes.fill(0);
+    entries.fill(0);
 }
 
 // The head of a loaded index: zeros in its front, and its last row.
@@ -72,42 +52,30 @@ fn put_head(blocks: &mut [u64], end: u64, kind: u64, n: u64, used: u64)
     ensures { HeadPut blocks.old blocks.new end kind n used }
 {
     rows::put_zeros(blocks, block::BASE);
-    rows::put_row(
-        blocks,
-        block::BASE,
-        0,
-        block::CLOSED,
-        end,
-        kind,
-        n,
-        used,
-        0,
-        0,
-        0,
-    );
+    let row = [block::CLOSED, end, kind, n, used, 0, 0, 0];
+    rows::put_row(blocks, block::BASE, 0, row);
 }
 
-// Fills the tables from a file that was scanned and has room in them, and tests rules 21 to 24: 0 where they hold, or the first that does not.
+// Fills the tables from a file that was scanned and has room in them, and tests rules 21 to 24: the first that does not hold.
 fn build(
     blocks: &mut [u64],
     store: &mut [u8],
     nodes: &mut [u64],
     entries: &mut [u64],
     file: &[u8],
-    kind: u64,
-    n: u64,
-    used: u64,
     start: usize,
-    root: usize,
-) -> u64
-    ensures { Built file.now kind n used start root blocks.old store.old nodes.old entries.old blocks.new store.new nodes.new entries.new result }
+    counts: Counts,
+) -> Result<(), Refusal>
+    ensures { Built file.now counts.kind counts.blocks counts.bytes start counts.nodes_at
+        blocks.old store.old nodes.old entries.old blocks.new store.new nodes.new entries.new (told result) }
 {
+    let kind = counts.kind;
+    let n = counts.blocks;
     blocks::fill_blocks(blocks, store, file, kind, n, start);
-    let end = nodes::fill_nodes(nodes, entries, blocks, file, kind, root);
-    if end == 0 {
-        return HALVES;
-    }
-    put_head(blocks, end, kind, n, used);
+    let end = nodes::fill_nodes(nodes, entries, blocks, file, kind, counts.nodes_at).ok_or(
+        Refusal::FileTree,
+    )?;
+    put_head(blocks, end, kind, n, counts.bytes);
     judge::judge(blocks, nodes, entries, kind, end, n)
 }
 
@@ -120,35 +88,20 @@ pub fn load(
     entries: &mut [u64],
     file: &[u8],
     at: usize,
-) -> Loaded
-    ensures { LoadedBy file.now at (tables pieces.old blocks.old store.old nodes.old entries.old) (tables pieces.new blocks.new store.new nodes.new entries.new) (loaded_of result) }
+) -> Result<usize, Refusal>
+    ensures { LoadedBy file.now at (tables pieces.old blocks.old store.old nodes.old entries.old) (tables pieces.new blocks.new store.new nodes.new entries.new) (answer_by (λ n. n) result) }
 {
-    match file_scan::scan(file, at) {
-        Scanned::Fault { number } => Loaded::Refused(number),
-        Scanned::Counts {
-            kind,
-            blocks: n,
-            bytes,
-            nodes: node_rows,
-            entries: entry_rows,
-            nodes_at,
-            next,
-        } => {
-            if !room::room(
-                blocks, store, nodes, entries, n, bytes, node_rows, entry_rows,
-            ) {
-                return Loaded::Refused(ROOM);
-            }
-            let start = at + FRONT;
-            let fault = build(
-                blocks, store, nodes, entries, file, kind, n, bytes, start, nodes_at,
-            );
-            tables::zero(pieces);
-            if fault != 0 {
-                zero_all(blocks, store, nodes, entries);
-                return Loaded::Refused(fault);
-            }
-            Loaded::Next(next)
+    let counts = file_scan::scan(file, at)?;
+    if !room::room(blocks, store, nodes, entries, counts) {
+        return Err(Refusal::FileRoom);
+    }
+    let built = build(blocks, store, nodes, entries, file, at + FRONT, counts);
+    pieces.fill(0);
+    match built {
+        Ok(()) => Ok(counts.next),
+        Err(refusal) => {
+            zero_all(blocks, store, nodes, entries);
+            Err(refusal)
         }
     }
 }

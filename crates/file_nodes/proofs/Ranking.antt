@@ -5,16 +5,13 @@ use mathlib.Core.Bool.{true}
 use mathlib.Core.List.{List}
 use Prim.Native.Nat.{ℕ, ◌+◌, ◌*◌, ◌-◌, ◌/◌, ◌≤◌, ◌<◌}
 use native.Mathlib.Omega.{arith}
-use lib.ListN.{length, get_or, take, drop}
+use lib.ListN.{length, get_or}
 use Rattle.lists.specs.Lists.{Ascending, has}
 use Rattle.lists.proofs.Lists.{pairs_at}
 use Rattle.lists.proofs.Numbers.{le_or_lt, lt_or_le, eq_or_ne}
-use Rattle.history.specs.File.{got, fault, number, number_of, place_in}
+use Rattle.history.specs.File.{got, fault, number, place_in}
 use Rattle.history.proofs.FilePlaces.{place_in-below, place_in-inside, place_in_found}
 use Rattle.history.proofs.FileReads.{number_read}
-use Rattle.fields.specs.declared.Field.{Field}
-use Rattle.fields.specs.declared.Field.TheVariants.{Got, End}
-use Rattle.fields.specs.Fields.{read_of}
 use Rattle.file_nodes.specs.Numbering.{Numbering, Numbered, NewNumber}
 
 -- ── a number of the list ──
@@ -22,23 +19,11 @@ use Rattle.file_nodes.specs.Numbering.{Numbering, Numbered, NewNumber}
 pub numbered-past : (out : List ℕ) (place : ℕ) → length out / 8 ≤ place → Numbered out place 0
 numbered-past out place h = record { number = λ g. absurd (omega arith) }
 
-pub numbered_got : (out : List ℕ) (place value next : ℕ) (r : Field) → read_of r ≡ number 8 out (9 + 8 * place) → r ≡ Got value next → Numbered out place value
-numbered_got out place value next r e f =
-    record {
-      number = λ g.
-          let same : got value next ≡ got (number_of (take 8 (drop (9 + 8 * place) out))) (9 + 8 * place + 8) =
-          sym (ap read_of f) ∙ e ∙ number_read 8 out (9 + 8 * place) g in
-          cc;
-    }
+pub numbered_got : (out : List ℕ) (place value next : ℕ) → got value next ≡ number 8 out (9 + 8 * place) → Numbered out place value
+numbered_got out place value next e = record { number = λ g. let same = e ∙ number_read 8 out (9 + 8 * place) g in cc }
 
-pub numbered_end : (out : List ℕ) (place : ℕ) (r : Field) → read_of r ≡ number 8 out (9 + 8 * place) → r ≡ End → Numbered out place 0
-numbered_end out place r e f =
-    record {
-      number = λ g.
-          let same : fault 17 ≡ got (number_of (take 8 (drop (9 + 8 * place) out))) (9 + 8 * place + 8) =
-          sym (ap read_of f) ∙ e ∙ number_read 8 out (9 + 8 * place) g in
-          absurd (let z : ◌≡◌ {A = ℕ} 0 1 = cc in omega arith);
-    }
+pub numbered_end : (out : List ℕ) (place : ℕ) → fault 17 ≡ number 8 out (9 + 8 * place) → Numbered out place 0
+numbered_end out place e = record { number = λ g. let same = e ∙ number_read 8 out (9 + 8 * place) g in absurd (cc) }
 
 pub ruleset reading = (numbered-past, numbered_got, numbered_end)
 

@@ -6,7 +6,7 @@ ghost use Rattle.lists.specs.Puts.{Put};
 ghost use Rattle.file_put.specs.Living.{living};
 ghost use Rattle.file_nodes.specs.Numbering.{NewNumber, Listed, Numbered};
 
-use fields::{Field, WIDTH};
+use fields::WIDTH;
 use file_put::{BLOCKS_AT, blocks, put};
 
 // Puts the numbers of those of the first `count` blocks that have a life.
@@ -36,16 +36,17 @@ pub fn list(blocks: &[u64], count: u64, living: u64, out: &mut [u8]) -> u64
 }
 
 // The number in a place of the list; 0 past the slice's end.
+#[tactic(auto, using(crate::proofs::Ranking::reading))]
 fn listed_at(out: &[u8], place: usize) -> u64
     ensures { Numbered out.now place result }
 {
     if out.len() / WIDTH <= place {
         return 0;
     }
-    match fields::number_at(out, BLOCKS_AT + WIDTH * place) {
-        Field::Got(number, _) => number,
-        Field::End => 0,
-    }
+    let Some((number, _)) = fields::number_at(out, BLOCKS_AT + WIDTH * place) else {
+        return 0;
+    };
+    number
 }
 
 // The new number of a block: its place in the list, by binary search.

@@ -10,14 +10,7 @@ use fields::{WIDTH, write};
 fn past(out: &[u8], at: usize, many: usize) -> usize
     ensures { result ≡ behind (length out.now) at many }
 {
-    let end = out.len();
-    if end <= at {
-        return at;
-    }
-    if end - at < many {
-        return end;
-    }
-    at + many
+    at.saturating_add(many).min(out.len()).max(at)
 }
 
 // A byte, the lowest of a value.

@@ -1,5 +1,5 @@
 -- The parts of a file that was read, each where it stands: what the loader knows after the first pass. Assumes nothing.
-use mathlib.Core.Path.{◌≡◌}
+use mathlib.Core.Path.{◌≡◌, refl}
 use mathlib.Core.List.{List}
 use Prim.Native.Nat.{ℕ, ◌+◌, ◌≤◌}
 use native.Mathlib.Omega.{arith}
@@ -8,10 +8,11 @@ use borrow.Author.Tests.{leb-true}
 use Rattle.history.specs.Tree.{node_count, entry_count}
 use Rattle.history.specs.File.{File, Read, got, fault, ◌>>=◌, give, number, many, read_block, read_root, read_file, tree_from}
 use Rattle.history.proofs.FileYields.{got_value, got_next}
-use Rattle.file_scan.specs.declared.Scanned.TheVariants as scan
+use Rattle.std.specs.Prelude.{Ok, Err}
+use Rattle.file_scan.specs.declared.Counts.{Counts}
 use Rattle.file_scan.specs.Counts.{bytes_in, nodes_at, scan_of}
 use Rattle.file_scan.proofs.Readers.{onward_got, refuse_got, number_passes}
-use Rattle.file_scan.proofs.Scanning.{blocks_end}
+use Rattle.file_scan.proofs.Scanning.{blocks_end, counts_of}
 
 -- ── the parts ──
 
@@ -57,16 +58,16 @@ pub record Counted (at : ℕ) (f : File) (kind blocks bytes nodes entries start 
   pub same_start : start ≡ nodes_at at f.blocks
 
 -- counts come of a file that was read, and a fault of a fault
-pub scan_counts : (at : ℕ) {kind blocks bytes nodes entries start next : ℕ} {G : Type 0} (o : Read File)
-    → scan.Counts kind blocks bytes nodes entries start next ≡ scan_of at o
-    → ((f : File) → o ≡ got f next → Counted at f kind blocks bytes nodes entries start → G) → G
+pub scan_counts : (at : ℕ) {c : Counts} {G : Type 0} (o : Read File) → Ok c ≡ scan_of at o
+    → ((f : File) → o ≡ got f c.next → Counted at f c.kind c.blocks c.bytes c.nodes c.entries c.nodes_at → G) → G
 unfolding scan_of
-scan_counts at (got f n) e g =
-    g f (cc)
-    (record { same_kind = cc; same_blocks = cc; same_bytes = cc; same_nodes = cc; same_entries = cc; same_start = cc })
-scan_counts at (fault i) e g = absurd (let z : ◌≡◌ {A = ℕ} 0 1 = cc in omega arith)
+scan_counts at {c} (got f n) e g =
+    let same : c ≡ counts_of f.kind (length f.blocks) (bytes_in f.blocks) (node_count (tree_from f.nodes)) (entry_count (tree_from f.nodes)) (nodes_at at f.blocks) n = cc in
+    g f (rw same refl)
+    (rw same (record { same_kind = refl; same_blocks = refl; same_bytes = refl; same_nodes = refl; same_entries = refl; same_start = refl }))
+scan_counts at (fault i) e g = absurd (cc)
 
-pub scan_fault : (at : ℕ) {i : ℕ} (o : Read File) → scan.Fault i ≡ scan_of at o → o ≡ fault i
+pub scan_fault : (at : ℕ) {i : ℕ} (o : Read File) → Err i ≡ scan_of at o → o ≡ fault i
 unfolding scan_of
-scan_fault at (got f n) e = absurd (let z : ◌≡◌ {A = ℕ} 0 1 = cc in omega arith)
+scan_fault at (got f n) e = absurd (cc)
 scan_fault at (fault j) e = cc

@@ -10,8 +10,7 @@ use Rattle.lists.proofs.Numbers.{suc_of}
 use Rattle.history.specs.Tree.{node_count, entry_count}
 use Rattle.history.specs.File.{Nodes, absent, present, Read, got, fault, onward, ◌>>=◌, give, many, read_root, tree_from}
 use Rattle.file_scan.specs.declared.nodes.Nodes.{Nodes as Trees}
-use Rattle.file_scan.specs.declared.nodes.Nodes.TheVariants as trees
-use Rattle.file_scan.specs.declared.rows.NodeRow.{NodeRow}
+use Rattle.std.specs.Prelude.{Result, Ok, Err}
 use Rattle.file_scan.specs.declared.rows.NodeRow.TheVariants as node
 use Rattle.file_scan.specs.Rows.{row_head, head_absent, head_present, read_head, node_row}
 use Rattle.file_scan.specs.Counts.{nodes_from}
@@ -27,13 +26,16 @@ nodes_in ts = sum_of (map (λ t. node_count (tree_from t)) ts)
 abbrev entries_in : List Nodes → ℕ
 entries_in ts = sum_of (map (λ t. entry_count (tree_from t)) ts)
 
--- so many nodes and entries were counted before these trees
-unfoldable pub forest_from : (nodes entries : ℕ) → Read (List Nodes) → Trees
-forest_from nodes entries (got ts next) = trees.Passed (nodes + nodes_in ts) (entries + entries_in ts) next
-forest_from nodes entries (fault i) = trees.Fault i
+abbrev passed : (nodes entries next : ℕ) → Result Trees ℕ
+passed nodes entries next = Ok (record { nodes = nodes; entries = entries; next = next })
 
-passed_same : {n n' e e' : ℕ} (next : ℕ) → n ≡ n' → e ≡ e' → trees.Passed n e next ≡ trees.Passed n' e' next
-passed_same next p q = ap₂ (λ (x y : ℕ). trees.Passed x y next) p q
+-- so many nodes and entries were counted before these trees
+unfoldable pub forest_from : (nodes entries : ℕ) → Read (List Nodes) → Result Trees ℕ
+forest_from nodes entries (got ts next) = passed (nodes + nodes_in ts) (entries + entries_in ts) next
+forest_from nodes entries (fault i) = Err i
+
+passed_same : {n n' e e' : ℕ} (next : ℕ) → n ≡ n' → e ≡ e' → passed n e next ≡ passed n' e' next
+passed_same next p q = ap₂ (λ (x y : ℕ). passed x y next) p q
 
 -- a tree is a forest of one
 forest_one : (file : List ℕ) (at : ℕ) → forest_from 0 0 (many read_root 1 file at) ≡ nodes_from (read_root file at)
@@ -90,14 +92,14 @@ module _ (file : List ℕ) (at nodes entries awaited : ℕ) where
   forest_present {a} {b} {c} {n} {es} e =
       rw (root_parts file at, e) (cons_left nodes entries a b c es (read_root file n) (read_root file) (many read_root awaited file))
 
-  forest_fault : {i : ℕ} → read_head file at ≡ fault i → forest_from nodes entries (many read_root (suc awaited) file at) ≡ trees.Fault i
+  forest_fault : {i : ℕ} → read_head file at ≡ fault i → forest_from nodes entries (many read_root (suc awaited) file at) ≡ Err i
   unfolding many ◌>>=◌ onward give forest_from
   forest_fault e = rw (root_parts file at, e) refl
 
 -- ── the loop ──
 
 -- the trees that are awaited, with what is counted so far, say the same as the whole tree; each node and each entry has bytes of its own
-pub record Awaits (file : List ℕ) (whole : Trees) (awaited nodes entries place : ℕ) : Type 0 where
+pub record Awaits (file : List ℕ) (whole : Result Trees ℕ) (awaited nodes entries place : ℕ) : Type 0 where
   pub same : forest_from nodes entries (many read_root awaited file place) ≡ whole
   pub bound : row_head * nodes + 8 * entries ≤ place
   pub few : awaited ≤ nodes + 1
@@ -106,47 +108,45 @@ pub record Awaits (file : List ℕ) (whole : Trees) (awaited nodes entries place
 pub pass_start : (file : List ℕ) (place : ℕ) → Awaits file (nodes_from (read_root file place)) 1 0 0 place
 pass_start file place = record { same = forest_one file place; bound = omega arith; few = omega arith }
 
-module _ {file : List ℕ} {whole : Trees} {awaited nodes entries place : ℕ} (s : Awaits file whole awaited nodes entries place) where
-  module _ {r : NodeRow} {a b c d q n : ℕ} (t : r ≡ node.Present a b c d q n) (e : r ≡ node_row place (read_head file place)) where
+module _ {file : List ℕ} {whole : Result Trees ℕ} {awaited nodes entries place : ℕ} (s : Awaits file whole awaited nodes entries place) where
+  module _ {a b c d q n : ℕ} (e : Ok (node.Present a b c d q n) ≡ node_row place (read_head file place)) where
     -- what is counted with this node, and the position behind it
     pub present_room : (row_head * (nodes + 1) + 8 * (entries + d) ≤ n) × (place < n) × (n ≤ length file)
     present_room =
-        row_present place (read_head file place) (sym t ∙ e) λ es g z w.
+        row_present place (read_head file place) e λ es g z w.
         let p = head_passes file place g in
         (omega (arith, s.bound), omega arith, omega arith)
 
     -- one node more, and its two subtrees are awaited
     pub pass_present : 0 < awaited → Awaits file whole (awaited + 1) (nodes + 1) (entries + d) n
     pass_present h =
-        row_present place (read_head file place) (sym t ∙ e) λ es g z w.
+        row_present place (read_head file place) e λ es g z w.
         let k : suc (suc (awaited - 1)) ≡ awaited + 1 = omega arith in
         let turn = rw (k, ← (suc_of awaited (λ w. omega arith)), z) at (forest_present file place nodes entries (awaited - 1) g) in
         record { same = sym turn ∙ s.same; bound = present_room.0; few = omega (arith, s.few) }
 
-  module _ {r : NodeRow} {n : ℕ} (t : r ≡ node.Absent n) (e : r ≡ node_row place (read_head file place)) where
+  module _ {n : ℕ} (e : Ok (node.Absent n) ≡ node_row place (read_head file place)) where
     -- the position behind an absent child
     pub absent_room : (place < n) × (n ≤ length file)
     absent_room =
-        let p = head_passes file place (row_absent place (read_head file place) (sym t ∙ e)) in
+        let p = head_passes file place (row_absent place (read_head file place) e) in
         (omega arith, omega arith)
 
     pub pass_absent : 0 < awaited → Awaits file whole (awaited - 1) nodes entries n
     pass_absent h =
-        let g = row_absent place (read_head file place) (sym t ∙ e) in
+        let g = row_absent place (read_head file place) e in
         let turn = rw (← (suc_of awaited (λ w. omega arith))) at (forest_absent file place nodes entries (awaited - 1) g) in
         record { same = sym turn ∙ s.same; bound = omega (arith, s.bound, absent_room.0); few = omega (arith, s.few) }
 
-  pub pass_fault : {r : NodeRow} {i : ℕ} → r ≡ node.Fault i → r ≡ node_row place (read_head file place) → 0 < awaited → trees.Fault i ≡ whole
-  pass_fault t e h =
-      sym (rw (← (suc_of awaited (λ w. omega arith))) at (forest_fault file place nodes entries (awaited - 1) (row_fault place (read_head file place) (sym t ∙ e))))
+  pub pass_fault : {i : ℕ} → Err i ≡ node_row place (read_head file place) → 0 < awaited → Err i ≡ whole
+  pass_fault e h =
+      sym (rw (← (suc_of awaited (λ w. omega arith))) at (forest_fault file place nodes entries (awaited - 1) (row_fault place (read_head file place) e)))
       ∙ s.same
 
-  pub pass_done : awaited ≤ 0 → trees.Passed nodes entries place ≡ whole
+  pub pass_done : awaited ≤ 0 → passed nodes entries place ≡ whole
   unfolding many give forest_from sum_of
   pass_done h =
       let z : awaited ≡ 0 = omega arith in
       let n : nodes + 0 ≡ nodes = omega arith in
       let m : entries + 0 ≡ entries = omega arith in
       rw (z, n, m) at s.same
-
-pub ruleset awaiting = (pass_start, pass_present, pass_absent, pass_fault, pass_done)

@@ -8,47 +8,54 @@ use lib.ListN.{length}
 use lib.Dec.{eqb}
 use borrow.Author.Tests.{eq-eqb, ne_eqb, le-leb, lt-leb}
 use Rattle.history.specs.Words.{Block, a_block, size}
-use Rattle.history.specs.File.{Read, got, onward, ◌>>=◌, give, refuse◌unless◌, field, number, many, read_block}
+use Rattle.history.specs.File.{Read, got, fault, onward, ◌>>=◌, give, refuse◌unless◌, field, number, many, read_block}
 use Rattle.history.proofs.FileYields.{got_value, got_next}
 use Rattle.fields.specs.Fields.{read_of}
-use Rattle.fields.specs.declared.Field.{Field}
-use Rattle.fields.specs.declared.Field.TheVariants.{Got, End}
-use Rattle.file_scan.specs.declared.rows.Four.{Four}
-use Rattle.file_scan.specs.declared.rows.Four.TheVariants as four
-use Rattle.file_scan.specs.declared.rows.BlockRow.TheVariants as block
+use Rattle.std.specs.Prelude.{Option, Some, None, Ok, Err, ok_or}
+use Rattle.file_scan.specs.declared.rows.BlockRow.{BlockRow}
+use Rattle.refusals.specs.declared.Refusal.{Refusal}
+use Rattle.refusals.specs.declared.Refusal.TheVariants.{FileEnds}
+use Rattle.refusals.specs.Numbers.{number_of}
 use Rattle.file_scan.specs.declared.rows.NodeRow.TheVariants as node
 use Rattle.file_scan.specs.Rows.{Numbers, read_four, four_of, row_head, block_row, Head, head_absent, head_present, read_present, read_head, node_row}
 use Rattle.file_scan.proofs.Readers.{onward_through, onward_same, onward_gives, onward_got, refuse_got, Passes, number_passes, four_passes}
 use Rattle.file_scan.proofs.Readers.{field_got, field_end, field_passes, taken-length, numbers_at-length, many_got, many_end, many_passes}
 
--- ── the returns of `four_from` ──
+-- ── the returns of `four_at` ──
 
--- o is what the read of a field has answered; each field begins where the one before it ends
+-- each field begins where the one before it ends
 module _ (file : List ℕ) (at : ℕ) where
-  pub four_first : {o : Field} → o ≡ End → read_of o ≡ number 8 file at → four_of four.End ≡ read_four file at
+  pub four_first : fault 17 ≡ number 8 file at → fault 17 ≡ read_four file at
   unfolding read_four ◌>>=◌ onward give
-  four_first t e = rw (← e, t) refl
+  four_first e = rw (← e) refl
 
-  module _ {o : Field} {a p : ℕ} (t : o ≡ Got a p) (e : read_of o ≡ number 8 file at) where
-    pub four_second : {o₂ : Field} → o₂ ≡ End → read_of o₂ ≡ number 8 file p → four_of four.End ≡ read_four file at
+  module _ {a p : ℕ} (e : got a p ≡ number 8 file at) where
+    pub four_second : fault 17 ≡ number 8 file p → fault 17 ≡ read_four file at
     unfolding read_four ◌>>=◌ onward give
-    four_second t₂ e₂ = rw (← e, t, ← e₂, t₂) refl
+    four_second e₂ = rw (← e, ← e₂) refl
 
-    module _ {o₂ : Field} {b q : ℕ} (t₂ : o₂ ≡ Got b q) (e₂ : read_of o₂ ≡ number 8 file p) where
-      pub four_third : {o₃ : Field} → o₃ ≡ End → read_of o₃ ≡ number 8 file q → four_of four.End ≡ read_four file at
+    module _ {b q : ℕ} (e₂ : got b q ≡ number 8 file p) where
+      pub four_third : fault 17 ≡ number 8 file q → fault 17 ≡ read_four file at
       unfolding read_four ◌>>=◌ onward give
-      four_third t₃ e₃ = rw (← e, t, ← e₂, t₂, ← e₃, t₃) refl
+      four_third e₃ = rw (← e, ← e₂, ← e₃) refl
 
-      module _ {o₃ : Field} {c r : ℕ} (t₃ : o₃ ≡ Got c r) (e₃ : read_of o₃ ≡ number 8 file q) where
-        pub four_fourth : {o₄ : Field} → o₄ ≡ End → read_of o₄ ≡ number 8 file r → four_of four.End ≡ read_four file at
+      module _ {c r : ℕ} (e₃ : got c r ≡ number 8 file q) where
+        pub four_fourth : fault 17 ≡ number 8 file r → fault 17 ≡ read_four file at
         unfolding read_four ◌>>=◌ onward give
-        four_fourth t₄ e₄ = rw (← e, t, ← e₂, t₂, ← e₃, t₃, ← e₄, t₄) refl
+        four_fourth e₄ = rw (← e, ← e₂, ← e₃, ← e₄) refl
 
-        pub four_all : {o₄ : Field} {d n : ℕ} → o₄ ≡ Got d n → read_of o₄ ≡ number 8 file r → four_of (four.Got a b c d n) ≡ read_four file at
+        pub four_all : {d n : ℕ} → got d n ≡ number 8 file r → got (record { a = a; b = b; c = c; d = d }) n ≡ read_four file at
         unfolding read_four ◌>>=◌ onward give
-        four_all t₄ e₄ = rw (← e, t, ← e₂, t₂, ← e₃, t₃, ← e₄, t₄) refl
+        four_all e₄ = rw (← e, ← e₂, ← e₃, ← e₄) refl
 
 pub ruleset numbering = (four_first, four_second, four_third, four_fourth, four_all)
+
+-- ── a field that is refused where it ends ──
+
+module _ {A : Type 0} {f : Refusal} where
+  pub ends_is : (o : Option A) → Err f ≡ ok_or o FileEnds → (o ≡ None) × (f ≡ FileEnds)
+  ends_is None e = (refl, cc)
+  ends_is (Some x) e = absurd (cc)
 
 -- ── a block ──
 
@@ -88,28 +95,36 @@ block_passes kind file at {b} {n} e =
 
 -- ── the returns of `block_at` ──
 
+abbrev pub block_of : (first length created destroyed bytes next : ℕ) → BlockRow
+block_of first length created destroyed bytes next =
+    record { first = first; length = length; created = created; destroyed = destroyed; bytes = bytes; next = next }
+
 -- o is what the read of the kind byte has answered, f that of the four numbers
 module _ (kind : ℕ) (file : List ℕ) (at : ℕ) where
-  pub block_ends : {o : Field} → o ≡ End → read_of o ≡ number 1 file at → block.Fault 17 ≡ block_row at (read_block kind file at)
+  pub block_ends : (o : Option (ℕ × ℕ)) {f : Refusal} → Err f ≡ ok_or o FileEnds → read_of o ≡ number 1 file at → Err (number_of f) ≡ block_row at (read_block kind file at)
   unfolding onward block_row
-  block_ends t e = rw (block_parts kind file at, ← e, t) refl
+  block_ends o t e =
+      let (z, k) = ends_is o t in
+      rw (k, block_parts kind file at, ← e, z) refl
 
-  module _ {o : Field} {own p : ℕ} (t : o ≡ Got own p) (e : read_of o ≡ number 1 file at) where
-    pub block_kind : (own ≡ kind → ⊥) → block.Fault 18 ≡ block_row at (read_block kind file at)
+  module _ {o : Option (ℕ × ℕ)} {own p : ℕ} (t : o ≡ Some (own, p)) (e : read_of o ≡ number 1 file at) where
+    pub block_kind : (own ≡ kind → ⊥) → Err 18 ≡ block_row at (read_block kind file at)
     unfolding onward refuse◌unless◌ block_row
     block_kind h = rw (block_parts kind file at, ← e, t, ne_eqb own kind h) refl
 
     module _ (same : own ≡ kind) where
-      pub block_four_ends : {f : Four} → f ≡ four.End → four_of f ≡ read_four file p → block.Fault 17 ≡ block_row at (read_block kind file at)
+      pub block_four_ends : (f : Option (ℕ × ℕ × ℕ × ℕ × ℕ)) {i : Refusal} → Err i ≡ ok_or f FileEnds → four_of f ≡ read_four file p → Err (number_of i) ≡ block_row at (read_block kind file at)
       unfolding onward refuse◌unless◌ block_row
-      block_four_ends u g = rw (block_parts kind file at, ← e, t, eq-eqb own kind same, ← g, u) refl
+      block_four_ends f u g =
+          let (z, k) = ends_is f u in
+          rw (k, block_parts kind file at, ← e, t, eq-eqb own kind same, ← g, z) refl
 
-      module _ {f : Four} {a b c d q left : ℕ} (u : f ≡ four.Got a b c d q) (g : four_of f ≡ read_four file p) (l : left ≡ length file - q) where
-        pub block_short : left < b → block.Fault 17 ≡ block_row at (read_block kind file at)
+      module _ {f : Option (ℕ × ℕ × ℕ × ℕ × ℕ)} {a b c d q left : ℕ} (u : f ≡ Some (a, b, c, d, q)) (g : four_of f ≡ read_four file p) (l : left ≡ length file - q) where
+        pub block_short : left < b → Err 17 ≡ block_row at (read_block kind file at)
         unfolding onward refuse◌unless◌ block_row
         block_short h = rw (block_parts kind file at, ← e, t, eq-eqb own kind same, ← g, u, field_end file q b (omega arith)) refl
 
-        pub block_all : b ≤ left → block.Block a b c d q (q + b) ≡ block_row at (read_block kind file at)
+        pub block_all : b ≤ left → Ok (block_of a b c d q (q + b)) ≡ block_row at (read_block kind file at)
         unfolding onward refuse◌unless◌ block_row
         block_all h =
             let s₁ = number_passes file at 1 (sym e ∙ ap read_of t) in
@@ -117,8 +132,6 @@ module _ (kind : ℕ) (file : List ℕ) (at : ℕ) where
             let room : q + b ≤ length file = omega arith in
             let place : at + row_head ≡ q = omega arith in
             rw (block_parts kind file at, ← e, t, eq-eqb own kind same, ← g, u, field_got file q b room, place, taken-length file q b room) refl
-
-pub ruleset blocking = (block_ends, block_kind, block_four_ends, block_short, block_all)
 
 -- ── a node ──
 
@@ -162,32 +175,36 @@ head_passes file at {h} {n} e =
 
 -- o is what the read of the presence byte has answered, f that of the four numbers
 module _ (file : List ℕ) (at : ℕ) where
-  pub node_ends : {o : Field} → o ≡ End → read_of o ≡ number 1 file at → node.Fault 17 ≡ node_row at (read_head file at)
+  pub node_ends : (o : Option (ℕ × ℕ)) {f : Refusal} → Err f ≡ ok_or o FileEnds → read_of o ≡ number 1 file at → Err (number_of f) ≡ node_row at (read_head file at)
   unfolding read_head ◌>>=◌ onward node_row
-  node_ends t e = rw (← e, t) refl
+  node_ends o t e =
+      let (z, k) = ends_is o t in
+      rw (k, ← e, z) refl
 
-  module _ {o : Field} {presence p : ℕ} (t : o ≡ Got presence p) (e : read_of o ≡ number 1 file at) where
-    pub node_presence : 1 < presence → node.Fault 19 ≡ node_row at (read_head file at)
+  module _ {o : Option (ℕ × ℕ)} {presence p : ℕ} (t : o ≡ Some (presence, p)) (e : read_of o ≡ number 1 file at) where
+    pub node_presence : 1 < presence → Err 19 ≡ node_row at (read_head file at)
     unfolding read_head ◌>>=◌ onward refuse◌unless◌ node_row
     node_presence h = rw (← e, t, lt-leb presence 1 h) refl
 
-    pub node_absent : presence ≡ 0 → node.Absent p ≡ node_row at (read_head file at)
+    pub node_absent : presence ≡ 0 → Ok (node.Absent p) ≡ node_row at (read_head file at)
     unfolding read_head ◌>>=◌ onward refuse◌unless◌ give node_row
     node_absent h = rw (← e, t, h) refl
 
     module _ (low : presence ≤ 1) (some : presence ≡ 0 → ⊥) where
-      pub node_four_ends : {f : Four} → f ≡ four.End → four_of f ≡ read_four file p → node.Fault 17 ≡ node_row at (read_head file at)
+      pub node_four_ends : (f : Option (ℕ × ℕ × ℕ × ℕ × ℕ)) {i : Refusal} → Err i ≡ ok_or f FileEnds → four_of f ≡ read_four file p → Err (number_of i) ≡ node_row at (read_head file at)
       unfolding read_head ◌>>=◌ onward refuse◌unless◌ node_row
-      node_four_ends u g = rw (← e, t, le-leb presence 1 low, ne_eqb presence 0 some, present_parts file p, ← g, u) refl
+      node_four_ends f u g =
+          let (z, k) = ends_is f u in
+          rw (k, ← e, t, le-leb presence 1 low, ne_eqb presence 0 some, present_parts file p, ← g, z) refl
 
-      module _ {f : Four} {a b c d q left : ℕ} (u : f ≡ four.Got a b c d q) (g : four_of f ≡ read_four file p) (l : left ≡ length file - q) where
-        pub node_short : left / 8 < d → node.Fault 17 ≡ node_row at (read_head file at)
+      module _ {f : Option (ℕ × ℕ × ℕ × ℕ × ℕ)} {a b c d q left : ℕ} (u : f ≡ Some (a, b, c, d, q)) (g : four_of f ≡ read_four file p) (l : left ≡ length file - q) where
+        pub node_short : left / 8 < d → Err 17 ≡ node_row at (read_head file at)
         unfolding read_head ◌>>=◌ onward refuse◌unless◌ node_row
         node_short h =
             let s₂ = four_passes file p (sym g ∙ ap four_of u) in
             rw (← e, t, le-leb presence 1 low, ne_eqb presence 0 some, present_parts file p, ← g, u, many_end file q d s₂.inside (omega arith)) refl
 
-        pub node_all : d ≤ left / 8 → node.Present a b c d q (q + 8 * d) ≡ node_row at (read_head file at)
+        pub node_all : d ≤ left / 8 → Ok (node.Present a b c d q (q + 8 * d)) ≡ node_row at (read_head file at)
         unfolding read_head ◌>>=◌ onward refuse◌unless◌ node_row
         node_all h =
             let s₁ = number_passes file at 1 (sym e ∙ ap read_of t) in
@@ -195,5 +212,3 @@ module _ (file : List ℕ) (at : ℕ) where
             let room : q + 8 * d ≤ length file = omega arith in
             let place : at + row_head ≡ q = omega arith in
             rw (← e, t, le-leb presence 1 low, ne_eqb presence 0 some, present_parts file p, ← g, u, many_got file q d room, place, numbers_at-length file q d) refl
-
-pub ruleset heading = (node_ends, node_presence, node_absent, node_four_ends, node_short, node_all)

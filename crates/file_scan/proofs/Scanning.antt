@@ -11,42 +11,43 @@ use Rattle.history.specs.Tree.{node_count, entry_count}
 use Rattle.history.specs.File.{Nodes, Read, got, fault, onward, ◌>>=◌, give, refuse◌unless◌, number, many, read_block, read_root, read_file, tree_from}
 use Rattle.history.proofs.FileYields.{got_value, got_next}
 use Rattle.fields.specs.Fields.{read_of}
-use Rattle.fields.specs.declared.Field.{Field}
-use Rattle.fields.specs.declared.Field.TheVariants.{Got, End}
+use Rattle.std.specs.Prelude.{Option, Some, Ok, Err, ok_or}
 use Rattle.file_scan.specs.declared.blocks.Blocks.{Blocks}
-use Rattle.file_scan.specs.declared.blocks.Blocks.TheVariants as passed
 use Rattle.file_scan.specs.declared.nodes.Nodes.{Nodes as Trees}
-use Rattle.file_scan.specs.declared.nodes.Nodes.TheVariants as trees
-use Rattle.file_scan.specs.declared.Scanned.TheVariants as scan
+use Rattle.refusals.specs.declared.Refusal.{Refusal}
+use Rattle.refusals.specs.declared.Refusal.TheVariants.{FileEnds}
+use Rattle.file_scan.specs.declared.Counts.{Counts}
+use Rattle.refusals.specs.Numbers.{number_of}
 use Rattle.file_scan.specs.Rows.{row_head}
 use Rattle.file_scan.specs.Counts.{bytes_in, blocks_from, nodes_from, nodes_at, scan_of}
 use Rattle.file_scan.proofs.Readers.{onward_got, number_passes}
-use Rattle.file_scan.proofs.RowReads.{block_passes}
+use Rattle.file_scan.proofs.RowReads.{block_passes, ends_is}
 
 -- ── what the counts say of the reading ──
 
-blocks_passed : {bytes n : ℕ} {G : Type 0} (o : Read (List Block)) → passed.Passed bytes n ≡ blocks_from 0 o
-    → ((bs : List Block) → o ≡ got bs n → bytes ≡ bytes_in bs → G) → G
+blocks_passed : {b : Blocks} {G : Type 0} (o : Read (List Block)) → Ok b ≡ blocks_from 0 o → ((bs : List Block) → o ≡ got bs b.next → b.bytes ≡ bytes_in bs → G) → G
 unfolding blocks_from
-blocks_passed {bytes} (got bs m) e f =
-    let z : bytes ≡ 0 + bytes_in bs = cc in
-    f bs (cc) (omega arith)
-blocks_passed (fault i) e f = absurd (let z : ◌≡◌ {A = ℕ} 0 1 = cc in omega arith)
+blocks_passed {b} (got bs m) e f =
+    let same : b ≡ record { bytes = 0 + bytes_in bs; next = m } = cc in
+    f bs (rw same refl) (rw same (omega arith))
+blocks_passed (fault i) e f = absurd (cc)
 
-blocks_fault : {i : ℕ} (o : Read (List Block)) → passed.Fault i ≡ blocks_from 0 o → o ≡ fault i
+blocks_fault : {i : ℕ} (o : Read (List Block)) → Err i ≡ blocks_from 0 o → o ≡ fault i
 unfolding blocks_from
-blocks_fault (got bs m) e = absurd (let z : ◌≡◌ {A = ℕ} 0 1 = cc in omega arith)
+blocks_fault (got bs m) e = absurd (cc)
 blocks_fault (fault j) e = cc
 
-nodes_passed : {nodes entries n : ℕ} {G : Type 0} (o : Read Nodes) → trees.Passed nodes entries n ≡ nodes_from o
-    → ((t : Nodes) → o ≡ got t n → nodes ≡ node_count (tree_from t) → entries ≡ entry_count (tree_from t) → G) → G
+nodes_passed : {ns : Trees} {G : Type 0} (o : Read Nodes) → Ok ns ≡ nodes_from o
+    → ((t : Nodes) → o ≡ got t ns.next → ns.nodes ≡ node_count (tree_from t) → ns.entries ≡ entry_count (tree_from t) → G) → G
 unfolding nodes_from
-nodes_passed (got t m) e f = f t (cc) (cc) (cc)
-nodes_passed (fault i) e f = absurd (let z : ◌≡◌ {A = ℕ} 0 1 = cc in omega arith)
+nodes_passed {ns} (got t m) e f =
+    let same : ns ≡ record { nodes = node_count (tree_from t); entries = entry_count (tree_from t); next = m } = cc in
+    f t (rw same refl) (rw same refl) (rw same refl)
+nodes_passed (fault i) e f = absurd (cc)
 
-nodes_fault : {i : ℕ} (o : Read Nodes) → trees.Fault i ≡ nodes_from o → o ≡ fault i
+nodes_fault : {i : ℕ} (o : Read Nodes) → Err i ≡ nodes_from o → o ≡ fault i
 unfolding nodes_from
-nodes_fault (got t m) e = absurd (let z : ◌≡◌ {A = ℕ} 0 1 = cc in omega arith)
+nodes_fault (got t m) e = absurd (cc)
 nodes_fault (fault j) e = cc
 
 -- where the blocks that were read end, and how many there are
@@ -63,47 +64,53 @@ blocks_end kind file at (suc count) {bs} {n} e =
 
 -- ── the returns of `scan` ──
 
-module _ (file : List ℕ) (at : ℕ) where
-  pub scan_ends : {o : Field} → o ≡ End → read_of o ≡ number 1 file at → scan.Fault 17 ≡ scan_of at (read_file file at)
-  unfolding read_file ◌>>=◌ onward scan_of
-  scan_ends t e = rw (← e, t) refl
+abbrev pub counts_of : (kind blocks bytes nodes entries nodes_at next : ℕ) → Counts
+counts_of kind blocks bytes nodes entries nodes_at next =
+    record { kind = kind; blocks = blocks; bytes = bytes; nodes = nodes; entries = entries; nodes_at = nodes_at; next = next }
 
-  module _ {o : Field} {kind p : ℕ} (t : o ≡ Got kind p) (e : read_of o ≡ number 1 file at) where
-    pub scan_kind : 4 < kind → scan.Fault 18 ≡ scan_of at (read_file file at)
+module _ (file : List ℕ) (at : ℕ) where
+  pub scan_ends : (o : Option (ℕ × ℕ)) {f : Refusal} → Err f ≡ ok_or o FileEnds → read_of o ≡ number 1 file at → Err (number_of f) ≡ scan_of at (read_file file at)
+  unfolding read_file ◌>>=◌ onward scan_of
+  scan_ends o t e =
+      let (z, k) = ends_is o t in
+      rw (k, ← e, z) refl
+
+  module _ {o : Option (ℕ × ℕ)} {kind p : ℕ} (t : o ≡ Some (kind, p)) (e : read_of o ≡ number 1 file at) where
+    pub scan_kind : 4 < kind → Err 18 ≡ scan_of at (read_file file at)
     unfolding read_file ◌>>=◌ onward refuse◌unless◌ scan_of
     scan_kind h = rw (← e, t, lt-leb kind 4 h) refl
 
     module _ (low : kind ≤ 4) where
-      pub scan_count-ends : {o₂ : Field} → o₂ ≡ End → read_of o₂ ≡ number 8 file p → scan.Fault 17 ≡ scan_of at (read_file file at)
+      pub scan_count-ends : (o₂ : Option (ℕ × ℕ)) {f : Refusal} → Err f ≡ ok_or o₂ FileEnds → read_of o₂ ≡ number 8 file p
+          → Err (number_of f) ≡ scan_of at (read_file file at)
       unfolding read_file ◌>>=◌ onward refuse◌unless◌ scan_of
-      scan_count-ends t₂ e₂ = rw (← e, t, le-leb kind 4 low, ← e₂, t₂) refl
+      scan_count-ends o₂ t₂ e₂ =
+          let (z, k) = ends_is o₂ t₂ in
+          rw (k, ← e, t, le-leb kind 4 low, ← e₂, z) refl
 
-      module _ {o₂ : Field} {count q : ℕ} (t₂ : o₂ ≡ Got count q) (e₂ : read_of o₂ ≡ number 8 file p) {bl : Blocks}
-          (g : bl ≡ blocks_from 0 (many (read_block kind) count file q)) where
-        pub scan_blocks : {i : ℕ} → bl ≡ passed.Fault i → scan.Fault i ≡ scan_of at (read_file file at)
+      module _ {o₂ : Option (ℕ × ℕ)} {count q : ℕ} (t₂ : o₂ ≡ Some (count, q)) (e₂ : read_of o₂ ≡ number 8 file p) where
+        pub scan_blocks : {i : ℕ} → Err i ≡ blocks_from 0 (many (read_block kind) count file q) → Err i ≡ scan_of at (read_file file at)
         unfolding read_file ◌>>=◌ onward refuse◌unless◌ scan_of
-        scan_blocks u =
-            let f = blocks_fault (many (read_block kind) count file q) (sym u ∙ g) in
+        scan_blocks g =
+            let f = blocks_fault (many (read_block kind) count file q) g in
             rw (← e, t, le-leb kind 4 low, ← e₂, t₂, f) refl
 
-        module _ {bytes s : ℕ} (u : bl ≡ passed.Passed bytes s) {nd : Trees} (g₂ : nd ≡ nodes_from (read_root file s)) where
-          pub scan_nodes : {i : ℕ} → nd ≡ trees.Fault i → scan.Fault i ≡ scan_of at (read_file file at)
+        module _ {bl : Blocks} (g : Ok bl ≡ blocks_from 0 (many (read_block kind) count file q)) where
+          pub scan_nodes : {i : ℕ} → Err i ≡ nodes_from (read_root file bl.next) → Err i ≡ scan_of at (read_file file at)
           unfolding read_file ◌>>=◌ onward refuse◌unless◌ scan_of
-          scan_nodes u₂ =
-              blocks_passed (many (read_block kind) count file q) (sym u ∙ g) λ bs h b.
-              let f = nodes_fault (read_root file s) (sym u₂ ∙ g₂) in
+          scan_nodes g₂ =
+              blocks_passed (many (read_block kind) count file q) g λ bs h b.
+              let f = nodes_fault (read_root file bl.next) g₂ in
               rw (← e, t, le-leb kind 4 low, ← e₂, t₂, h, f) refl
 
-          pub scan_all : {nodes entries next : ℕ} → nd ≡ trees.Passed nodes entries next
-              → scan.Counts kind count bytes nodes entries s next ≡ scan_of at (read_file file at)
+          pub scan_all : {ns : Trees} → Ok ns ≡ nodes_from (read_root file bl.next)
+              → Ok (counts_of kind count bl.bytes ns.nodes ns.entries bl.next ns.next) ≡ scan_of at (read_file file at)
           unfolding read_file ◌>>=◌ onward refuse◌unless◌ give scan_of
-          scan_all u₂ =
-              blocks_passed (many (read_block kind) count file q) (sym u ∙ g) λ bs h b.
-              nodes_passed (read_root file s) (sym u₂ ∙ g₂) λ f h₂ n m.
+          scan_all g₂ =
+              blocks_passed (many (read_block kind) count file q) g λ bs h b.
+              nodes_passed (read_root file bl.next) g₂ λ f h₂ n m.
               let s₁ = number_passes file at 1 (sym e ∙ ap read_of t) in
               let s₂ = number_passes file p 8 (sym e₂ ∙ ap read_of t₂) in
               let (place, many) = blocks_end kind file q count h in
-              let begins : s ≡ nodes_at at bs = omega arith in
+              let begins : bl.next ≡ nodes_at at bs = omega arith in
               rw (← e, t, le-leb kind 4 low, ← e₂, t₂, h, h₂, b, n, m, begins, ← many) refl
-
-pub ruleset scanning = (scan_ends, scan_kind, scan_count-ends, scan_blocks, scan_nodes, scan_all)

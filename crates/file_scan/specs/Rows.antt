@@ -1,11 +1,8 @@
 -- A row of the file: what its reader in `history` gives, without the bytes of a block and without the children of a node. Definitions alone.
-use Rattle.std.specs.Prelude.{cond, List, ℕ, ◌+◌, ◌*◌, length, leb, eqb}
+use Rattle.std.specs.Prelude.{cond, Option, Some, None, Result, Ok, Err, List, ℕ, ◌+◌, ◌*◌, length, leb, eqb}
 use Rattle.history.specs.Words.{Block, size, first_cell}
 use Rattle.history.specs.File.{Read, got, fault, Reader, ◌>>=◌, ◌>>◌, give, refuse◌unless◌, number, many}
-use Rattle.file_scan.specs.declared.rows.Four.{Four}
-use Rattle.file_scan.specs.declared.rows.Four.TheVariants as four
 use Rattle.file_scan.specs.declared.rows.BlockRow.{BlockRow}
-use Rattle.file_scan.specs.declared.rows.BlockRow.TheVariants as block
 use Rattle.file_scan.specs.declared.rows.NodeRow.{NodeRow}
 use Rattle.file_scan.specs.declared.rows.NodeRow.TheVariants as node
 
@@ -25,9 +22,10 @@ read_four = do
   d ← number 8
   give (record { a = a; b = b; c = c; d = d })
 
-abbrev pub four_of : Four → Read Numbers
-four_of (four.Got a b c d next) = got (record { a = a; b = b; c = c; d = d }) next
-four_of four.End = fault 17
+-- what stands there, with the position behind it; 17 where the bytes end
+abbrev pub four_of : Option (ℕ × ℕ × ℕ × ℕ × ℕ) → Read Numbers
+four_of (Some (a, b, c, d, next)) = got (record { a = a; b = b; c = c; d = d }) next
+four_of None = fault 17
 
 -- the bytes of a row before a block's bytes or a node's entries
 abbrev pub row_head : ℕ
@@ -35,9 +33,18 @@ row_head = 1 + 4 * 8
 
 -- ── a block ──
 
-unfoldable pub block_row : (at : ℕ) → Read Block → BlockRow
-block_row at (got b next) = block.Block (first_cell b) (size b.stretch) b.created b.destroyed (at + row_head) next
-block_row at (fault n) = block.Fault n
+unfoldable pub block_row : (at : ℕ) → Read Block → Result BlockRow ℕ
+block_row at (got b next) =
+    Ok
+    (record {
+      first = first_cell b;
+      length = size b.stretch;
+      created = b.created;
+      destroyed = b.destroyed;
+      bytes = at + row_head;
+      next = next;
+    })
+block_row at (fault n) = Err n
 
 -- ── a node ──
 
@@ -62,7 +69,7 @@ read_head = do
   refuse 19 unless (leb presence 1)
   cond (eqb presence 0) (give head_absent) read_present
 
-unfoldable pub node_row : (at : ℕ) → Read Head → NodeRow
-node_row at (got head_absent next) = node.Absent next
-node_row at (got (head_present min max middle es) next) = node.Present min max middle (length es) (at + row_head) next
-node_row at (fault n) = node.Fault n
+unfoldable pub node_row : (at : ℕ) → Read Head → Result NodeRow ℕ
+node_row at (got head_absent next) = Ok (node.Absent next)
+node_row at (got (head_present min max middle es) next) = Ok (node.Present min max middle (length es) (at + row_head) next)
+node_row at (fault n) = Err n

@@ -1,39 +1,29 @@
 // All blocks of the file, one after the other.
 ghost use Rattle.std.specs.Prelude.{◌≡◌};
 ghost use Rattle.history.specs.File.{many, read_block};
+ghost use Rattle.file_scan.specs.Faults.{numbered};
 ghost use Rattle.file_scan.specs.Counts.{blocks_from};
 
 use crate::rows;
-use crate::rows::BlockRow;
+use refusals::Refusal;
 
-// How many bytes the blocks hold, with the position behind them; or the first fault's number.
+// How many bytes the blocks hold, with the position behind them.
 #[derive(Clone, Copy)]
-pub enum Blocks {
-    Passed { bytes: u64, next: usize },
-    Fault { number: u64 },
+pub struct Blocks {
+    pub bytes: u64,
+    pub next: usize,
 }
 
 // Passes `count` blocks. Each takes bytes of the file, so a count that is too high is found where they end.
-pub fn pass(file: &[u8], kind: u64, count: u64, at: usize) -> Blocks
-    ensures { result ≡ blocks_from 0 (many (read_block kind) count file.now at) }
+pub fn pass(file: &[u8], kind: u64, count: u64, at: usize) -> Result<Blocks, Refusal>
+    ensures { numbered result ≡ blocks_from 0 (many (read_block kind) count file.now at) }
 {
-    let mut left = count;
     let mut bytes: u64 = 0;
-    let mut place = at;
-    while 0 < left {
-        match rows::block_at(file, kind, place) {
-            BlockRow::Block { length, next, .. } => {
-                bytes += length;
-                place = next;
-                left -= 1;
-            }
-            BlockRow::Fault { number } => {
-                return Blocks::Fault { number: number };
-            }
-        }
+    let mut next = at;
+    for _ in 0..count {
+        let row = rows::block_at(file, kind, next)?;
+        bytes += row.length;
+        next = row.next;
     }
-    Blocks::Passed {
-        bytes: bytes,
-        next: place,
-    }
+    Ok(Blocks { bytes, next })
 }

@@ -4,6 +4,7 @@
 //
 //   rows              a block or a node of the file, without what follows its numbers
 //   blocks, nodes     all of them, counted
+//   specs/Faults      a result with the number of its refusal, 17 to 19
 //   specs/Rows        what a row says, in the words of `history`
 //   specs/Counts      what is counted of the file
 
@@ -11,69 +12,48 @@
 
 ghost use Rattle.std.specs.Prelude.{◌≡◌};
 ghost use Rattle.history.specs.File.{read_file};
+ghost use Rattle.file_scan.specs.Faults.{numbered};
 ghost use Rattle.file_scan.specs.Counts.{scan_of};
+
+use refusals::Refusal;
 
 pub mod blocks;
 pub mod nodes;
 pub mod rows;
 
-use blocks::Blocks;
-use fields::{Field, reader};
-use nodes::Nodes;
-
 // The largest code of a kind.
 const KINDS: u64 = 4;
 
-// What the tables must hold, and where the nodes begin; or the first fault's number.
+// What the tables must hold, and where the nodes begin.
 #[derive(Clone, Copy)]
-pub enum Scanned {
-    Counts {
-        kind: u64,
-        blocks: u64,
-        bytes: u64,
-        nodes: u64,
-        entries: u64,
-        nodes_at: usize,
-        next: usize,
-    },
-    Fault {
-        number: u64,
-    },
+pub struct Counts {
+    pub kind: u64,
+    pub blocks: u64,
+    pub bytes: u64,
+    pub nodes: u64,
+    pub entries: u64,
+    pub nodes_at: usize,
+    pub next: usize,
 }
 
 // Reads a file from a position on, and counts what it has.
-pub fn scan(file: &[u8], at: usize) -> Scanned
-    ensures { result ≡ scan_of at (read_file file.now at) }
+pub fn scan(file: &[u8], at: usize) -> Result<Counts, Refusal>
+    ensures { numbered result ≡ scan_of at (read_file file.now at) }
 {
-    let Field::Got(kind, count_at) = reader::byte_from(file, at) else {
-        return Scanned::Fault { number: rows::ENDS };
-    };
+    let (kind, count_at) = fields::byte_at(file, at).ok_or(Refusal::FileEnds)?;
     if KINDS < kind {
-        return Scanned::Fault { number: rows::KIND };
+        return Err(Refusal::FileKind);
     }
-    let Field::Got(count, blocks_at) = reader::number_from(file, count_at) else {
-        return Scanned::Fault { number: rows::ENDS };
-    };
-    match blocks::pass(file, kind, count, blocks_at) {
-        Blocks::Fault { number } => Scanned::Fault { number: number },
-        Blocks::Passed {
-            bytes,
-            next: nodes_at,
-        } => match nodes::pass(file, nodes_at) {
-            Nodes::Fault { number } => Scanned::Fault { number: number },
-            Nodes::Passed {
-                nodes,
-                entries,
-                next,
-            } => Scanned::Counts {
-                kind: kind,
-                blocks: count,
-                bytes: bytes,
-                nodes: nodes,
-                entries: entries,
-                nodes_at: nodes_at,
-                next: next,
-            },
-        },
-    }
+    let (count, blocks_at) = fields::number_at(file, count_at).ok_or(Refusal::FileEnds)?;
+    let blocks = blocks::pass(file, kind, count, blocks_at)?;
+    let nodes = nodes::pass(file, blocks.next)?;
+    Ok(Counts {
+        kind,
+        blocks: count,
+        bytes: blocks.bytes,
+        nodes: nodes.nodes,
+        entries: nodes.entries,
+        nodes_at: blocks.next,
+        next: nodes.next,
+    })
 }

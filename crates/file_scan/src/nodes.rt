@@ -1,34 +1,31 @@
 // All nodes of the file, root first, left before right: no call for a child, but a count of the subtrees that are still to come.
 ghost use Rattle.std.specs.Prelude.{◌≡◌};
 ghost use Rattle.history.specs.File.{read_root};
+ghost use Rattle.file_scan.specs.Faults.{numbered};
 ghost use Rattle.file_scan.specs.Counts.{nodes_from};
 
 use crate::rows;
 use crate::rows::NodeRow;
+use refusals::Refusal;
 
-// How many nodes and entries there are, with the position behind them; or the first fault's number.
+// How many nodes and entries there are, with the position behind them.
 #[derive(Clone, Copy)]
-pub enum Nodes {
-    Passed {
-        nodes: u64,
-        entries: u64,
-        next: usize,
-    },
-    Fault {
-        number: u64,
-    },
+pub struct Nodes {
+    pub nodes: u64,
+    pub entries: u64,
+    pub next: usize,
 }
 
 // Passes the tree at a position.
-pub fn pass(file: &[u8], at: usize) -> Nodes
-    ensures { result ≡ nodes_from (read_root file.now at) }
+pub fn pass(file: &[u8], at: usize) -> Result<Nodes, Refusal>
+    ensures { numbered result ≡ nodes_from (read_root file.now at) }
 {
     let mut awaited: u64 = 1;
     let mut nodes: u64 = 0;
     let mut entries: u64 = 0;
     let mut place = at;
     while 0 < awaited {
-        match rows::node_at(file, place) {
+        match rows::node_at(file, place)? {
             NodeRow::Present { count, next, .. } => {
                 nodes += 1;
                 entries += count;
@@ -39,14 +36,11 @@ pub fn pass(file: &[u8], at: usize) -> Nodes
                 awaited -= 1;
                 place = next;
             }
-            NodeRow::Fault { number } => {
-                return Nodes::Fault { number: number };
-            }
         }
     }
-    Nodes::Passed {
-        nodes: nodes,
-        entries: entries,
+    Ok(Nodes {
+        nodes,
+        entries,
         next: place,
-    }
+    })
 }

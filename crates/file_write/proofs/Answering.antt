@@ -19,13 +19,16 @@ use Rattle.tables.specs.Columns.{column, block_column, head_kind, head_end}
 use Rattle.layout.proofs.ReadLaws.{write_fits, write_16, into_refused}
 use Rattle.lists.specs.Puts.{Put}
 use Rattle.file_put.specs.Living.{living, living_blocks}
-use Rattle.file_write.specs.Sizes.{blocks_size, block_count, nodes_at, file_size, plan_of}
+use Rattle.file_write.specs.Sizes.{blocks_size, block_count, nodes_at, file_size, plan, plan_of}
 use Rattle.file_nodes.specs.Numbering.{Listed}
 use Rattle.file_put.specs.Parts.{PutBlocks}
 use Rattle.file_nodes.specs.Nodes.{PutTree}
 use Rattle.file_write.specs.Answers.{FileWritten, WrittenClosed}
 use Rattle.file_write.specs.declared.plan.Plan.{Plan}
-use Rattle.file_write.specs.declared.plan.Plan.TheVariants as plan
+use Rattle.std.specs.Prelude.{Option, Some, None, Err, ok_or}
+use Rattle.refusals.specs.declared.Refusal.{Refusal}
+use Rattle.refusals.specs.declared.Refusal.TheVariants.{ResultTooLong}
+use Rattle.refusals.specs.Numbers.{number_of}
 use Rattle.lists.proofs.Puts.{put_append}
 use Rattle.file_nodes.proofs.Listing.{numbers_length, numbering}
 use Rattle.file_write.proofs.Agreeing.{Agrees, agrees}
@@ -86,6 +89,10 @@ file_long {blocks} {store} {nodes} {entries} {l} a some =
 
 -- ── the returns ──
 
+long_is : (o : Option Plan) {e : Refusal} → Err e ≡ ok_or o ResultTooLong → (o ≡ None) × (e ≡ ResultTooLong)
+long_is None q = (refl, cc)
+long_is (Some x) q = absurd (cc)
+
 module _ (blocks store nodes entries out : List ℕ) (count : ℕ) (c : count ≡ block_count blocks) where
   pub closed_empty : count ≡ 0 → WrittenClosed blocks store nodes entries out out (accepted 0)
   closed_empty z =
@@ -97,15 +104,15 @@ module _ (blocks store nodes entries out : List ℕ) (count : ℕ) (c : count �
         };
       }
 
-  module _ (some : count ≡ 0 → ⊥) (r : Plan) (p : r ≡ plan_of blocks nodes entries (length out)) where
-    pub closed_long : r ≡ plan.TooLong → WrittenClosed blocks store nodes entries out out (refused 16)
+  module _ (some : count ≡ 0 → ⊥) (r : Option Plan) (p : r ≡ plan_of blocks nodes entries (length out)) where
+    too_long : r ≡ None → WrittenClosed blocks store nodes entries out out (refused 16)
     unfolding plan_of
-    closed_long f =
+    too_long f =
         ⊎_elim
         (λ (h : file_size blocks nodes entries ≤ length out).
-        let same : plan.TooLong ≡ plan.Fits (length (living blocks (block_count blocks))) (nodes_at blocks (block_count blocks)) (file_size blocks nodes entries) =
+        let same : None ≡ plan (length (living blocks (block_count blocks))) (nodes_at blocks (block_count blocks)) (file_size blocks nodes entries) =
         sym f ∙ p ∙ rw (le-leb (file_size blocks nodes entries) (length out) h) in
-        absurd (let z : ◌≡◌ {A = ℕ} 0 1 = cc in omega arith))
+        absurd (cc))
         (λ (h : length out < file_size blocks nodes entries).
         record {
           written = λ pieces. record {
@@ -116,17 +123,23 @@ module _ (blocks store nodes entries out : List ℕ) (count : ℕ) (c : count �
         })
         (le_or_lt (file_size blocks nodes entries) (length out))
 
-    pub closed_fits : (many place size : ℕ) (out' : List ℕ) → r ≡ plan.Fits many place size → FileWritten blocks store nodes entries many place out out'
+    pub closed_long : {e : Refusal} → Err e ≡ ok_or r ResultTooLong → WrittenClosed blocks store nodes entries out out (refused (number_of e))
+    closed_long q =
+        let (none, k) = long_is r q in
+        rw k (too_long none)
+
+    pub closed_fits : (many place size : ℕ) (out' : List ℕ) → r ≡ plan many place size → FileWritten blocks store nodes entries many place out out'
         → WrittenClosed blocks store nodes entries out out' (accepted size)
     unfolding plan_of
     closed_fits many place size out' f w =
         ⊎_elim
         (λ (h : file_size blocks nodes entries ≤ length out).
-        let same : plan.Fits many place size ≡ plan.Fits (length (living blocks (block_count blocks))) (nodes_at blocks (block_count blocks)) (file_size blocks nodes entries) =
+        let same : plan many place size ≡ plan (length (living blocks (block_count blocks))) (nodes_at blocks (block_count blocks)) (file_size blocks nodes entries) =
         sym f ∙ p ∙ rw (le-leb (file_size blocks nodes entries) (length out) h) in
-        let m : many ≡ length (living blocks (block_count blocks)) = cc in
-        let q : place ≡ nodes_at blocks (block_count blocks) = cc in
-        let z : size ≡ file_size blocks nodes entries = cc in
+        let all : ◌≡◌ {A = Plan} (record { living = many; nodes_at = place; size = size }) (record { living = length (living blocks (block_count blocks)); nodes_at = nodes_at blocks (block_count blocks); size = file_size blocks nodes entries }) = cc in
+        let m : many ≡ length (living blocks (block_count blocks)) = ap (λ (x : Plan). x.living) all in
+        let q : place ≡ nodes_at blocks (block_count blocks) = ap (λ (x : Plan). x.nodes_at) all in
+        let z : size ≡ file_size blocks nodes entries = ap (λ (x : Plan). x.size) all in
         record {
           written = λ pieces. record {
             closed = λ l e s done.
@@ -136,8 +149,8 @@ module _ (blocks store nodes entries out : List ℕ) (count : ℕ) (c : count �
           };
         })
         (λ (h : length out < file_size blocks nodes entries).
-        let same : plan.Fits many place size ≡ plan.TooLong = sym f ∙ p ∙ rw (lt-leb (file_size blocks nodes entries) (length out) h) in
-        absurd (let z : ◌≡◌ {A = ℕ} 0 1 = cc in omega arith))
+        let same : plan many place size ≡ None = sym f ∙ p ∙ rw (lt-leb (file_size blocks nodes entries) (length out) h) in
+        absurd (cc))
         (le_or_lt (file_size blocks nodes entries) (length out))
 
 pub ruleset answering = (closed_empty, closed_long, closed_fits)

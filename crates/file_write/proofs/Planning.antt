@@ -1,5 +1,5 @@
 -- The file's size: the turns of `measure_blocks`, and its returns and those of `measure`. Assumes nothing.
-use mathlib.Core.Path.{◌≡◌, refl, sym, ◌∙◌}
+use mathlib.Core.Path.{◌≡◌, refl, sym, ap, ◌∙◌}
 use mathlib.Core.Logic.{⊎_elim}
 use mathlib.Core.Bool.{Bool, true, false, cond}
 use mathlib.Core.List.{List, [], ◌∷◌, ◌++◌, append-nil}
@@ -13,10 +13,8 @@ use Rattle.lists.proofs.Numbers.{le_or_lt}
 use Rattle.block_table.specs.Blocks.{length_at, created_at, destroyed_at}
 use Rattle.segment_table.specs.Closed.{nodes_used, entries_used}
 use Rattle.file_put.specs.Living.{living, lives}
-use Rattle.file_write.specs.Sizes.{blocks_size, nodes_size, block_count, nodes_at, file_size, share_of, plan_of}
-use Rattle.file_write.specs.declared.plan.Share.{Share}
-use Rattle.file_write.specs.declared.plan.Share.TheVariants as share
-use Rattle.file_write.specs.declared.plan.Plan.TheVariants as plan
+use Rattle.file_write.specs.Sizes.{blocks_size, nodes_size, block_count, nodes_at, file_size, share_of, plan, plan_of}
+use Rattle.std.specs.Prelude.{Option, Some, None}
 use Rattle.file_put.proofs.Laying.{told, living-one, living-none}
 
 -- ── one block more ──
@@ -61,7 +59,7 @@ pub record Measured (blocks : List ℕ) (room n many next : ℕ) : Type 0 where
   pub place : next ≡ nodes_at blocks n
   pub fits : next ≤ room
 
-pub share_short : (blocks : List ℕ) (count room : ℕ) → room < 9 → share.TooLong ≡ share_of blocks count room
+pub share_short : (blocks : List ℕ) (count room : ℕ) → room < 9 → None ≡ share_of blocks count room
 unfolding share_of
 share_short blocks count room h = rw (lt-leb (nodes_at blocks count) room (omega arith))
 
@@ -91,18 +89,18 @@ module _ (blocks : List ℕ) (room n many next : ℕ) (t : Bool) (m : Measured b
       }
 
   module _ (count cells : ℕ) (y : t ≡ true) (less : n < count) (c : cells ≡ length_at blocks (n + 1)) where
-    share_over : room < next + (33 + cells) → share.TooLong ≡ share_of blocks count room
+    share_over : room < next + (33 + cells) → None ≡ share_of blocks count room
     unfolding share_of
     share_over h = rw (lt-leb (nodes_at blocks count) room (omega (arith, m.place, size-one blocks n t e y, size_more blocks (n + 1) count (omega arith))))
 
-    pub share_row : room - next < 33 → share.TooLong ≡ share_of blocks count room
+    pub share_row : room - next < 33 → None ≡ share_of blocks count room
     share_row h = share_over (omega (arith, m.fits))
 
-    pub share_bytes : room - next - 33 < cells → 33 ≤ room - next → share.TooLong ≡ share_of blocks count room
+    pub share_bytes : room - next - 33 < cells → 33 ≤ room - next → None ≡ share_of blocks count room
     share_bytes h g = share_over (omega (arith, m.fits))
 
 pub share_fits : (blocks : List ℕ) (count room n many next : ℕ) → Measured blocks room n many next → n ≤ count → count ≤ n
-    → share.Fits many next ≡ share_of blocks count room
+    → Some (many, next) ≡ share_of blocks count room
 unfolding share_of
 share_fits blocks count room n many next m h g =
     let e : n ≡ count = omega arith in
@@ -113,54 +111,55 @@ pub ruleset sharing = (share_short, share_start, share_one, share_none, share_ro
 -- ── the returns of `measure` ──
 
 module _ (blocks nodes entries : List ℕ) (room : ℕ) where
-  plan_over : room < file_size blocks nodes entries → plan.TooLong ≡ plan_of blocks nodes entries room
+  plan_over : room < file_size blocks nodes entries → None ≡ plan_of blocks nodes entries room
   unfolding plan_of
   plan_over h = rw (lt-leb (file_size blocks nodes entries) room h)
 
-  module _ (count : ℕ) (c : count ≡ block_count blocks) (r : Share) (s : r ≡ share_of blocks count room) where
-    shared : (many next : ℕ) → r ≡ share.Fits many next → (many ≡ length (living blocks (block_count blocks))) × (next ≡ nodes_at blocks (block_count blocks)) × (next ≤ room)
+  module _ (count : ℕ) (c : count ≡ block_count blocks) (r : Option (ℕ × ℕ)) (s : r ≡ share_of blocks count room) where
+    shared : (many next : ℕ) → r ≡ Some (many, next) → (many ≡ length (living blocks (block_count blocks))) × (next ≡ nodes_at blocks (block_count blocks)) × (next ≤ room)
     unfolding share_of
     shared many next f =
         ⊎_elim
         (λ (h : nodes_at blocks (block_count blocks) ≤ room).
-        let same : share.Fits many next ≡ share.Fits (length (living blocks (block_count blocks))) (nodes_at blocks (block_count blocks)) =
+        let same : Some (many, next) ≡ Some (length (living blocks (block_count blocks)), nodes_at blocks (block_count blocks)) =
         sym f ∙ s ∙ rw (c, le-leb (nodes_at blocks (block_count blocks)) room h) in
-        let a : many ≡ length (living blocks (block_count blocks)) = cc in
-        let b : next ≡ nodes_at blocks (block_count blocks) = cc in
+        let both : ◌≡◌ {A = ℕ × ℕ} (many, next) (length (living blocks (block_count blocks)), nodes_at blocks (block_count blocks)) = cc in
+        let a : many ≡ length (living blocks (block_count blocks)) = ap (λ (x : ℕ × ℕ). x.0) both in
+        let b : next ≡ nodes_at blocks (block_count blocks) = ap (λ (x : ℕ × ℕ). x.1) both in
         (a, b, omega arith))
         (λ (h : room < nodes_at blocks (block_count blocks)).
-        let same : share.Fits many next ≡ share.TooLong = sym f ∙ s ∙ rw (c, lt-leb (nodes_at blocks (block_count blocks)) room h) in
-        absurd (let z : ◌≡◌ {A = ℕ} 0 1 = cc in omega arith))
+        let same : Some (many, next) ≡ None = sym f ∙ s ∙ rw (c, lt-leb (nodes_at blocks (block_count blocks)) room h) in
+        absurd (cc))
         (le_or_lt (nodes_at blocks (block_count blocks)) room)
 
-    pub plan_share : r ≡ share.TooLong → plan.TooLong ≡ plan_of blocks nodes entries room
+    pub plan_share : r ≡ None → None ≡ plan_of blocks nodes entries room
     unfolding share_of
     plan_share f =
         ⊎_elim
         (λ (h : nodes_at blocks (block_count blocks) ≤ room).
-        let same : share.TooLong ≡ share.Fits (length (living blocks (block_count blocks))) (nodes_at blocks (block_count blocks)) =
+        let same : None ≡ Some (length (living blocks (block_count blocks)), nodes_at blocks (block_count blocks)) =
         sym f ∙ s ∙ rw (c, le-leb (nodes_at blocks (block_count blocks)) room h) in
-        absurd (let z : ◌≡◌ {A = ℕ} 0 1 = cc in omega arith))
+        absurd (cc))
         (λ (h : room < nodes_at blocks (block_count blocks)). plan_over (omega arith))
         (le_or_lt (nodes_at blocks (block_count blocks)) room)
 
-    module _ (many next : ℕ) (f : r ≡ share.Fits many next) where
-      pub plan_full : room ≤ next → plan.TooLong ≡ plan_of blocks nodes entries room
+    module _ (many next : ℕ) (f : r ≡ Some (many, next)) where
+      pub plan_full : room ≤ next → None ≡ plan_of blocks nodes entries room
       unfolding nodes_size
       plan_full h = plan_over (omega (arith, (shared many next f).1))
 
       module _ (rows : ℕ) (p : rows ≡ nodes_used nodes) (some : next < room) where
-        pub plan_rows : (room - next - 1) / 34 < rows → plan.TooLong ≡ plan_of blocks nodes entries room
+        pub plan_rows : (room - next - 1) / 34 < rows → None ≡ plan_of blocks nodes entries room
         unfolding nodes_size
         plan_rows h = plan_over (omega (arith, (shared many next f).1))
 
         module _ (numbers : ℕ) (q : numbers ≡ entries_used entries) (g : rows ≤ (room - next - 1) / 34) where
-          pub plan_entries : (room - next - 1 - 34 * rows) / 8 < numbers → plan.TooLong ≡ plan_of blocks nodes entries room
+          pub plan_entries : (room - next - 1 - 34 * rows) / 8 < numbers → None ≡ plan_of blocks nodes entries room
           unfolding nodes_size
           plan_entries h = plan_over (omega (arith, (shared many next f).1))
 
           pub plan_fits : numbers ≤ (room - next - 1 - 34 * rows) / 8
-              → plan.Fits many next (room - (room - next - 1 - 34 * rows - 8 * numbers)) ≡ plan_of blocks nodes entries room
+              → plan many next (room - (room - next - 1 - 34 * rows - 8 * numbers)) ≡ plan_of blocks nodes entries room
           unfolding plan_of nodes_size
           plan_fits h =
               let k = shared many next f in

@@ -1,8 +1,8 @@
--- What the answer of write means, and its contract over a closed index. Definitions alone.
+-- What write ensures over a closed index. Definitions alone.
 use Rattle.std.specs.Prelude.{◌≡◌, true, List, ℕ, ◌≤◌, ◌<◌, length}
 use Rattle.std.proofs.lemmas.List.Edits.{sets}
 use Rattle.history.specs.Ledger.{Ledger, finished}
-use Rattle.history.specs.Refusals.{Answer, accepted, refused}
+use Rattle.history.specs.Refusals.{Answer}
 use Rattle.history.specs.File.{file_by, write_answer}
 use Rattle.history.specs.Sound.{Sound}
 use Rattle.layout.specs.Tables.{tables}
@@ -10,13 +10,6 @@ use Rattle.layout.specs.Encodes.{Encodes}
 use Rattle.layout.specs.Reads.{HandedInto, ClosedBy}
 use Rattle.file_put.specs.Living.{living}
 use Rattle.file_write.specs.Sizes.{block_count, nodes_at}
-use Rattle.file_write.specs.declared.Written.{Written}
-use Rattle.file_write.specs.declared.Written.TheVariants.{Bytes, Refused}
-
--- document 01's number and values for each case
-abbrev pub written_of : Written → Answer ℕ
-written_of (Bytes n) = accepted n
-written_of (Refused n) = refused n
 
 -- the file of a closed index with blocks, whatever pieces are lent with it: `many` blocks are written, and the nodes from `place` on
 pub record FileWritten (blocks store nodes entries : List ℕ) (many place : ℕ) (out out' : List ℕ) : Type 0 where

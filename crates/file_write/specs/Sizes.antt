@@ -1,13 +1,10 @@
 -- How many bytes the file of a closed index has, by its tables. Definitions alone.
-use Rattle.std.specs.Prelude.{cond, List, ℕ, zero, suc, ◌+◌, ◌*◌, leb, length}
+use Rattle.std.specs.Prelude.{Option, Some, None, cond, List, ℕ, zero, suc, ◌+◌, ◌*◌, leb, length}
 use Rattle.tables.specs.Columns.{block_column, head_count}
 use Rattle.block_table.specs.Blocks.{length_at}
 use Rattle.segment_table.specs.Closed.{nodes_used, entries_used}
 use Rattle.file_put.specs.Living.{blocks_at, lives, living}
-use Rattle.file_write.specs.declared.plan.Share.{Share}
-use Rattle.file_write.specs.declared.plan.Share.TheVariants as share
 use Rattle.file_write.specs.declared.plan.Plan.{Plan}
-use Rattle.file_write.specs.declared.plan.Plan.TheVariants as plan
 
 -- a kind or presence byte and four numbers
 abbrev pub row_head : ℕ
@@ -32,11 +29,14 @@ abbrev pub file_size : (blocks nodes entries : List ℕ) → ℕ
 file_size blocks nodes entries = nodes_at blocks (block_count blocks) + nodes_size nodes entries
 
 -- what goes into a slice of length `room`
-unfoldable pub share_of : (blocks : List ℕ) (n room : ℕ) → Share
+unfoldable pub share_of : (blocks : List ℕ) (n room : ℕ) → Option (ℕ × ℕ)
 share_of blocks n room =
-    cond (leb (nodes_at blocks n) room) (share.Fits (length (living blocks n)) (nodes_at blocks n)) share.TooLong
+    cond (leb (nodes_at blocks n) room) (Some (length (living blocks n), nodes_at blocks n)) None
 
-unfoldable pub plan_of : (blocks nodes entries : List ℕ) (room : ℕ) → Plan
+abbrev pub plan : (living nodes_at size : ℕ) → Option Plan
+plan living nodes_at size = Some (record { living = living; nodes_at = nodes_at; size = size })
+
+unfoldable pub plan_of : (blocks nodes entries : List ℕ) (room : ℕ) → Option Plan
 plan_of blocks nodes entries room =
     cond (leb (file_size blocks nodes entries) room)
-    (plan.Fits (length (living blocks (block_count blocks))) (nodes_at blocks (block_count blocks)) (file_size blocks nodes entries)) plan.TooLong
+    (plan (length (living blocks (block_count blocks))) (nodes_at blocks (block_count blocks)) (file_size blocks nodes entries)) None

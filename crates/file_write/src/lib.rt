@@ -9,24 +9,16 @@
 
 #![tactic(auto)]
 
-ghost use Rattle.file_write.specs.Answers.{written_of, FileWritten, WrittenClosed};
+ghost use Rattle.refusals.specs.Numbers.{answer_by};
+ghost use Rattle.file_write.specs.Answers.{FileWritten, WrittenClosed};
 
 mod plan;
 
 use file_nodes::{nodes, numbers};
 use file_put::{BLOCKS_AT, blocks, put};
 use plan::Plan;
+use refusals::Refusal;
 use tables::block;
-
-// How many bytes the file has; or a refusal, and nothing has changed.
-#[derive(Clone, Copy)]
-pub enum Written {
-    Bytes(u64),
-    Refused(u64),
-}
-
-// The result exceeds the lent slice.
-const TOO_LONG: u64 = 16;
 
 // Writes the file of an index with blocks, `living` of which have a life: the list of these, if it is needed, then by it the nodes, from `place` on,
 // then the blocks over it.
@@ -52,28 +44,25 @@ fn write_file(
     put::number(out, count_at, living);
 }
 
-// Writes the file of a closed index: 16 if it exceeds the slice. An index without blocks writes nothing.
+// Writes the file of a closed index, and gives how many bytes it has: 16 if it exceeds the slice, and nothing has changed. An index without blocks
+// writes nothing.
 pub fn write_closed(
     blocks: &[u64],
     store: &[u8],
     nodes: &[u64],
     entries: &[u64],
     out: &mut [u8],
-) -> Written
-    ensures { WrittenClosed blocks.now store.now nodes.now entries.now out.old out.new (written_of result) }
+) -> Result<u64, Refusal>
+    ensures { WrittenClosed blocks.now store.now nodes.now entries.now out.old out.new (answer_by (λ n. n) result) }
 {
     if block_table::count(blocks) == 0 {
-        return Written::Bytes(0);
+        return Ok(0);
     }
-    match plan::measure(blocks, nodes, entries, out.len()) {
-        Plan::TooLong => Written::Refused(TOO_LONG),
-        Plan::Fits {
-            living,
-            nodes_at,
-            size,
-        } => {
-            write_file(blocks, store, nodes, entries, living, nodes_at, out);
-            Written::Bytes(size as u64)
-        }
-    }
+    let Plan {
+        living,
+        nodes_at,
+        size,
+    } = plan::measure(blocks, nodes, entries, out.len()).ok_or(Refusal::ResultTooLong)?;
+    write_file(blocks, store, nodes, entries, living, nodes_at, out);
+    Ok(size as u64)
 }

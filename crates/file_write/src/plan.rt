@@ -12,75 +12,63 @@ const NODE: u64 = 34;
 
 const ENTRY: u64 = 8;
 
-// The blocks' share of the file: how many are written, and the place behind them.
-#[derive(Clone, Copy)]
-enum Share {
-    Fits { living: u64, next: usize },
-    TooLong,
-}
-
 // The parts of a file that goes into the room.
 #[derive(Clone, Copy)]
-pub enum Plan {
-    Fits {
-        living: u64,
-        nodes_at: usize,
-        size: usize,
-    },
-    TooLong,
+pub struct Plan {
+    pub living: u64,
+    pub nodes_at: usize,
+    pub size: usize,
 }
 
-// Measures the first `count` blocks. Blocks may share bytes of the store, so their sum is bounded by the room alone.
-fn measure_blocks(blocks: &[u64], count: u64, room: usize) -> Share
+// Measures the first `count` blocks: how many are written, and the place behind them. None where they do not fit. Blocks may share bytes of the store,
+// so their sum is bounded by the room alone.
+fn measure_blocks(blocks: &[u64], count: u64, room: usize) -> Option<(u64, usize)>
     ensures { result ≡ share_of blocks.now count room }
 {
     if room < BLOCKS_AT {
-        return Share::TooLong;
+        return None;
     }
     let mut living = 0;
     let mut next = BLOCKS_AT;
-    let mut link = 0;
-    while link < count {
-        link += 1;
+    for number in 0..count {
+        let link = number + 1;
         if blocks::lives(blocks, link) {
             let length = block::get(blocks, link, block::LENGTH) as usize;
             if room - next < ROW {
-                return Share::TooLong;
+                return None;
             }
             if room - next - ROW < length {
-                return Share::TooLong;
+                return None;
             }
             living += 1;
             next += ROW + length;
         }
     }
-    Share::Fits { living, next }
+    Some((living, next))
 }
 
-// Measures the file of a closed index.
-pub fn measure(blocks: &[u64], nodes: &[u64], entries: &[u64], room: usize) -> Plan
+// Measures the file of a closed index. None where it does not fit.
+pub fn measure(blocks: &[u64], nodes: &[u64], entries: &[u64], room: usize) -> Option<Plan>
     ensures { result ≡ plan_of blocks.now nodes.now entries.now room }
 {
     let count = block_table::count(blocks);
-    let Share::Fits { living, next } = measure_blocks(blocks, count, room) else {
-        return Plan::TooLong;
-    };
+    let (living, next) = measure_blocks(blocks, count, room)?;
     if room <= next {
-        return Plan::TooLong;
+        return None;
     }
     let left = (room - next - 1) as u64;
     let rows = tables::get(nodes, 0, node::COUNT);
     if left / NODE < rows {
-        return Plan::TooLong;
+        return None;
     }
     let rest = left - NODE * rows;
     let numbers = tables::get(entries, 0, entry::COUNT);
     if rest / ENTRY < numbers {
-        return Plan::TooLong;
+        return None;
     }
-    Plan::Fits {
+    Some(Plan {
         living,
         nodes_at: next,
         size: room - (rest - ENTRY * numbers) as usize,
-    }
+    })
 }

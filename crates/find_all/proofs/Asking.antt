@@ -18,9 +18,11 @@ use Rattle.layout.specs.Tables.{Tables, tables}
 use Rattle.layout.specs.Formed.{WellFormed}
 use Rattle.layout.specs.Reads.{values_of}
 use Rattle.layout.specs.Relations.{Counts, counts_of, FoundBy}
-use Rattle.index_read.specs.Answers.{found_of}
+use Rattle.std.specs.Prelude.{Result, Ok, Err}
+use Rattle.refusals.specs.declared.Refusal.{Refusal as Named}
+use Rattle.refusals.specs.Numbers.{number_of, answer_by}
+use Rattle.index_read.specs.Answers.{counts_given}
 use Rattle.index_read.specs.declared.Found.{Found as Told}
-use Rattle.index_read.specs.declared.Found.TheVariants.{Listed, Refused}
 use Rattle.index_test.specs.Board.{Outcome}
 use Rattle.index_test.specs.declared.State.{State}
 use Rattle.index_test.specs.declared.State.TheVariants.{Bad, Open, Closed}
@@ -77,15 +79,15 @@ found_behind {queries = queries} {numbers} {out} {i} {used} inside f =
     let first : 3 * i + 0 ≡ 3 * i = omega arith in
     record { out = out; tested = rw first (rw part at f); is = rw (rest, append-nil out) refl }
 
-module _ {s : State} {blocks nodes entries queries answers answers' numbers numbers' : List ℕ} {i used : ℕ} {r : Told} where
-  pub one-listed : {count visited used' : ℕ} → r ≡ Listed count visited → FoundBehind s blocks nodes entries queries i numbers used numbers' (found_of r)
-      → answers' ≡ sets answers (3 * i) (0 ∷ count ∷ visited ∷ []) → used' ≡ min (used + count) (length numbers)
+module _ {s : State} {blocks nodes entries queries answers answers' numbers numbers' : List ℕ} {i used : ℕ} {r : Result Told Named} where
+  pub one-listed : {found : Told} {used' : ℕ} → r ≡ Ok found → FoundBehind s blocks nodes entries queries i numbers used numbers' (answer_by counts_given r)
+      → answers' ≡ sets answers (3 * i) (0 ∷ found.count ∷ found.visited ∷ []) → used' ≡ min (used + found.count) (length numbers)
       → FoundOne s blocks nodes entries queries i answers answers' numbers numbers' used used'
-  one-listed {count} {visited} e f p b = record { answer = found_of (Listed count visited); found = rw e at f; shown = p; behind = b }
+  one-listed {found} e f p b = record { answer = accepted (counts_given found); found = rw e at f; shown = p; behind = b }
 
-  pub one_refused : {n : ℕ} → r ≡ Refused n → FoundBehind s blocks nodes entries queries i numbers used numbers' (found_of r)
+  pub one_refused : {x : Named} {n : ℕ} → r ≡ Err x → n ≡ number_of x → FoundBehind s blocks nodes entries queries i numbers used numbers' (answer_by counts_given r)
       → answers' ≡ sets answers (3 * i) (n ∷ 0 ∷ 0 ∷ []) → used ≤ length numbers → FoundOne s blocks nodes entries queries i answers answers' numbers numbers' used used
-  one_refused {n} e f p b = record { answer = refused n; found = rw e at f; shown = p; behind = omega arith }
+  one_refused {x} e m f p b = record { answer = refused (number_of x); found = rw e at f; shown = rw m at p; behind = omega arith }
 
 pub ruleset ones = (one-listed, one_refused)
 

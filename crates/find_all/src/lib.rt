@@ -8,17 +8,19 @@
 
 ghost use Rattle.std.specs.Prelude.{◌+◌, ◌*◌, ◌≤◌, min, ◌≡◌, length};
 ghost use Rattle.layout.specs.Tables.{tables};
-ghost use Rattle.index_read.specs.Answers.{found_of};
+ghost use Rattle.refusals.specs.Numbers.{answer_by};
+ghost use Rattle.index_read.specs.Answers.{counts_given};
 ghost use Rattle.find_all.specs.Many.{FoundBehind, FoundOne, FoundAll};
 
 use index::Found;
 use index_test::State;
+use refusals::Refusal;
 
 // The place behind so many numbers more, held to the room that there is.
 fn behind(used: usize, count: u64, room: usize) -> usize
     ensures { result ≡ min (used + count) room }
 {
-    tables::smaller(tables::plus(used as u64, count), room as u64) as usize
+    (used as u64).saturating_add(count).min(room as u64) as usize
 }
 
 // Asks query i, lent the numbers behind `used` others.
@@ -31,11 +33,11 @@ fn find_behind(
     i: usize,
     numbers: &mut [u64],
     used: usize,
-) -> Found
+) -> Result<Found, Refusal>
     requires i_in_bounds { 3 * i + 3 ≤ length queries.now }
     requires used_in_bounds { used ≤ length numbers.old }
     ensures { FoundBehind state blocks.now nodes.now entries.now queries.now i
-        numbers.old used numbers.new (found_of result) }
+        numbers.old used numbers.new (answer_by counts_given result) }
 {
     let at = 3 * i;
     let tick = queries[at];
@@ -72,14 +74,13 @@ fn find_one(
         answers.old answers.new numbers.old numbers.new used result }
 {
     let room = numbers.len();
-    let found = find_behind(state, blocks, nodes, entries, queries, i, numbers, used);
-    match found {
-        Found::Listed { count, visited } => {
-            call_lists::put_three(answers, 3 * i, 0, count, visited);
-            behind(used, count, room)
+    match find_behind(state, blocks, nodes, entries, queries, i, numbers, used) {
+        Ok(found) => {
+            call_lists::put_three(answers, 3 * i, 0, found.count, found.visited);
+            behind(used, found.count, room)
         }
-        Found::Refused(number) => {
-            call_lists::put_three(answers, 3 * i, number, 0, 0);
+        Err(refusal) => {
+            call_lists::put_three(answers, 3 * i, u64::from(refusal), 0, 0);
             used
         }
     }
@@ -100,14 +101,12 @@ pub fn find_all(
         queries.now answers.old answers.new numbers.old numbers.new result }
 {
     let state = index_test::test(pieces, blocks, store, nodes, entries);
-    let most = tables::smaller(queries.len() as u64, answers.len() as u64) as usize / 3;
-    let mut i = 0;
+    let most = queries.len().min(answers.len()) / 3;
     let mut used = 0;
-    while i < most {
+    for i in 0..most {
         used = find_one(
             state, blocks, nodes, entries, queries, i, answers, numbers, used,
         );
-        i += 1;
     }
     most
 }

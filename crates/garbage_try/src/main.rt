@@ -4,11 +4,12 @@
 
 #![tactic(auto)]
 
-use index::{Finished, Found, Given, Index, Opened};
-use index_record::Recorded;
-use tables::{ROW, block};
+ghost use Rattle.std.specs.Prelude.{◌≤◌};
 
-const WAYS: u64 = 6;
+use index::Index;
+use tables::{ROW, block};
+use tally::Tally;
+
 // Tables have up to so many numbers.
 const LENGTHS: usize = 40;
 // The block table is shorter than a row, and again as long behind what stands in front of the last row of its head.
@@ -16,276 +17,195 @@ const FRONT: usize = block::HEAD - ROW;
 
 const BLOCKS: usize = FRONT + LENGTHS;
 
+// The refusal of tables that are no index.
+const NO_INDEX: Option<u64> = Some(2);
+
 // ── tables ──
 
-// What stands at a place.
-fn garbage(place: usize, way: u64) -> u64 {
-    if way == 0 {
-        return 0;
-    }
-    if way == 1 {
-        return u64::MAX;
-    }
-    if way == 2 {
-        return 1;
-    }
-    if way == 3 {
-        return place as u64 % 7;
-    }
-    if way == 4 {
-        return 1 << 63;
-    }
-    place as u64 % 1000 * 2654435761 % 65537
+// What stands in the tables.
+#[derive(Clone, Copy)]
+enum Garbage {
+    Zeros,
+    Largest,
+    Ones,
+    Small,
+    High,
+    Spread,
 }
 
-fn fill(table: &mut [u64], way: u64) {
-    let mut i = 0;
-    while i < table.len() {
-        table[i] = garbage(i, way);
-        i += 1;
-    }
-}
-
-fn stays(table: &[u64], way: u64) -> bool {
-    let mut i = 0;
-    while i < table.len() {
-        if table[i] != garbage(i, way) {
-            return false;
+impl Garbage {
+    // What stands at a place.
+    fn at(self, place: usize) -> u64 {
+        match self {
+            Garbage::Zeros => 0,
+            Garbage::Largest => u64::MAX,
+            Garbage::Ones => 1,
+            Garbage::Small => place as u64 % 7,
+            Garbage::High => 1 << 63,
+            Garbage::Spread => place as u64 % 1000 * 2654435761 % 65537,
         }
-        i += 1;
     }
-    true
+
+    fn fill(self, table: &mut [u64]) {
+        for (place, number) in table.iter_mut().enumerate() {
+            *number = self.at(place);
+        }
+    }
+
+    fn stays(self, table: &[u64]) -> bool {
+        table
+            .iter()
+            .enumerate()
+            .all(|(place, &number)| number == self.at(place))
+    }
+}
+
+// The five tables that each call is lent.
+#[derive(Drop)]
+struct Tables<'a> {
+    pieces: &'a mut [u64],
+    blocks: &'a mut [u64],
+    store: &'a mut [u8],
+    nodes: &'a mut [u64],
+    entries: &'a mut [u64],
 }
 
 // ── calls ──
 
-fn try_record(
-    tally: &mut [u64],
-    pieces: &mut [u64],
-    blocks: &mut [u64],
-    store: &mut [u8],
-    nodes: &[u64],
-    entries: &[u64],
-    number: u64,
-) {
+fn try_record(tally: &mut Tally, t: &mut Tables<'_>, wanted: Option<u64>) {
     let scratch = [0; 72];
-    let answer = index::record_op(pieces, blocks, store, nodes, entries, &scratch, 0, 5, b"1");
-    match answer {
-        Recorded::Read => tally::compare_answer(tally, 0, number),
-        Recorded::Update(_) => tally::compare_answer(tally, 0, number),
-        Recorded::Refused(n) => tally::compare_answer(tally, n, number),
-    }
+    let nodes = &mut *t.nodes;
+    let entries = &mut *t.entries;
+    let answer = index::record_op(
+        t.pieces, t.blocks, t.store, nodes, entries, &scratch, 0, 5, b"1",
+    );
+    let told = match answer {
+        Ok(_) => None,
+        Err(refusal) => Some(u64::from(refusal)),
+    };
+    tally.compare_answer(told, wanted);
 }
 
-fn try_finish(
-    tally: &mut [u64],
-    pieces: &mut [u64],
-    blocks: &mut [u64],
-    store: &[u8],
-    nodes: &mut [u64],
-    entries: &mut [u64],
-) {
-    let answer = index::finalize(pieces, blocks, store, nodes, entries);
-    match answer {
-        Finished::Finished => tally::compare_answer(tally, 0, 2),
-        Finished::Refused(n) => tally::compare_answer(tally, n, 2),
-    }
+fn try_finish(tally: &mut Tally, t: &mut Tables<'_>) {
+    let store = &mut *t.store;
+    let told = match index::finalize(t.pieces, t.blocks, store, t.nodes, t.entries) {
+        Ok(()) => None,
+        Err(refusal) => Some(u64::from(refusal)),
+    };
+    tally.compare_answer(told, NO_INDEX);
 }
 
 // A refused block has no bytes.
-fn try_block(
-    tally: &mut [u64],
-    pieces: &[u64],
-    blocks: &[u64],
-    store: &[u8],
-    nodes: &[u64],
-    entries: &[u64],
-) {
-    let bytes = index::block_bytes(pieces, blocks, store, nodes, entries, 0);
-    tally::compare(tally, bytes.len() == 0);
-    let given = index::block(pieces, blocks, store, nodes, entries, 0);
-    match given {
-        Given::Block {
-            kind: _,
-            first: _,
-            length: _,
-            created: _,
-            destroyed: _,
-            offset: _,
-        } => tally::compare_answer(tally, 0, 2),
-        Given::Refused(n) => tally::compare_answer(tally, n, 2),
-    }
+fn try_block(tally: &mut Tally, t: &Tables<'_>) {
+    let bytes = index::block_bytes(t.pieces, t.blocks, t.store, t.nodes, t.entries, 0);
+    tally.compare(bytes.is_empty());
+    let told = match index::block(t.pieces, t.blocks, t.store, t.nodes, t.entries, 0) {
+        Ok(_) => None,
+        Err(refusal) => Some(u64::from(refusal)),
+    };
+    tally.compare_answer(told, NO_INDEX);
 }
 
-fn try_find(
-    tally: &mut [u64],
-    pieces: &[u64],
-    blocks: &[u64],
-    store: &[u8],
-    nodes: &[u64],
-    entries: &[u64],
-) {
+fn try_find(tally: &mut Tally, t: &Tables<'_>) {
     let mut answer = [0; 9];
-    let found = index::find(pieces, blocks, store, nodes, entries, 0, 0, 9, &mut answer);
-    match found {
-        Found::Listed {
-            count: _,
-            visited: _,
-        } => tally::compare_answer(tally, 0, 2),
-        Found::Refused(n) => tally::compare_answer(tally, n, 2),
-    }
+    let asked = index::find(
+        t.pieces,
+        t.blocks,
+        t.store,
+        t.nodes,
+        t.entries,
+        0,
+        0,
+        9,
+        &mut answer,
+    );
+    let told = match asked {
+        Ok(_) => None,
+        Err(refusal) => Some(u64::from(refusal)),
+    };
+    tally.compare_answer(told, NO_INDEX);
 }
 
 // ── what is tried ──
 
-fn try_updates(
-    tally: &mut [u64],
-    pieces: &mut [u64],
-    blocks: &mut [u64],
-    store: &mut [u8],
-    nodes: &mut [u64],
-    entries: &mut [u64],
-) {
-    try_record(tally, pieces, blocks, store, nodes, entries, 2);
-    try_finish(tally, pieces, blocks, store, nodes, entries);
-}
-
-fn try_reads(
-    tally: &mut [u64],
-    pieces: &[u64],
-    blocks: &[u64],
-    store: &[u8],
-    nodes: &[u64],
-    entries: &[u64],
-) {
-    try_block(tally, pieces, blocks, store, nodes, entries);
-    try_find(tally, pieces, blocks, store, nodes, entries);
-}
-
-fn all_stay(pieces: &[u64], blocks: &[u64], nodes: &[u64], entries: &[u64], way: u64) -> bool {
-    if !stays(pieces, way) {
-        return false;
-    }
-    if !stays(blocks, way) {
-        return false;
-    }
-    if !stays(nodes, way) {
-        return false;
-    }
-    stays(entries, way)
+fn all_stay(t: &Tables<'_>, garbage: Garbage) -> bool {
+    garbage.stays(t.pieces)
+        && garbage.stays(t.blocks)
+        && garbage.stays(t.nodes)
+        && garbage.stays(t.entries)
 }
 
 // Garbage is refused by each call, and nothing has changed.
-fn try_refused(
-    tally: &mut [u64],
-    pieces: &mut [u64],
-    blocks: &mut [u64],
-    store: &mut [u8],
-    nodes: &mut [u64],
-    entries: &mut [u64],
-    way: u64,
-) {
-    try_updates(tally, pieces, blocks, store, nodes, entries);
-    try_reads(tally, pieces, blocks, store, nodes, entries);
-    tally::compare(tally, all_stay(pieces, blocks, nodes, entries, way));
+fn try_refused(tally: &mut Tally, t: &mut Tables<'_>, garbage: Garbage) {
+    try_record(tally, t, NO_INDEX);
+    try_finish(tally, t);
+    try_block(tally, t);
+    try_find(tally, t);
+    tally.compare(all_stay(t, garbage));
 }
 
 // What comes of a record in an opened block table of a length.
-fn comes(length: usize) -> u64 {
+fn comes(length: usize) -> Option<u64> {
     if length < block::HEAD {
-        return 2;
+        NO_INDEX
+    } else if length < block::HEAD + ROW {
+        Some(9)
+    } else {
+        None
     }
-    if length < block::HEAD + ROW {
-        return 9;
-    }
-    0
 }
 
 // Garbage is opened.
-fn try_opened(
-    tally: &mut [u64],
-    pieces: &mut [u64],
-    blocks: &mut [u64],
-    store: &mut [u8],
-    nodes: &mut [u64],
-    entries: &mut [u64],
-) {
-    let number = comes(blocks.len());
-    let answer = Index::open(pieces, blocks, store, nodes, entries, 8, 1);
-    let told = match answer {
-        Opened::Opened => 0,
-        Opened::Refused(n) => n,
+fn try_opened(tally: &mut Tally, t: &mut Tables<'_>) {
+    let wanted = comes(t.blocks.len());
+    let store = &mut *t.store;
+    let told = match Index::open(t.pieces, t.blocks, store, t.nodes, t.entries, 8, 1) {
+        Ok(()) => None,
+        Err(refusal) => Some(u64::from(refusal)),
     };
-    tally::compare_answer(tally, told, 0);
-    try_record(tally, pieces, blocks, store, nodes, entries, number);
+    tally.compare_answer(told, None);
+    try_record(tally, t, wanted);
 }
 
-fn try_tables(
-    tally: &mut [u64],
-    pieces: &mut [u64],
-    blocks: &mut [u64],
-    store: &mut [u8],
-    nodes: &mut [u64],
-    entries: &mut [u64],
-    way: u64,
-) {
-    try_refused(tally, pieces, blocks, store, nodes, entries, way);
-    try_opened(tally, pieces, blocks, store, nodes, entries);
-}
-
-fn try_length(tally: &mut [u64], length: usize, of_blocks: usize, way: u64) {
+fn try_length(tally: &mut Tally, length: usize, of_blocks: usize, garbage: Garbage)
+    requires within { length ≤ LENGTHS }
+    requires blocks_within { of_blocks ≤ BLOCKS }
+{
     let mut pieces = [0; LENGTHS];
     let mut blocks = [0; BLOCKS];
     let mut store = [0; LENGTHS];
     let mut nodes = [0; LENGTHS];
     let mut entries = [0; LENGTHS];
-    if LENGTHS < length {
-        return;
-    }
-    if BLOCKS < of_blocks {
-        return;
-    }
-    fill(&mut pieces, way);
-    fill(&mut blocks, way);
-    fill(&mut nodes, way);
-    fill(&mut entries, way);
-    try_tables(
-        tally,
-        &mut pieces[0..length],
-        &mut blocks[0..of_blocks],
-        &mut store[0..length],
-        &mut nodes[0..length],
-        &mut entries[0..length],
-        way,
-    );
+    garbage.fill(&mut pieces);
+    garbage.fill(&mut blocks);
+    garbage.fill(&mut nodes);
+    garbage.fill(&mut entries);
+    let mut t = Tables {
+        pieces: &mut pieces[..length],
+        blocks: &mut blocks[..of_blocks],
+        store: &mut store[..length],
+        nodes: &mut nodes[..length],
+        entries: &mut entries[..length],
+    };
+    try_refused(tally, &mut t, garbage);
+    try_opened(tally, &mut t);
 }
 
-fn try_way(tally: &mut [u64], way: u64) {
-    let mut many = 0;
-    while many <= LENGTHS {
-        try_length(tally, many, many % ROW, way);
-        try_length(tally, many, FRONT + many, way);
-        many += 1;
-    }
-}
-
-fn try_garbage(tally: &mut [u64]) {
-    let mut way = 0;
-    while way < WAYS {
-        try_way(tally, way);
-        way += 1;
+fn try_garbage(tally: &mut Tally, garbage: Garbage) {
+    for length in 0..LENGTHS + 1 {
+        try_length(tally, length, length % ROW, garbage);
+        try_length(tally, length, FRONT + length, garbage);
     }
 }
 
 fn main(rt: HostRuntime) {
-    let mut tally = [0; 8];
+    let mut tally = Tally::default();
     let mut line = [0; tally::LINE];
-    try_garbage(&mut tally);
-    tally::print(
-        &rt.stdout(),
-        &mut line,
-        &tally,
-        tally::REFUSED,
-        b" calls refused",
-    );
+    try_garbage(&mut tally, Garbage::Zeros);
+    try_garbage(&mut tally, Garbage::Largest);
+    try_garbage(&mut tally, Garbage::Ones);
+    try_garbage(&mut tally, Garbage::Small);
+    try_garbage(&mut tally, Garbage::High);
+    try_garbage(&mut tally, Garbage::Spread);
+    tally.print(&rt.stdout(), &mut line, b" calls refused");
 }

@@ -1,11 +1,12 @@
 -- The rows of a tick, along which a stretch is counted: one step for each turn and each return. Assumes nothing.
 use mathlib.Core.Path.{◌≡◌, refl, sym, ◌∙◌}
 use mathlib.Core.Logic.{inl, inr}
-use mathlib.Core.List.{List, [], ◌∷◌}
-use Prim.Native.Nat.{ℕ, zero, suc, ◌+◌, ◌-◌, ◌*◌, ◌≤◌, ◌<◌, min, max}
+use mathlib.Core.List.{List}
+use Prim.Native.Nat.{ℕ, ◌+◌, ◌-◌, ◌*◌, ◌≤◌, ◌<◌, min, max}
 use native.Mathlib.Omega.{arith}
 use lib.ListN.{length, get_or, set, length-set}
 use lib.Seq.{get_or-set_same, get_or-set_other}
+use Rattle.std.proofs.lemmas.List.{get_or_past}
 use Rattle.lists.proofs.Numbers.{lt_or_le, eq_or_ne}
 use Rattle.history.specs.Lent.{row_width}
 use Rattle.tables.specs.Columns.{block_column, block_base, block_first, block_length, block_destroyed, block_next}
@@ -28,17 +29,12 @@ only_both o p = record { len = p.len ∙ o.len; same = λ i f. p.same i f ∙ o.
 only_set : (b : List ℕ) {n : ℕ} (link v : ℕ) → link ≤ n → OnlyOrder b (set b (next_place link) v) n
 only_set b link v h = record { len = length-set b (next_place link) v; same = λ i f. get_or-set_other b (next_place link) i v 0 (f link h) }
 
-past_end : (l : List ℕ) (i : ℕ) → length l ≤ i → get_or l i 0 ≡ 0
-past_end [] i h = refl
-past_end (x ∷ l) zero h = absurd (omega arith)
-past_end (x ∷ l) (suc i) h = past_end l i (omega arith)
-
 -- a store past the end is none, and reads as 0
 set_at_most : (b : List ℕ) (i v : ℕ) → get_or (set b i v) i 0 ≤ v
 set_at_most b i v =
     elim (lt_or_le i (length b)) [
       | inl h ↦ omega (arith, get_or-set_same b i v 0 h)
-      | inr h ↦ omega (arith, past_end (set b i v) i (omega (arith, length-set b i v)))
+      | inr h ↦ omega (arith, get_or_past (set b i v) i 0 (omega (arith, length-set b i v)))
     ]
 
 -- ── along the rows ──
@@ -48,10 +44,6 @@ pub record Along (b₀ b : List ℕ) (n first length tick i : ℕ) : Type 0 wher
   pub only : OnlyOrder b₀ b n
   pub done : (j : ℕ) → Grows b₀ b first length tick j
   pub rest : (j : ℕ) → i < j → next_at b j ≡ next_at b₀ j
-
-pub common_told : {row : Row} {first length one other lo hi r : ℕ} → lo ≡ max row.first first → one ≡ plus_up_to row.first row.length
-    → other ≡ plus_up_to first length → hi ≡ min one other → r ≡ hi - lo → Common row first length r
-common_told l o p h e = record { is = e ∙ rw (h, o, p, l) }
 
 -- what is in common is not more than without the cut
 common_most : {row : Row} {first length r : ℕ} → Common row first length r → r ≤ in_common row.first row.length first length

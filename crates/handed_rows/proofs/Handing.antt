@@ -1,13 +1,11 @@
 -- Rows that are taken over whole, and ends apart, show rule 24 of blocks and pieces: theorem H. Pieces are destroyed at a tick after all others, so that
 -- nothing is owed for them, and H1 asks only that they share no cell. Assumes nothing.
 use mathlib.Core.Path.{◌≡◌, refl, sym, subst, ◌∙◌}
-use mathlib.Core.Bool.{Bool, true, false, not, false≢true}
+use mathlib.Core.Bool.{Bool, true}
 use mathlib.Core.Logic.{◌⊎◌, inl, inr}
 use mathlib.Core.List.{List}
 use Prim.Native.Nat.{ℕ, zero, suc, ◌+◌, ◌-◌, ◌≤◌, ◌<◌, max}
 use native.Mathlib.Omega.{arith}
-use lib.ListN.{length}
-use borrow.Author.Tests.{not-false}
 use Rattle.lists.specs.Lists.{count, count_from}
 use Rattle.lists.proofs.Numbers.{lt_or_le, eq_or_ne}
 use Rattle.lists.proofs.Lists.{all_of_at, pairs_at, pairs_of_at, mem_place}
@@ -158,12 +156,9 @@ module _ (g : Given) (end : ℕ) (after : end < g.gone) (sound : Sound g.pieces 
 
 -- ── the returns of `handed_on` ──
 
-pub handed-not : {pieces b : List ℕ} {n m : ℕ} → SeenHanded pieces b n m b false
-handed-not = record { kept = λ _. refl; shown = λ e. absurd (false≢true e) }
-
-pub handed-told : {pieces b b₁ b₂ b₃ : List ℕ} {n m : ℕ} {q r : Bool} → turns.SeenApart b n q → not q ≡ false → TalliedRows b b₁ n → m ≡ column pieces 0 pieces_count
+pub handed_told : {pieces b b₁ b₂ b₃ : List ℕ} {n m : ℕ} {q r : Bool} → turns.SeenApart b n q → q ≡ true → TalliedRows b b₁ n → m ≡ column pieces 0 pieces_count
     → TalliedPieces pieces m b₁ b₂ n → AllTaken b₂ n r → b₃ ≡ cleared b₂ n → SeenHanded pieces b n (column pieces 0 pieces_count) b₃ r
-handed-told {pieces} {b} {b₁} {b₂} {b₃} {n} {m} {q} {r} ends f rows em more all e = rw (← em) (record { kept = kept; shown = shown })
+handed_told {pieces} {b} {b₁} {b₂} {b₃} {n} {m} {q} {r} ends f rows em more all e = rw (← em) (record { kept = kept; shown = shown })
   where
     given : ℕ → Given
     given gone = record { pieces = pieces; blocks = b; n = n; m = m; gone = gone }
@@ -177,10 +172,12 @@ handed-told {pieces} {b} {b₁} {b₂} {b₃} {n} {m} {q} {r} ends f rows em mor
     shown : r ≡ true → Unordered b n → (end : ℕ) → Sound pieces b n m end → RowsApart pieces b n m
     shown y u end s =
         let t : Tallied (given (suc end)) b₂ (n + m) = whole (suc end) (λ link p k. omega (arith, s.written link p k)) u in
-        rows_apart (given (suc end)) end (omega arith) s (ends.shown (not-false q f) s.no_wrap) t (taken t)
+        rows_apart (given (suc end)) end (omega arith) s (ends.shown f s.no_wrap) t (taken t)
       where
         taken : {gone : ℕ} → Tallied (given gone) b₂ (n + m) → (link : ℕ) → 0 < link → link ≤ n → LivesAt b link → length_at b link ≤ next_at b₂ link
         taken t link p k lives =
             rw (← order_column t.only link block_length (omega arith) (λ z. omega arith))
             (all.shown y link p k
             (rw (order_column t.only link block_created (omega arith) (λ z. omega arith), order_column t.only link block_destroyed (omega arith) (λ z. omega arith)) lives))
+
+pub ruleset handing = (handed_told)

@@ -1,14 +1,10 @@
 -- What is counted for each row when the first k of all rows were looked at: one step for each turn and each return. Assumes nothing.
 use mathlib.Core.Path.{◌≡◌, sym, subst, ◌∙◌}
-use mathlib.Core.Bool.{Bool, true, false, not, false≢true}
-use mathlib.Core.Logic.{inl, inr}
 use mathlib.Core.List.{List, [], ◌∷◌, ◌++◌}
 use Prim.Native.Nat.{ℕ, suc, ◌+◌, ◌≤◌, ◌<◌}
 use native.Mathlib.Omega.{arith}
 use native.Mathlib.Numerals.{add-one}
-use borrow.Author.Tests.{not-false}
 use Rattle.lists.specs.Lists.{count_from}
-use Rattle.lists.proofs.Numbers.{lt_or_le}
 use Rattle.lists.proofs.Lists.{count-append}
 use Rattle.lists.proofs.Counting.{count_from_append}
 use Rattle.history.specs.Words.{Block}
@@ -22,9 +18,8 @@ use Rattle.apart_laws.specs.Slots.{stretch_at, Slot, Counts, TakesIn}
 use Rattle.apart_laws.proofs.Slots.{slot_steps}
 use Rattle.block_table.specs.declared.Row.{Row}
 use Rattle.block_table.specs.RowRead.{Reads}
-use Rattle.ends_apart.specs.Rows.{LivesAt}
 use Rattle.handed_rows.specs.Numbered.{Given, all_rows}
-use Rattle.handed_rows.specs.Handed.{in_common, Grows, stays, takes, HandsOn, slot_at, Tallied, TalliedRows, Written, TalliedPieces, TakenOver, AllTaken}
+use Rattle.handed_rows.specs.Handed.{in_common, Grows, stays, takes, HandsOn, slot_at, Tallied, TalliedRows, Written, TalliedPieces}
 use Rattle.handed_rows.proofs.Numbered.{Is, row_is, piece_is}
 use Rattle.handed_rows.proofs.Along.{only_same, only_both}
 
@@ -98,8 +93,8 @@ module _ {b₀ b : List ℕ} {n k : ℕ} {row : Row} (t : RowsTo b₀ b n k) (h 
   pub rows_pass : RowsTo b₀ b n (k + 1)
   rows_pass = record { within = omega arith; only = t.only; done = λ g eb en u. tally_on (t.done g eb en u) }
 
-  pub rows-count : {b' : List ℕ} → row.created < row.destroyed → HandsOn b b' n row.first row.length row.created → RowsTo b₀ b' n (k + 1)
-  rows-count {b'} lives hands = record { within = omega arith; only = only_both t.only hands.only; done = go }
+  pub rows_count : {b' : List ℕ} → row.created < row.destroyed → HandsOn b b' n row.first row.length row.created → RowsTo b₀ b' n (k + 1)
+  rows_count {b'} lives hands = record { within = omega arith; only = only_both t.only hands.only; done = go }
     where
       go : (g : Given) → g.blocks ≡ b₀ → g.n ≡ n → Unordered b₀ n → Tallied g b' (k + 1)
       go g eb en u =
@@ -118,7 +113,7 @@ module _ {b₀ b : List ℕ} {n k : ℕ} {row : Row} (t : RowsTo b₀ b n k) (h 
 pub rows_end : {b₀ b : List ℕ} {n k : ℕ} → RowsTo b₀ b n k → n ≤ k → TalliedRows b₀ b n
 rows_end {b₀} {b} {n} {k} t h = record { only = t.only; done = λ g eb en u. let e : n ≡ k = omega (arith, t.within) in rw e (t.done g eb en u) }
 
-pub ruleset rows = (rows_start, rows_end)
+pub ruleset rows = (rows_end)
 
 -- ── the loop of `tally_pieces` ──
 
@@ -147,30 +142,3 @@ pub pieces_end : {pieces b₀ b : List ℕ} {m n k : ℕ} → PiecesTo pieces m 
 pieces_end {pieces} {b₀} {b} {m} {n} {k} t h = record { only = t.only; done = λ g ep em en w s. let e : m ≡ k = omega (arith, t.within) in rw e (t.done g ep em en w s) }
 
 pub ruleset pieces = (pieces_start, pieces_end)
-
--- ── the loop of `all_taken` ──
-
-pub record TakenTo (b : List ℕ) (k : ℕ) : Type 0 where
-  pub shown : (link : ℕ) → 0 < link → link ≤ k → LivesAt b link → length_at b link ≤ next_at b link
-
-pub taken_start : {b : List ℕ} → TakenTo b 0
-taken_start = record { shown = λ link p q. absurd (omega arith) }
-
-pub taken_turn : {b : List ℕ} {k : ℕ} {row : Row} {q : Bool} → TakenTo b k → Reads b (k + 1) row → TakenOver row q → not q ≡ false → TakenTo b (k + 1)
-taken_turn {b} {k} {row} {q} t r o f = record { shown = go }
-  where
-    go : (link : ℕ) → 0 < link → link ≤ k + 1 → LivesAt b link → length_at b link ≤ next_at b link
-    go link p u lives =
-        elim (lt_or_le k link) [
-          | inl h ↦ let e : link ≡ k + 1 = omega arith in
-              rw e (omega (arith, r.length, r.next, o.shown (not-false q f) (omega (arith, r.created, r.destroyed, rw e at lives))))
-          | inr h ↦ t.shown link p h lives
-        ]
-
-pub taken_not : {b : List ℕ} {n : ℕ} → AllTaken b n false
-taken_not = record { shown = λ e. absurd (false≢true e) }
-
-pub taken_end : {b : List ℕ} {n k : ℕ} → TakenTo b k → n ≤ k → AllTaken b n true
-taken_end t h = record { shown = λ _ link p q. t.shown link p (omega arith) }
-
-pub ruleset taking = (taken_start, taken_turn, taken_end, taken_not)

@@ -16,89 +16,104 @@ ghost use Rattle.tables.specs.Columns.{column, pieces_count};
 ghost use Rattle.handed_rows.specs.Handed.{Common, HandsOn, TalliedRows, TalliedPieces, TakenOver, AllTaken, SeenHanded};
 
 use block_table::Row;
+use row_seek::{MARKS, Mark};
 use tables::{block, piece};
 
 // How many rows of a tick are passed over before the cell is sought among them, and again after that.
 const MANY: u64 = 64;
 
+// Cells that are taken over at a tick by what is created then.
+#[derive(Clone, Copy)]
+struct Stretch {
+    first: u64,
+    length: u64,
+    tick: u64,
+}
+
 // How many cells the row has in common with a stretch.
-fn common(row: Row, first: u64, length: u64) -> u64
-    ensures { Common row first length result }
+fn common(row: Row, stretch: Stretch) -> u64
+    ensures { Common row stretch.first stretch.length result }
 {
-    let lo = tables::larger(row.first, first);
-    let hi = tables::smaller(
-        tables::plus(row.first, row.length),
-        tables::plus(first, length),
-    );
-    tables::minus(hi, lo)
+    let lo = row.first.max(stretch.first);
+    let end = stretch.first.saturating_add(stretch.length);
+    let hi = row.first.saturating_add(row.length).min(end);
+    hi.saturating_sub(lo)
 }
 
 // The row before the next one to look at, when so many more may be passed over.
-fn passed(blocks: &[u64], i: u64, n: u64, first: u64, tick: u64, left: u64) -> u64
+fn passed(blocks: &[u64], i: u64, n: u64, stretch: Stretch, left: u64) -> u64
     ensures { i ≤ result }
 {
-    if left == MANY {
-        return row_seek::search(blocks, i, n, tick, tick, first, 0);
+    if left != MANY {
+        return i;
     }
-    i
+    let from = Mark {
+        row: i,
+        tick: stretch.tick,
+    };
+    row_seek::search(blocks, from, n, stretch.tick, stretch.first, 0)
 }
 
-// Counts a stretch that is created at a tick, for the rows that are destroyed then and have cells in common with it. Where a row is full already, two
-// stretches have a cell in common, and no more is counted.
-fn hand_on(blocks: &mut [u64], n: u64, marks: &[u64; 128], first: u64, length: u64, tick: u64)
-    ensures { HandsOn blocks.old blocks.new n first length tick }
+// Counts a stretch for the rows that are destroyed at its tick and have cells in common with it. Where a row is full already, two stretches have a cell
+// in common, and no more is counted.
+#[tactic(auto, using(crate::proofs::Along::along))]
+fn hand_on(blocks: &mut [u64], n: u64, marks: &[Mark; MARKS], stretch: Stretch)
+    ensures { HandsOn blocks.old blocks.new n stretch.first stretch.length stretch.tick }
 {
-    let mut i = row_seek::seek(blocks, n, marks, tick);
+    let mut i = row_seek::seek(blocks, n, marks, stretch.tick);
     let mut left = 2 * MANY;
     while i < n {
         i += 1;
         let row = block_table::read(blocks, i);
-        if row.destroyed != tick {
+        if row.destroyed != stretch.tick {
             return;
         }
-        let part = common(row, first, length);
+        let part = common(row, stretch);
         if part == 0 {
             if left == 0 {
                 return;
             }
             left -= 1;
-            i = passed(blocks, i, n, first, tick, left);
+            i = passed(blocks, i, n, stretch, left);
         } else {
             if row.length <= row.next {
                 return;
             }
-            block::put(blocks, i, block::NEXT, tables::plus(row.next, part));
+            block::put(blocks, i, block::NEXT, row.next.saturating_add(part));
         }
     }
 }
 
 // Counts the blocks 1 to n that have a life.
-fn tally_rows(blocks: &mut [u64], n: u64, marks: &[u64; 128])
+#[tactic(auto, using(crate::proofs::Tallying::rows))]
+fn tally_rows(blocks: &mut [u64], n: u64, marks: &[Mark; MARKS])
     ensures { TalliedRows blocks.old blocks.new n }
 {
-    let mut k = 0;
-    while k < n {
+    for k in 0..n {
         let row = block_table::read(blocks, k + 1);
         if row.created < row.destroyed {
-            hand_on(blocks, n, marks, row.first, row.length, row.created);
-            k += 1;
-        } else {
-            k += 1;
+            let stretch = Stretch {
+                first: row.first,
+                length: row.length,
+                tick: row.created,
+            };
+            hand_on(blocks, n, marks, stretch);
         }
     }
 }
 
 // Counts the pieces of the rows 1 to m, in whatever order they stand.
-fn tally_pieces(pieces: &[u64], m: u64, blocks: &mut [u64], n: u64, marks: &[u64; 128])
+#[tactic(auto, using(crate::proofs::Tallying::pieces))]
+fn tally_pieces(pieces: &[u64], m: u64, blocks: &mut [u64], n: u64, marks: &[Mark; MARKS])
     ensures { TalliedPieces pieces.now m blocks.old blocks.new n }
 {
-    let mut k = 0;
-    while k < m {
-        let first = tables::get(pieces, k + 1, piece::FIRST);
-        let length = tables::get(pieces, k + 1, piece::LENGTH);
-        let written = tables::get(pieces, k + 1, piece::WRITTEN);
-        hand_on(blocks, n, marks, first, length, written);
-        k += 1;
+    for k in 0..m {
+        let stretch = Stretch {
+            first: tables::get(pieces, k + 1, piece::FIRST),
+            length: tables::get(pieces, k + 1, piece::LENGTH),
+            tick: tables::get(pieces, k + 1, piece::WRITTEN),
+        };
+        hand_on(blocks, n, marks, stretch);
     }
 }
 
@@ -106,37 +121,31 @@ fn tally_pieces(pieces: &[u64], m: u64, blocks: &mut [u64], n: u64, marks: &[u64
 fn taken_over(row: Row) -> bool
     ensures { TakenOver row result }
 {
-    if row.destroyed <= row.created {
-        return true;
-    }
-    row.length <= row.next
+    row.destroyed <= row.created || row.length <= row.next
 }
 
 // Whether all rows 1 to n are so.
 fn all_taken(blocks: &[u64], n: u64) -> bool
     ensures { AllTaken blocks.now n result }
 {
-    let mut k = 0;
-    while k < n {
-        let row = block_table::read(blocks, k + 1);
-        if !taken_over(row) {
+    for k in 0..n {
+        if !taken_over(block_table::read(blocks, k + 1)) {
             return false;
         }
-        k += 1;
     }
     true
 }
 
 // Whether no two of the blocks 1 to n and of the pieces are seen to share a cell at a tick, each piece counted as live for ever; if not, nothing is said.
 // The block table, which has no order yet, is as it was. To be called only where the tables have n rows and as many as the pieces say.
+#[tactic(auto, using(crate::proofs::Handing::handing))]
 pub fn handed_on(pieces: &[u64], blocks: &mut [u64], n: u64) -> bool
     ensures { SeenHanded pieces.now blocks.old n (column pieces.now 0 pieces_count) blocks.new result }
 {
     if !ends_apart::ends_apart(blocks, n) {
         return false;
     }
-    let mut marks = [0; 128];
-    row_seek::mark(blocks, n, &mut marks);
+    let marks = row_seek::mark_rows(blocks, n);
     tally_rows(blocks, n, &marks);
     let m = tables::get(pieces, 0, piece::COUNT);
     tally_pieces(pieces, m, blocks, n, &marks);

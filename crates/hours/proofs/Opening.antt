@@ -9,55 +9,46 @@ use native.Mathlib.Omega.{arith}
 use lib.ListN.{length, get_or, drop, drop_of_length-le}
 use lib.Seq.{drop-cons}
 use lib.Dec.{leb, ltb, eqb}
-use borrow.Author.Rules.{rules}
 use borrow.Author.Tests.{lt-ltb, le-leb, eq-eqb, ne_eqb, leb-true, ltb-true}
 use Rattle.lists.proofs.Numbers.{bool_cases, and_left, and_right, or_true}
 use Rattle.history.specs.Days.{Day, minute_of}
 use Rattle.history.specs.Hours.{Window, Calendar, window_at, hours_at, special_at, special_place, calendar_of, most_windows, most_special, special_count, covers, covered, special_of, windows_of, open_minute, open_cell, refused_on, closed_cell}
-use Rattle.hours.specs.Reach.{until_of, windows_from, special_from, SpecialStands, OpenFor, Reaches, Passes}
+use Rattle.std.specs.Prelude.{Some, None}
+use Rattle.hours.specs.Reach.{until_of, windows_from, special_from, StandsAt, OpenFor, Passes}
 use Rattle.history.proofs.HoursLaws.{weekday_at_lem}
 use Rattle.days.specs.Stretches.{Stretches}
 use Rattle.hours.proofs.Rows.{rows_more, rows_none, rows_all}
+
+-- ── options ──
+
+some_same : {a b : ℕ} → Some a ≡ Some b → a ≡ b
+some_same e = cc
 
 -- ── the window that covers a minute ──
 
 pub record UntilRest (numbers : List ℕ) (at minute count j : ℕ) : Type 0 where
   pub below : j ≤ count
-  pub few : count ≤ most_windows
   pub rest : until_of minute (hours_at numbers at).windows ≡ until_of minute (windows_from numbers at j (count - j))
 
-pub until_start : (numbers : List ℕ) (at minute count stated : ℕ) → stated ≡ get_or numbers at 0 → count ≡ min stated most_windows → UntilRest numbers at minute count 0
-unfolding hours_at
-until_start numbers at minute count stated e m =
-    record {
-      below = omega arith;
-      few = omega arith;
-      rest = rw (← e, ← m) (ap (until_of minute) (rows_all (window_at numbers at) count));
-    }
+module _ (numbers : List ℕ) (at minute count : ℕ) where
+  pub until_start : count ≡ min (get_or numbers at 0) most_windows → UntilRest numbers at minute count 0
+  unfolding hours_at
+  until_start m = record { below = omega arith; rest = rw (← m) (ap (until_of minute) (rows_all (window_at numbers at) count)) }
 
-pub until_more : (numbers : List ℕ) (at minute count j from to : ℕ) (r : Bool) → UntilRest numbers at minute count j → j < count
-    → from ≡ (window_at numbers at j).from → to ≡ (window_at numbers at j).to → r ≡ (leb from minute && ltb minute to) → r ≡ false
-    → UntilRest numbers at minute count (j + 1)
-unfolding until_of
-until_more numbers at minute count j from to r u h e f q n =
-    record {
-      below = omega arith;
-      few = u.few;
-      rest = u.rest ∙ rw (rows_more (window_at numbers at) j count h, ← e, ← f, ← q, n);
-    }
+  module _ (j : ℕ) (u : UntilRest numbers at minute count j) where
+    pub until_more : j < count → covers minute (window_at numbers at j) ≡ false → UntilRest numbers at minute count (j + 1)
+    unfolding until_of
+    until_more h n = record { below = omega arith; rest = u.rest ∙ rw (rows_more (window_at numbers at) j count h, n) }
 
-pub until_found : (numbers : List ℕ) (at minute count j from to : ℕ) (r : Bool) → UntilRest numbers at minute count j → j < count
-    → from ≡ (window_at numbers at j).from → to ≡ (window_at numbers at j).to → r ≡ (leb from minute && ltb minute to) → r ≡ true
-    → to ≡ until_of minute (hours_at numbers at).windows
-unfolding until_of
-until_found numbers at minute count j from to r u h e f q n =
-    sym (u.rest ∙ rw (rows_more (window_at numbers at) j count h, ← e, ← f, ← q, n))
+    pub until_found : j < count → covers minute (window_at numbers at j) ≡ true → Some (window_at numbers at j).to ≡ until_of minute (hours_at numbers at).windows
+    unfolding until_of
+    until_found h n = sym (u.rest ∙ rw (rows_more (window_at numbers at) j count h, n))
 
-pub until_none : (numbers : List ℕ) (at minute count j : ℕ) → UntilRest numbers at minute count j → count ≤ j → 0 ≡ until_of minute (hours_at numbers at).windows
-unfolding until_of
-until_none numbers at minute count j u h = sym (u.rest ∙ rw (rows_none (window_at numbers at) j count h))
+    pub until_none : count ≤ j → None ≡ until_of minute (hours_at numbers at).windows
+    unfolding until_of
+    until_none h = sym (u.rest ∙ rw (rows_none (window_at numbers at) j count h))
 
-pub ruleset waiting = (until_start, until_more, until_found, until_none, rules)
+pub ruleset waiting = (until_start, until_more, until_found, until_none)
 
 -- ── special days ──
 
@@ -66,133 +57,103 @@ pub record SpecialRest (numbers : List ℕ) (day count k : ℕ) : Type 0 where
   pub few : count ≤ most_special
   pub rest : special_of day (calendar_of numbers).special ≡ special_of day (special_from numbers k (count - k))
 
-pub special_start : (numbers : List ℕ) (day count stated : ℕ) → stated ≡ get_or numbers special_count 0 → count ≡ min stated most_special
-    → SpecialRest numbers day count 0
-unfolding calendar_of
-special_start numbers day count stated e m =
-    record {
-      below = omega arith;
-      few = omega arith;
-      rest = rw (← e, ← m) (ap (special_of day) (rows_all (special_at numbers) count));
-    }
+module _ (numbers : List ℕ) (day count : ℕ) where
+  pub special_start : count ≡ min (get_or numbers special_count 0) most_special → SpecialRest numbers day count 0
+  unfolding calendar_of
+  special_start m = record { below = omega arith; few = omega arith; rest = rw (← m) (ap (special_of day) (rows_all (special_at numbers) count)) }
 
-pub special_more : (numbers : List ℕ) (day count k was : ℕ) → SpecialRest numbers day count k → k < count → was ≡ (special_at numbers k).day
-    → (was ≡ day → ⊥) → SpecialRest numbers day count (k + 1)
-unfolding special_of
-special_more numbers day count k was s h e n =
-    record {
-      below = omega arith;
-      few = s.few;
-      rest = s.rest ∙ rw (rows_more (special_at numbers) k count h, ← e, ne_eqb was day n);
-    }
+  module _ (k : ℕ) (s : SpecialRest numbers day count k) where
+    pub special_more : k < count → ((special_at numbers k).day ≡ day → ⊥) → SpecialRest numbers day count (k + 1)
+    unfolding special_of
+    special_more h n =
+        record {
+          below = omega arith;
+          few = s.few;
+          rest = s.rest ∙ rw (rows_more (special_at numbers) k count h, ne_eqb (special_at numbers k).day day n);
+        }
 
-pub special_found : (numbers : List ℕ) (day count k was : ℕ) → SpecialRest numbers day count k → k < count → was ≡ (special_at numbers k).day → was ≡ day
-    → SpecialStands numbers day (special_place k + 1)
-unfolding special_of
-special_found numbers day count k was s h e n =
-    record {
-      low = omega (arith, s.few);
-      absent = λ z. absurd (omega arith);
-      present = λ _. s.rest ∙ rw (rows_more (special_at numbers) k count h, ← e, eq-eqb was day n);
-    }
+    pub special_found : (place : ℕ) → k < count → place ≡ special_place k + 1 → (special_at numbers k).day ≡ day → StandsAt numbers day place
+    unfolding special_of
+    special_found place h p n =
+        record {
+          low = omega (arith, s.few);
+          present = s.rest ∙ rw (rows_more (special_at numbers) k count h, eq-eqb (special_at numbers k).day day n, p);
+        }
 
-pub special-none : (numbers : List ℕ) (day count k : ℕ) → SpecialRest numbers day count k → count ≤ k → SpecialStands numbers day 0
-unfolding special_of
-special-none numbers day count k s h =
-    record {
-      low = omega arith;
-      absent = λ _. s.rest ∙ rw (rows_none (special_at numbers) k count h);
-      present = λ n. absurd (n refl);
-    }
+    pub special_none : count ≤ k → special_of day (calendar_of numbers).special ≡ none
+    unfolding special_of
+    special_none h = s.rest ∙ rw (rows_none (special_at numbers) k count h)
 
-pub ruleset standing = (special_start, special_more, special_found, special-none, rules)
+pub ruleset standing = (special_start, special_more, special_found, special_none)
 
 -- ── all windows of a day ──
 
-pub until_on-special : (numbers : List ℕ) (day minute place r : ℕ) → SpecialStands numbers day place → (place ≡ 0 → ⊥)
-    → r ≡ until_of minute (hours_at numbers place).windows → r ≡ until_of minute (windows_of (calendar_of numbers) day)
+pub until_on_special : (numbers : List ℕ) (day minute place : ℕ) → StandsAt numbers day place
+    → until_of minute (hours_at numbers place).windows ≡ until_of minute (windows_of (calendar_of numbers) day)
 unfolding windows_of
-until_on-special numbers day minute place r stands n e = rw (stands.present n) e
+until_on_special numbers day minute place stands = rw stands.present
 
-pub until_on_weekday : (numbers : List ℕ) (day minute place r : ℕ) → SpecialStands numbers day place → place ≡ 0
-    → r ≡ until_of minute (hours_at numbers (17 * (day % 7))).windows → r ≡ until_of minute (windows_of (calendar_of numbers) day)
+pub until_on_weekday : (numbers : List ℕ) (day minute : ℕ) → special_of day (calendar_of numbers).special ≡ none
+    → until_of minute (hours_at numbers (17 * (day % 7))).windows ≡ until_of minute (windows_of (calendar_of numbers) day)
 unfolding windows_of
-until_on_weekday numbers day minute place r stands z e = rw (stands.absent z, weekday_at_lem numbers day) e
-
-pub ruleset seeking = (until_on-special, until_on_weekday, rules)
+until_on_weekday numbers day minute absent = rw (absent, weekday_at_lem numbers day)
 
 -- ── open cells ──
 
 -- a window that covers the minute ends after it, and covers all minutes until its end
-pub until_covers : (minute : ℕ) (ws : List Window) (m : ℕ) → minute ≤ m → m < until_of minute ws → covered m ws ≡ true
-unfolding until_of covered
-until_covers minute [] m h l = absurd (omega arith)
-until_covers minute (w ∷ ws) m h l = step (bool_cases (covers minute w)) (until_covers minute ws m h)
+pub until_ahead : (minute : ℕ) (ws : List Window) (u : ℕ) → until_of minute ws ≡ Some u → minute < u
+unfolding until_of
+until_ahead minute [] u e = absurd (cc)
+until_ahead minute (w ∷ ws) u e = step (bool_cases (covers minute w)) (until_ahead minute ws u)
   where
-    step : (covers minute w ≡ true) ⊎ (covers minute w ≡ false) → (m < until_of minute ws → covered m ws ≡ true) → (covers m w || covered m ws) ≡ true
-    step (inl e) rest =
-        let t : m < w.to = rw e at l in
-        let f : w.from ≤ minute = leb-true w.from minute (and_left (leb w.from minute) (ltb minute w.to) e) in
-        rw (le-leb w.from m (omega arith), lt-ltb m w.to t)
-    step (inr e) rest = or_true (covers m w) (covered m ws) (rest (rw e at l))
+    step : (covers minute w ≡ true) ⊎ (covers minute w ≡ false) → (until_of minute ws ≡ Some u → minute < u) → minute < u
+    step (inl c) rest =
+        let t : w.to ≡ u = some_same (rw c at e) in
+        omega (arith, ltb-true minute w.to (and_right (leb w.from minute) (ltb minute w.to) c))
+    step (inr c) rest = rest (rw c at e)
+
+pub until_covers : (minute : ℕ) (ws : List Window) (u m : ℕ) → until_of minute ws ≡ Some u → minute ≤ m → m < u → covered m ws ≡ true
+unfolding until_of covered
+until_covers minute [] u m e h l = absurd (cc)
+until_covers minute (w ∷ ws) u m e h l = step (bool_cases (covers minute w)) (λ q. until_covers minute ws u m q h l)
+  where
+    step : (covers minute w ≡ true) ⊎ (covers minute w ≡ false) → (until_of minute ws ≡ Some u → covered m ws ≡ true) → (covers m w || covered m ws) ≡ true
+    step (inl c) rest =
+        let t : w.to ≡ u = some_same (rw c at e) in
+        let f : w.from ≤ minute = leb-true w.from minute (and_left (leb w.from minute) (ltb minute w.to) c) in
+        rw (le-leb w.from m (omega arith), lt-ltb m w.to (omega arith))
+    step (inr c) rest = or_true (covers m w) (covered m ws) (rest (rw c at e))
 
 -- none covers it
-pub until_zero : (minute : ℕ) (ws : List Window) → until_of minute ws ≤ minute → covered minute ws ≡ false
+pub until_closed : (minute : ℕ) (ws : List Window) → until_of minute ws ≡ None → covered minute ws ≡ false
 unfolding until_of covered
-until_zero minute [] z = refl
-until_zero minute (w ∷ ws) z = step (bool_cases (covers minute w)) (until_zero minute ws)
+until_closed minute [] z = refl
+until_closed minute (w ∷ ws) z = step (bool_cases (covers minute w)) (until_closed minute ws)
   where
-    step : (covers minute w ≡ true) ⊎ (covers minute w ≡ false) → (until_of minute ws ≤ minute → covered minute ws ≡ false)
+    step : (covers minute w ≡ true) ⊎ (covers minute w ≡ false) → (until_of minute ws ≡ None → covered minute ws ≡ false)
         → (covers minute w || covered minute ws) ≡ false
-    step (inl e) rest =
-        let t : w.to ≤ minute = rw e at z in
-        let l : minute < w.to = ltb-true minute w.to (and_right (leb w.from minute) (ltb minute w.to) e) in
-        absurd (omega arith)
-    step (inr e) rest = rw e (rest (rw e at z))
+    step (inl c) rest = absurd (let q : Some w.to ≡ None = rw c at z in cc)
+    step (inr c) rest = rw c (rest (rw c at z))
 
 -- ── how far a window reaches ──
 
-module _ (days : List Day) (c : Calendar) (cell m day label n u : ℕ) (at : m ≡ minute_of cell) (s : Stretches days m day label n)
-    (e : u ≡ until_of label (windows_of c day)) where
-  pub reach_closed : u ≤ label → Reaches days c cell 0
+module _ (days : List Day) (c : Calendar) (cell m day label n : ℕ) (at : m ≡ minute_of cell) (s : Stretches days m day label n) where
+  pub reach_closed : until_of label (windows_of c day) ≡ None → open_cell days c cell ≡ false
   unfolding open_minute
-  reach_closed h =
-      record {
-        ahead = record { each = λ k z. absurd (omega arith) };
-        closed = λ _. rw (← at, ← s.in-day, ← s.shows) (until_zero label (windows_of c day) (rw e at h));
-      }
+  reach_closed e = rw (← at, ← s.in-day, ← s.shows) (until_closed label (windows_of c day) e)
 
-  -- the cell k behind is of the same day and its label is k further, as far as the window, the stretch and the platform go
-  same_stretch : (k : ℕ) → m + k < 2 ^ 32 → k < n → label + k < u → open_cell days c (cell + k) ≡ true
-  unfolding open_minute
-  same_stretch k p q h =
-      let minute : minute_of (cell + k) ≡ m + k = omega arith in
-      rw (minute, s.ahead.in-day k q, s.ahead.shows k q) (until_covers label (windows_of c day) (label + k) (omega arith) (rw e at h))
+  module _ (u : ℕ) (e : until_of label (windows_of c day) ≡ Some u) where
+    -- the cell k behind is of the same day and its label is k further, as far as the window, the stretch and the platform go
+    same_stretch : (k : ℕ) → m + k < 2 ^ 32 → k < n → label + k < u → open_cell days c (cell + k) ≡ true
+    unfolding open_minute
+    same_stretch k p q h =
+        let minute : minute_of (cell + k) ≡ m + k = omega arith in
+        rw (minute, s.ahead.in-day k q, s.ahead.shows k q) (until_covers label (windows_of c day) u (label + k) e (omega arith) h)
 
-  pub reach_open : (a r : ℕ) → label < u → a ≡ min (u - label) n → r ≡ min a (2 ^ 32 - m) → Reaches days c cell r
-  reach_open a r h p q =
-      let within-window : a ≤ u - label = omega arith in
-      let within_stretch : a ≤ n = omega arith in
-      let some_ahead : 0 < a = omega (arith, s.some) in
-      let first : r ≤ a = omega arith in
-      let second : r ≤ 2 ^ 32 - m = omega arith in
-      let some_left : r ≡ 0 → ⊥ = λ z. omega arith in
-      record {
-        ahead = record { each = λ k z. same_stretch k (omega arith) (omega arith) (omega arith) };
-        closed = λ z. absurd (some_left z);
-      }
-
-pub ruleset reaching = (reach_closed, reach_open, rules)
-
--- ── what passes ──
-
-pub passes_zero : (days : List Day) (c : Calendar) (cell byte : ℕ) → byte ≡ 0 → Passes days c cell byte 1
-passes_zero days c cell byte z = record { refused = λ q. absurd (omega arith); passes = inl (z, refl) }
-
-pub passes_reach : (days : List Day) (c : Calendar) (cell byte r : ℕ) → (byte ≡ 0 → ⊥) → Reaches days c cell r → Passes days c cell byte r
-passes_reach days c cell byte r n s = record { refused = λ z. (n, s.closed z); passes = inr s.ahead }
-
-pub ruleset passing = (passes_zero, passes_reach, rules)
+    pub reach_open : (r : ℕ) → r ≡ min (min (u - label) n) (2 ^ 32 - m) → (0 < r) × OpenFor days c cell r
+    reach_open r q =
+        let after : label < u = until_ahead label (windows_of c day) u e in
+        (omega (arith, s.some), record { each = λ k z. same_stretch k (omega arith) (omega arith) (omega arith) })
 
 -- ── all cells of an operation ──
 
@@ -235,19 +196,17 @@ more_open days c first bytes i (suc k) h o s =
     rw e (one_more days c first bytes (i + k) (omega arith) (rw (at, o.each k (omega arith)) (and_false (not (eqb (get_or bytes (i + k) 0) 0))))
     (more_open days c first bytes i k (omega arith) (record { each = λ j l. o.each j (omega arith) }) s))
 
-module _ (days : List Day) (c : Calendar) (first : ℕ) (bytes : List ℕ) (i cell byte r : ℕ) (s : ClosedRest days c first bytes i) (h : i < length bytes)
-    (e : cell ≡ first % 2 ^ 32 + i % 2 ^ 32) (b : byte ≡ get_or bytes i 0) (p : Passes days c cell byte r) where
+module _ (days : List Day) (c : Calendar) (first : ℕ) (bytes : List ℕ) (i cell byte : ℕ) (s : ClosedRest days c first bytes i) (h : i < length bytes)
+    (e : cell ≡ first % 2 ^ 32 + i % 2 ^ 32) (b : byte ≡ get_or bytes i 0) where
   this : open_cell days c cell ≡ open_cell days c (first + i)
   this = ap (open_minute days c) (omega arith)
 
-  pub closed_found : r ≡ 0 → true ≡ closed_cell days c first bytes
+  pub closed_found : Passes days c cell byte None → true ≡ closed_cell days c first bytes
   unfolding closed_cell
-  closed_found z =
-      let q = p.refused z in
-      sym (s.rest ∙ rw (drop-cons bytes i 0 h, ← b, ne_eqb byte 0 q.0, ← this, q.1))
+  closed_found q = sym (s.rest ∙ rw (drop-cons bytes i 0 h, ← b, ne_eqb byte 0 q.0, ← this, q.1))
 
-  pub closed_more : (k : ℕ) → (r ≡ 0 → ⊥) → k ≡ min r (length bytes - i) → ClosedRest days c first bytes (i + k)
-  closed_more k n m = go p.passes
+  pub closed_more : (r k : ℕ) → Passes days c cell byte (Some r) → k ≡ min r (length bytes - i) → ClosedRest days c first bytes (i + k)
+  closed_more r k p m = go p.1
     where
       go : ((byte ≡ 0) × (r ≡ 1)) ⊎ OpenFor days c cell r → ClosedRest days c first bytes (i + k)
       go (inl z) =

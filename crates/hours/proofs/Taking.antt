@@ -1,137 +1,75 @@
--- Calendars that are taken: one step for each return of the tests. Assumes nothing.
-use mathlib.Core.Path.{◌≡◌, refl, sym, ap, ◌∙◌}
-use mathlib.Core.Bool.{Bool, true, false, not, ◌&&◌}
+-- Calendars that are taken: the hours of a day, days that ascend, and the calendar. Assumes nothing.
+use mathlib.Core.Path.{◌≡◌, refl}
+use mathlib.Core.Bool.{Bool, true, false, ◌&&◌}
 use mathlib.Core.List.{List, map}
-use Prim.Native.Nat.{ℕ, ◌+◌, ◌-◌, ◌≤◌, ◌<◌, min}
+use Prim.Native.Nat.{ℕ, zero, suc, ◌-◌, ◌≤◌, ◌<◌, min}
+use native.Mathlib.Numerals.{add-one}
 use native.Mathlib.Omega.{arith}
 use lib.ListN.{get_or}
-use borrow.Author.Rules.{rules}
-use borrow.Author.Tests.{lt-ltb, le-ltb, le-leb, lt-leb, not-true, not-false}
+use lib.Dec.{ltb}
+use borrow.Author.Tests.{le-leb, lt-leb}
+use Rattle.std.specs.List.{list_all, range_with_len}
 use Rattle.lists.specs.Lists.{count_from}
 use Rattle.history.specs.Rules.{every}
 use Rattle.history.specs.Hours.{window_at, hours_at, weekday_at, special_at, calendar_of, most_windows, most_special, special_count, window_taken, hours_taken, special_taken, rises, days_ascend, calendar_taken}
 use Rattle.hours.specs.Reach.{special_from}
-use Rattle.hours.proofs.Rows.{EveryRest, rows_more, rows_none, rows_all, every_more, every_fails, every_done}
-
--- ── windows ──
-
-pub window-not_ordered : (numbers : List ℕ) (at j from to : ℕ) → from ≡ (window_at numbers at j).from → to ≡ (window_at numbers at j).to → to ≤ from
-    → window_taken (window_at numbers at j) ≡ false
-window-not_ordered numbers at j from to e f h = rw (← e, ← f, le-ltb from to h)
-
-pub window_too_late : (numbers : List ℕ) (at j from to : ℕ) → from ≡ (window_at numbers at j).from → to ≡ (window_at numbers at j).to → from < to → 1440 < to
-    → window_taken (window_at numbers at j) ≡ false
-window_too_late numbers at j from to e f h l = rw (← e, ← f, lt-ltb from to h, lt-leb to 1440 l)
-
-pub window_right : (numbers : List ℕ) (at j from to : ℕ) → from ≡ (window_at numbers at j).from → to ≡ (window_at numbers at j).to → from < to → to ≤ 1440
-    → window_taken (window_at numbers at j) ≡ true
-window_right numbers at j from to e f h l = rw (← e, ← f, lt-ltb from to h, le-leb to 1440 l)
+use Rattle.hours.proofs.Rows.{every_rows}
 
 -- ── the hours of a day ──
 
-pub hours-many : (numbers : List ℕ) (at stated : ℕ) → stated ≡ get_or numbers at 0 → most_windows < stated → false ≡ hours_taken (hours_at numbers at)
-unfolding hours_taken hours_at
-hours-many numbers at stated e h = rw (← e, lt-leb stated most_windows h)
+module _ (numbers : List ℕ) (at : ℕ) where
+  pub hours_many : most_windows < get_or numbers at 0 → hours_taken (hours_at numbers at) ≡ false
+  unfolding hours_taken hours_at
+  hours_many h = rw (lt-leb (get_or numbers at 0) most_windows h)
 
--- few enough: the windows decide
-pub hours_few : (numbers : List ℕ) (at stated : ℕ) (r : Bool) → stated ≡ get_or numbers at 0 → stated ≤ most_windows
-    → r ≡ every window_taken (map (window_at numbers at) (count_from 0 stated)) → r ≡ hours_taken (hours_at numbers at)
-unfolding hours_taken hours_at
-hours_few numbers at stated r e h q =
-    let m : min stated most_windows ≡ stated = omega arith in
-    rw (← e, le-leb stated most_windows h, m) q
+  -- few enough: the windows decide
+  pub hours_few : get_or numbers at 0 ≤ most_windows
+      → hours_taken (hours_at numbers at) ≡ list_all (λ j. window_taken (window_at numbers at j)) (range_with_len 0 (get_or numbers at 0))
+  unfolding hours_taken hours_at
+  hours_few h =
+      let m : min (get_or numbers at 0) most_windows ≡ get_or numbers at 0 = omega arith in
+      rw (le-leb (get_or numbers at 0) most_windows h, m, every_rows window_taken (window_at numbers at) 0 (get_or numbers at 0))
 
 -- ── days that ascend ──
 
-pub record RisesRest (numbers : List ℕ) (count before k : ℕ) : Type 0 where
-  pub below : k ≤ count
-  pub rest : days_ascend (special_from numbers 0 count) ≡ rises before (special_from numbers k (count - k))
+module _ (numbers : List ℕ) where
+  abbrev day_at : (k : ℕ) → ℕ
+  day_at k = (special_at numbers k).day
 
-pub rises-none : (numbers : List ℕ) (count : ℕ) → count ≡ 0 → true ≡ days_ascend (special_from numbers 0 count)
-unfolding days_ascend count_from
-rises-none numbers count e = rw e
+  rises_rows : (k n : ℕ) → rises (day_at k) (map (special_at numbers) (count_from (suc k) n)) ≡ list_all (λ j. ltb (day_at (j - 1)) (day_at j)) (range_with_len (suc k) n)
+  unfolding rises count_from
+  rises_rows k zero = refl
+  rises_rows k (suc n) =
+      let before : suc k - 1 ≡ k = omega arith in
+      rw (add-one, before, rises_rows (suc k) n)
 
-pub rises_start : (numbers : List ℕ) (count before : ℕ) → before ≡ (special_at numbers 0).day → (count ≡ 0 → ⊥) → RisesRest numbers count before 1
-unfolding days_ascend
-rises_start numbers count before e h =
-    record {
-      below = omega arith;
-      rest = ap days_ascend (rows_all (special_at numbers) count ∙ rows_more (special_at numbers) 0 count (omega arith)) ∙ rw e;
-    }
-
-pub rises_more : (numbers : List ℕ) (count before k day : ℕ) → RisesRest numbers count before k → k < count → day ≡ (special_at numbers k).day → before < day
-    → RisesRest numbers count day (k + 1)
-unfolding rises
-rises_more numbers count before k day r h e l =
-    record {
-      below = omega arith;
-      rest = r.rest ∙ rw (rows_more (special_at numbers) k count h, ← e, lt-ltb before day l);
-    }
-
-pub rises_fails : (numbers : List ℕ) (count before k day : ℕ) → RisesRest numbers count before k → k < count → day ≡ (special_at numbers k).day → day ≤ before
-    → false ≡ days_ascend (special_from numbers 0 count)
-unfolding rises
-rises_fails numbers count before k day r h e l = sym (r.rest ∙ rw (rows_more (special_at numbers) k count h, ← e, le-ltb before day l))
-
-pub rises_done : (numbers : List ℕ) (count before k : ℕ) → RisesRest numbers count before k → count ≤ k → true ≡ days_ascend (special_from numbers 0 count)
-unfolding rises
-rises_done numbers count before k r h = sym (r.rest ∙ rw (rows_none (special_at numbers) k count h))
-
--- ── the week, and the special days ──
-
-module _ (numbers : List ℕ) (k : ℕ) (r : Bool) where
-  pub week_more : EveryRest hours_taken (weekday_at numbers) 7 k → k < 7 → r ≡ hours_taken (weekday_at numbers k) → not r ≡ false
-      → EveryRest hours_taken (weekday_at numbers) 7 (k + 1)
-  week_more e h q n = every_more hours_taken (weekday_at numbers) 7 k e h (sym q ∙ not-false r n)
-
-  pub week_fails : EveryRest hours_taken (weekday_at numbers) 7 k → k < 7 → r ≡ hours_taken (weekday_at numbers k) → not r ≡ true
-      → false ≡ every hours_taken (calendar_of numbers).week
-  unfolding calendar_of
-  week_fails e h q n = every_fails hours_taken (weekday_at numbers) 7 k e h (sym q ∙ not-true r n)
-
-  pub special_more : (count : ℕ) → EveryRest special_taken (special_at numbers) count k → k < count → r ≡ special_taken (special_at numbers k) → not r ≡ false
-      → EveryRest special_taken (special_at numbers) count (k + 1)
-  special_more count e h q n = every_more special_taken (special_at numbers) count k e h (sym q ∙ not-false r n)
-
-  pub special_fails : (count : ℕ) → EveryRest special_taken (special_at numbers) count k → k < count → r ≡ special_taken (special_at numbers k) → not r ≡ true
-      → false ≡ every special_taken (special_from numbers 0 count)
-  special_fails count e h q n = every_fails special_taken (special_at numbers) count k e h (sym q ∙ not-true r n)
-
-pub week_done : (numbers : List ℕ) (k : ℕ) → EveryRest hours_taken (weekday_at numbers) 7 k → 7 ≤ k → true ≡ every hours_taken (calendar_of numbers).week
-unfolding calendar_of
-week_done numbers k e h = every_done hours_taken (weekday_at numbers) 7 k e h
+  ascend_rows : (n : ℕ) → days_ascend (special_from numbers 0 n) ≡ list_all (λ j. ltb (day_at (j - 1)) (day_at j)) (range_with_len 1 (n - 1))
+  unfolding days_ascend count_from
+  ascend_rows zero = refl
+  ascend_rows (suc n) =
+      let one : suc n - 1 ≡ n = omega arith in
+      rw (one, rises_rows 0 n)
 
 -- ── calendars ──
 
-and_false : (a : Bool) → false ≡ (a && false)
+and_false : (a : Bool) → (a && false) ≡ false
 and_false true = refl
 and_false false = refl
 
-module _ (numbers : List ℕ) (stated : ℕ) (e : stated ≡ get_or numbers special_count 0) where
-  pub takes-many : most_special < stated → false ≡ calendar_taken (calendar_of numbers)
+module _ (numbers : List ℕ) where
+  abbrev stated : ℕ
+  stated = get_or numbers special_count 0
+
+  pub calendar_many : most_special < stated → calendar_taken (calendar_of numbers) ≡ false
   unfolding calendar_taken calendar_of
-  takes-many h = rw (← e, lt-leb stated most_special h) (and_false (every hours_taken (calendar_of numbers).week))
+  calendar_many h = rw (lt-leb stated most_special h) (and_false (every hours_taken (calendar_of numbers).week))
 
-  module _ (w : Bool) (q : w ≡ every hours_taken (calendar_of numbers).week) where
-    pub takes_no_week : not w ≡ true → false ≡ calendar_taken (calendar_of numbers)
-    unfolding calendar_taken
-    takes_no_week n = rw (← q, not-true w n)
-
-    module _ (few : stated ≤ most_special) (week : not w ≡ false) (s : Bool) (p : s ≡ every special_taken (special_from numbers 0 stated)) where
-      pub takes_no_special : not s ≡ true → false ≡ calendar_taken (calendar_of numbers)
-      unfolding calendar_taken calendar_of
-      takes_no_special n =
-          let m : min stated most_special ≡ stated = omega arith in
-          rw (← q, not-false w week, ← e, le-leb stated most_special few, m, ← p, not-true s n)
-
-      pub takes_rest : not s ≡ false → (r : Bool) → r ≡ days_ascend (special_from numbers 0 stated) → r ≡ calendar_taken (calendar_of numbers)
-      unfolding calendar_taken calendar_of
-      takes_rest n r a =
-          let m : min stated most_special ≡ stated = omega arith in
-          rw (← q, not-false w week, ← e, le-leb stated most_special few, m, ← p, not-false s n) a
-
-pub ruleset rising = (rises-none, rises_start, rises_more, rises_fails, rises_done, rules)
-
-pub ruleset taking = (week_more, week_fails, week_done, special_more, special_fails, rules)
-
-pub ruleset deciding = (takes-many, takes_no_week, takes_no_special, takes_rest, rules)
+  -- few enough: the week, the special days, and their order decide
+  pub calendar_few : stated ≤ most_special
+      → calendar_taken (calendar_of numbers) ≡ (list_all (λ k. hours_taken (weekday_at numbers k)) (range_with_len 0 7)
+      && (list_all (λ k. special_taken (special_at numbers k)) (range_with_len 0 stated)
+      && list_all (λ k. ltb (day_at numbers (k - 1)) (day_at numbers k)) (range_with_len 1 (stated - 1))))
+  unfolding calendar_taken calendar_of
+  calendar_few h =
+      let m : min stated most_special ≡ stated = omega arith in
+      rw (le-leb stated most_special h, m, every_rows hours_taken (weekday_at numbers) 0 7, every_rows special_taken (special_at numbers) 0 stated, ascend_rows numbers stated)

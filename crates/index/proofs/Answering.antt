@@ -1,66 +1,66 @@
 -- The returns of the public reads: 2 and 4 by what the test of the tables found, else what the inner call hands out. Assumes nothing.
-use mathlib.Core.Path.{◌≡◌, ap, ◌∙◌, subst}
+use mathlib.Core.Path.{◌≡◌, sym, ap, ◌∙◌, subst}
+use mathlib.Core.Bool.{false}
 use mathlib.Core.List.{List}
 use Prim.Native.Nat.{ℕ}
 use native.Mathlib.Omega.{arith}
 use lib.ListN.{length}
-use Rattle.history.specs.Refusals.{Answer, accepted, refused, first_of, window_refusals, block_refusals}
+use Rattle.history.specs.Refusals.{Answer, accepted, refused, first_of, window_refusals, find_answer, block_refusals, block_answer}
 use Rattle.tables.specs.Parts.{part_of}
 use Rattle.tables.proofs.Parts.{part-whole}
 use Rattle.layout.specs.Tables.{tables}
-use Rattle.layout.specs.Relations.{Counts, FoundBy, Fields, BlockGivenBy}
+use Rattle.layout.specs.Reads.{HandedInto}
+use Rattle.layout.specs.Relations.{Counts, counts_of, FoundBy, Fields, BlockHanded, BlockGivenBy}
 use Rattle.layout.proofs.ReadLaws.{into_refused, block_refused, block_whole}
-use Rattle.index_read.specs.Answers.{given_of}
+use Rattle.std.specs.Prelude.{Result, Ok, Err}
+use Rattle.refusals.specs.declared.Refusal.{Refusal}
+use Rattle.refusals.specs.Numbers.{number_of, answer_by}
+use Rattle.index_read.specs.Answers.{fields_given}
 use Rattle.index_read.specs.Reads.{BlockClosed, FindClosed}
-use Rattle.index_read.specs.declared.Given.{Given}
-use Rattle.index_read.specs.declared.Given.TheVariants.{Block as IsBlock, Refused}
+use Rattle.index_read.specs.declared.Block.{Block}
 use Rattle.index_test.specs.Board.{Outcome}
 use Rattle.index_test.specs.declared.State.{State}
-use Rattle.index_test.specs.declared.State.TheVariants.{Bad, Open, Closed}
-use Rattle.index_test.proofs.Told.{read_2, read_4, read_on}
+use Rattle.index_test.specs.States.{when_closed}
+use Rattle.index_test.proofs.Told.{Refuses, read_not_closed, read_if_closed}
 use Rattle.index.specs.Answers.{bytes_of, BytesGivenBy}
 
 -- ── block by number ──
 
-module _ {pieces blocks store nodes entries : List ℕ} {k : ℕ} {r : State} (told : Outcome r (tables pieces blocks store nodes entries)) where
-  pub block_bad : r ≡ Bad → BlockGivenBy (tables pieces blocks store nodes entries) k (refused 2)
-  block_bad e = record { read = read_2 told e block_refused }
+pub block_4 : (k : ℕ) → Refuses (λ l. block_answer l k) false 4
+unfolding block_refusals first_of
+block_4 k l held still = rw (held, still)
 
-  pub block_open : r ≡ Open → BlockGivenBy (tables pieces blocks store nodes entries) k (refused 4)
-  unfolding block_refusals first_of
-  block_open e = record { read = read_4 told e (λ l held still. rw (held, still)) block_refused }
+module _ {pieces blocks store nodes entries : List ℕ} {k : ℕ} (r : State) {s : Result Unit Refusal} (told : Outcome r (tables pieces blocks store nodes entries)) (is : s ≡ when_closed r) where
+  pub block_not_closed : {e : Refusal} → s ≡ Err e → BlockGivenBy (tables pieces blocks store nodes entries) k (refused (number_of e))
+  block_not_closed q =
+      record { read = read_not_closed (λ n. BlockHanded (tables pieces blocks store nodes entries) k (refused n)) r told (sym is ∙ q) (block_4 k) (λ n. block_refused) }
 
-  pub block_given : {a : Answer Fields} → r ≡ Closed → BlockClosed blocks k a → BlockGivenBy (tables pieces blocks store nodes entries) k a
-  block_given e b = record { read = read_on told e (b.given pieces store nodes entries) }
-
-pub ruleset blocking = (block_bad, block_open, block_given)
+  pub block_given : {u : Unit} {a : Answer Fields} → s ≡ Ok u → BlockClosed blocks k a → BlockGivenBy (tables pieces blocks store nodes entries) k a
+  block_given q b = record { read = read_if_closed r told (sym is ∙ q) (b.given pieces store nodes entries) }
 
 -- ── find ──
 
-module _ {pieces blocks store nodes entries : List ℕ} {tick start stop : ℕ} {out : List ℕ} {r : State} (told : Outcome r (tables pieces blocks store nodes entries)) where
-  pub find_bad : r ≡ Bad → FoundBy (tables pieces blocks store nodes entries) tick start stop out out (refused 2)
-  find_bad e = record { read = read_2 told e into_refused }
+pub find_4 : (tick start stop room : ℕ) → Refuses (λ l. find_answer l tick start stop room) false 4
+unfolding window_refusals first_of
+find_4 tick start stop room l held still = rw (held, still)
 
-  pub find_open : r ≡ Open → FoundBy (tables pieces blocks store nodes entries) tick start stop out out (refused 4)
-  unfolding window_refusals first_of
-  find_open e = record { read = read_4 told e (λ l held still. rw (held, still)) into_refused }
+module _ {pieces blocks store nodes entries : List ℕ} {tick start stop : ℕ} {out : List ℕ} (r : State) {s : Result Unit Refusal} (told : Outcome r (tables pieces blocks store nodes entries)) (is : s ≡ when_closed r) where
+  pub find_not_closed : {e : Refusal} → s ≡ Err e → FoundBy (tables pieces blocks store nodes entries) tick start stop out out (refused (number_of e))
+  find_not_closed q =
+      record { read = read_not_closed (λ n. HandedInto counts_of (λ f. f.numbers) out out (refused n)) r told (sym is ∙ q) (find_4 tick start stop (length out)) (λ n. into_refused) }
 
-  pub find_found : {out' : List ℕ} {a : Answer Counts} → r ≡ Closed → FindClosed blocks nodes entries tick start stop out out' a
+  pub find_found : {u : Unit} {out' : List ℕ} {a : Answer Counts} → s ≡ Ok u → FindClosed blocks nodes entries tick start stop out out' a
       → FoundBy (tables pieces blocks store nodes entries) tick start stop out out' a
-  find_found e f = record { read = read_on told e (f.found pieces store) }
-
-pub ruleset looking = (find_bad, find_open, find_found)
+  find_found q f = record { read = read_if_closed r told (sym is ∙ q) (f.found pieces store) }
 
 -- ── the bytes of a block ──
 
-module _ {pieces blocks store nodes entries : List ℕ} {k : ℕ} {r : Given} (told : BlockGivenBy (tables pieces blocks store nodes entries) k (given_of r)) where
-  pub bytes_some : {kind first length' created destroyed offset : ℕ} {bytes : List ℕ} → r ≡ IsBlock kind first length' created destroyed offset → bytes ≡ part_of store offset length'
-      → BytesGivenBy (tables pieces blocks store nodes entries) k bytes
-  bytes_some {kind} {first} {length'} {created} {destroyed} {offset} e p =
+module _ {pieces blocks store nodes entries : List ℕ} {k : ℕ} {r : Result Block Refusal} (told : BlockGivenBy (tables pieces blocks store nodes entries) k (answer_by fields_given r)) where
+  pub bytes_some : {b : Block} {bytes : List ℕ} → r ≡ Ok b → bytes ≡ part_of store b.offset b.length → BytesGivenBy (tables pieces blocks store nodes entries) k bytes
+  bytes_some {b} e p =
       let t = tables pieces blocks store nodes entries in
-      let g : BlockGivenBy t k (accepted (record { kind = kind; first = first; length = length'; created = created; destroyed = destroyed; offset = offset })) =
-      subst (λ (x : Given). BlockGivenBy t k (given_of x)) e told in
-      let there = p ∙ part-whole store offset length' (block_whole g) in
+      let g : BlockGivenBy t k (accepted (fields_given b)) = subst (λ (x : Result Block Refusal). BlockGivenBy t k (answer_by fields_given x)) e told in
+      let there = p ∙ part-whole store b.offset b.length (block_whole g) in
       record {
         read = record {
           formed = λ l enc s. there ∙ ap bytes_of (g.read.formed l enc s).bytes_there;
@@ -68,10 +68,10 @@ module _ {pieces blocks store nodes entries : List ℕ} {k : ℕ} {r : Given} (t
         };
       }
 
-  pub bytes_none : {n : ℕ} {bytes : List ℕ} → r ≡ Refused n → bytes ≡ part_of store 0 0 → BytesGivenBy (tables pieces blocks store nodes entries) k bytes
-  bytes_none {n} e p =
+  pub bytes_none : {x : Refusal} {bytes : List ℕ} → r ≡ Err x → bytes ≡ part_of store 0 0 → BytesGivenBy (tables pieces blocks store nodes entries) k bytes
+  bytes_none {x} e p =
       let t = tables pieces blocks store nodes entries in
-      let g : BlockGivenBy t k (refused n) = subst (λ (x : Given). BlockGivenBy t k (given_of x)) e told in
+      let g : BlockGivenBy t k (refused (number_of x)) = subst (λ (y : Result Block Refusal). BlockGivenBy t k (answer_by fields_given y)) e told in
       let empty = p ∙ part-whole store 0 0 (omega arith) in
       record {
         read = record {

@@ -1,4 +1,5 @@
 -- The returns of `record_op`. Assumes nothing.
+use mathlib.Core.Logic.{inl, inr}
 use mathlib.Core.Path.{◌≡◌, refl, sym, ap, ◌∙◌}
 use mathlib.Core.Bool.{true, false}
 use mathlib.Core.List.{List}
@@ -12,12 +13,14 @@ use Rattle.history.specs.Ledger.{Ledger}
 use Rattle.history.specs.Refusals.{refused, first_of, record_refusals, record_answer}
 use Rattle.layout.specs.Tables.{Tables, tables}
 use Rattle.layout.specs.Relations.{RecordedBy}
-use Rattle.index_record.specs.Calls.{recorded_of, RecordedOpen}
-use Rattle.index_record.specs.declared.Recorded.{Recorded}
+use Rattle.std.specs.Prelude.{Option, Ok, Err, Result as Told}
+use Rattle.refusals.specs.declared.Refusal.{Refusal}
+use Rattle.refusals.specs.Numbers.{number_of, answer_by}
+use Rattle.index_record.specs.Calls.{recorded, RecordedOpen}
 use Rattle.index_test.specs.Board.{Outcome}
 use Rattle.index_test.specs.declared.State.{State}
-use Rattle.index_test.specs.declared.State.TheVariants.{Bad, Open, Closed}
-use Rattle.index_test.proofs.Told.{told_bad, told_open, told_closed, Refuses, stands_refuses}
+use Rattle.index_test.specs.States.{when_open}
+use Rattle.index_test.proofs.Told.{Refuses, stands_refuses, open_refused, open_taken}
 
 -- every ledger answers 2 where the scratch is too short
 record_2 : (l : Ledger) (scratch : ℕ) (o : Operation) → too_short l.opening.lent ≡ false → scratch < least_scratch → record_answer l scratch o ≡ refused 2
@@ -35,22 +38,19 @@ record_3 : (scratch : ℕ) (o : Operation) → least_scratch ≤ scratch → Ref
 unfolding record_refusals first_of
 record_3 scratch o long l held done = rw (held, le-ltb scratch least_scratch long, done)
 
-module _ {pieces blocks store nodes entries : List ℕ} {scratch : ℕ} {o : Operation} {r : State} (long : least_scratch ≤ scratch) (told : Outcome r (tables pieces blocks store nodes entries)) where
-  pub record_bad : r ≡ Bad → RecordedBy scratch o (tables pieces blocks store nodes entries) (tables pieces blocks store nodes entries) (refused 2)
-  record_bad e = record { formed = λ l enc s. absurd (told_bad told e (record { ledger = l; encodes = enc; sound = s })); unformed = λ _. (refl, refl) }
+module _ {pieces blocks store nodes entries : List ℕ} {scratch : ℕ} {o : Operation} (r : State) {s : Told Unit Refusal} (long : least_scratch ≤ scratch)
+    (told : Outcome r (tables pieces blocks store nodes entries)) (is : s ≡ when_open r) where
+  pub record_refused : {e : Refusal} → s ≡ Err e → RecordedBy scratch o (tables pieces blocks store nodes entries) (tables pieces blocks store nodes entries) (refused (number_of e))
+  record_refused {e} q = elim (open_refused e r told (sym is ∙ q)) [
+    | inl p ↦ rw p.1 (record { formed = λ l enc sound. absurd (p.0 (record { ledger = l; encodes = enc; sound = sound })); unformed = λ _. (refl, refl) })
+    | inr p ↦ rw p.1 (record {
+      formed = λ l enc _. let asked = stands_refuses p.0 (record_3 scratch o long) l enc in (sym asked, rw asked refl);
+      unformed = λ n. absurd (n p.0.formed);
+    })
+  ]
 
-  pub record_closed : r ≡ Closed → RecordedBy scratch o (tables pieces blocks store nodes entries) (tables pieces blocks store nodes entries) (refused 3)
-  record_closed e =
-      let s = told_closed told e in
-      record {
-        formed = λ l enc _. let q = stands_refuses s (record_3 scratch o long) l enc in (sym q, rw q refl);
-        unformed = λ n. absurd (n s.formed);
-      }
-
-  pub record_opened : {pieces' blocks' store' : List ℕ} {a : Recorded} → r ≡ Open → RecordedOpen pieces blocks store pieces' blocks' store' o a
-      → RecordedBy scratch o (tables pieces blocks store nodes entries) (tables pieces' blocks' store' nodes entries) (recorded_of a)
-  record_opened e f =
-      let s = told_open told e in
-      record { formed = λ l enc sound. f.formed nodes entries l scratch (le-ltb scratch least_scratch long) enc sound (s.state l enc); unformed = λ n. absurd (n s.formed) }
-
-pub ruleset recordings = (record_short, record_bad, record_closed, record_opened, arith)
+  pub record_opened : {u : Unit} {pieces' blocks' store' : List ℕ} {a : Told (Option ℕ) Refusal} → s ≡ Ok u → RecordedOpen pieces blocks store pieces' blocks' store' o a
+      → RecordedBy scratch o (tables pieces blocks store nodes entries) (tables pieces' blocks' store' nodes entries) (answer_by recorded a)
+  record_opened q f =
+      let p = open_taken r told (sym is ∙ q) in
+      record { formed = λ l enc sound. f.formed nodes entries l scratch (le-ltb scratch least_scratch long) enc sound (p.state l enc); unformed = λ n. absurd (n p.formed) }

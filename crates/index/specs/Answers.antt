@@ -1,16 +1,9 @@
--- What the answer of opening means, and what `block_bytes` gives. Definitions alone; each meaning is injective (crate promises, Meanings).
+-- What `block_bytes` gives. Definitions alone.
 use Rattle.std.specs.Prelude.{◌≡◌, List, [], ℕ}
 use Rattle.history.specs.Words.{Block}
 use Rattle.history.specs.Refusals.{Answer, accepted, refused, block_answer}
 use Rattle.layout.specs.Tables.{Tables}
 use Rattle.layout.specs.Reads.{ReadBy}
-use Rattle.index.specs.declared.Opened.{Opened}
-use Rattle.index.specs.declared.Opened.TheVariants.{Opened as IsOpened, Refused}
-
--- document 01's number for every case
-abbrev pub opened_of : Opened → Answer Unit
-opened_of IsOpened = accepted tt
-opened_of (Refused n) = refused n
 
 -- the bytes of the block that an answer gives, none where it refuses
 abbrev pub bytes_of : Answer Block → List ℕ

@@ -1,7 +1,7 @@
 // The public calls on an index: open, record_op, finalize, block by number, find. Each is total: it takes any slices of any lengths and contents, and
 // gives its answer or the first refusal of document 01 whose condition holds, after which nothing has changed.
 //
-//   specs/Answers   the opening's number for every case of its answer, and what `block_bytes` gives
+//   specs/Answers   what `block_bytes` gives
 //   proofs/Opens, Recording, Finishing, Answering   one step for each return
 //   The contracts are the relations of `layout`, by which demand 3 links the calls. The work behind them stands in `index_record`, `index_finish` and
 //   `index_read`, without the test of the tables; how a read is added is said in `index_test`.
@@ -9,29 +9,22 @@
 #![tactic(auto)]
 
 ghost use Rattle.std.specs.Prelude.{◌≡◌, length};
-ghost use Rattle.index_record.specs.Calls.{operation, recorded_of};
+ghost use Rattle.history.specs.Results.{done};
+ghost use Rattle.refusals.specs.Numbers.{answer_by};
+ghost use Rattle.index_record.specs.Calls.{operation, recorded};
 ghost use Rattle.layout.specs.Tables.{tables};
 ghost use Rattle.layout.specs.Relations.{OpenedBy, RecordedBy, FinishedBy, FoundBy, BlockGivenBy};
-ghost use Rattle.index_finish.specs.Answers.{finished_of};
-ghost use Rattle.index_read.specs.Answers.{found_of, given_of};
-ghost use Rattle.index.specs.Answers.{opened_of, BytesGivenBy};
+ghost use Rattle.index_read.specs.Answers.{counts_given, fields_given};
+ghost use Rattle.index.specs.Answers.{BytesGivenBy};
 
-pub use index_finish::Finished;
-pub use index_read::{Found, Given};
-pub use index_record::Recorded;
+pub use index_read::{Block, Found};
 use index_test::State;
+use refusals::Refusal;
 use tables::block;
 
 // The type that the calls on an index belong to. It holds nothing: the state stands in the lent tables.
 #[derive(Clone, Copy)]
 pub struct Index {}
-
-// The answer of opening.
-#[derive(Clone, Copy)]
-pub enum Opened {
-    Opened,
-    Refused(u64),
-}
 
 impl Index {
     // The largest end tick.
@@ -46,19 +39,19 @@ impl Index {
         entries: &mut [u64],
         end_tick: u64,
         kind: u8,
-    ) -> Opened
+    ) -> Result<(), Refusal>
         ensures { OpenedBy end_tick kind
             (tables pieces.old blocks.old store.now nodes.old entries.old)
-            (tables pieces.new blocks.new store.now nodes.new entries.new) (opened_of result) }
+            (tables pieces.new blocks.new store.now nodes.new entries.new) (answer_by (λ u. u) result) }
     {
         if end_tick == 0 {
-            return Opened::Refused(1);
+            return Err(Refusal::BadOpening);
         }
         if Self::MAX_END_TICK < end_tick {
-            return Opened::Refused(1);
+            return Err(Refusal::BadOpening);
         }
         if 4 < kind {
-            return Opened::Refused(1);
+            return Err(Refusal::BadOpening);
         }
         tables::zero(pieces);
         tables::zero(blocks);
@@ -67,14 +60,15 @@ impl Index {
         block_table::set_state(blocks, block::OPEN);
         block_table::set_end(blocks, end_tick);
         block_table::set_kind(blocks, kind as u64);
-        Opened::Opened
+        Ok(())
     }
 }
 
 // The numbers of a scratch that record does with.
 pub const LEAST_SCRATCH: usize = 8;
 
-// Records an operation: a read where every cell is known with its byte, else an update. Nothing is written to the scratch.
+// Records an operation: a read where every cell is known with its byte, else an update, of which the lowest cell that changes is given. Nothing is written
+// to the scratch.
 pub fn record_op(
     pieces: &mut [u64],
     blocks: &mut [u64],
@@ -85,20 +79,17 @@ pub fn record_op(
     tick: u64,
     first: u64,
     bytes: &[u8],
-) -> Recorded
+) -> Result<Option<u64>, Refusal>
     ensures { RecordedBy (length scratch.now) (operation tick first bytes.now)
         (tables pieces.old blocks.old store.old nodes.now entries.now)
-        (tables pieces.new blocks.new store.new nodes.now entries.now) (recorded_of result) }
+        (tables pieces.new blocks.new store.new nodes.now entries.now) (answer_by recorded result) }
 {
     if scratch.len() < LEAST_SCRATCH {
-        return Recorded::Refused(2);
+        return Err(Refusal::Malformed);
     }
     let state = index_test::test(pieces, blocks, store, nodes, entries);
-    match state {
-        State::Bad => Recorded::Refused(2),
-        State::Closed => Recorded::Refused(3),
-        State::Open => index_record::record_open(pieces, blocks, store, tick, first, bytes),
-    }
+    state.open()?;
+    index_record::record_open(pieces, blocks, store, tick, first, bytes)
 }
 
 // Finishes an index: the pieces become blocks, and the blocks get their tree.
@@ -108,16 +99,12 @@ pub fn finalize(
     store: &[u8],
     nodes: &mut [u64],
     entries: &mut [u64],
-) -> Finished
+) -> Result<(), Refusal>
     ensures { FinishedBy (tables pieces.old blocks.old store.now nodes.old entries.old)
-        (tables pieces.new blocks.new store.now nodes.new entries.new) (finished_of result) }
+        (tables pieces.new blocks.new store.now nodes.new entries.new) (answer_by (λ _. done) result) }
 {
-    let state = index_test::test(pieces, blocks, store, nodes, entries);
-    match state {
-        State::Bad => Finished::Refused(2),
-        State::Closed => Finished::Refused(3),
-        State::Open => index_finish::finish_open(pieces, blocks, nodes, entries),
-    }
+    index_test::test(pieces, blocks, store, nodes, entries).open()?;
+    index_finish::finish_open(pieces, blocks, nodes, entries)
 }
 
 // The block of a number.
@@ -128,15 +115,11 @@ pub fn block(
     nodes: &[u64],
     entries: &[u64],
     number: u64,
-) -> Given
-    ensures { BlockGivenBy (tables pieces.now blocks.now store.now nodes.now entries.now) number (given_of result) }
+) -> Result<Block, Refusal>
+    ensures { BlockGivenBy (tables pieces.now blocks.now store.now nodes.now entries.now) number (answer_by fields_given result) }
 {
-    let state = index_test::test(pieces, blocks, store, nodes, entries);
-    match state {
-        State::Bad => Given::Refused(2),
-        State::Open => Given::Refused(4),
-        State::Closed => index_read::block_closed(blocks, number),
-    }
+    index_test::test(pieces, blocks, store, nodes, entries).closed()?;
+    index_read::block_closed(blocks, number)
 }
 
 // The live blocks whose first cell is in [start, end) at a tick: their numbers go into the lent answer.
@@ -150,16 +133,12 @@ pub fn find(
     start: u64,
     end: u64,
     answer: &mut [u64],
-) -> Found
+) -> Result<Found, Refusal>
     ensures { FoundBy (tables pieces.now blocks.now store.now nodes.now entries.now) tick start end
-        answer.old answer.new (found_of result) }
+        answer.old answer.new (answer_by counts_given result) }
 {
-    let state = index_test::test(pieces, blocks, store, nodes, entries);
-    match state {
-        State::Bad => Found::Refused(2),
-        State::Open => Found::Refused(4),
-        State::Closed => index_read::find_closed(blocks, nodes, entries, tick, start, end, answer),
-    }
+    index_test::test(pieces, blocks, store, nodes, entries).closed()?;
+    index_read::find_closed(blocks, nodes, entries, tick, start, end, answer)
 }
 
 // The bytes of the block of a number, as that part of the store; the empty part where `block` refuses.
@@ -173,16 +152,8 @@ pub fn block_bytes<'a>(
 ) -> &'a [u8]
     ensures { BytesGivenBy (tables pieces.now blocks.now store.now nodes.now entries.now) number result.now }
 {
-    let given = block(pieces, blocks, store, nodes, entries, number);
-    match given {
-        Given::Block {
-            kind: _,
-            first: _,
-            length,
-            created: _,
-            destroyed: _,
-            offset,
-        } => tables::part(store, offset, length),
-        Given::Refused(_) => tables::part(store, 0, 0),
+    match block(pieces, blocks, store, nodes, entries, number) {
+        Ok(given) => tables::part(store, given.offset, given.length),
+        Err(_) => tables::part(store, 0, 0),
     }
 }

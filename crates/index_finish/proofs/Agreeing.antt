@@ -11,7 +11,6 @@ use Rattle.history.specs.Words.{Block, block_of, size, Holds}
 use Rattle.history.specs.Rules.{Apart}
 use Rattle.history.specs.Tree.{no_block}
 use Rattle.history.specs.Ledger.{Ledger}
-use Rattle.tables.specs.Columns.{block_first, block_length, block_destroyed}
 use Rattle.block_table.specs.Blocks.{first_cell_at, length_at, offset_at, created_at, destroyed_at, block_of_row, blocks_of, Filled, Stored}
 use Rattle.block_table.proofs.Blocks.{blocks_at, blocks_length}
 use Rattle.ordering.specs.Apart.{HoldsAt}

@@ -5,10 +5,11 @@ use mathlib.Core.Logic.{◌⊎◌, ⊎_elim}
 use mathlib.Core.List.{List, ◌∷◌, map}
 use Prim.Native.Nat.{ℕ, ◌+◌, ◌-◌, ◌≤◌, ◌<◌, ◌^◌}
 use native.Mathlib.Omega.{arith}
+use lib.Dec.{leb}
 use borrow.Author.Tests.{ltb-true, ltb-false, not-true, not-false}
 use Rattle.lists.specs.Lists.{All, all_cons}
 use Rattle.lists.proofs.Lists.{all_append, all_map, all_both, all_right, all_any}
-use Rattle.lists.proofs.Numbers.{confirm, refute, decides_iff, eq_or_ne}
+use Rattle.lists.proofs.Numbers.{confirm, refute, decides_iff, decides_leb, decided, eq_or_ne}
 use Rattle.tables.specs.Columns.{column, piece_first, piece_length, piece_written}
 use Rattle.tables.specs.Sums.{plus_up_to}
 use Rattle.block_table.specs.Blocks.{first_cell_at, length_at, created_at, destroyed_at}
@@ -123,8 +124,9 @@ pub ruleset seeking = (ahead_start, ahead_turn, ahead_end, clear_spent, clear_no
 -- ── the returns of `block_clear` ──
 
 module _ {t b : List ℕ} {link created destroyed : ℕ} (ec : created ≡ created_at b link) (ed : destroyed ≡ destroyed_at b link) where
-  pub block_lifeless : destroyed ≤ created → BlockClear t b link true
-  block_lifeless h = record { decides = λ ps r. confirm (all_any ps (λ p c. omega (arith, c.lives))) }
+  pub block_lifeless : destroyed ≤ created → BlockClear t b link (leb destroyed created)
+  block_lifeless h =
+      rw (decided (leb destroyed created) (decides_leb destroyed created) h) (record { decides = λ ps r. confirm (all_any ps (λ p c. omega (arith, c.lives))) })
 
   pub block_tested : {first length end : ℕ} {r : Bool} → created < destroyed → first ≡ first_cell_at b link → length ≡ length_at b link → end ≡ plus_up_to first length
       → PiecesClear t first end destroyed r → BlockClear t b link r

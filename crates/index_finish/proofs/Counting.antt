@@ -2,12 +2,12 @@
 use mathlib.Core.Path.{◌≡◌, refl, sym, ap, ◌∙◌}
 use mathlib.Core.Bool.{Bool, true, false, cond}
 use mathlib.Core.List.{List, ◌++◌, map, map-map}
-use Prim.Native.Nat.{ℕ, ◌+◌, ◌≤◌, ◌<◌, ◌^◌}
+use Prim.Native.Nat.{ℕ, ◌≤◌, ◌<◌, ◌^◌}
 use native.Mathlib.Omega.{arith}
 use lib.ListN.{length}
 use lib.Dec.{ltb}
 use borrow.Author.Tests.{ltb-false}
-use Rattle.lists.specs.Lists.{count, count_from}
+use Rattle.lists.specs.Lists.{count_from}
 use Rattle.history.specs.Words.{block_of}
 use Rattle.history.specs.Tree.{node_count, entry_count}
 use Rattle.history.specs.Ledger.{Ledger, settled}
@@ -19,9 +19,13 @@ use Rattle.piece_table.specs.Shown.{shown}
 use Rattle.piece_table.proofs.Removing.{linked_valid}
 use Rattle.segment_tree.specs.Count.{rows_in}
 use Rattle.segment_tree.specs.Lives.{life_of, block_life, piece_life, entry_rows_in, room_for, rows_to_count, Countable}
+use Rattle.std.specs.Prelude.{Ok, Err, Result as Told}
+use Rattle.refusals.specs.declared.Refusal.{Refusal}
+use Rattle.refusals.specs.declared.Refusal.TheVariants.{NodesFull, EntriesFull}
+use Rattle.refusals.specs.Numbers.{number_of}
 use Rattle.layout.specs.Tables.{Tables}
 use Rattle.layout.specs.Formed.{Blank}
-use Rattle.index_finish.specs.Finish.{StandsOpen, all_blocks, whole_tree, number_of, answer_of}
+use Rattle.index_finish.specs.Finish.{StandsOpen, all_blocks, whole_tree}
 use Rattle.index_finish.proofs.Lists.{counts_once}
 use Rattle.index_finish.proofs.Standing.{few_rows, are_blocks, piece-count, linked}
 
@@ -78,36 +82,27 @@ module _ {t : Tables} {l : Ledger} (s : StandsOpen t l) where
   unfolding first_of finish_refusals
   finish_answer_lem = rw (s.encodes.lengths, s.encodes.heads, s.still_open)
 
-  -- the ledger's answer, by its number
-  pub answer_number : answer_of (number_of (finish_answer l)) ≡ finish_answer l
-  answer_number = rw finish_answer_lem (go (nodes_spent l t) (entries_spent l t))
-    where
-      go : (n m : Bool) → answer_of (number_of (answer_if n m)) ≡ answer_if n m
-      go true m = refl
-      go false true = refl
-      go false false = refl
-
   -- the count's answer is the ledger's
-  pub counted_answer : {r : ℕ} → r ≡ room_for (rows_in t.nodes) (entry_rows_in t.entries) (whole_tree l) → r ≡ number_of (finish_answer l)
-  counted_answer {r} told = rw finish_answer_lem (go (nodes_spent l t) (entries_spent l t) told)
+  pub counted_refused : {r : Told Unit Refusal} {x : Refusal} → r ≡ room_for (rows_in t.nodes) (entry_rows_in t.entries) (whole_tree l) → r ≡ Err x → finish_answer l ≡ refused (number_of x)
+  counted_refused {r} {x} told full = rw finish_answer_lem (go (nodes_spent l t) (entries_spent l t) told)
     where
-      go : (n m : Bool) → r ≡ cond n 12 (cond m 13 0) → r ≡ number_of (answer_if n m)
-      go true m e = e
-      go false true e = e
-      go false false e = e
+      go : (n m : Bool) → r ≡ cond n (Err NodesFull) (cond m (Err EntriesFull) (Ok tt)) → answer_if n m ≡ refused (number_of x)
+      go true m e = let q : x ≡ NodesFull = cc in rw q refl
+      go false true e = let q : x ≡ EntriesFull = cc in rw q refl
+      go false false e = absurd (cc)
 
-  pub counted_accepted : {r : ℕ} → r ≡ room_for (rows_in t.nodes) (entry_rows_in t.entries) (whole_tree l) → r ≡ 0 → finish_answer l ≡ accepted done
+  pub counted_accepted : {r : Told Unit Refusal} → r ≡ room_for (rows_in t.nodes) (entry_rows_in t.entries) (whole_tree l) → r ≡ Ok tt → finish_answer l ≡ accepted done
   counted_accepted {r} told z = rw finish_answer_lem (go (nodes_spent l t) (entries_spent l t) told)
     where
-      go : (n m : Bool) → r ≡ cond n 12 (cond m 13 0) → answer_if n m ≡ accepted done
-      go true m e = absurd (omega arith)
-      go false true e = absurd (omega arith)
+      go : (n m : Bool) → r ≡ cond n (Err NodesFull) (cond m (Err EntriesFull) (Ok tt)) → answer_if n m ≡ accepted done
+      go true m e = absurd (cc)
+      go false true e = absurd (cc)
       go false false e = refl
 
-  pub accepted_space : {r : ℕ} → r ≡ room_for (rows_in t.nodes) (entry_rows_in t.entries) (whole_tree l) → r ≡ 0 → entry_count (whole_tree l) ≤ entry_rows_in t.entries
+  pub accepted_space : {r : Told Unit Refusal} → r ≡ room_for (rows_in t.nodes) (entry_rows_in t.entries) (whole_tree l) → r ≡ Ok tt → entry_count (whole_tree l) ≤ entry_rows_in t.entries
   accepted_space {r} told z = go (nodes_spent l t) (entries_spent l t) refl told
     where
-      go : (n m : Bool) → entries_spent l t ≡ m → r ≡ cond n 12 (cond m 13 0) → entry_count (whole_tree l) ≤ entry_rows_in t.entries
-      go true m w e = absurd (omega arith)
-      go false true w e = absurd (omega arith)
+      go : (n m : Bool) → entries_spent l t ≡ m → r ≡ cond n (Err NodesFull) (cond m (Err EntriesFull) (Ok tt)) → entry_count (whole_tree l) ≤ entry_rows_in t.entries
+      go true m w e = absurd (cc)
+      go false true w e = absurd (cc)
       go false false w e = ltb-false (entry_rows_in t.entries) (entry_count (whole_tree l)) w

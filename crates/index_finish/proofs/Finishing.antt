@@ -1,6 +1,6 @@
 -- Finish on tables that stand for an open ledger: one step for each return. Assumes nothing.
-use mathlib.Core.Path.{◌≡◌, refl, sym, subst, ◌∙◌}
-use mathlib.Core.Bool.{Bool, true, false, not}
+use mathlib.Core.Path.{◌≡◌, refl, sym, ◌∙◌}
+use mathlib.Core.Bool.{Bool, true, false}
 use mathlib.Core.List.{List, map}
 use Prim.Native.Nat.{ℕ, ◌<◌, ◌^◌}
 use native.Mathlib.Omega.{arith}
@@ -11,35 +11,37 @@ use Rattle.lists.proofs.Numbers.{confirm, refute, decides_iff}
 use Rattle.history.specs.Words.{block_of}
 use Rattle.history.specs.Rules.{Apart}
 use Rattle.history.specs.Ledger.{Ledger}
-use Rattle.history.specs.Results.{Result, done}
-use Rattle.history.specs.Refusals.{Answer, accepted, refused, finish_answer}
+use Rattle.history.specs.Results.{done}
+use Rattle.history.specs.Refusals.{accepted, refused}
 use Rattle.tables.specs.Columns.{column, block_column, pieces_count, head_count, head_end, head_kind}
 use Rattle.handed_rows.specs.Handed.{SeenHanded}
 use Rattle.segment_tree.specs.Lives.{rows_to_count, CountedTree, CountedAs}
-use Rattle.layout.specs.Tables.{Tables, tables}
+use Rattle.std.specs.Prelude.{Ok, Err, Result as Told}
+use Rattle.refusals.specs.declared.Refusal.{Refusal}
+use Rattle.refusals.specs.Numbers.{number_of, answer_by}
+use Rattle.layout.specs.Tables.{tables}
 use Rattle.layout.specs.Formed.{Blank}
-use Rattle.layout.specs.Relations.{FinishLeaves}
 use Rattle.index_finish.specs.Apart.{BlocksClear}
 use Rattle.index_finish.specs.Trial.{Tried, BlocksApart}
-use Rattle.index_finish.specs.Finish.{StandsOpen, all_blocks, whole_tree, number_of, Finishable, Finishing, FinishedOpen, TestedBlank, TriedAll, AllApart, Accepted, Preparing, Prepared, Finished, SettledTables}
+use Rattle.index_finish.specs.Finish.{StandsOpen, all_blocks, whole_tree, Finishing, FinishedOpen, TestedBlank, TriedAll, AllApart, Accepted, Prepared, Finished, SettledTables}
 use Rattle.index_finish.proofs.Standing.{unordered, piece_rows, rep, piece-count}
 use Rattle.index_finish.proofs.Agreeing.{unshared_all, all_unshared}
 use Rattle.index_finish.proofs.Handed.{handed-apart}
 use Rattle.index_finish.proofs.Trying.{tryable}
-use Rattle.index_finish.proofs.Counting.{countable, counted_all, counted_answer, counted_accepted, accepted_space}
+use Rattle.index_finish.proofs.Counting.{countable, counted_all, counted_refused, counted_accepted, accepted_space}
 
 -- ── the returns of `blank` ──
 
-pub nodes_used_lem : {nodes entries : List ℕ} {q : Bool} → Decides q (nodes ≡ replicate (length nodes) 0) → not q ≡ true → TestedBlank nodes entries false
-nodes_used_lem {q = q} d f = record { decides = λ pieces blocks store. refute (λ x. d.not (not-true q f) x.nodes) }
+pub nodes_used : {nodes entries : List ℕ} {q : Bool} → Decides q (nodes ≡ replicate (length nodes) 0) → q ≡ false → TestedBlank nodes entries false
+nodes_used {q = q} d f = record { decides = λ pieces blocks store. refute (λ x. d.not f x.nodes) }
 
-pub nodes_zero : {nodes entries : List ℕ} {q r : Bool} → Decides q (nodes ≡ replicate (length nodes) 0) → not q ≡ false
+pub nodes_zero : {nodes entries : List ℕ} {q r : Bool} → Decides q (nodes ≡ replicate (length nodes) 0) → q ≡ true
     → Decides r (entries ≡ replicate (length entries) 0) → TestedBlank nodes entries r
 nodes_zero {q = q} {r = r} d f rest = record {
-  decides = λ pieces blocks store. decides_iff r (λ e. record { nodes = d.yes (not-false q f); entries = e }) (λ x. x.entries) rest;
+  decides = λ pieces blocks store. decides_iff r (λ e. record { nodes = d.yes f; entries = e }) (λ x. x.entries) rest;
 }
 
-pub ruleset blanking = (nodes_used_lem, nodes_zero)
+pub ruleset blanking = (nodes_used, nodes_zero)
 
 -- ── the returns of `all_apart` ──
 
@@ -50,8 +52,8 @@ seen handed l same = rw same at handed
 
 module _ {pieces blocks nodes entries : List ℕ} {kind e n : ℕ} (few_pieces : length pieces < 2 ^ 64) {b₀ : List ℕ} {known : Bool}
     (handed : SeenHanded pieces blocks n (column pieces 0 pieces_count) b₀ known) where
-  pub apart-handed : known ≡ true → AllApart pieces blocks nodes entries kind e n b₀ nodes entries true
-  apart-handed y = record {
+  pub apart_handed : known ≡ true → AllApart pieces blocks nodes entries kind e n b₀ nodes entries true
+  apart_handed y = record {
     done = λ store l s blank ek ee en. record {
       blocks_same = (seen handed l en).kept (unordered s);
       nodes_same = refl;
@@ -95,24 +97,24 @@ module _ {pieces blocks nodes entries : List ℕ} {kind e n : ℕ} (few_pieces :
           };
     }
 
-pub ruleset parting = (apart-handed, apart_fails, apart_rest, not-true, not-false, arith)
+pub ruleset parting = (apart_handed, apart_fails, apart_rest, not-true, not-false, arith)
 
 -- ── the returns of `prepare` ──
 
-pub prepare_unformed : {pieces blocks nodes entries : List ℕ} {q : Bool} → TestedBlank nodes entries q → not q ≡ true → Prepared pieces blocks nodes entries blocks nodes entries 2
+pub prepare_unformed : {pieces blocks nodes entries : List ℕ} {q : Bool} → TestedBlank nodes entries q → q ≡ false → Prepared pieces blocks nodes entries blocks nodes entries (refused 2)
 prepare_unformed {pieces} {blocks} {q = q} d f = record {
   done = λ store l s. record {
-    formed = λ x. absurd ((d.decides pieces blocks store).not (not-true q f) x.blank);
+    formed = λ x. absurd ((d.decides pieces blocks store).not f x.blank);
     unformed = λ _. refl;
     blocks_same = refl;
     entries_same = refl;
     refused_same = λ _. refl;
-    accepted_counted = λ z. absurd (omega arith);
+    accepted_counted = λ z. absurd (cc);
   };
 }
 
 module _ {pieces blocks nodes entries b nodes₁ entries₁ : List ℕ} {n e kind : ℕ} {q p : Bool} (few_pieces : length pieces < 2 ^ 64) (few_blocks : length blocks < 2 ^ 64)
-    (zeros : TestedBlank nodes entries q) (f : not q ≡ false) (count : n ≡ block_column blocks 0 head_count) (ee : e ≡ block_column blocks 0 head_end)
+    (zeros : TestedBlank nodes entries q) (f : q ≡ true) (count : n ≡ block_column blocks 0 head_count) (ee : e ≡ block_column blocks 0 head_end)
     (ek : kind ≡ block_column blocks 0 head_kind) (test : AllApart pieces blocks nodes entries kind e n b nodes₁ entries₁ p) where
   module _ {store : List ℕ} {l : Ledger} (s : StandsOpen (tables pieces blocks store nodes entries) l) where
     n_is : n ≡ length l.now.blocks
@@ -125,93 +127,110 @@ module _ {pieces blocks nodes entries b nodes₁ entries₁ : List ℕ} {n e kin
     k_is = ek ∙ s.encodes.kind
 
     still_blank : Blank (tables pieces blocks store nodes entries)
-    still_blank = (zeros.decides pieces blocks store).yes (not-false q f)
+    still_blank = (zeros.decides pieces blocks store).yes f
 
     tried : TriedAll l (tables pieces blocks store nodes entries) b nodes₁ entries₁ p
     tried = test.done store l s still_blank k_is e_is n_is
 
-  pub prepare_shared : not p ≡ true → Prepared pieces blocks nodes entries b nodes₁ entries₁ 2
+  pub prepare_shared : p ≡ false → Prepared pieces blocks nodes entries b nodes₁ entries₁ (refused 2)
   prepare_shared g = record {
     done = λ store l s. record {
-      formed = λ x. absurd ((tried s).decides.not (not-true p g) x.apart);
+      formed = λ x. absurd ((tried s).decides.not g x.apart);
       unformed = λ _. refl;
       blocks_same = (tried s).blocks_same;
       entries_same = (tried s).entries_same;
       refused_same = λ _. (tried s).nodes_same;
-      accepted_counted = λ z. absurd (omega arith);
+      accepted_counted = λ z. absurd (cc);
     };
   }
 
-  pub prepare_counted : {nodes' : List ℕ} {m r : ℕ} → not p ≡ false → m ≡ column pieces 0 pieces_count → CountedTree (rows_to_count b n pieces m e kind) nodes₁ entries₁ nodes' r
-      → length nodes' ≡ length nodes → Prepared pieces blocks nodes entries b nodes' entries₁ r
-  prepare_counted {nodes'} {m} {r} g em tree long = record { done = go }
-    where
-      go : (store : List ℕ) (l : Ledger) → StandsOpen (tables pieces blocks store nodes entries) l
-          → Preparing l (tables pieces blocks store nodes entries) b nodes' entries₁ r
-      go store l s =
+  module _ {nodes' : List ℕ} {m : ℕ} {r : Told Unit Refusal} (g : p ≡ true) (em : m ≡ column pieces 0 pieces_count)
+      (tree : CountedTree (rows_to_count b n pieces m e kind) nodes₁ entries₁ nodes' r) (long : length nodes' ≡ length nodes) where
+    module _ {store : List ℕ} {l : Ledger} (s : StandsOpen (tables pieces blocks store nodes entries) l) where
+      is_apart : Apart (all_blocks l)
+      is_apart = (tried s).decides.yes g
+
+      counted : CountedAs nodes entries nodes' l.opening.kind l.opening.end (whole_tree l) r
+      counted =
           let t = tried s in
-          let apart : Apart (all_blocks l) = t.decides.yes (not-false p g) in
           let m_is : m ≡ length l.now.pieces = em ∙ piece-count s in
           let c : CountedTree (rows_to_count blocks (length l.now.blocks) pieces (length l.now.pieces) l.opening.end l.opening.kind) nodes entries nodes' r
           = rw (← n_is s, ← m_is, ← e_is s, ← k_is s, ← t.blocks_same, ← t.nodes_same, ← t.entries_same) tree in
-          let counted : CountedAs nodes entries nodes' l.opening.kind l.opening.end (whole_tree l) r
-          = rw (counted_all l) at (c.done l.now.blocks (map (block_of l.opening.end) l.now.pieces) s.encodes.links
-          (countable s (still_blank s) few_pieces few_blocks)) in
-          record {
-            formed = λ _. counted_answer s counted.answer;
-            unformed = λ never. absurd (never (record { blank = still_blank s; apart = apart }));
-            blocks_same = t.blocks_same;
-            entries_same = t.entries_same;
-            refused_same = counted.refused;
-            accepted_counted = λ z. record {
-              stands = s;
-              tallied = record {
-                answer = counted_accepted s counted.answer z;
-                apart = apart;
-                counted = counted.counted z;
-                space = accepted_space s counted.answer z;
-              };
-              nodes_long = long;
-              entry_zeros = (still_blank s).entries;
-            };
-          }
+          rw (counted_all l) at (c.done l.now.blocks (map (block_of l.opening.end) l.now.pieces) s.encodes.links
+          (countable s (still_blank s) few_pieces few_blocks))
 
-pub ruleset preparing = (prepare_unformed, prepare_shared, prepare_counted, arith)
+    prepare_full : (x : Refusal) → r ≡ Err x → Prepared pieces blocks nodes entries b nodes' entries₁ (refused (number_of x))
+    prepare_full x full = record {
+      done = λ store l s. record {
+        formed = λ _. sym (counted_refused s (counted s).answer full);
+        unformed = λ never. absurd (never (record { blank = still_blank s; apart = is_apart s }));
+        blocks_same = (tried s).blocks_same;
+        entries_same = (tried s).entries_same;
+        refused_same = λ _. (counted s).refused (λ z. absurd (cc));
+        accepted_counted = λ z. absurd (cc);
+      };
+    }
+
+    prepare_counted : r ≡ Ok tt → Prepared pieces blocks nodes entries b nodes' entries₁ (accepted done)
+    prepare_counted z = record {
+      done = λ store l s. record {
+        formed = λ _. sym (counted_accepted s (counted s).answer z);
+        unformed = λ never. absurd (never (record { blank = still_blank s; apart = is_apart s }));
+        blocks_same = (tried s).blocks_same;
+        entries_same = (tried s).entries_same;
+        refused_same = λ ne. absurd (ne refl);
+        accepted_counted = λ _. record {
+          stands = s;
+          tallied = record {
+            answer = counted_accepted s (counted s).answer z;
+            apart = is_apart s;
+            counted = (counted s).counted z;
+            space = accepted_space s (counted s).answer z;
+          };
+          nodes_long = long;
+          entry_zeros = (still_blank s).entries;
+        };
+      };
+    }
+
+    pub prepare_told : Prepared pieces blocks nodes entries b nodes' entries₁ (answer_by (λ _. done) r)
+    prepare_told = go r refl
+      where
+        go : (x : Told Unit Refusal) → r ≡ x → Prepared pieces blocks nodes entries b nodes' entries₁ (answer_by (λ _. done) x)
+        go (Ok u) e = prepare_counted e
+        go (Err x) e = prepare_full x e
+
+pub ruleset preparing = (prepare_unformed, prepare_shared, prepare_told)
 
 -- ── a refusal, and an accepted finish ──
 
--- a refusal leaves everything as it was
-refused_leaves : (a : Answer Result) (l : Ledger) {t t' : Tables} → (number_of a ≡ 0 → ⊥) → t' ≡ t → FinishLeaves a l t t'
-refused_leaves (accepted x) l nz same = absurd (nz refl)
-refused_leaves (refused n) l nz same = same
-
-module _ {pieces blocks nodes entries b nodes₁ entries₁ : List ℕ} {r : ℕ} (p : Prepared pieces blocks nodes entries b nodes₁ entries₁ r) where
-  pub finish_refused : (r ≡ 0 → ⊥) → FinishedOpen pieces blocks nodes entries pieces b nodes₁ entries₁ r
-  finish_refused nz = record { done = go }
+module _ {pieces blocks nodes entries b nodes₁ entries₁ : List ℕ} where
+  -- a refusal leaves everything as it was
+  pub finish_refused : {number : ℕ} → Prepared pieces blocks nodes entries b nodes₁ entries₁ (refused number)
+      → FinishedOpen pieces blocks nodes entries pieces b nodes₁ entries₁ (refused number)
+  finish_refused {number} p = record { done = go }
     where
       go : (store : List ℕ) (l : Ledger) → StandsOpen (tables pieces blocks store nodes entries) l
-          → Finishing l (tables pieces blocks store nodes entries) (tables pieces b store nodes₁ entries₁) r
+          → Finishing l (tables pieces blocks store nodes entries) (tables pieces b store nodes₁ entries₁) (refused number)
       go store l s =
           let told = p.done store l s in
-          let same : tables pieces b store nodes₁ entries₁ ≡ tables pieces blocks store nodes entries = rw (told.blocks_same, told.refused_same nz, told.entries_same) in
-          record {
-            formed = λ f.
-                let e : r ≡ number_of (finish_answer l) = (p.done store l s).formed f in
-                (e, refused_leaves (finish_answer l) l (λ z. nz (e ∙ z)) same);
-            unformed = λ never. ((p.done store l s).unformed never, same);
-          }
+          let same : tables pieces b store nodes₁ entries₁ ≡ tables pieces blocks store nodes entries =
+          rw (told.blocks_same, told.refused_same (λ z. absurd (cc)), told.entries_same) in
+          record { formed = λ f. (told.formed f, rw (← told.formed f) same); unformed = λ never. (told.unformed never, same) }
 
-  pub finish_done : {pieces' b' nodes' entries' : List ℕ} → r ≡ 0 → SettledTables pieces b nodes₁ entries₁ pieces' b' nodes' entries'
-      → FinishedOpen pieces blocks nodes entries pieces' b' nodes' entries' 0
-  finish_done {pieces'} {b'} {nodes'} {entries'} z settle = record { done = go }
+  pub finish_done : {pieces' b' nodes' entries' : List ℕ} → Prepared pieces blocks nodes entries b nodes₁ entries₁ (accepted done)
+      → SettledTables pieces b nodes₁ entries₁ pieces' b' nodes' entries'
+      → FinishedOpen pieces blocks nodes entries pieces' b' nodes' entries' (accepted done)
+  finish_done {pieces'} {b'} {nodes'} {entries'} p settle = record { done = go }
     where
       go : (store : List ℕ) (l : Ledger) → StandsOpen (tables pieces blocks store nodes entries) l
-          → Finishing l (tables pieces blocks store nodes entries) (tables pieces' b' store nodes' entries') 0
+          → Finishing l (tables pieces blocks store nodes entries) (tables pieces' b' store nodes' entries') (accepted done)
       go store l s =
-          let a : Accepted (tables pieces blocks store nodes entries) nodes₁ l = (p.done store l s).accepted_counted z in
-          let here : SettledTables pieces blocks nodes₁ entries pieces' b' nodes' entries' = rw ((p.done store l s).blocks_same, (p.done store l s).entries_same) at settle in
+          let told = p.done store l s in
+          let a : Accepted (tables pieces blocks store nodes entries) nodes₁ l = told.accepted_counted refl in
+          let here : SettledTables pieces blocks nodes₁ entries pieces' b' nodes' entries' = rw (told.blocks_same, told.entries_same) at settle in
           let d : Finished l (tables pieces blocks store nodes entries) (tables pieces' b' store nodes' entries') = here.done nodes store l a in
           record {
             formed = λ f. rw a.tallied.answer (refl, (d.encodes, d.tables_are));
-            unformed = λ never. absurd (let two : r ≡ 2 = (p.done store l s).unformed never in omega arith);
+            unformed = λ never. absurd (let two : accepted done ≡ refused 2 = told.unformed never in cc);
           }

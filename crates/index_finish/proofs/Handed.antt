@@ -1,5 +1,5 @@
 -- What is seen along the rows of an open index is rule 24 for finish: its rows are sound, and its pieces are the rows of the links. Assumes nothing.
-use mathlib.Core.Path.{◌≡◌, refl, sym, subst, ◌∙◌}
+use mathlib.Core.Path.{◌≡◌, sym, subst, ◌∙◌}
 use mathlib.Core.Bool.{Bool, true}
 use mathlib.Core.List.{List, ◌∷◌, map}
 use Prim.Native.Nat.{ℕ, ◌≤◌, ◌<◌, ◌^◌, max}

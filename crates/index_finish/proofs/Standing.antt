@@ -9,7 +9,7 @@ use lib.ListN.{length, get_or, length-map}
 use Rattle.lists.specs.Lists.{All}
 use Rattle.lists.proofs.Lists.{all_both, all_at, all_of_map, all_un_map}
 use Rattle.history.specs.Lent.{row_width, block_head, block_rows}
-use Rattle.history.specs.Words.{Block, size}
+use Rattle.history.specs.Words.{Block}
 use Rattle.history.specs.Tree as segment
 use Rattle.history.specs.Tree.{no_block}
 use Rattle.history.specs.Ledger.{Ledger, is_some}

@@ -1,13 +1,13 @@
 -- Rule 24 of the blocks, tried in tables of zeros: one step for each return. If no two blocks share a cell, the tree that is built of them keeps
 -- document 01's rules; so where the test of the tree says no, two do. Assumes nothing.
 use mathlib.Core.Path.{◌≡◌, refl, sym, subst, ap, ◌∙◌}
-use mathlib.Core.Bool.{Bool, true, false, cond, not, false≢true}
+use mathlib.Core.Bool.{Bool, true, false, cond, false≢true}
 use mathlib.Core.List.{List, [], ◌∷◌, append-nil}
 use Prim.Native.Nat.{ℕ, suc, ◌^◌, ◌≤◌, ◌<◌}
 use native.Mathlib.Omega.{arith}
 use lib.ListN.{length, replicate}
 use lib.Dec.{ltb}
-use borrow.Author.Tests.{ltb-false, not-true, not-false}
+use borrow.Author.Tests.{ltb-false}
 use Rattle.lists.specs.Lists.{All, count, count_from}
 use Rattle.lists.specs.Tests.{Decides}
 use Rattle.lists.proofs.Lists.{all_of_at}
@@ -33,6 +33,9 @@ use Rattle.segment_tree.specs.Fill as fill
 use Rattle.segment_tree.specs.Fill.{lent_tables}
 use Rattle.segment_test.specs.Test.{lent, BlockRows, ClosedTree}
 use Rattle.segment_apart.specs.Apart.{ClosedApart}
+use Rattle.std.specs.Prelude.{is_err, Ok, Err, Result as Told}
+use Rattle.refusals.specs.declared.Refusal.{Refusal}
+use Rattle.refusals.specs.declared.Refusal.TheVariants.{NodesFull, EntriesFull}
 use Rattle.layout.specs.Tables.{Tables}
 use Rattle.layout.specs.Formed.{Blank}
 use Rattle.index_finish.specs.Trial.{Tryable, StandsApart, OrderApart, BlocksApart}
@@ -46,12 +49,12 @@ use Rattle.index_finish.proofs.Settling.{closable}
 
 module _ {blocks nodes entries : List ℕ} {kind e n : ℕ} {q : Bool}
     (tree : (bs : List Block) → BlockRows blocks n bs → Decides q (ClosedTree (lent blocks nodes entries) kind e bs)) where
-  pub tree_none : not q ≡ true → StandsApart (lent blocks nodes entries) kind e n false
-  tree_none f = record { shown = λ z. absurd (false≢true z); shares = λ z bs rows bounded index u. (tree bs rows).not (not-true q f) index }
+  pub tree_none : q ≡ false → StandsApart (lent blocks nodes entries) kind e n false
+  tree_none f = record { shown = λ z. absurd (false≢true z); shares = λ z bs rows bounded index u. (tree bs rows).not f index }
 
-  pub tree_asked : {r : Bool} → not q ≡ false → ClosedApart (lent blocks nodes entries) kind e n r → StandsApart (lent blocks nodes entries) kind e n r
+  pub tree_asked : {r : Bool} → q ≡ true → ClosedApart (lent blocks nodes entries) kind e n r → StandsApart (lent blocks nodes entries) kind e n r
   tree_asked f d = record {
-    shown = λ z bs rows bounded. (d.decides bs rows ((tree bs rows).yes (not-false q f)) bounded).yes z;
+    shown = λ z bs rows bounded. (d.decides bs rows ((tree bs rows).yes f) bounded).yes z;
     shares = λ z bs rows bounded index u. (d.decides bs rows index bounded).not z u;
   }
 
@@ -60,12 +63,12 @@ pub ruleset asking = (tree_none, tree_asked)
 -- ── what is tried ──
 
 -- where there is room, the entries fit
-room_space : (node_rows entry_rows : ℕ) (T : Tree) {r : ℕ} → r ≡ room_for node_rows entry_rows T → r ≡ 0 → entry_count T ≤ entry_rows
+room_space : (node_rows entry_rows : ℕ) (T : Tree) {r : Told Unit Refusal} → r ≡ room_for node_rows entry_rows T → r ≡ Ok tt → entry_count T ≤ entry_rows
 room_space node_rows entry_rows T {r} told z = go (ltb node_rows (node_count T)) (ltb entry_rows (entry_count T)) refl told
   where
-    go : (n m : Bool) → ltb entry_rows (entry_count T) ≡ m → r ≡ cond n 12 (cond m 13 0) → entry_count T ≤ entry_rows
-    go true m w e = absurd (omega arith)
-    go false true w e = absurd (omega arith)
+    go : (n m : Bool) → ltb entry_rows (entry_count T) ≡ m → r ≡ cond n (Err NodesFull) (cond m (Err EntriesFull) (Ok tt)) → entry_count T ≤ entry_rows
+    go true m w e = absurd (cc)
+    go false true w e = absurd (cc)
     go false false w e = ltb-false entry_rows (entry_count T) w
 
 module _ {store blocks nodes entries : List ℕ} {kind e n : ℕ} (t : Tryable store blocks nodes entries kind e n) where
@@ -115,7 +118,7 @@ module _ {store blocks nodes entries : List ℕ} {kind e n : ℕ} (t : Tryable s
     all_pieces = λ k. refl;
   }
 
-  counted_as : {none nodes' : List ℕ} {r : ℕ} → CountedTree (rows_to_count blocks n none 0 e kind) nodes entries nodes' r → CountedAs nodes entries nodes' kind e (tree_of e bs) r
+  counted_as : {none nodes' : List ℕ} {r : Told Unit Refusal} → CountedTree (rows_to_count blocks n none 0 e kind) nodes entries nodes' r → CountedAs nodes entries nodes' kind e (tree_of e bs) r
   counted_as {none} c = rw (append-nil bs) at (c.done bs [] [] (countable none))
 
   rooted : (xs : List Block) → is_hole (tree_of e xs) ≡ is_empty xs
@@ -123,7 +126,7 @@ module _ {store blocks nodes entries : List ℕ} {kind e n : ℕ} (t : Tryable s
   rooted (x ∷ xs) = tree_of-some e x xs
 
   -- what is built of blocks that share nothing keeps the rules
-  index_of : {nodes₁ nodes' entries' : List ℕ} {r : ℕ} → CountedAs nodes entries nodes₁ kind e (tree_of e bs) r → r ≡ 0 → length nodes₁ ≡ length nodes
+  index_of : {nodes₁ nodes' entries' : List ℕ} {r : Told Unit Refusal} → CountedAs nodes entries nodes₁ kind e (tree_of e bs) r → r ≡ Ok tt → length nodes₁ ≡ length nodes
       → length entries' ≡ length entries → fill.ClosedTree (lent_tables blocks nodes₁ entries) (lent_tables blocks nodes' entries') n e kind → Unshared blocks n
       → ClosedTree (lent blocks nodes' entries') kind e bs
   index_of {nodes₁} {nodes'} {entries'} {r} c z long same made u =
@@ -177,27 +180,38 @@ order_tried {blocks} {b} {b'} {n} {r} sort test clear = record {
 
 -- ── the returns of `blocks_apart` ──
 
-module _ {blocks nodes entries : List ℕ} {kind e n : ℕ} {none nodes₁ : List ℕ} {told : ℕ}
-    (counted : CountedTree (rows_to_count blocks n none 0 e kind) nodes entries nodes₁ told) where
-  pub tried_order : {b : List ℕ} {r : Bool} → (told ≡ 0 → ⊥) → OrderApart blocks n b r → BlocksApart blocks nodes entries kind e n b nodes₁ entries r
-  tried_order nz d = record {
+-- what is no refusal is accepted
+is_full : (r : Told Unit Refusal) → is_err r ≡ true → r ≡ Ok tt → ⊥
+is_full (Ok u) f e = false≢true f
+is_full (Err x) f e = cc
+
+is_room : (r : Told Unit Refusal) → is_err r ≡ false → r ≡ Ok tt
+is_room (Ok u) f = refl
+is_room (Err x) f = absurd (false≢true (sym f))
+
+module _ {blocks nodes entries : List ℕ} {kind e n : ℕ} {none nodes₁ : List ℕ} {told : Told Unit Refusal}
+    (counted : CountedTree (rows_to_count blocks n none 0 e kind) nodes entries nodes₁ told) {full : Bool} (is : full ≡ is_err told) where
+  pub tried_order : {b : List ℕ} {r : Bool} → full ≡ true → OrderApart blocks n b r → BlocksApart blocks nodes entries kind e n b nodes₁ entries r
+  tried_order f d = record {
     done = λ store t.
         let tried = d.done store t.unordered t.room (filled t) t.stored in
-        record { blocks_same = tried.same; nodes_same = (counted_as t counted).refused nz; entries_same = refl; decides = tried.decides };
+        record { blocks_same = tried.same; nodes_same = (counted_as t counted).refused (is_full told (sym is ∙ f)); entries_same = refl; decides = tried.decides };
   }
 
-  pub tried_tree : {nodes₂ entries₂ nodes₃ entries₃ : List ℕ} {r : Bool} → told ≡ 0 → length nodes₁ ≡ length nodes → length nodes₂ ≡ length nodes
+  pub tried_tree : {nodes₂ entries₂ nodes₃ entries₃ : List ℕ} {r : Bool} → full ≡ false → length nodes₁ ≡ length nodes → length nodes₂ ≡ length nodes
       → length entries₂ ≡ length entries → fill.ClosedTree (lent_tables blocks nodes₁ entries) (lent_tables blocks nodes₂ entries₂) n e kind
       → StandsApart (lent blocks nodes₂ entries₂) kind e n r → nodes₃ ≡ replicate (length nodes₂) 0 → entries₃ ≡ replicate (length entries₂) 0
       → BlocksApart blocks nodes entries kind e n blocks nodes₃ entries₃ r
-  tried_tree z long₁ long₂ long made d zero-nodes zero-entries = record {
+  tried_tree f long₁ long₂ long made d zero-nodes zero-entries = record {
     done = λ store t. record {
       blocks_same = refl;
       nodes_same = zero-nodes ∙ ap (λ (k : ℕ). replicate k 0) long₂ ∙ sym t.node_zeros;
       entries_same = zero-entries ∙ ap (λ (k : ℕ). replicate k 0) long ∙ sym t.entry_zeros;
       decides = record {
         yes = λ y. d.shown y (bs t) (block_rows_lem t) t.bounded;
-        not = λ y u. d.shares y (bs t) (block_rows_lem t) t.bounded (index_of t (counted_as t counted) z long₁ long made u) u;
+        not = λ y u. d.shares y (bs t) (block_rows_lem t) t.bounded (index_of t (counted_as t counted) (is_room told (sym is ∙ f)) long₁ long made u) u;
       };
     };
   }
+
+pub ruleset trying = (tried_order, tried_tree)

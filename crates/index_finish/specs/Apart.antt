@@ -1,6 +1,6 @@
 -- Rule 24 between blocks and pieces, where each piece is counted as live up to the end: its life meets a block's exactly when it was written before the
 -- block was destroyed. Definitions alone.
-use Rattle.std.specs.Prelude.{◌≡◌, Bool, List, ℕ, ◌+◌, ◌≤◌, ◌<◌}
+use Rattle.std.specs.Prelude.{Bool, List, ℕ, ◌+◌, ◌≤◌, ◌<◌}
 use Rattle.lists.specs.Lists.{All}
 use Rattle.lists.specs.Tests.{Decides}
 use Rattle.block_table.specs.Blocks.{first_cell_at, length_at, created_at, destroyed_at}

@@ -1,6 +1,6 @@
 -- What finish does to tables that stand for an open index. The store is neither read nor changed: what is said holds with every store with which the
 -- tables stand for a ledger. Definitions alone.
-use Rattle.std.specs.Prelude.{◌≡◌, Bool, false, List, ℕ, zero, suc, ◌≤◌, ◌<◌, ◌^◌, length, replicate}
+use Rattle.std.specs.Prelude.{◌≡◌, Bool, false, List, ℕ, ◌≤◌, ◌<◌, ◌^◌, length, replicate}
 use Rattle.lists.specs.Tests.{Decides}
 use Rattle.history.specs.Words.{Block}
 use Rattle.history.specs.Tree.{Tree, entry_count, tree_of}
@@ -33,16 +33,6 @@ all_blocks l = settled l.opening.end l.now
 abbrev pub whole_tree : Ledger → Tree
 whole_tree l = tree_of l.opening.end (all_blocks l)
 
--- an answer as a number: document 01's, or 0 where it is accepted
-abbrev pub number_of : Answer Result → ℕ
-number_of (accepted a) = 0
-number_of (refused n) = n
-
--- and the answer of a number
-abbrev pub answer_of : (number : ℕ) → Answer Result
-answer_of zero = accepted done
-answer_of (suc n) = refused (suc n)
-
 -- ── finish ──
 
 -- What finish asks of an open index besides: it builds in zeros, and no two of all blocks share a cell at a tick.
@@ -51,14 +41,14 @@ pub record Finishable (t : Tables) (l : Ledger) : Type 0 where
   pub apart : Apart (all_blocks l)
 
 -- the answer is the ledger's, and what it leaves; or, of tables that are not well formed for finish, 2, and everything is as it was
-pub record Finishing (l : Ledger) (t t' : Tables) (r : ℕ) : Type 0 where
-  pub formed : Finishable t l → (r ≡ number_of (finish_answer l)) × FinishLeaves (finish_answer l) l t t'
-  pub unformed : (Finishable t l → ⊥) → (r ≡ 2) × (t' ≡ t)
+pub record Finishing (l : Ledger) (t t' : Tables) (answer : Answer Result) : Type 0 where
+  pub formed : Finishable t l → (answer ≡ finish_answer l) × FinishLeaves (finish_answer l) l t t'
+  pub unformed : (Finishable t l → ⊥) → (answer ≡ refused 2) × (t' ≡ t)
 
--- of every store and ledger; `r` is the answer as a number
-pub record FinishedOpen (pieces blocks nodes entries pieces' blocks' nodes' entries' : List ℕ) (r : ℕ) : Type 0 where
+-- of every store and ledger
+pub record FinishedOpen (pieces blocks nodes entries pieces' blocks' nodes' entries' : List ℕ) (answer : Answer Result) : Type 0 where
   pub done : (store : List ℕ) (l : Ledger) → StandsOpen (tables pieces blocks store nodes entries) l
-      → Finishing l (tables pieces blocks store nodes entries) (tables pieces' blocks' store nodes' entries') r
+      → Finishing l (tables pieces blocks store nodes entries) (tables pieces' blocks' store nodes' entries') answer
 
 -- ── what comes before an accepted finish ──
 
@@ -93,18 +83,18 @@ pub record Accepted (t : Tables) (nodes : List ℕ) (l : Ledger) : Type 0 where
   pub entry_zeros : t.entries ≡ replicate (length t.entries) 0
 
 -- the answer, and on a refusal everything as it was
-pub record Preparing (l : Ledger) (t : Tables) (blocks nodes entries : List ℕ) (r : ℕ) : Type 0 where
-  pub formed : Finishable t l → r ≡ number_of (finish_answer l)
-  pub unformed : (Finishable t l → ⊥) → r ≡ 2
+pub record Preparing (l : Ledger) (t : Tables) (blocks nodes entries : List ℕ) (answer : Answer Result) : Type 0 where
+  pub formed : Finishable t l → answer ≡ finish_answer l
+  pub unformed : (Finishable t l → ⊥) → answer ≡ refused 2
   pub blocks_same : blocks ≡ t.blocks
   pub entries_same : entries ≡ t.entries
-  pub refused_same : (r ≡ 0 → ⊥) → nodes ≡ t.nodes
-  pub accepted_counted : r ≡ 0 → Accepted t nodes l
+  pub refused_same : (answer ≡ accepted done → ⊥) → nodes ≡ t.nodes
+  pub accepted_counted : answer ≡ accepted done → Accepted t nodes l
 
 -- `prepare`
-pub record Prepared (pieces blocks nodes entries blocks' nodes' entries' : List ℕ) (r : ℕ) : Type 0 where
+pub record Prepared (pieces blocks nodes entries blocks' nodes' entries' : List ℕ) (answer : Answer Result) : Type 0 where
   pub done : (store : List ℕ) (l : Ledger) → StandsOpen (tables pieces blocks store nodes entries) l
-      → Preparing l (tables pieces blocks store nodes entries) blocks' nodes' entries' r
+      → Preparing l (tables pieces blocks store nodes entries) blocks' nodes' entries' answer
 
 -- ── the work of an accepted finish ──
 

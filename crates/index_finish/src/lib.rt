@@ -5,7 +5,7 @@
 //   specs/Apart       which blocks and pieces share a cell at a tick, and what the tests decide
 //   specs/Trial       the same of blocks alone
 //   specs/Finish      what finish answers and leaves
-//   specs/Answers     what its answer means, and the contract of `finish_open`
+//   specs/Answers     the contract of `finish_open`
 //   proofs/Lists      laws of lists that know nothing of tables
 //   proofs/Clearing   one step for each turn and each return of the tests
 //   proofs/Standing   what tables that stand for an open ledger have
@@ -19,55 +19,75 @@
 
 #![tactic(auto)]
 
+ghost use Rattle.std.specs.Prelude.{◌≡◌};
+ghost use Rattle.tables.specs.Columns.{block_column, head_end, head_kind, head_count};
+ghost use Rattle.history.specs.Results.{done};
+ghost use Rattle.refusals.specs.Numbers.{answer_by};
 ghost use Rattle.index_finish.specs.Finish.{TestedBlank, Prepared, SettledTables};
-ghost use Rattle.index_finish.specs.Answers.{finished_of, FinishesOpen};
+ghost use Rattle.index_finish.specs.Answers.{FinishesOpen};
 
+use refusals::Refusal;
+use segment_tree::{build, close};
 use tables::{block, piece};
 
 mod rule;
 mod trial;
 
-// The answer of finish.
+// What the tests and the tree take from the head of the block table.
 #[derive(Clone, Copy)]
-pub enum Finished {
-    Finished,
-    Refused(u64),
+struct Head {
+    kind: u64,
+    end: u64,
+    count: u64,
 }
 
-// What its parts tell: 0 where it is accepted, else the refusal's number in document 01. Refusals 12 and 13 come from the count of the tree.
-const DONE: u64 = 0;
-
-const UNFORMED: u64 = 2;
+impl Head {
+    fn of(blocks: &[u64]) -> Head
+        ensures kind { result.kind ≡ block_column blocks.now 0 head_kind }
+        ensures end { result.end ≡ block_column blocks.now 0 head_end }
+        ensures count { result.count ≡ block_column blocks.now 0 head_count }
+    {
+        Head {
+            kind: block_table::kind(blocks),
+            end: block_table::end(blocks),
+            count: block_table::count(blocks),
+        }
+    }
+}
 
 // Whether the tables that finish builds in are zeros.
+#[tactic(auto, using(crate::proofs::Finishing::blanking))]
 fn blank(nodes: &[u64], entries: &[u64]) -> bool
     ensures { TestedBlank nodes.now entries.now result }
 {
-    if !tables::all_zero(nodes) {
-        return false;
-    }
-    tables::all_zero(entries)
+    tables::all_zero(nodes) && tables::all_zero(entries)
 }
 
-// Tests rule 24 and counts the tree of all blocks and pieces; or tells the refusal, and leaves everything as it was.
-fn prepare(pieces: &[u64], blocks: &mut [u64], nodes: &mut [u64], entries: &mut [u64]) -> u64
+// Tests rule 24 and counts the tree of all blocks and pieces; or gives the refusal, and leaves everything as it was. Refusals 12 and 13 come from the count.
+#[tactic(auto, using(crate::proofs::Finishing::preparing))]
+fn prepare(
+    pieces: &[u64],
+    blocks: &mut [u64],
+    nodes: &mut [u64],
+    entries: &mut [u64],
+) -> Result<(), Refusal>
     ensures { Prepared pieces.now blocks.old nodes.old entries.old
-        blocks.new nodes.new entries.new result }
+        blocks.new nodes.new entries.new (answer_by (λ _. done) result) }
 {
     if !blank(nodes, entries) {
-        return UNFORMED;
+        return Err(Refusal::Malformed);
     }
-    let n = block_table::count(blocks);
-    let end = block_table::end(blocks);
-    let kind = block_table::kind(blocks);
-    if !rule::all_apart(pieces, blocks, nodes, entries, kind, end, n) {
-        return UNFORMED;
+    let head = Head::of(blocks);
+    if !rule::all_apart(pieces, blocks, nodes, entries, head) {
+        return Err(Refusal::Malformed);
     }
     let m = tables::get(pieces, 0, piece::COUNT);
-    segment_tree::build::count_tree(nodes, entries, blocks, n, pieces, m, end, kind)
+    let Head { kind, end, count } = head;
+    build::count_tree(nodes, entries, blocks, count, pieces, m, end, kind)
 }
 
 // Turns the pieces into blocks, and closes the tree that is counted already.
+#[tactic(auto, using(crate::proofs::Settling::settle_done))]
 fn settle(pieces: &mut [u64], blocks: &mut [u64], nodes: &mut [u64], entries: &mut [u64])
     ensures { SettledTables pieces.old blocks.old nodes.old entries.old
         pieces.new blocks.new nodes.new entries.new }
@@ -77,7 +97,7 @@ fn settle(pieces: &mut [u64], blocks: &mut [u64], nodes: &mut [u64], entries: &m
     recording::extract_members(pieces, blocks, end);
     block_table::set_state(blocks, block::CLOSED);
     let all = block_table::count(blocks);
-    segment_tree::close::close_tree(nodes, entries, blocks, all, end, kind);
+    close::close_tree(nodes, entries, blocks, all, end, kind);
     tables::zero(pieces);
 }
 
@@ -88,14 +108,11 @@ pub fn finish_open(
     blocks: &mut [u64],
     nodes: &mut [u64],
     entries: &mut [u64],
-) -> Finished
+) -> Result<(), Refusal>
     ensures { FinishesOpen pieces.old blocks.old nodes.old entries.old
-        pieces.new blocks.new nodes.new entries.new (finished_of result) }
+        pieces.new blocks.new nodes.new entries.new (answer_by (λ _. done) result) }
 {
-    let refusal = prepare(pieces, blocks, nodes, entries);
-    if refusal != DONE {
-        return Finished::Refused(refusal);
-    }
+    prepare(pieces, blocks, nodes, entries)?;
     settle(pieces, blocks, nodes, entries);
-    Finished::Finished
+    Ok(())
 }

@@ -5,34 +5,29 @@ ghost use Rattle.tables.specs.Sums.{plus_up_to};
 ghost use Rattle.index_finish.specs.Apart.{PiecesClear, BlockClear, BlocksClear};
 ghost use Rattle.index_finish.specs.Finish.{AllApart};
 
-use tables::{block, piece};
+use crate::Head;
+use tables::piece;
 
 // The cell behind the piece of `link`, or the largest number where that is passed.
 fn end_of(pieces: &[u64], link: u64) -> u64
     ensures { result ≡ plus_up_to (column pieces.now link piece_first) (column pieces.now link piece_length) }
 {
-    tables::plus(
-        tables::get(pieces, link, piece::FIRST),
-        tables::get(pieces, link, piece::LENGTH),
-    )
+    tables::get(pieces, link, piece::FIRST).saturating_add(tables::get(pieces, link, piece::LENGTH))
 }
 
 // Whether no piece that ends after `first` and starts before `end` was written before the tick `destroyed`. A seek for the first of them, and one
 // for each that follows.
+#[tactic(auto, using(crate::proofs::Clearing::seeking))]
 fn pieces_clear(pieces: &[u64], first: u64, end: u64, destroyed: u64) -> bool
     ensures { PiecesClear pieces.now first end destroyed result }
 {
     let mut place = first;
     while place < u64::MAX {
         let link = piece_table::seek(pieces, place);
-        if link == 0 {
+        if link == 0 || !merge_set::starts_below(pieces, link, end) {
             return true;
         }
-        if !merge_set::starts_below(pieces, link, end) {
-            return true;
-        }
-        let written = tables::get(pieces, link, piece::WRITTEN);
-        if written < destroyed {
+        if tables::get(pieces, link, piece::WRITTEN) < destroyed {
             return false;
         }
         let next = end_of(pieces, link);
@@ -46,52 +41,46 @@ fn pieces_clear(pieces: &[u64], first: u64, end: u64, destroyed: u64) -> bool
 }
 
 // Whether the block of `link` shares no cell at a tick with a piece. A block of no life shares nothing.
+#[tactic(auto, using(crate::proofs::Clearing::clearing))]
 fn block_clear(pieces: &[u64], blocks: &[u64], link: u64) -> bool
     ensures { BlockClear pieces.now blocks.now link result }
 {
-    let created = block::get(blocks, link, block::CREATED);
-    let destroyed = block::get(blocks, link, block::DESTROYED);
-    if destroyed <= created {
-        return true;
-    }
-    let first = block::get(blocks, link, block::FIRST);
-    let length = block::get(blocks, link, block::LENGTH);
-    pieces_clear(pieces, first, tables::plus(first, length), destroyed)
+    let row = block_table::read(blocks, link);
+    let end = row.first.saturating_add(row.length);
+    row.destroyed <= row.created || pieces_clear(pieces, row.first, end, row.destroyed)
 }
 
 // Whether none of the blocks 1 to `n` shares a cell at a tick with a piece.
+#[tactic(auto, using(crate::proofs::Clearing::passing))]
 fn blocks_clear(pieces: &[u64], blocks: &[u64], n: u64) -> bool
     ensures { BlocksClear pieces.now blocks.now n result }
 {
-    let mut k = 0;
-    while k < n {
-        k += 1;
-        if !block_clear(pieces, blocks, k) {
+    for k in 0..n {
+        if !block_clear(pieces, blocks, k + 1) {
             return false;
         }
     }
     true
 }
 
-// Whether no two of the blocks 1 to `n` and of the pieces share a cell at a tick. What any list of calls leaves is seen to be so along the rows, in near-linear
+// Whether no two of the blocks and of the pieces share a cell at a tick. What any list of calls leaves is seen to be so along the rows, in near-linear
 // time; other tables are tried in the tables of zeros, which are zeros again, and by a seek for each block. The block table is as it was.
+#[tactic(auto, using(crate::proofs::Finishing::parting))]
 pub fn all_apart(
     pieces: &[u64],
     blocks: &mut [u64],
     nodes: &mut [u64],
     entries: &mut [u64],
-    kind: u64,
-    end: u64,
-    n: u64,
+    head: Head,
 ) -> bool
-    ensures { AllApart pieces.now blocks.old nodes.old entries.old kind end n
+    ensures { AllApart pieces.now blocks.old nodes.old entries.old head.kind head.end head.count
         blocks.new nodes.new entries.new result }
 {
-    if handed_rows::handed_on(pieces, blocks, n) {
+    if handed_rows::handed_on(pieces, blocks, head.count) {
         return true;
     }
-    if !crate::trial::blocks_apart(blocks, nodes, entries, kind, end, n) {
+    if !crate::trial::blocks_apart(blocks, nodes, entries, head) {
         return false;
     }
-    blocks_clear(pieces, blocks, n)
+    blocks_clear(pieces, blocks, head.count)
 }

@@ -17,7 +17,7 @@ use Rattle.tables.specs.Columns.{block_column, head_end, head_kind}
 use Rattle.segment_find.specs.Listing.{Fills, Finds}
 use Rattle.segment_find.proofs.Agreeing.{find_model}
 use Rattle.segment_find.specs.declared.Found as listing
-use Rattle.segment_find.specs.declared.Found.TheVariants.{Listed, TooSmall}
+use Rattle.std.specs.Prelude.{Option, Some, None}
 use Rattle.layout.specs.Tables.{Tables, tables, head_at, tree_tables}
 use Rattle.layout.specs.Encodes.{Encodes}
 use Rattle.layout.specs.Reads.{HandedInto}
@@ -27,7 +27,7 @@ use Rattle.layout.proofs.ReadLaws.{window_14, window_15, window_rest, into_refus
 use Rattle.index_read.specs.Reads.{FindClosed}
 
 -- what the search gives is what the ledger lists
-fills_found : (t : Tables) (l : Ledger) → Encodes t l → Sound l → finished l ≡ true → (tick start stop : ℕ) {out out' : List ℕ} {r : listing.Found}
+fills_found : (t : Tables) (l : Ledger) → Encodes t l → Sound l → finished l ≡ true → (tick start stop : ℕ) {out out' : List ℕ} {r : Option listing.Found}
     → Finds t.nodes t.entries (head_at t head_kind) (head_at t head_end) tick start stop out out' r
     → Fills (find_by l tick start stop).numbers (find_by l tick start stop).visited out out' r
 unfolding find_by
@@ -40,12 +40,12 @@ fills_found t l e s done tick start stop f =
 -- ── the answers ──
 
 -- document 01's answer of what the search gives
-abbrev answer_of : listing.Found → Answer Counts
-answer_of (Listed count visited) = accepted (record { count = count; visited = visited })
-answer_of TooSmall = refused 16
+abbrev answer_of : Option listing.Found → Answer Counts
+answer_of (Some f) = accepted (record { count = f.count; visited = f.visited })
+answer_of None = refused 16
 
 -- by whether the numbers fit
-fills_handed : (f : Found) (out out' : List ℕ) (r : listing.Found) → Fills f.numbers f.visited out out' r
+fills_handed : (f : Found) (out out' : List ℕ) (r : Option listing.Found) → Fills f.numbers f.visited out out' r
     → HandedInto counts_of (λ g. g.numbers) out out' (answer_of r) (cond (ltb (length out) (length f.numbers)) (refused 16) (accepted f))
 fills_handed f out out' r x = go (le_or_lt (length f.numbers) (length out))
   where
@@ -67,7 +67,7 @@ module _ {blocks nodes entries : List ℕ} {tick start stop last : ℕ} (e : las
   pub find_15 : {out : List ℕ} → tick < last → stop < start → FindClosed blocks nodes entries tick start stop out out (refused 15)
   find_15 h b = record { found = λ pieces store. closed_refuses (λ l enc done. window_15 enc done _ _ tick start stop (omega arith) b) into_refused }
 
-  module _ {kind : ℕ} {out out' : List ℕ} {r : listing.Found} (k : kind ≡ block_column blocks 0 head_kind) (h : tick < last) (b : start ≤ stop)
+  module _ {kind : ℕ} {out out' : List ℕ} {r : Option listing.Found} (k : kind ≡ block_column blocks 0 head_kind) (h : tick < last) (b : start ≤ stop)
       (f : Finds nodes entries kind last tick start stop out out' r) where
     find_any : FindClosed blocks nodes entries tick start stop out out' (answer_of r)
     find_any = record {
@@ -79,11 +79,11 @@ module _ {blocks nodes entries : List ℕ} {tick start stop last : ℕ} (e : las
       };
     }
 
-    pub find-listed : {count visited : ℕ} → r ≡ Listed count visited
-        → FindClosed blocks nodes entries tick start stop out out' (accepted (record { count = count; visited = visited }))
-    find-listed q = subst (λ (x : listing.Found). FindClosed blocks nodes entries tick start stop out out' (answer_of x)) q find_any
+    pub find-listed : {f : listing.Found} → r ≡ Some f
+        → FindClosed blocks nodes entries tick start stop out out' (accepted (record { count = f.count; visited = f.visited }))
+    find-listed q = subst (λ (x : Option listing.Found). FindClosed blocks nodes entries tick start stop out out' (answer_of x)) q find_any
 
-    pub find_16 : r ≡ TooSmall → FindClosed blocks nodes entries tick start stop out out' (refused 16)
-    find_16 q = subst (λ (x : listing.Found). FindClosed blocks nodes entries tick start stop out out' (answer_of x)) q find_any
+    pub find_16 : r ≡ None → FindClosed blocks nodes entries tick start stop out out' (refused 16)
+    find_16 q = subst (λ (x : Option listing.Found). FindClosed blocks nodes entries tick start stop out out' (answer_of x)) q find_any
 
 pub ruleset finding = (find_14, find_15, find-listed, find_16, arith)

@@ -1,17 +1,10 @@
--- What the answers of the reads mean: document 01's number and values for every case of each enum. Each definition is injective (`Injective` of crate
--- index).
-use Rattle.history.specs.Refusals.{Answer, accepted, refused}
+-- What the reads hand out in the words of layout. Each definition is injective (crate promises, Meanings).
 use Rattle.layout.specs.Relations.{Counts, Fields}
 use Rattle.index_read.specs.declared.Found.{Found}
-use Rattle.index_read.specs.declared.Found.TheVariants.{Listed, Refused as FindRefused}
-use Rattle.index_read.specs.declared.Given.{Given}
-use Rattle.index_read.specs.declared.Given.TheVariants.{Block, Refused as BlockRefused}
+use Rattle.index_read.specs.declared.Block.{Block}
 
-abbrev pub found_of : Found → Answer Counts
-found_of (Listed count visited) = accepted (record { count = count; visited = visited })
-found_of (FindRefused n) = refused n
+abbrev pub counts_given : Found → Counts
+counts_given f = record { count = f.count; visited = f.visited }
 
-abbrev pub given_of : Given → Answer Fields
-given_of (Block kind first length created destroyed offset) =
-    accepted (record { kind = kind; first = first; length = length; created = created; destroyed = destroyed; offset = offset })
-given_of (BlockRefused n) = refused n
+abbrev pub fields_given : Block → Fields
+fields_given b = record { kind = b.kind; first = b.first; length = b.length; created = b.created; destroyed = b.destroyed; offset = b.offset }

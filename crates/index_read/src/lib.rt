@@ -1,54 +1,53 @@
 // The reads of a closed index, without the test of its tables: for callers that have tested them.
 //
-//   specs/Answers   document 01's number and values for every case of an answer
+//   specs/Answers   what find and block hand out in the words of layout
 //   specs/Reads     what each call hands out of the ledger that the tables stand for
 //   proofs/Giving   one step for each return of `block_closed`
 //   proofs/Finding  and of `find_closed`
 
 #![tactic(auto)]
 
-ghost use Rattle.index_read.specs.Answers.{found_of, given_of};
+ghost use Rattle.refusals.specs.Numbers.{answer_by};
+ghost use Rattle.index_read.specs.Answers.{counts_given, fields_given};
 ghost use Rattle.index_read.specs.Reads.{BlockClosed, FindClosed};
 
+use refusals::Refusal;
 use tables::block;
 
-// The answer of find: how many block numbers it lists, and how many nodes it visited.
+// What find gives: how many block numbers it lists, and how many nodes it visited.
 #[derive(Clone, Copy)]
-pub enum Found {
-    Listed { count: u64, visited: u64 },
-    Refused(u64),
+pub struct Found {
+    pub count: u64,
+    pub visited: u64,
 }
 
-// The answer of block by number: the block's fields; its bytes are the store's part of that length at the offset.
+// What block by number gives: the block's fields; its bytes are the store's part of that length at the offset.
 #[derive(Clone, Copy)]
-pub enum Given {
-    Block {
-        kind: u64,
-        first: u64,
-        length: u64,
-        created: u64,
-        destroyed: u64,
-        offset: u64,
-    },
-    Refused(u64),
+pub struct Block {
+    pub kind: u64,
+    pub first: u64,
+    pub length: u64,
+    pub created: u64,
+    pub destroyed: u64,
+    pub offset: u64,
 }
 
 // The block of a number: 15 where there is none.
-pub fn block_closed(blocks: &[u64], number: u64) -> Given
-    ensures { BlockClosed blocks.now number (given_of result) }
+pub fn block_closed(blocks: &[u64], number: u64) -> Result<Block, Refusal>
+    ensures { BlockClosed blocks.now number (answer_by fields_given result) }
 {
     if block_table::count(blocks) <= number {
-        return Given::Refused(15);
+        return Err(Refusal::OutOfRange);
     }
     let link = number + 1;
-    Given::Block {
+    Ok(Block {
         kind: block::get(blocks, link, block::OWNER),
         first: block::get(blocks, link, block::FIRST),
         length: block::get(blocks, link, block::LENGTH),
         created: block::get(blocks, link, block::CREATED),
         destroyed: block::get(blocks, link, block::DESTROYED),
         offset: block::get(blocks, link, block::OFFSET),
-    }
+    })
 }
 
 // The live blocks whose first cell is in [start, end): 14, 15 and 16 in their order.
@@ -60,23 +59,23 @@ pub fn find_closed(
     start: u64,
     end: u64,
     answer: &mut [u64],
-) -> Found
-    ensures { FindClosed blocks.now nodes.now entries.now tick start end answer.old answer.new (found_of result) }
+) -> Result<Found, Refusal>
+    ensures { FindClosed blocks.now nodes.now entries.now tick start end answer.old answer.new (answer_by counts_given result) }
 {
     let last = block_table::end(blocks);
     if last <= tick {
-        return Found::Refused(14);
+        return Err(Refusal::NoSuchTick);
     }
     if end < start {
-        return Found::Refused(15);
+        return Err(Refusal::OutOfRange);
     }
     let kind = block_table::kind(blocks);
     let found = segment_find::find(nodes, entries, kind, last, tick, start, end, answer);
     match found {
-        segment_find::Found::Listed { count, visited } => Found::Listed {
-            count: count as u64,
-            visited: visited as u64,
-        },
-        segment_find::Found::TooSmall => Found::Refused(16),
+        Some(listed) => Ok(Found {
+            count: listed.count as u64,
+            visited: listed.visited as u64,
+        }),
+        None => Err(Refusal::ResultTooLong),
     }
 }

@@ -28,9 +28,13 @@ use Rattle.calendar_table.specs.Calendars.{ClosedTold}
 use Rattle.layout.specs.Tables.{Tables, tables}
 use Rattle.layout.specs.Encodes.{Encodes}
 use Rattle.layout.proofs.Pieces.{pieces_inside, pieces_rep, pieces_shown}
-use Rattle.index_record.specs.Refusing.{call_refusals, space_refusals, lent_refusals, answer_by, First, CallTested, SpaceTested}
+use Rattle.index_record.specs.Refusing.{call_refusals, space_refusals, lent_refusals, first_answer, First, CallTested, SpaceTested}
 use Rattle.index_record.specs.Calls.{operation, Judged}
-use Rattle.index_record.specs.declared.Verdict.TheVariants.{Refused, Read, Update}
+use Rattle.index_record.specs.declared.Change.{Change}
+use Rattle.std.specs.Prelude.{None, Some, Ok, Err, Result as Tested}
+use Rattle.refusals.specs.declared.Refusal.{Refusal}
+use Rattle.refusals.specs.declared.Refusal.TheVariants.{NoCells, EndTooHigh, TickTooHigh, TickTooLow, PiecesFull, BlocksFull, StoreFull, CellClosed}
+use Rattle.refusals.specs.Numbers.{number_of, answer_by}
 use Rattle.index_record.proofs.Refusing.{Sized, call_sized, answer_call, answer_closed, answer_read, answer_space, answer_update}
 
 -- ── `exceeds` ──
@@ -50,37 +54,31 @@ pub ruleset exceeding = (exceeds_at_once, exceeds_rest)
 -- ── `call_refusal` ──
 
 module _ {blocks : List ℕ} {tick first size : ℕ} where
-  pub call_empty : size ≡ 0 → CallTested blocks tick first size 5
+  pub call_empty : size ≡ 0 → CallTested blocks tick first size (Err NoCells)
   unfolding call_refusals first_of
-  call_empty z = record { finds = record { nothing = λ e. absurd (omega arith); number = λ e. rw (eq-eqb size 0 z) } }
+  call_empty z = record { finds = rw (eq-eqb size 0 z) }
 
-  pub call_wraps : {q : Bool} → (size ≡ 0 → ⊥) → q ≡ ltb (2 ^ 64 - 1) (first + size) → q ≡ true → CallTested blocks tick first size 6
+  pub call_wraps : {q : Bool} → (size ≡ 0 → ⊥) → q ≡ ltb (2 ^ 64 - 1) (first + size) → q ≡ true → CallTested blocks tick first size (Err EndTooHigh)
   unfolding call_refusals first_of
-  call_wraps s e w = record { finds = record { nothing = λ z. absurd (omega arith); number = λ z. rw (ne_eqb size 0 s, sym e ∙ w) } }
+  call_wraps s e w = record { finds = rw (ne_eqb size 0 s, sym e ∙ w) }
 
   module _ {q : Bool} {end : ℕ} (s : size ≡ 0 → ⊥) (e : q ≡ ltb (2 ^ 64 - 1) (first + size)) (w : q ≡ false) (at : end ≡ block_column blocks 0 head_end) where
-    pub call_late : end ≤ tick → CallTested blocks tick first size 7
+    pub call_late : end ≤ tick → CallTested blocks tick first size (Err TickTooHigh)
     unfolding call_refusals first_of
     call_late h =
-        record { finds = record { nothing = λ z. absurd (omega arith); number = λ z. rw (ne_eqb size 0 s, sym e ∙ w, le-leb (block_column blocks 0 head_end) tick (omega arith)) } }
+        record { finds = rw (ne_eqb size 0 s, sym e ∙ w, le-leb (block_column blocks 0 head_end) tick (omega arith)) }
 
     module _ {last : ℕ} (h : tick < end) (by : last ≡ block_column blocks 0 head_last) where
-      pub call_back : tick < last → CallTested blocks tick first size 8
+      pub call_back : tick < last → CallTested blocks tick first size (Err TickTooLow)
       unfolding call_refusals first_of
       call_back k = record {
-        finds = record {
-          nothing = λ z. absurd (omega arith);
-          number = λ z. rw (ne_eqb size 0 s, sym e ∙ w, lt-leb (block_column blocks 0 head_end) tick (omega arith), lt-ltb tick (block_column blocks 0 head_last) (omega arith));
-        };
+        finds = rw (ne_eqb size 0 s, sym e ∙ w, lt-leb (block_column blocks 0 head_end) tick (omega arith), lt-ltb tick (block_column blocks 0 head_last) (omega arith));
       }
 
-      pub call_passes : last ≤ tick → CallTested blocks tick first size 0
+      pub call_passes : last ≤ tick → CallTested blocks tick first size (Ok tt)
       unfolding call_refusals first_of
       call_passes k = record {
-        finds = record {
-          nothing = λ z. rw (ne_eqb size 0 s, sym e ∙ w, lt-leb (block_column blocks 0 head_end) tick (omega arith), le-ltb tick (block_column blocks 0 head_last) (omega arith));
-          number = λ z. absurd (z refl);
-        };
+        finds = rw (ne_eqb size 0 s, sym e ∙ w, lt-leb (block_column blocks 0 head_end) tick (omega arith), le-ltb tick (block_column blocks 0 head_last) (omega arith));
       }
 
 pub ruleset calling = (call_empty, call_wraps, call_late, call_back, call_passes)
@@ -89,51 +87,51 @@ pub ruleset calling = (call_empty, call_wraps, call_late, call_back, call_passes
 
 -- the first of 9 to 11, by the numbers
 module _ (space rows bytes pieces blocks used : ℕ) where
-  space_nine : space < pieces → First 9 (space_refusals space rows bytes pieces blocks used)
+  space_nine : space < pieces → First (Err PiecesFull) (space_refusals space rows bytes pieces blocks used)
   unfolding space_refusals first_of
-  space_nine h = record { nothing = λ z. absurd (omega arith); number = λ z. rw (lt-ltb space pieces h) }
+  space_nine h = rw (lt-ltb space pieces h)
 
-  space_ten : pieces ≤ space → rows < blocks + pieces → First 10 (space_refusals space rows bytes pieces blocks used)
+  space_ten : pieces ≤ space → rows < blocks + pieces → First (Err BlocksFull) (space_refusals space rows bytes pieces blocks used)
   unfolding space_refusals first_of
-  space_ten h k = record { nothing = λ z. absurd (omega arith); number = λ z. rw (le-ltb space pieces h, lt-ltb rows (blocks + pieces) k) }
+  space_ten h k = rw (le-ltb space pieces h, lt-ltb rows (blocks + pieces) k)
 
-  space_eleven : pieces ≤ space → blocks + pieces ≤ rows → bytes < used → First 11 (space_refusals space rows bytes pieces blocks used)
+  space_eleven : pieces ≤ space → blocks + pieces ≤ rows → bytes < used → First (Err StoreFull) (space_refusals space rows bytes pieces blocks used)
   unfolding space_refusals first_of
-  space_eleven h k m = record { nothing = λ z. absurd (omega arith); number = λ z. rw (le-ltb space pieces h, le-ltb rows (blocks + pieces) k, lt-ltb bytes used m) }
+  space_eleven h k m = rw (le-ltb space pieces h, le-ltb rows (blocks + pieces) k, lt-ltb bytes used m)
 
-  space_free : pieces ≤ space → blocks + pieces ≤ rows → used ≤ bytes → First 0 (space_refusals space rows bytes pieces blocks used)
+  space_free : pieces ≤ space → blocks + pieces ≤ rows → used ≤ bytes → First (Ok tt) (space_refusals space rows bytes pieces blocks used)
   unfolding space_refusals first_of
-  space_free h k m = record { nothing = λ z. rw (le-ltb space pieces h, le-ltb rows (blocks + pieces) k, le-ltb bytes used m); number = λ z. absurd (z refl) }
+  space_free h k m = rw (le-ltb space pieces h, le-ltb rows (blocks + pieces) k, le-ltb bytes used m)
 
 -- a sum that does not exceed the limit
 pub sum_fits : (limit a b : ℕ) {q : Bool} → q ≡ ltb limit (a + b) → q ≡ false → a + b ≤ limit
 sum_fits limit a b e h = ltb-false limit (a + b) (sym e ∙ h)
 
 module _ {pieces blocks store : List ℕ} {left made size : ℕ} where
-  pub space_pieces : {rows : ℕ} → rows ≡ (length pieces - piece_head) / row_width → rows < left → SpaceTested pieces blocks store left made size 9
+  pub space_pieces : {rows : ℕ} → rows ≡ (length pieces - piece_head) / row_width → rows < left → SpaceTested pieces blocks store left made size (Err PiecesFull)
   space_pieces e h = record { finds = space_nine _ _ _ _ _ _ (omega arith) }
 
   module _ {rows space count : ℕ} {q : Bool} (er : rows ≡ (length pieces - piece_head) / row_width) (hr : left ≤ rows)
       (es : space ≡ (length blocks - block_head) / row_width) (ec : count ≡ block_column blocks 0 head_count) (eq : q ≡ ltb space (count + made)) where
-    pub space_blocks : q ≡ true → SpaceTested pieces blocks store left made size 10
+    pub space_blocks : q ≡ true → SpaceTested pieces blocks store left made size (Err BlocksFull)
     space_blocks h =
         let more : space < count + made = ltb-true space (count + made) (sym eq ∙ h) in
         record { finds = space_ten _ _ _ _ _ _ (omega arith) (omega arith) }
 
     module _ {q₂ : Bool} (eq₂ : q₂ ≡ ltb space (count + made + left)) where
-      pub space_both : q₂ ≡ true → SpaceTested pieces blocks store left made size 10
+      pub space_both : q₂ ≡ true → SpaceTested pieces blocks store left made size (Err BlocksFull)
       space_both h =
           let more : space < count + made + left = ltb-true space (count + made + left) (sym eq₂ ∙ h) in
           record { finds = space_ten _ _ _ _ _ _ (omega arith) (omega arith) }
 
       module _ {used : ℕ} {q₃ : Bool} (h₂ : q₂ ≡ false) (eu : used ≡ block_column blocks 0 head_used) (eq₃ : q₃ ≡ ltb (length store) (used + size)) where
-        pub space_store : q₃ ≡ true → SpaceTested pieces blocks store left made size 11
+        pub space_store : q₃ ≡ true → SpaceTested pieces blocks store left made size (Err StoreFull)
         space_store h =
             let fits : count + made + left ≤ space = ltb-false space (count + made + left) (sym eq₂ ∙ h₂) in
             let more : length store < used + size = ltb-true (length store) (used + size) (sym eq₃ ∙ h) in
             record { finds = space_eleven _ _ _ _ _ _ (omega arith) (omega arith) (omega arith) }
 
-        pub space_passes : q₃ ≡ false → SpaceTested pieces blocks store left made size 0
+        pub space_passes : q₃ ≡ false → SpaceTested pieces blocks store left made size (Ok tt)
         space_passes h =
             let fits : count + made + left ≤ space = ltb-false space (count + made + left) (sym eq₂ ∙ h₂) in
             let room : used + size ≤ length store = ltb-false (length store) (used + size) (sym eq₃ ∙ h) in
@@ -173,39 +171,39 @@ known first size same e = rw e
 
 -- the refusals of the numbers in the tables are those of the ledger's numbers
 module _ (t : Tables) (l : Ledger) (o : Operation) (e : Encodes t l) where
-  call_same : (n : ℕ) → First n (call_refusals (block_column t.blocks 0 head_end) (block_column t.blocks 0 head_last) o.tick o.first (length o.bytes))
+  call_same : (n : Tested Unit Refusal) → First n (call_refusals (block_column t.blocks 0 head_end) (block_column t.blocks 0 head_last) o.tick o.first (length o.bytes))
       → First n (call_refusals l.opening.end l.now.last o.tick o.first (length o.bytes))
   call_same n f = rw (← e.end, ← e.last) f
 
-  space_same : (n : ℕ) (r : Report) → Told l o r → First n (lent_refusals t.pieces t.blocks t.store r.pieces r.blocks (length o.bytes))
+  space_same : (n : Tested Unit Refusal) (r : Report) → Told l o r → First n (lent_refusals t.pieces t.blocks t.store r.pieces r.blocks (length o.bytes))
       → First n (space_refusals (piece_rows l.opening.lent) (block_rows l.opening.lent) l.opening.lent.store (length (update_by l.opening.kind l.now o).pieces)
       (length (update_by l.opening.kind l.now o).blocks) (length (update_by l.opening.kind l.now o).store))
   space_same n r v f = rw (v.pieces, v.blocks, v.store, e.lengths, ← e.count, ← e.used) f
 
 -- a call that was found to pass does
-passes : (pieces blocks store bytes : List ℕ) (tick first n : ℕ) → CallTested blocks tick first (length bytes) n → n ≡ 0
+passes : (pieces blocks store bytes : List ℕ) (tick first : ℕ) (n : Tested Unit Refusal) {u : Unit} → CallTested blocks tick first (length bytes) n → n ≡ Ok u
     → (nodes entries : List ℕ) (l : Ledger) → Encodes (tables pieces blocks store nodes entries) l
-    → answer_by (call_refusals l.opening.end l.now.last tick first (length bytes)) ≡ accepted tt
+    → first_answer (call_refusals l.opening.end l.now.last tick first (length bytes)) ≡ accepted tt
 passes pieces blocks store bytes tick first n call z nodes entries l e =
-    (call_same (tables pieces blocks store nodes entries) l (operation tick first bytes) e n call.finds).nothing z
+    call_same (tables pieces blocks store nodes entries) l (operation tick first bytes) e n call.finds ∙ ap (answer_by (λ v. v)) z
 
-module _ {pieces blocks store bytes : List ℕ} {tick first n : ℕ}
+module _ {pieces blocks store bytes : List ℕ} {tick first : ℕ} {n : Tested Unit Refusal}
     (call : CallTested blocks tick first (length bytes) n) where
-  pub judge_call : (n ≡ 0 → ⊥) → Judged pieces blocks store (operation tick first bytes) (Refused n)
-  judge_call h = record {
+  pub judge_call : {x : Refusal} → n ≡ Err x → Judged pieces blocks store (operation tick first bytes) (Err x)
+  judge_call {x} h = record {
     says = λ nodes entries l scratch long e s still.
-        answer_call l scratch (operation tick first bytes) (ap too_short e.lengths ∙ e.heads) long still n
-        ((call_same (tables pieces blocks store nodes entries) l (operation tick first bytes) e n call.finds).number h);
+        answer_call l scratch (operation tick first bytes) (ap too_short e.lengths ∙ e.heads) long still (number_of x)
+        (call_same (tables pieces blocks store nodes entries) l (operation tick first bytes) e n call.finds ∙ ap (answer_by (λ v. v)) h);
   }
 
-  pub judge_closed : {c : Bool} → n ≡ 0 → ClosedTold blocks first bytes c → c ≡ true → Judged pieces blocks store (operation tick first bytes) (Refused 26)
+  pub judge_closed : {u : Unit} {c : Bool} → n ≡ Ok u → ClosedTold blocks first bytes c → c ≡ true → Judged pieces blocks store (operation tick first bytes) (Err CellClosed)
   judge_closed z q w = record {
     says = λ nodes entries l scratch long e s still.
         answer_closed l scratch (operation tick first bytes) (ap too_short e.lengths ∙ e.heads) long still (passes pieces blocks store bytes tick first n call z nodes entries l e)
         (sym (q.says l.days l.calendar e.days e.calendar) ∙ w);
   }
 
-  module _ (z : n ≡ 0) (few : length pieces < 2 ^ 64) (fits : length store < 2 ^ 64) {c : Bool} (q : ClosedTold blocks first bytes c) (w : c ≡ false)
+  module _ {u : Unit} (z : n ≡ Ok u) (few : length pieces < 2 ^ 64) (fits : length store < 2 ^ 64) {c : Bool} (q : ClosedTold blocks first bytes c) (w : c ≡ false)
       {r : Report} (v : Surveyed pieces store first bytes r) where
     -- the calendar lets it pass, and what the survey tells
     inside : (nodes entries : List ℕ) (l : Ledger) → Encodes (tables pieces blocks store nodes entries) l → closed_by l.days l.calendar first bytes ≡ false
@@ -216,7 +214,7 @@ module _ {pieces blocks store bytes : List ℕ} {tick first n : ℕ}
         told (tables pieces blocks store nodes entries) l (operation tick first bytes) r e s few fits
         (call_sized l.opening.end l.now.last tick first (length bytes) (passes pieces blocks store bytes tick first n call z nodes entries l e)) v
 
-    pub judge_read : length bytes ≤ r.same → Judged pieces blocks store (operation tick first bytes) Read
+    pub judge_read : length bytes ≤ r.same → Judged pieces blocks store (operation tick first bytes) (Ok None)
     judge_read h = record {
       says = λ nodes entries l scratch long e s still.
           let read : is_read l.now (operation tick first bytes) ≡ true = (tells nodes entries l e s).read ∙ ap not (le-ltb r.same (length bytes) h) in (
@@ -226,31 +224,29 @@ module _ {pieces blocks store bytes : List ℕ} {tick first n : ℕ}
           );
     }
 
-    module _ {m : ℕ} (h : r.same < length bytes) (space : SpaceTested pieces blocks store r.pieces r.blocks (length bytes) m) where
+    module _ {m : Tested Unit Refusal} (h : r.same < length bytes) (space : SpaceTested pieces blocks store r.pieces r.blocks (length bytes) m) where
       update : (nodes entries : List ℕ) (l : Ledger) → Encodes (tables pieces blocks store nodes entries) l → Sound l → is_read l.now (operation tick first bytes) ≡ false
       update nodes entries l e s = (tells nodes entries l e s).read ∙ ap not (lt-ltb r.same (length bytes) h)
 
-      pub judge_space : (m ≡ 0 → ⊥) → Judged pieces blocks store (operation tick first bytes) (Refused m)
-      judge_space full = record {
+      pub judge_space : {x : Refusal} → m ≡ Err x → Judged pieces blocks store (operation tick first bytes) (Err x)
+      judge_space {x} full = record {
         says = λ nodes entries l scratch long e s still.
-            answer_space l scratch (operation tick first bytes) (ap too_short e.lengths ∙ e.heads) long still (passes pieces blocks store bytes tick first n call z nodes entries l e) (inside nodes entries l e) (update nodes entries l e s) m
-            ((space_same (tables pieces blocks store nodes entries) l (operation tick first bytes) e m r (tells nodes entries l e s) space.finds).number full);
+            answer_space l scratch (operation tick first bytes) (ap too_short e.lengths ∙ e.heads) long still (passes pieces blocks store bytes tick first n call z nodes entries l e) (inside nodes entries l e) (update nodes entries l e s) (number_of x)
+            (space_same (tables pieces blocks store nodes entries) l (operation tick first bytes) e m r (tells nodes entries l e s) space.finds ∙ ap (answer_by (λ v. v)) full);
       }
 
-      pub judge_update : {cell near : ℕ} → m ≡ 0 → cell ≡ first + r.same → Judged pieces blocks store (operation tick first bytes) (Update cell near)
-      judge_update {cell} free is = record {
+      pub judge_update : {v : Unit} {change : Change} → m ≡ Ok v → change.cell ≡ first + r.same → Judged pieces blocks store (operation tick first bytes) (Ok (Some change))
+      judge_update free is = record {
         says = λ nodes entries l scratch long e s still. (
           answer_update l scratch (operation tick first bytes) (ap too_short e.lengths ∙ e.heads) long still (passes pieces blocks store bytes tick first n call z nodes entries l e) (inside nodes entries l e) (update nodes entries l e s)
-              ((space_same (tables pieces blocks store nodes entries) l (operation tick first bytes) e m r (tells nodes entries l e s) space.finds).nothing free)
+              (space_same (tables pieces blocks store nodes entries) l (operation tick first bytes) e m r (tells nodes entries l e s) space.finds ∙ ap (answer_by (λ v. v)) free)
               ∙ ap {B = Answer Result} accepted (ap result_of (tells nodes entries l e s).change ∙ rw (lt-ltb r.same (length bytes) h, is)),
           update nodes entries l e s,
         );
       }
 
 -- the cell that an update changes first is one of its own, so that its number is one of 64 bits
-pub cell_fits : {blocks : List ℕ} {tick first size n same : ℕ} → CallTested blocks tick first size n → n ≡ 0 → same < size → first + same < 2 ^ 64
+pub cell_fits : {blocks : List ℕ} {tick first size same : ℕ} {n : Tested Unit Refusal} {u : Unit} → CallTested blocks tick first size n → n ≡ Ok u → same < size → first + same < 2 ^ 64
 cell_fits {blocks} {tick} {first} {size} call z h =
-    let sized = call_sized (block_column blocks 0 head_end) (block_column blocks 0 head_last) tick first size (call.finds.nothing z) in
+    let sized = call_sized (block_column blocks 0 head_end) (block_column blocks 0 head_last) tick first size (call.finds ∙ ap (answer_by (λ v. v)) z) in
     omega (arith, sized.near)
-
-pub ruleset judging = (judge_call, judge_closed, judge_read, judge_space, judge_update)

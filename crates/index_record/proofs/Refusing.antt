@@ -15,47 +15,47 @@ use Rattle.history.specs.Ledger.{changed, Ledger, finished, is_read, update_by}
 use Rattle.history.specs.Results.{Result, result_of}
 use Rattle.history.specs.Refusals.{Answer, accepted, refused, Refusal, ◌if◌, first_of, record_refusals, record_answer}
 use Rattle.history.proofs.Passing.{passed}
-use Rattle.index_record.specs.Refusing.{call_refusals, space_refusals, answer_by}
+use Rattle.index_record.specs.Refusing.{call_refusals, space_refusals, first_answer}
 
 -- ── one list behind another ──
 
-first_front : (rs ss : List Refusal) (n : ℕ) → answer_by rs ≡ refused n → answer_by (rs ++ ss) ≡ refused n
+first_front : (rs ss : List Refusal) (n : ℕ) → first_answer rs ≡ refused n → first_answer (rs ++ ss) ≡ refused n
 unfolding first_of
 first_front [] ss n e = let z : ◌≡◌ {A = ℕ} 0 1 = cc in absurd (omega arith)
 first_front (r ∷ rs) ss n e = go r.holds e (first_front rs ss n)
   where
-    go : (b : Bool) → cond b (refused r.number) (answer_by rs) ≡ refused n → (answer_by rs ≡ refused n → answer_by (rs ++ ss) ≡ refused n)
-        → cond b (refused r.number) (answer_by (rs ++ ss)) ≡ refused n
+    go : (b : Bool) → cond b (refused r.number) (first_answer rs) ≡ refused n → (first_answer rs ≡ refused n → first_answer (rs ++ ss) ≡ refused n)
+        → cond b (refused r.number) (first_answer (rs ++ ss)) ≡ refused n
     go true e k = e
     go false e k = k e
 
-first_back : (rs ss : List Refusal) → answer_by rs ≡ accepted tt → answer_by (rs ++ ss) ≡ answer_by ss
+first_back : (rs ss : List Refusal) → first_answer rs ≡ accepted tt → first_answer (rs ++ ss) ≡ first_answer ss
 unfolding first_of
 first_back [] ss e = refl
 first_back (r ∷ rs) ss e = go r.holds e (first_back rs ss)
   where
-    go : (b : Bool) → cond b (refused r.number) (answer_by rs) ≡ accepted tt → (answer_by rs ≡ accepted tt → answer_by (rs ++ ss) ≡ answer_by ss)
-        → cond b (refused r.number) (answer_by (rs ++ ss)) ≡ answer_by ss
+    go : (b : Bool) → cond b (refused r.number) (first_answer rs) ≡ accepted tt → (first_answer rs ≡ accepted tt → first_answer (rs ++ ss) ≡ first_answer ss)
+        → cond b (refused r.number) (first_answer (rs ++ ss)) ≡ first_answer ss
     go true e k = let z : ◌≡◌ {A = ℕ} 0 1 = cc in absurd (omega arith)
     go false e k = k e
 
 -- whatever is given where none holds
-value_refused : {A : Type 0} (rs : List Refusal) (a : A) (n : ℕ) → answer_by rs ≡ refused n → first_of rs a ≡ refused n
+value_refused : {A : Type 0} (rs : List Refusal) (a : A) (n : ℕ) → first_answer rs ≡ refused n → first_of rs a ≡ refused n
 unfolding first_of
 value_refused [] a n e = let z : ◌≡◌ {A = ℕ} 0 1 = cc in absurd (omega arith)
 value_refused {A} (r ∷ rs) a n e = go r.holds e (value_refused rs a n)
   where
-    go : (b : Bool) → cond b (refused r.number) (answer_by rs) ≡ refused n → (answer_by rs ≡ refused n → first_of rs a ≡ refused n)
+    go : (b : Bool) → cond b (refused r.number) (first_answer rs) ≡ refused n → (first_answer rs ≡ refused n → first_of rs a ≡ refused n)
         → cond {A = Answer A} b (refused r.number) (first_of rs a) ≡ refused n
     go true e k = let z : r.number ≡ n = cc in rw z
     go false e k = k e
 
-value_accepted : {A : Type 0} (rs : List Refusal) (a : A) → answer_by rs ≡ accepted tt → first_of rs a ≡ accepted a
+value_accepted : {A : Type 0} (rs : List Refusal) (a : A) → first_answer rs ≡ accepted tt → first_of rs a ≡ accepted a
 unfolding first_of
 value_accepted [] a e = refl
 value_accepted {A} (r ∷ rs) a e = go r.holds e (value_accepted rs a)
   where
-    go : (b : Bool) → cond b (refused r.number) (answer_by rs) ≡ accepted tt → (answer_by rs ≡ accepted tt → first_of rs a ≡ accepted a)
+    go : (b : Bool) → cond b (refused r.number) (first_answer rs) ≡ accepted tt → (first_answer rs ≡ accepted tt → first_of rs a ≡ accepted a)
         → cond {A = Answer A} b (refused r.number) (first_of rs a) ≡ accepted a
     go true e k = let z : ◌≡◌ {A = ℕ} 0 1 = cc in absurd (omega arith)
     go false e k = k e
@@ -67,7 +67,7 @@ pub record Sized (first size : ℕ) : Type 0 where
   pub some : 0 < size
   pub near : first + size < 2 ^ 64
 
-pub call_sized : (end last tick first size : ℕ) → answer_by (call_refusals end last tick first size) ≡ accepted tt → Sized first size
+pub call_sized : (end last tick first size : ℕ) → first_answer (call_refusals end last tick first size) ≡ accepted tt → Sized first size
 unfolding call_refusals
 call_sized end last tick first size e =
     let p = passed _ tt e in
@@ -117,10 +117,10 @@ module _ (l : Ledger) (scratch : ℕ) (o : Operation) (fits : too_short l.openin
   unfolding record_refusals call_refusals first_of
   split = rw (fits, long, still)
 
-  pub answer_call : (n : ℕ) → answer_by of_call ≡ refused n → record_answer l scratch o ≡ refused n
+  pub answer_call : (n : ℕ) → first_answer of_call ≡ refused n → record_answer l scratch o ≡ refused n
   answer_call n e = split ∙ value_refused (of_call ++ rest) given n (first_front of_call rest n e)
 
-  module _ (e : answer_by of_call ≡ accepted tt) where
+  module _ (e : first_answer of_call ≡ accepted tt) where
     pub answer_closed : outside ≡ true → record_answer l scratch o ≡ refused 26
     unfolding first_of
     answer_closed out = split ∙ value_refused (of_call ++ rest) given 26 (first_back of_call rest e ∙ rw out)
@@ -130,12 +130,12 @@ module _ (l : Ledger) (scratch : ℕ) (o : Operation) (fits : too_short l.openin
       unfolding first_of
       answer_read read = split ∙ value_accepted (of_call ++ rest) given (first_back of_call rest e ∙ rw (inside, read))
 
-      of_space : is_read l.now o ≡ false → answer_by (of_call ++ rest) ≡ answer_by of_space_lem
+      of_space : is_read l.now o ≡ false → first_answer (of_call ++ rest) ≡ first_answer of_space_lem
       unfolding space_refusals first_of
       of_space read = first_back of_call rest e ∙ rw (inside, read)
 
-      pub answer_space : is_read l.now o ≡ false → (n : ℕ) → answer_by of_space_lem ≡ refused n → record_answer l scratch o ≡ refused n
+      pub answer_space : is_read l.now o ≡ false → (n : ℕ) → first_answer of_space_lem ≡ refused n → record_answer l scratch o ≡ refused n
       answer_space read n full = split ∙ value_refused (of_call ++ rest) given n (of_space read ∙ full)
 
-      pub answer_update : is_read l.now o ≡ false → answer_by of_space_lem ≡ accepted tt → record_answer l scratch o ≡ accepted (result_of (changed l.now o))
+      pub answer_update : is_read l.now o ≡ false → first_answer of_space_lem ≡ accepted tt → record_answer l scratch o ≡ accepted (result_of (changed l.now o))
       answer_update read free = split ∙ value_accepted (of_call ++ rest) given (of_space read ∙ free)

@@ -1,21 +1,21 @@
 -- What the functions ensure, for every ledger that the lent tables stand for, whatever nodes and entries are lent with them. A name with a prime is the
 -- slice at exit. Definitions alone.
-use Rattle.std.specs.Prelude.{◌≡◌, true, false, List, ℕ, set, ltb}
+use Rattle.std.specs.Prelude.{◌≡◌, true, false, List, ℕ, set, ltb, Option, Some, None, Ok, Err}
+use Rattle.std.specs.Prelude.{Result as Told}
 use Rattle.history.specs.Words.{Operation}
 use Rattle.history.specs.Lent.{least_scratch}
 use Rattle.history.specs.Ledger.{Ledger, finished, is_read, record_by}
 use Rattle.history.specs.Results.{Result, read, update}
-use Rattle.history.specs.Refusals.{Answer, accepted, refused, record_answer}
+use Rattle.history.specs.Refusals.{accepted, refused, record_answer}
 use Rattle.history.specs.Sound.{Sound}
 use Rattle.tables.specs.Columns.{head_last}
 use Rattle.block_table.specs.Blocks.{head_place}
 use Rattle.layout.specs.Tables.{tables}
 use Rattle.layout.specs.Encodes.{Encodes}
 use Rattle.layout.specs.Relations.{UpdatedTables, RecordLeaves}
-use Rattle.index_record.specs.declared.Verdict.{Verdict}
-use Rattle.index_record.specs.declared.Verdict.TheVariants.{Refused, Read, Update}
-use Rattle.index_record.specs.declared.Recorded.{Recorded}
-use Rattle.index_record.specs.declared.Recorded.TheVariants.{Read as IsRead, Update as IsUpdate, Refused as RecordRefused}
+use Rattle.refusals.specs.declared.Refusal.{Refusal}
+use Rattle.refusals.specs.Numbers.{number_of, answer_by}
+use Rattle.index_record.specs.declared.Change.{Change}
 
 abbrev pub operation : (tick first : ℕ) (bytes : List ℕ) → Operation
 operation tick first bytes = record { tick = tick; first = first; bytes = bytes }
@@ -23,13 +23,13 @@ operation tick first bytes = record { tick = tick; first = first; bytes = bytes 
 -- ── refusals ──
 
 -- what a verdict says of the ledger's answer
-abbrev pub Verdicts : Verdict → Ledger → (scratch : ℕ) → Operation → Type 0
-Verdicts (Refused n) l scratch o = record_answer l scratch o ≡ refused n
-Verdicts Read l scratch o = (record_answer l scratch o ≡ accepted read) × (is_read l.now o ≡ true)
-Verdicts (Update c near) l scratch o = (record_answer l scratch o ≡ accepted (update c)) × (is_read l.now o ≡ false)
+abbrev pub Verdicts : Told (Option Change) Refusal → Ledger → (scratch : ℕ) → Operation → Type 0
+Verdicts (Err e) l scratch o = record_answer l scratch o ≡ refused (number_of e)
+Verdicts (Ok None) l scratch o = (record_answer l scratch o ≡ accepted read) × (is_read l.now o ≡ true)
+Verdicts (Ok (Some c)) l scratch o = (record_answer l scratch o ≡ accepted (update c.cell)) × (is_read l.now o ≡ false)
 
 -- `refusal`
-pub record Judged (pieces blocks store : List ℕ) (o : Operation) (v : Verdict) : Type 0 where
+pub record Judged (pieces blocks store : List ℕ) (o : Operation) (v : Told (Option Change) Refusal) : Type 0 where
   pub says : (nodes entries : List ℕ) (l : Ledger) (scratch : ℕ) → ltb scratch least_scratch ≡ false → Encodes (tables pieces blocks store nodes entries) l → Sound l → finished l ≡ false → Verdicts v l scratch o
 
 -- ── what an accepted operation does ──
@@ -45,14 +45,13 @@ pub record UpdateApplied (pieces blocks store pieces' blocks' store' : List ℕ)
       → Encodes (tables pieces' blocks' store' nodes entries) (record_by l o)
       × UpdatedTables l o (tables pieces blocks store nodes entries) (tables pieces' blocks' store' nodes entries)
 
--- the document's number and values for every case of the answer
-abbrev pub recorded_of : Recorded → Answer Result
-recorded_of IsRead = accepted read
-recorded_of (IsUpdate c) = accepted (update c)
-recorded_of (RecordRefused n) = refused n
+-- what an accepted operation gives: it was a read, or an update with the lowest cell that changed
+abbrev pub recorded : Option ℕ → Result
+recorded None = read
+recorded (Some c) = update c
 
 -- `record_open`: of an open index and a scratch that is long enough, what layout's `RecordedBy` says of well-formed tables
-pub record RecordedOpen (pieces blocks store pieces' blocks' store' : List ℕ) (o : Operation) (r : Recorded) : Type 0 where
+pub record RecordedOpen (pieces blocks store pieces' blocks' store' : List ℕ) (o : Operation) (r : Told (Option ℕ) Refusal) : Type 0 where
   pub formed : (nodes entries : List ℕ) (l : Ledger) (scratch : ℕ) → ltb scratch least_scratch ≡ false → Encodes (tables pieces blocks store nodes entries) l → Sound l → finished l ≡ false
-      → (recorded_of r ≡ record_answer l scratch o)
+      → (answer_by recorded r ≡ record_answer l scratch o)
       × RecordLeaves (record_answer l scratch o) l o (tables pieces blocks store nodes entries) (tables pieces' blocks' store' nodes entries)

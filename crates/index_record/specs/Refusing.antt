@@ -1,8 +1,10 @@
 -- The refusals of record that depend on the call and the board, 5 to 11 but for 26, by the numbers that they compare. Definitions alone: that they are the ledger's
 -- stands in proofs/Refusing.antt.
-use Rattle.std.specs.Prelude.{◌≡◌, List, [], ◌∷◌, ℕ, ◌+◌, ◌-◌, ◌/◌, ◌^◌, leb, ltb, eqb, length}
+use Rattle.std.specs.Prelude.{◌≡◌, List, [], ◌∷◌, ℕ, ◌+◌, ◌-◌, ◌/◌, ◌^◌, leb, ltb, eqb, length, Result}
 use Rattle.history.specs.Lent.{row_width, piece_head, block_head}
-use Rattle.history.specs.Refusals.{Answer, accepted, refused, Refusal, ◌if◌, first_of}
+use Rattle.history.specs.Refusals.{Answer, Refusal, ◌if◌, first_of}
+use Rattle.refusals.specs.declared.Refusal.{Refusal as Named}
+use Rattle.refusals.specs.Numbers.{answer_by}
 use Rattle.tables.specs.Columns.{block_column, head_end, head_last, head_count, head_used}
 
 -- of the call itself: 5 to 8
@@ -29,18 +31,17 @@ lent_refusals pieces blocks store left made size =
     (block_column blocks 0 head_count + made) (block_column blocks 0 head_used + size)
 
 -- the answer by a list of refusals
-abbrev pub answer_by : List Refusal → Answer Unit
-answer_by rs = first_of rs tt
+abbrev pub first_answer : List Refusal → Answer Unit
+first_answer rs = first_of rs tt
 
--- n is the number of the first refusal whose condition holds, 0 where there is none
-pub record First (n : ℕ) (rs : List Refusal) : Type 0 where
-  pub nothing : n ≡ 0 → answer_by rs ≡ accepted tt
-  pub number : (n ≡ 0 → ⊥) → answer_by rs ≡ refused n
+-- r is the first refusal whose condition holds, and there is none where it is accepted
+abbrev pub First : (r : Result Unit Named) (rs : List Refusal) → Type 0
+First r rs = first_answer rs ≡ answer_by (λ u. u) r
 
 -- `call_refusal`
-pub record CallTested (blocks : List ℕ) (tick first size n : ℕ) : Type 0 where
-  pub finds : First n (call_refusals (block_column blocks 0 head_end) (block_column blocks 0 head_last) tick first size)
+pub record CallTested (blocks : List ℕ) (tick first size : ℕ) (r : Result Unit Named) : Type 0 where
+  pub finds : First r (call_refusals (block_column blocks 0 head_end) (block_column blocks 0 head_last) tick first size)
 
 -- `space_refusal`
-pub record SpaceTested (pieces blocks store : List ℕ) (left made size n : ℕ) : Type 0 where
-  pub finds : First n (lent_refusals pieces blocks store left made size)
+pub record SpaceTested (pieces blocks store : List ℕ) (left made size : ℕ) (r : Result Unit Named) : Type 0 where
+  pub finds : First r (lent_refusals pieces blocks store left made size)

@@ -16,23 +16,15 @@ ghost use Rattle.std.specs.Prelude.{◌≡◌, ◌+◌, ◌-◌, ◌/◌, ltb};
 ghost use Rattle.index_record.specs.Refusing.{CallTested, SpaceTested};
 ghost use Rattle.index_record.specs.Calls.{operation, Judged, ReadApplied, UpdateApplied, RecordedOpen};
 
+use piece_table::Piece;
+use refusals::Refusal;
 use tables::{block, piece};
 
-// What becomes of an operation: the number of its refusal, or what it is; of an update the lowest cell that it changes, and a guess for the link of the
-// lowest piece that it meets.
-#[derive(Clone, Copy)]
-pub enum Verdict {
-    Refused(u64),
-    Read,
-    Update(u64, u64),
-}
-
-// The answer of record: a read, or an update with the lowest cell that was unknown or had another byte.
-#[derive(Clone, Copy)]
-pub enum Recorded {
-    Read,
-    Update(u64),
-    Refused(u64),
+// What an update changes: the lowest cell that was unknown or had another byte, and a guess for the link of the lowest piece that it meets.
+#[derive(Clone, Copy, PartialEq, Eq, Debug)]
+pub struct Change {
+    pub cell: u64,
+    pub near: u64,
 }
 
 // ── refusals ──
@@ -47,26 +39,28 @@ fn exceeds(limit: u64, a: u64, b: u64) -> bool
     limit - a < b
 }
 
-// Which of 5 to 8 the call is refused for, or 0.
-fn call_refusal(blocks: &[u64], tick: u64, first: u64, size: u64) -> u64
+// Which of 5 to 8 the call is refused for.
+#[tactic(auto, using(crate::proofs::Judging::calling))]
+fn call_refusal(blocks: &[u64], tick: u64, first: u64, size: u64) -> Result<(), Refusal>
     ensures { CallTested blocks.now tick first size result }
 {
     if size == 0 {
-        return 5;
+        return Err(Refusal::NoCells);
     }
     if exceeds(u64::MAX, first, size) {
-        return 6;
+        return Err(Refusal::EndTooHigh);
     }
     if block_table::end(blocks) <= tick {
-        return 7;
+        return Err(Refusal::TickTooHigh);
     }
     if tick < block_table::last(blocks) {
-        return 8;
+        return Err(Refusal::TickTooLow);
     }
-    0
+    Ok(())
 }
 
-// Which of 9 to 11 an update of so many bytes is refused for, or 0: it leaves `left` pieces and records `made` blocks.
+// Which of 9 to 11 an update of so many bytes is refused for: it leaves `left` pieces and records `made` blocks.
+#[tactic(auto, using(crate::proofs::Judging::spacing))]
 fn space_refusal(
     pieces: &[u64],
     blocks: &[u64],
@@ -74,28 +68,28 @@ fn space_refusal(
     left: u64,
     made: u64,
     size: u64,
-) -> u64
+) -> Result<(), Refusal>
     ensures { SpaceTested pieces.now blocks.now store.now left made size result }
 {
     if tables::rows(pieces.len(), piece::HEAD) < left {
-        return 9;
+        return Err(Refusal::PiecesFull);
     }
     let space = tables::rows(blocks.len(), block::HEAD);
     let count = block_table::count(blocks);
     if exceeds(space, count, made) {
-        return 10;
+        return Err(Refusal::BlocksFull);
     }
     if exceeds(space, count + made, left) {
-        return 10;
+        return Err(Refusal::BlocksFull);
     }
     let used = block_table::used(blocks);
     if exceeds(store.len() as u64, used, size) {
-        return 11;
+        return Err(Refusal::StoreFull);
     }
-    0
+    Ok(())
 }
 
-// What becomes of an operation.
+// What an operation changes, nothing where it is a read; or its refusal.
 pub fn refusal(
     pieces: &[u64],
     blocks: &[u64],
@@ -103,30 +97,25 @@ pub fn refusal(
     tick: u64,
     first: u64,
     bytes: &[u8],
-) -> Verdict
+) -> Result<Option<Change>, Refusal>
     ensures { Judged pieces.now blocks.now store.now (operation tick first bytes.now) result }
 {
     let size = bytes.len() as u64;
-    let number = call_refusal(blocks, tick, first, size);
-    if number != 0 {
-        return Verdict::Refused(number);
-    }
+    call_refusal(blocks, tick, first, size)?;
     if calendar_table::closed(blocks, first, bytes) {
-        return Verdict::Refused(26);
+        return Err(Refusal::CellClosed);
     }
     let after = survey::survey(pieces, store, first, bytes);
     let same = after.same;
     let near = after.near;
     if size <= same {
-        return Verdict::Read;
+        return Ok(None);
     }
     let left = after.pieces;
     let made = after.blocks;
-    let full = space_refusal(pieces, blocks, store, left, made, size);
-    if full != 0 {
-        return Verdict::Refused(full);
-    }
-    Verdict::Update(first + same, near)
+    space_refusal(pieces, blocks, store, left, made, size)?;
+    let cell = first + same;
+    Ok(Some(Change { cell, near }))
 }
 
 // ── what an accepted operation does ──
@@ -140,6 +129,7 @@ pub fn enter_read(blocks: &mut [u64], tick: u64)
 
 // An update: its bytes enter the store behind the used part, pieces are cut and recorded as blocks, and the operation becomes a piece. `near` is
 // a guess for the link of the lowest piece that it meets.
+#[tactic(auto, using(crate::proofs::Updating::updating))]
 pub fn enter_update(
     pieces: &mut [u64],
     blocks: &mut [u64],
@@ -159,12 +149,21 @@ pub fn enter_update(
         return;
     }
     tables::copy_in(store, used as usize, bytes);
-    recording::apply_update(pieces, blocks, tick, first, size, used, kind, near);
+    let piece = Piece {
+        first,
+        size,
+        written: tick,
+        offset: used,
+        owner: kind,
+    };
+    recording::apply_update(pieces, blocks, piece, near);
     block_table::set_used(blocks, used + size);
     block_table::set_last(blocks, tick);
 }
 
-// Records an operation in the tables of an open index. Nothing is written to a scratch, so none is lent here.
+// Records an operation in the tables of an open index, and gives the lowest cell that it changes, none of a read. Nothing is written to a scratch, so
+// none is lent here.
+#[tactic(auto, using(crate::proofs::Recording::opening))]
 pub fn record_open(
     pieces: &mut [u64],
     blocks: &mut [u64],
@@ -172,20 +171,18 @@ pub fn record_open(
     tick: u64,
     first: u64,
     bytes: &[u8],
-) -> Recorded
+) -> Result<Option<u64>, Refusal>
     ensures { RecordedOpen pieces.old blocks.old store.old pieces.new blocks.new store.new
         (operation tick first bytes.now) result }
 {
-    let verdict = refusal(pieces, blocks, store, tick, first, bytes);
-    match verdict {
-        Verdict::Refused(number) => Recorded::Refused(number),
-        Verdict::Read => {
+    match refusal(pieces, blocks, store, tick, first, bytes)? {
+        None => {
             enter_read(blocks, tick);
-            Recorded::Read
+            Ok(None)
         }
-        Verdict::Update(cell, near) => {
-            enter_update(pieces, blocks, store, tick, first, bytes, near);
-            Recorded::Update(cell)
+        Some(change) => {
+            enter_update(pieces, blocks, store, tick, first, bytes, change.near);
+            Ok(Some(change.cell))
         }
     }
 }

@@ -1,5 +1,6 @@
 -- What the test found, turned into the answers 2, 3 and 4: one law for every call. Assumes nothing.
-use mathlib.Core.Path.{◌≡◌, sym, subst}
+use mathlib.Core.Logic.{◌⊎◌, inl, inr}
+use mathlib.Core.Path.{◌≡◌, refl, sym, ap, subst}
 use mathlib.Core.Bool.{Bool, true, false}
 use Prim.Native.Nat.{ℕ}
 use Rattle.history.specs.Lent.{too_short}
@@ -14,6 +15,11 @@ use Rattle.index_test.specs.Board.{OpenFormed, ClosedFormed, Outcome}
 use Rattle.index_test.specs.declared.State.{State}
 use Rattle.index_test.specs.declared.State.TheVariants.{Bad, Open, Closed}
 use Rattle.index_test.proofs.Tested.{passes_formed, open_passes, closed_passes}
+use Rattle.std.specs.Prelude.{Result, Ok, Err}
+use Rattle.refusals.specs.declared.Refusal.{Refusal}
+use Rattle.refusals.specs.declared.Refusal.TheVariants.{Malformed, Finished, NotFinished}
+use Rattle.refusals.specs.Numbers.{number_of}
+use Rattle.index_test.specs.States.{when_formed, when_open, when_closed}
 
 -- ── what was found ──
 
@@ -62,3 +68,68 @@ module _ {A : Type 0} {asked : Ledger → Answer A} {Handed : Answer A → Type 
   read_on e inner =
       let s = told_closed told e in
       record { formed = λ l enc sound. inner.closed l enc sound (s.state l enc); unformed = λ n. absurd (n s.formed) }
+
+-- ── by the state alone ──
+
+-- what a refusal by the state is
+module _ {t : Tables} (e : Refusal) where
+  pub formed_refused : (r : State) → Outcome r t → when_formed r ≡ Err e → (WellFormed t → ⊥) × (number_of e ≡ 2)
+  formed_refused Bad told is = let q : e ≡ Malformed = cc in (told, rw q refl)
+  formed_refused Open told is = cc
+  formed_refused Closed told is = cc
+
+  pub open_refused : (r : State) → Outcome r t → when_open r ≡ Err e → ((WellFormed t → ⊥) × (number_of e ≡ 2)) ⊎ (Stands t true × (number_of e ≡ 3))
+  open_refused Bad told is = let q : e ≡ Malformed = cc in inl (told, rw q refl)
+  open_refused Closed told is = let q : e ≡ Finished = cc in inr (told_closed told refl, rw q refl)
+  open_refused Open told is = cc
+
+  pub closed_refused : (r : State) → Outcome r t → when_closed r ≡ Err e → ((WellFormed t → ⊥) × (number_of e ≡ 2)) ⊎ (Stands t false × (number_of e ≡ 4))
+  closed_refused Bad told is = let q : e ≡ Malformed = cc in inl (told, rw q refl)
+  closed_refused Open told is = let q : e ≡ NotFinished = cc in inr (told_open told refl, rw q refl)
+  closed_refused Closed told is = cc
+
+-- and what being taken is
+module _ {t : Tables} {u : Unit} where
+  pub formed_taken : (r : State) → Outcome r t → when_formed r ≡ Ok u → WellFormed t
+  formed_taken Bad told is = cc
+  formed_taken Open told is = (told_open told refl).formed
+  formed_taken Closed told is = (told_closed told refl).formed
+
+  pub open_taken : (r : State) → Outcome r t → when_open r ≡ Ok u → Stands t false
+  open_taken Bad told is = cc
+  open_taken Closed told is = cc
+  open_taken Open told is = told_open told refl
+
+  pub closed_taken : (r : State) → Outcome r t → when_closed r ≡ Ok u → Stands t true
+  closed_taken Bad told is = cc
+  closed_taken Open told is = cc
+  closed_taken Closed told is = told_closed told refl
+
+-- A read of an open or a closed index, refused by the state.
+pub read_not_formed : {A : Type 0} {asked : Ledger → Answer A} {t : Tables} {e : Refusal} (Handed : ℕ → Answer A → Type 0) (r : State) → Outcome r t → when_formed r ≡ Err e
+    → Handed 2 (refused 2) → ReadBy t asked (Handed (number_of e))
+read_not_formed {e = e} Handed r told is h =
+    let q = formed_refused e r told is in
+    rw q.1 (record { formed = λ l enc s. absurd (q.0 (record { ledger = l; encodes = enc; sound = s })); unformed = λ _. h })
+
+-- A read of a closed index, refused by the state: 2 of tables that stand for none, 4 of an open index.
+pub refused_read : {A : Type 0} {asked : Ledger → Answer A} {t : Tables} (e : Refusal) (Handed : ℕ → Answer A → Type 0)
+    → ((WellFormed t → ⊥) × (number_of e ≡ 2)) ⊎ (Stands t false × (number_of e ≡ 4)) → Refuses asked false 4 → ((n : ℕ) → Handed n (refused n)) → ReadBy t asked (Handed (number_of e))
+refused_read {A} e Handed why refuses h = elim why [
+  | inl q ↦ rw q.1 (record { formed = λ l enc s. absurd (q.0 (record { ledger = l; encodes = enc; sound = s })); unformed = λ _. h 2 })
+  | inr q ↦
+      rw q.1
+      (record { formed = λ l enc _. subst (λ (x : Answer A). Handed 4 x) (sym (stands_refuses q.0 refuses l enc)) (h 4); unformed = λ n. absurd (n q.0.formed) })
+]
+
+pub read_not_closed : {A : Type 0} {asked : Ledger → Answer A} {t : Tables} {e : Refusal} (Handed : ℕ → Answer A → Type 0) (r : State) → Outcome r t → when_closed r ≡ Err e
+    → Refuses asked false 4 → ((n : ℕ) → Handed n (refused n)) → ReadBy t asked (Handed (number_of e))
+read_not_closed {e = e} Handed r told is refuses h = refused_read e Handed (closed_refused e r told is) refuses h
+
+-- And one of a closed index.
+pub closed_read : {A : Type 0} {asked : Ledger → Answer A} {Handed : Answer A → Type 0} {t : Tables} → Stands t true → ClosedBy t asked Handed → ReadBy t asked Handed
+closed_read s inner = record { formed = λ l enc sound. inner.closed l enc sound (s.state l enc); unformed = λ n. absurd (n s.formed) }
+
+pub read_if_closed : {A : Type 0} {asked : Ledger → Answer A} {Handed : Answer A → Type 0} {t : Tables} {u : Unit} (r : State) → Outcome r t → when_closed r ≡ Ok u
+    → ClosedBy t asked Handed → ReadBy t asked Handed
+read_if_closed r told is inner = closed_read (closed_taken r told is) inner

@@ -12,7 +12,7 @@
 //      lent, and what is handed out: `HandedInto` for values and one slice, a record of its own for more. Its refusals are steps by `closed-refuses`
 //      and the laws of `ReadLaws` (`window-14`, `window-15`, `window-rest`).
 //   3. The relation of the public call is a record of one field, `read : ReadBy t (λ l. xAnswer l ..) (HandedInto ..)`.
-//   4. The public call matches on `test`: 2, 4, or the inner call. Its three returns are `read-2`, `read-4` and `read-on` (proofs/Told).
+//   4. The public call asks `test(..).closed()?` and hands on the inner call. Its two returns are `read_not_closed` and `closed_read` (proofs/Told).
 
 #![tactic(auto)]
 
@@ -20,9 +20,11 @@ ghost use Rattle.std.specs.Prelude.{◌≡◌};
 ghost use Rattle.layout.specs.Tables.{tables};
 ghost use Rattle.index_test.specs.Board.{Outcome, TestedClosed};
 ghost use Rattle.index_test.specs.Law.{TestDecides};
+ghost use Rattle.index_test.specs.States.{when_formed, when_open, when_closed};
 
 mod board;
 
+use refusals::Refusal;
 use tables::{block, piece};
 
 // What tables are found to be.
@@ -31,6 +33,41 @@ pub enum State {
     Bad,
     Open,
     Closed,
+}
+
+// What a call is refused for by the state of its tables.
+impl State {
+    // A call on an open or a closed index.
+    pub fn formed(self) -> Result<(), Refusal>
+        ensures { result ≡ when_formed self }
+    {
+        match self {
+            State::Bad => Err(Refusal::Malformed),
+            State::Open | State::Closed => Ok(()),
+        }
+    }
+
+    // A call on an open index alone.
+    pub fn open(self) -> Result<(), Refusal>
+        ensures { result ≡ when_open self }
+    {
+        match self {
+            State::Bad => Err(Refusal::Malformed),
+            State::Closed => Err(Refusal::Finished),
+            State::Open => Ok(()),
+        }
+    }
+
+    // A call on a closed index alone.
+    pub fn closed(self) -> Result<(), Refusal>
+        ensures { result ≡ when_closed self }
+    {
+        match self {
+            State::Bad => Err(Refusal::Malformed),
+            State::Open => Err(Refusal::NotFinished),
+            State::Closed => Ok(()),
+        }
+    }
 }
 
 // Whether the tables that pass as a board are those of a closed index. Linear in the rows in use for whatever calls leave; rule 24 of other tables may take

@@ -1,5 +1,6 @@
 -- The state of tables: what the test finds is true, and what a true state is good for. Assumes nothing.
-use mathlib.Core.Path.{◌≡◌, sym, ap, ◌∙◌, subst}
+use mathlib.Core.Logic.{◌⊎◌, inl, inr}
+use mathlib.Core.Path.{◌≡◌, refl, sym, ap, ◌∙◌, subst}
 use mathlib.Core.Bool.{Bool, true, false, not}
 use mathlib.Core.List.{List, map}
 use Prim.Native.Nat.{ℕ, ◌-◌, ◌/◌, ◌+◌, ◌≤◌, ◌<◌}
@@ -13,6 +14,11 @@ use Rattle.lists.proofs.Numbers.{refute}
 use Rattle.history.specs.Lent.{Lent, row_width, piece_head, block_head, piece_rows, block_rows}
 use Rattle.history.specs.Ledger.{Ledger}
 use Rattle.history.specs.Refusals.{Answer, refused}
+use Rattle.std.specs.Prelude.{Ok, Err}
+use Rattle.refusals.specs.declared.Refusal.{Refusal}
+use Rattle.refusals.specs.declared.Refusal.TheVariants.{Malformed, NotFinished}
+use Rattle.refusals.specs.Numbers.{number_of}
+use Rattle.index_test.specs.States.{when_formed, when_closed}
 use Rattle.tables.specs.Columns.{column, pieces_count, block_column, head_count}
 use Rattle.piece_table.specs.Piece.{piece_at}
 use Rattle.piece_table.specs.Shown.{shown}
@@ -24,7 +30,7 @@ use Rattle.layout.proofs.ReadLaws.{still_open, is_closed}
 use Rattle.index_test.specs.Board.{OpenFormed, ClosedFormed, Outcome}
 use Rattle.index_test.specs.declared.State.{State}
 use Rattle.index_test.specs.declared.State.TheVariants.{Bad, Open, Closed}
-use Rattle.index_test.proofs.Told.{Stands, told_bad, Refuses, stands_refuses}
+use Rattle.index_test.proofs.Told.{Stands, told_bad, Refuses, stands_refuses, refused_read, closed_read}
 use Rattle.index_test.proofs.Tested.{passes_formed, open_passes, closed_passes}
 use Rattle.index_tested.specs.Kept.{StandsIn, Kept, BlocksFit, CountsFit}
 use Rattle.index_tested.specs.Law.{TestKeeps}
@@ -61,6 +67,43 @@ kept_open e h = record { unformed = other Open Bad (λ z. omega arith) e; opened
 
 pub kept_closed : {s : State} {t : Tables} → s ≡ Closed → StandsIn closed_state t → Kept s t
 kept_closed e h = record { unformed = other Closed Bad (λ z. omega arith) e; opened = other Closed Open (λ z. omega arith) e; closed = λ _. h }
+
+-- ── a refusal by the state alone ──
+
+kept_refused : {t : Tables} (e : Refusal) (s : State) → Kept s t → when_formed s ≡ Err e → (WellFormed t → ⊥) × (number_of e ≡ 2)
+kept_refused e Bad k is = let q : e ≡ Malformed = cc in (k.unformed refl, rw q refl)
+kept_refused e Open k is = cc
+kept_refused e Closed k is = cc
+
+pub kept_formed : {t : Tables} {u : Unit} (s : State) → Kept s t → when_formed s ≡ Ok u → WellFormed t
+kept_formed Bad k is = cc
+kept_formed Open k is = (k.opened refl).formed
+kept_formed Closed k is = (k.closed refl).formed
+
+pub kept_not_formed : {A : Type 0} {asked : Ledger → Answer A} {t : Tables} (e : Refusal) (s : State) → Kept s t → when_formed s ≡ Err e → (Handed : ℕ → Answer A → Type 0)
+    → Handed 2 (refused 2) → ReadBy t asked (Handed (number_of e))
+kept_not_formed e s k is Handed h =
+    let q = kept_refused e s k is in
+    rw q.1 (record { formed = λ l enc sound. absurd (q.0 (record { ledger = l; encodes = enc; sound = sound })); unformed = λ _. h })
+
+-- the same of a closed index
+kept_closed_refused : {t : Tables} (e : Refusal) (s : State) → Kept s t → when_closed s ≡ Err e → ((WellFormed t → ⊥) × (number_of e ≡ 2)) ⊎ (Stands t false × (number_of e ≡ 4))
+kept_closed_refused e Bad k is = let q : e ≡ Malformed = cc in inl (k.unformed refl, rw q refl)
+kept_closed_refused e Open k is = let q : e ≡ NotFinished = cc in inr (stands_open (k.opened refl), rw q refl)
+kept_closed_refused e Closed k is = cc
+
+pub kept_closed_taken : {t : Tables} {u : Unit} (s : State) → Kept s t → when_closed s ≡ Ok u → Stands t true
+kept_closed_taken Bad k is = cc
+kept_closed_taken Open k is = cc
+kept_closed_taken Closed k is = stands_closed (k.closed refl)
+
+pub kept_not_closed : {A : Type 0} {asked : Ledger → Answer A} {t : Tables} (e : Refusal) (s : State) → Kept s t → when_closed s ≡ Err e → (Handed : ℕ → Answer A → Type 0)
+    → Refuses asked false 4 → ((n : ℕ) → Handed n (refused n)) → ReadBy t asked (Handed (number_of e))
+kept_not_closed e s k is Handed refuses h = refused_read e Handed (kept_closed_refused e s k is) refuses h
+
+pub kept_if_closed : {A : Type 0} {asked : Ledger → Answer A} {Handed : Answer A → Type 0} {t : Tables} {u : Unit} (s : State) → Kept s t → when_closed s ≡ Ok u
+    → ClosedBy t asked Handed → ReadBy t asked Handed
+kept_if_closed s k is inner = closed_read (kept_closed_taken s k is) inner
 
 -- ── the reads ──
 

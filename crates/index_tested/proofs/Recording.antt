@@ -1,10 +1,11 @@
 -- The returns of `record_tested`. Assumes nothing.
+use mathlib.Core.Logic.{◌⊎◌, inl, inr}
 use mathlib.Core.Path.{◌≡◌, refl, sym, ◌∙◌}
-use mathlib.Core.Bool.{Bool, true, not}
+use mathlib.Core.Bool.{Bool, true, false}
 use mathlib.Core.List.{List}
 use Prim.Native.Nat.{ℕ, ◌≤◌, ◌<◌}
 use native.Mathlib.Omega.{arith}
-use borrow.Author.Tests.{le-ltb, not-true}
+use borrow.Author.Tests.{le-ltb}
 use Rattle.lists.specs.Tests.{Decides}
 use Rattle.history.specs.Words.{Operation}
 use Rattle.history.specs.Lent.{least_scratch}
@@ -17,12 +18,17 @@ use Rattle.tables.specs.Columns.{head_state}
 use Rattle.layout.specs.Tables.{Tables, tables, head_at}
 use Rattle.layout.specs.Encodes.{Encodes, state_of, open_state}
 use Rattle.layout.specs.Relations.{RecordLeaves}
-use Rattle.index_record.specs.Calls.{recorded_of, RecordedOpen}
-use Rattle.index_record.specs.declared.Recorded.{Recorded}
+use Rattle.std.specs.Prelude.{Option, Ok, Err, Result as Told}
+use Rattle.refusals.specs.declared.Refusal.{Refusal}
+use Rattle.refusals.specs.declared.Refusal.TheVariants.{Malformed, Finished}
+use Rattle.refusals.specs.Numbers.{number_of, answer_by}
+use Rattle.index_record.specs.Calls.{recorded, RecordedOpen}
 use Rattle.index_test.specs.declared.State.{State}
 use Rattle.index_test.specs.declared.State.TheVariants.{Bad, Open, Closed}
+use Rattle.index_test.specs.States.{when_open}
 use Rattle.index_test.proofs.Told.{Refuses, stands_refuses}
 use Rattle.index.proofs.Recording.{record_short}
+use Rattle.index.proofs.Finishing.{is_open}
 use Rattle.index_tested.specs.Kept.{StandsIn, CountsFit}
 use Rattle.index_tested.specs.Tested.{RecordedTested}
 use Rattle.index_tested.proofs.Keeping.{stands_open, stands_closed, kept_open, formed_fits}
@@ -53,7 +59,7 @@ module _ {s : State} {pieces blocks store : List ℕ} {scratch : ℕ} {o : Opera
   pub tested_short : scratch < least_scratch → RecordedTested s pieces blocks store pieces blocks store scratch o (refused 2)
   tested_short short = record { done = λ nodes entries k. (record_short short, k) }
 
-  pub tested_bad : s ≡ Bad → RecordedTested s pieces blocks store pieces blocks store scratch o (refused 2)
+  tested_bad : s ≡ Bad → RecordedTested s pieces blocks store pieces blocks store scratch o (refused 2)
   tested_bad e = record {
     done = λ nodes entries k. (
       record { formed = λ l enc sound. absurd (k.unformed e (record { ledger = l; encodes = enc; sound = sound })); unformed = λ _. (refl, refl) },
@@ -61,7 +67,7 @@ module _ {s : State} {pieces blocks store : List ℕ} {scratch : ℕ} {o : Opera
     );
   }
 
-  pub tested_closed : least_scratch ≤ scratch → s ≡ Closed → RecordedTested s pieces blocks store pieces blocks store scratch o (refused 3)
+  tested_closed : least_scratch ≤ scratch → s ≡ Closed → RecordedTested s pieces blocks store pieces blocks store scratch o (refused 3)
   tested_closed long e = record {
     done = λ nodes entries k.
         let here = stands_closed (k.closed e) in (
@@ -74,11 +80,11 @@ module _ {s : State} {pieces blocks store : List ℕ} {scratch : ℕ} {o : Opera
   }
 
   -- no true state has counts that do not fit
-  pub tested_unfit : {b : Bool} → s ≡ Open → Decides b (CountsFit pieces blocks) → not b ≡ true → RecordedTested s pieces blocks store pieces blocks store scratch o (refused 2)
-  tested_unfit {b} e d unfit = record { done = λ nodes entries k. absurd (d.not (not-true b unfit) (formed_fits (k.opened e).formed)) }
+  tested_unfit : {b : Bool} → s ≡ Open → Decides b (CountsFit pieces blocks) → b ≡ false → RecordedTested s pieces blocks store pieces blocks store scratch o (refused 2)
+  tested_unfit {b} e d unfit = record { done = λ nodes entries k. absurd (d.not unfit (formed_fits (k.opened e).formed)) }
 
-  pub tested_open : {pieces' blocks' store' : List ℕ} {a : Recorded} → least_scratch ≤ scratch → s ≡ Open → RecordedOpen pieces blocks store pieces' blocks' store' o a
-      → RecordedTested s pieces blocks store pieces' blocks' store' scratch o (recorded_of a)
+  tested_open : {pieces' blocks' store' : List ℕ} {a : Told (Option ℕ) Refusal} → least_scratch ≤ scratch → s ≡ Open → RecordedOpen pieces blocks store pieces' blocks' store' o a
+      → RecordedTested s pieces blocks store pieces' blocks' store' scratch o (answer_by recorded a)
   tested_open {pieces'} {blocks'} {store'} long e f = record {
     done = λ nodes entries k.
         let t = tables pieces blocks store nodes entries in
@@ -95,4 +101,23 @@ module _ {s : State} {pieces blocks store : List ℕ} {scratch : ℕ} {o : Opera
         );
   }
 
-pub ruleset recordings = (tested_short, tested_bad, tested_closed, tested_unfit, tested_open, arith)
+-- by what the state refuses
+not_open : (e : Refusal) (s : State) → when_open s ≡ Err e → ((s ≡ Bad) × (number_of e ≡ 2)) ⊎ ((s ≡ Closed) × (number_of e ≡ 3))
+not_open e Bad is = let q : e ≡ Malformed = cc in inl (refl, rw q refl)
+not_open e Closed is = let q : e ≡ Finished = cc in inr (refl, rw q refl)
+not_open e Open is = cc
+
+module _ (s : State) {x : Told Unit Refusal} {pieces blocks store : List ℕ} {scratch : ℕ} {o : Operation} (long : least_scratch ≤ scratch) (is : x ≡ when_open s) where
+  pub state_refused : {e : Refusal} → x ≡ Err e → RecordedTested s pieces blocks store pieces blocks store scratch o (refused (number_of e))
+  state_refused {e} q = elim (not_open e s (sym is ∙ q)) [
+    | inl p ↦ rw p.1 (tested_bad p.0)
+    | inr p ↦ rw p.1 (tested_closed long p.0)
+  ]
+
+  pub counts_unfit : {u : Unit} {b : Bool} → x ≡ Ok u → Decides b (CountsFit pieces blocks) → b ≡ false
+      → RecordedTested s pieces blocks store pieces blocks store scratch o (refused 2)
+  counts_unfit q d unfit = tested_unfit (is_open s (sym is ∙ q)) d unfit
+
+  pub recorded_open : {u : Unit} {pieces' blocks' store' : List ℕ} {a : Told (Option ℕ) Refusal} → x ≡ Ok u → RecordedOpen pieces blocks store pieces' blocks' store' o a
+      → RecordedTested s pieces blocks store pieces' blocks' store' scratch o (answer_by recorded a)
+  recorded_open q f = tested_open long (is_open s (sym is ∙ q)) f

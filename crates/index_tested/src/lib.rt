@@ -12,14 +12,16 @@
 
 ghost use Rattle.std.specs.Prelude.{◌≡◌, length};
 ghost use Rattle.lists.specs.Tests.{Decides};
-ghost use Rattle.index_record.specs.Calls.{operation, recorded_of};
-ghost use Rattle.index_read.specs.Answers.{found_of, given_of};
+ghost use Rattle.refusals.specs.Numbers.{answer_by};
+ghost use Rattle.index_record.specs.Calls.{operation, recorded};
+ghost use Rattle.index_read.specs.Answers.{counts_given, fields_given};
 ghost use Rattle.index_tested.specs.Kept.{BlocksFit, CountsFit};
 ghost use Rattle.index_tested.specs.Tested.{RecordedTested, FoundTested, HeldInside, BlockTested, BytesTested};
 ghost use Rattle.index_tested.specs.Law.{TestKeeps, FinishCloses};
 
-use index::{Found, Given, Recorded};
+use index::{Block, Found};
 use index_test::State;
+use refusals::Refusal;
 use tables::{block, piece};
 
 // Whether the block table has the rows that its head counts: loops run to that count.
@@ -49,23 +51,18 @@ pub fn record_tested(
     tick: u64,
     first: u64,
     bytes: &[u8],
-) -> Recorded
+) -> Result<Option<u64>, Refusal>
     ensures { RecordedTested state pieces.old blocks.old store.old pieces.new blocks.new store.new
-        (length scratch.now) (operation tick first bytes.now) (recorded_of result) }
+        (length scratch.now) (operation tick first bytes.now) (answer_by recorded result) }
 {
     if scratch.len() < index::LEAST_SCRATCH {
-        return Recorded::Refused(2);
+        return Err(Refusal::Malformed);
     }
-    match state {
-        State::Bad => Recorded::Refused(2),
-        State::Closed => Recorded::Refused(3),
-        State::Open => {
-            if !counts_fit(pieces, blocks) {
-                return Recorded::Refused(2);
-            }
-            index_record::record_open(pieces, blocks, store, tick, first, bytes)
-        }
+    state.open()?;
+    if !counts_fit(pieces, blocks) {
+        return Err(Refusal::Malformed);
     }
+    index_record::record_open(pieces, blocks, store, tick, first, bytes)
 }
 
 // The live blocks whose first cell is in [start, end) at a tick.
@@ -78,54 +75,39 @@ pub fn find_tested(
     start: u64,
     end: u64,
     answer: &mut [u64],
-) -> Found
-    ensures { FoundTested state blocks.now nodes.now entries.now tick start end answer.old answer.new (found_of result) }
+) -> Result<Found, Refusal>
+    ensures { FoundTested state blocks.now nodes.now entries.now tick start end answer.old answer.new (answer_by counts_given result) }
 {
-    match state {
-        State::Bad => Found::Refused(2),
-        State::Open => Found::Refused(4),
-        State::Closed => index_read::find_closed(blocks, nodes, entries, tick, start, end, answer),
-    }
+    state.closed()?;
+    index_read::find_closed(blocks, nodes, entries, tick, start, end, answer)
 }
 
-// A block whose bytes lie in the store; 2 in the place of any other.
-fn in_store(given: Given, store: &[u8]) -> Given
+// A block whose bytes lie in the store; any other is refused 2.
+fn in_store(given: Block, store: &[u8]) -> Result<Block, Refusal>
     ensures { HeldInside given (length store.now) result }
 {
     let room = store.len() as u64;
-    match given {
-        Given::Block {
-            kind: _,
-            first: _,
-            length,
-            created: _,
-            destroyed: _,
-            offset,
-        } => {
-            if room < length {
-                return Given::Refused(2);
-            }
-            if room - length < offset {
-                return Given::Refused(2);
-            }
-            given
-        }
-        Given::Refused(_) => given,
+    if room < given.length {
+        return Err(Refusal::Malformed);
     }
+    if room - given.length < given.offset {
+        return Err(Refusal::Malformed);
+    }
+    Ok(given)
 }
 
 // The block of a number.
-pub fn block_tested(state: State, blocks: &[u64], store: &[u8], number: u64) -> Given
-    ensures { BlockTested state blocks.now store.now number (given_of result) }
+pub fn block_tested(
+    state: State,
+    blocks: &[u64],
+    store: &[u8],
+    number: u64,
+) -> Result<Block, Refusal>
+    ensures { BlockTested state blocks.now store.now number (answer_by fields_given result) }
 {
-    match state {
-        State::Bad => Given::Refused(2),
-        State::Open => Given::Refused(4),
-        State::Closed => {
-            let given = index_read::block_closed(blocks, number);
-            in_store(given, store)
-        }
-    }
+    state.closed()?;
+    let given = index_read::block_closed(blocks, number)?;
+    in_store(given, store)
 }
 
 // The bytes of the block of a number, as that part of the store; the empty part where `block_tested` refuses.
@@ -137,17 +119,9 @@ pub fn block_bytes_tested<'a>(
 ) -> &'a [u8]
     ensures { BytesTested state blocks.now store.now number result.now }
 {
-    let given = block_tested(state, blocks, store, number);
-    match given {
-        Given::Block {
-            kind: _,
-            first: _,
-            length,
-            created: _,
-            destroyed: _,
-            offset,
-        } => tables::part(store, offset, length),
-        Given::Refused(_) => tables::part(store, 0, 0),
+    match block_tested(state, blocks, store, number) {
+        Ok(given) => tables::part(store, given.offset, given.length),
+        Err(_) => tables::part(store, 0, 0),
     }
 }
 

@@ -1,4 +1,5 @@
 -- The returns of `install_open` and `install_calendar`. Assumes nothing.
+use mathlib.Core.Logic.{inl, inr}
 use mathlib.Core.Path.{◌≡◌, refl, sym, ap, subst, ◌∙◌}
 use mathlib.Core.Bool.{Bool, true, false, not}
 use mathlib.Core.List.{List}
@@ -18,11 +19,13 @@ use Rattle.layout.proofs.ReadLaws.{heads-held}
 use Rattle.layout.proofs.Installing.{installed_encodes}
 use Rattle.index_test.specs.Board.{Outcome}
 use Rattle.index_test.specs.declared.State.{State}
-use Rattle.index_test.specs.declared.State.TheVariants.{Bad, Open, Closed}
-use Rattle.index_test.proofs.Told.{told_bad, told_open, told_closed, Refuses, stands_refuses}
-use Rattle.install.specs.Answers.{installed_of, InstalledOpen}
-use Rattle.install.specs.declared.Installed.{Installed}
-use Rattle.install.specs.declared.Installed.TheVariants.{Done, Refused}
+use Rattle.index_test.specs.States.{when_open}
+use Rattle.index_test.proofs.Told.{Refuses, stands_refuses, open_refused, open_taken}
+use Rattle.install.specs.Answers.{InstalledOpen}
+use Rattle.std.specs.Prelude.{Ok, Err, Result as Told}
+use Rattle.refusals.specs.declared.Refusal.{Refusal}
+use Rattle.refusals.specs.declared.Refusal.TheVariants.{BadCalendar, BadDays}
+use Rattle.refusals.specs.Numbers.{number_of, answer_by}
 
 -- ── the ledger's answer ──
 
@@ -42,14 +45,14 @@ module _ (l : Ledger) (numbers : List ℕ) (held : too_short l.opening.lent ≡ 
 -- ── `install_open` ──
 
 module _ {blocks numbers : List ℕ} {r : Bool} (is : r ≡ calendar_taken (calendar_of numbers)) where
-  pub open_27 : not r ≡ true → InstalledOpen blocks blocks numbers (Refused 27)
+  pub open_27 : not r ≡ true → InstalledOpen blocks blocks numbers (Err BadCalendar)
   open_27 bad = record {
     formed = λ pieces store nodes entries l e still.
         let q : install_answer l numbers ≡ refused 27 = install_27 l numbers (heads-held e) still (sym is ∙ not-true r bad) in
         (sym q, subst (λ (x : Answer Result). InstallLeaves x l numbers (tables pieces blocks store nodes entries) (tables pieces blocks store nodes entries)) (sym q) refl);
   }
 
-  pub open_done : {blocks' : List ℕ} → not r ≡ false → blocks' ≡ installed_in blocks numbers → InstalledOpen blocks blocks' numbers Done
+  pub open_done : {blocks' : List ℕ} → not r ≡ false → blocks' ≡ installed_in blocks numbers → InstalledOpen blocks blocks' numbers (Ok tt)
   open_done {blocks'} good e' = record {
     formed = λ pieces store nodes entries l e still.
         let t : Tables = tables pieces blocks store nodes entries in
@@ -64,22 +67,19 @@ pub ruleset openings = (open_27, open_done, rules)
 
 -- ── `install_calendar` ──
 
-module _ {pieces blocks store nodes entries numbers : List ℕ} {r : State} (told : Outcome r (tables pieces blocks store nodes entries)) where
-  pub install_bad : r ≡ Bad → InstalledBy numbers (tables pieces blocks store nodes entries) (tables pieces blocks store nodes entries) (refused 2)
-  install_bad e = record { formed = λ l enc s. absurd (told_bad told e (record { ledger = l; encodes = enc; sound = s })); unformed = λ _. (refl, refl) }
+module _ {pieces blocks store nodes entries numbers : List ℕ} (r : State) {s : Told Unit Refusal} (told : Outcome r (tables pieces blocks store nodes entries)) (is : s ≡ when_open r) where
+  pub install_refused : {e : Refusal} → s ≡ Err e
+      → InstalledBy numbers (tables pieces blocks store nodes entries) (tables pieces blocks store nodes entries) (refused (number_of e))
+  install_refused {e} q = elim (open_refused e r told (sym is ∙ q)) [
+    | inl p ↦ rw p.1 (record { formed = λ l enc sound. absurd (p.0 (record { ledger = l; encodes = enc; sound = sound })); unformed = λ _. (refl, refl) })
+    | inr p ↦ rw p.1 (record {
+      formed = λ l enc _. let asked = stands_refuses p.0 (install_3 numbers) l enc in (sym asked, rw asked refl);
+      unformed = λ n. absurd (n p.0.formed);
+    })
+  ]
 
-  pub install_closed : r ≡ Closed → InstalledBy numbers (tables pieces blocks store nodes entries) (tables pieces blocks store nodes entries) (refused 3)
-  install_closed e =
-      let s = told_closed told e in
-      record {
-        formed = λ l enc _. let q = stands_refuses s (install_3 numbers) l enc in (sym q, rw q refl);
-        unformed = λ n. absurd (n s.formed);
-      }
-
-  pub install_opened : {blocks' : List ℕ} {a : Installed} → r ≡ Open → InstalledOpen blocks blocks' numbers a
-      → InstalledBy numbers (tables pieces blocks store nodes entries) (tables pieces blocks' store nodes entries) (installed_of a)
-  install_opened e f =
-      let s = told_open told e in
-      record { formed = λ l enc sound. f.formed pieces store nodes entries l enc (s.state l enc); unformed = λ n. absurd (n s.formed) }
-
-pub ruleset installings = (install_bad, install_closed, install_opened, rules)
+  pub install_opened : {u : Unit} {blocks' : List ℕ} {a : Told Unit Refusal} → s ≡ Ok u → InstalledOpen blocks blocks' numbers a
+      → InstalledBy numbers (tables pieces blocks store nodes entries) (tables pieces blocks' store nodes entries) (answer_by (λ _. done) a)
+  install_opened q f =
+      let p = open_taken r told (sym is ∙ q) in
+      record { formed = λ l enc sound. f.formed pieces store nodes entries l enc (p.state l enc); unformed = λ n. absurd (n p.formed) }

@@ -22,11 +22,13 @@ use Rattle.layout.proofs.ReadLaws.{heads-held}
 use Rattle.layout.proofs.Installing.{days_installed_encodes}
 use Rattle.index_test.specs.Board.{Outcome}
 use Rattle.index_test.specs.declared.State.{State}
-use Rattle.index_test.specs.declared.State.TheVariants.{Bad, Open, Closed}
-use Rattle.index_test.proofs.Told.{told_bad, told_open, told_closed}
-use Rattle.install.specs.Answers.{installed_of, DaysInstalled}
-use Rattle.install.specs.declared.Installed.{Installed}
-use Rattle.install.specs.declared.Installed.TheVariants.{Done, Refused}
+use Rattle.index_test.specs.States.{when_formed}
+use Rattle.index_test.proofs.Told.{formed_refused, formed_taken}
+use Rattle.install.specs.Answers.{DaysInstalled}
+use Rattle.std.specs.Prelude.{Ok, Err, Result as Told}
+use Rattle.refusals.specs.declared.Refusal.{Refusal}
+use Rattle.refusals.specs.declared.Refusal.TheVariants.{BadCalendar, BadDays}
+use Rattle.refusals.specs.Numbers.{number_of, answer_by}
 
 -- ── the ledger's answer ──
 
@@ -48,14 +50,14 @@ taken_few numbers t =
 -- ── `install_days_formed` ──
 
 module _ {blocks numbers : List ℕ} {r : Bool} (is : r ≡ days_taken (days_of numbers)) where
-  pub formed_28 : not r ≡ true → DaysInstalled blocks blocks numbers (Refused 28)
+  pub formed_28 : not r ≡ true → DaysInstalled blocks blocks numbers (Err BadDays)
   formed_28 bad = record {
     formed = λ pieces store nodes entries l e.
         let q : days_answer l numbers ≡ refused 28 = days_28 l numbers (heads-held e) (sym is ∙ not-true r bad) in
         (sym q, subst (λ (x : Answer Result). DaysLeave x l numbers (tables pieces blocks store nodes entries) (tables pieces blocks store nodes entries)) (sym q) refl);
   }
 
-  pub formed_done : {blocks' : List ℕ} → not r ≡ false → blocks' ≡ days_installed_in blocks numbers → DaysInstalled blocks blocks' numbers Done
+  pub formed_done : {blocks' : List ℕ} → not r ≡ false → blocks' ≡ days_installed_in blocks numbers → DaysInstalled blocks blocks' numbers (Ok tt)
   formed_done {blocks'} good e' = record {
     formed = λ pieces store nodes entries l e.
         let t : Tables = tables pieces blocks store nodes entries in
@@ -71,22 +73,15 @@ pub ruleset formed = (formed_28, formed_done, rules)
 
 -- ── `install_days` ──
 
-formed_days : {pieces blocks store nodes entries numbers blocks' : List ℕ} {a : Installed} → WellFormed (tables pieces blocks store nodes entries)
-    → DaysInstalled blocks blocks' numbers a
-    → DaysInstalledBy numbers (tables pieces blocks store nodes entries) (tables pieces blocks' store nodes entries) (installed_of a)
-formed_days {pieces} {blocks} {store} {nodes} {entries} w f =
-    record { formed = λ l enc sound. f.formed pieces store nodes entries l enc; unformed = λ n. absurd (n w) }
+module _ {pieces blocks store nodes entries numbers : List ℕ} (r : State) {s : Told Unit Refusal} (told : Outcome r (tables pieces blocks store nodes entries)) (is : s ≡ when_formed r) where
+  pub days_refused : {e : Refusal} → s ≡ Err e
+      → DaysInstalledBy numbers (tables pieces blocks store nodes entries) (tables pieces blocks store nodes entries) (refused (number_of e))
+  days_refused {e} q =
+      let p = formed_refused e r told (sym is ∙ q) in
+      rw p.1 (record { formed = λ l enc sound. absurd (p.0 (record { ledger = l; encodes = enc; sound = sound })); unformed = λ _. (refl, refl) })
 
-module _ {pieces blocks store nodes entries numbers : List ℕ} {r : State} (told : Outcome r (tables pieces blocks store nodes entries)) where
-  pub days_bad : r ≡ Bad → DaysInstalledBy numbers (tables pieces blocks store nodes entries) (tables pieces blocks store nodes entries) (refused 2)
-  days_bad e = record { formed = λ l enc s. absurd (told_bad told e (record { ledger = l; encodes = enc; sound = s })); unformed = λ _. (refl, refl) }
-
-  pub days_opened : {blocks' : List ℕ} {a : Installed} → r ≡ Open → DaysInstalled blocks blocks' numbers a
-      → DaysInstalledBy numbers (tables pieces blocks store nodes entries) (tables pieces blocks' store nodes entries) (installed_of a)
-  days_opened e f = formed_days (told_open told e).formed f
-
-  pub days_closed : {blocks' : List ℕ} {a : Installed} → r ≡ Closed → DaysInstalled blocks blocks' numbers a
-      → DaysInstalledBy numbers (tables pieces blocks store nodes entries) (tables pieces blocks' store nodes entries) (installed_of a)
-  days_closed e f = formed_days (told_closed told e).formed f
-
-pub ruleset days_installings = (days_bad, days_opened, days_closed, rules)
+  pub days_formed : {u : Unit} {blocks' : List ℕ} {a : Told Unit Refusal} → s ≡ Ok u → DaysInstalled blocks blocks' numbers a
+      → DaysInstalledBy numbers (tables pieces blocks store nodes entries) (tables pieces blocks' store nodes entries) (answer_by (λ _. done) a)
+  days_formed q f =
+      let w = formed_taken r told (sym is ∙ q) in
+      record { formed = λ l enc _. f.formed pieces store nodes entries l enc; unformed = λ n. absurd (n w) }

@@ -1,50 +1,35 @@
 // How long a slice must be to hold so many rows, for callers that know neither heads nor widths.
 //
-//   specs/Lengths   proofs/Fitting   the length of each table, as a 64-bit number
-//                   proofs/Holding   a slice of that length has the rows asked for
+//   specs/Lengths    the length of each table, as a 64-bit number
+//   proofs/Holding   a slice of that length has the rows asked for
 
 #![tactic(auto)]
 
-ghost use Rattle.std.specs.Prelude.{◌≡◌, ◌+◌, ◌*◌};
-ghost use Rattle.history.specs.Lent.{row_width, entry_width, entry_head};
-ghost use Rattle.lengths.specs.Lengths.{length_for, whole, LengthsHold};
+ghost use Rattle.std.specs.Prelude.{◌≡◌, ◌+◌, ◌*◌, ◌^◌, ◌≤◌, MatchOption};
+ghost use Rattle.lengths.specs.Lengths.{length_for, LengthsHold};
 
-// Table 0 pieces, 1 blocks, 2 store, 3 nodes, 4 entries, 5 scratch; 0 for any other.
+// Table 0 pieces, 1 blocks, 2 store, 3 nodes, 4 entries, 5 scratch; 0 for any other, and where the length is no 64-bit number, as C asks.
+#[tactic(auto, unfolding(crate::specs::Lengths::length_for, crate::specs::Lengths::whole))]
 pub fn length_for(table: u64, rows: u64) -> u64
     ensures { result ≡ length_for table rows }
 {
-    match table {
-        0 => rows_behind(tables::piece::HEAD as u64, rows),
-        1 => rows_behind(tables::block::HEAD as u64, rows),
-        2 => rows,
-        3 => rows_behind(tables::node::HEAD as u64, rows),
-        4 => entries_behind(rows),
-        5 => rows_behind(0, rows),
-        _ => 0,
-    }
+    let length = match table {
+        0 => length(tables::piece::HEAD, tables::ROW, rows),
+        1 => length(tables::block::HEAD, tables::ROW, rows),
+        2 => Some(rows),
+        3 => length(tables::node::HEAD, tables::ROW, rows),
+        4 => length(tables::entry::HEAD, tables::entry::WIDTH, rows),
+        5 => length(0, tables::ROW, rows),
+        _ => None,
+    };
+    length.unwrap_or(0)
 }
 
-// A head and so many rows; 0 where that is no 64-bit number.
-fn rows_behind(head: u64, rows: u64) -> u64
-    ensures { result ≡ whole (head + row_width * rows) }
+// A head and so many rows of `width` numbers; none where that is no 64-bit number.
+fn length(head: usize, width: usize, rows: u64) -> Option<u64>
+    ensures { MatchOption result (2 ^ 64 ≤ head + width * rows) (λ n. n ≡ head + width * rows) }
 {
-    let most = (u64::MAX - head) / tables::ROW as u64;
-    if most < rows {
-        return 0;
-    }
-    head + tables::ROW as u64 * rows
-}
-
-// The head of the entry table and so many entries; 0 where that is no 64-bit number.
-fn entries_behind(rows: u64) -> u64
-    ensures { result ≡ whole (entry_head + entry_width * rows) }
-{
-    let head = tables::entry::HEAD as u64;
-    let most = (u64::MAX - head) / tables::entry::WIDTH as u64;
-    if most < rows {
-        return 0;
-    }
-    head + tables::entry::WIDTH as u64 * rows
+    rows.checked_mul(width as u64)?.checked_add(head as u64)
 }
 
 // A slice of the length that `length_for` gives has the rows asked for.

@@ -1,16 +1,18 @@
 -- What a change of the table leaves of a tree in it. Assumes nothing.
-use mathlib.Core.Bool.{true, false}
+use mathlib.Core.Bool.{Bool, true, false}
 use mathlib.Core.List.{List, [], ◌∷◌, ◌++◌}
 use mathlib.Core.Path.{◌≡◌, refl, sym, ◌∙◌}
-use Prim.Native.Nat.{ℕ, suc, ◌+◌, ◌*◌, ◌<◌, ◌≤◌, ◌^◌, max}
+use Prim.Native.Nat.{ℕ, suc, ◌+◌, ◌-◌, ◌*◌, ◌<◌, ◌≤◌, ◌^◌, max}
 use native.Mathlib.Omega.{arith}
 use lib.ListN.{length, set, length-set, length-append}
 use lib.Seq.{get_or-set_same, get_or-set_other}
-use borrow.Author.Tests.{lt-ltb, le-ltb, eq-eqb, ne_eqb}
+use lib.Dec.{ltb}
+use borrow.Author.Tests.{lt-ltb, le-ltb, ltb-true, ltb-false, eq-eqb, ne_eqb}
 use Rattle.lists.proofs.Lists.{mem_left, mem_right}
 use Rattle.lists.specs.Lists.{Mem, here, there}
 use Rattle.history.specs.Lent.{row_width}
 use Rattle.tables.specs.Columns.{column, piece_depth, piece_right, piece_left}
+use Rattle.tables.specs.Sums.{plus_up_to}
 use Rattle.merge_set.proofs.Links.{mem_one, good_right, good-apart}
 use Rattle.merge_set.specs.Table.{Good, Valid, Shape, Only, Result, Made, Deep, Higher, deep_at}
 use Rattle.merge_set.specs.Tree.{Tree, leaf, node, height, rows, Maker}
@@ -84,11 +86,12 @@ deep_at_lem {t} {k} {d} e = rw e (record { says = go })
     go (node a x b) s = rw (ne_eqb k 0 (λ z. omega (arith, s.is, s.valid.some)), s.is) s.deep
 
 -- `higher`, by the depths that were read
-pub higher_yes : {t : List ℕ} {l r d e : ℕ} (n : ℕ) → Deep t l d → Deep t r e → d + n < e → Higher t l r n true
-higher_yes n hl hr h = record { says = λ A B sa sb. sym (lt-ltb (height A + n) (height B) (omega (arith, hl.says A sa, hr.says B sb))) }
-
-pub higher_no : {t : List ℕ} {l r d e : ℕ} (n : ℕ) → Deep t l d → Deep t r e → e ≤ d + n → Higher t l r n false
-higher_no n hl hr h = record { says = λ A B sa sb. sym (le-ltb (height A + n) (height B) (omega (arith, hl.says A sa, hr.says B sb))) }
+pub higher_by : (t : List ℕ) (l r n d e : ℕ) → d ≡ deep_at t l → e ≡ deep_at t r → Higher t l r n (ltb n (e - d))
+higher_by t l r n d e ed ee = record { says = λ A B sa sb. go (height A) (height B) ((deep_at_lem ed).says A sa) ((deep_at_lem ee).says B sb) (ltb n (e - d)) refl }
+  where
+    go : (a b : ℕ) → d ≡ a → e ≡ b → (q : Bool) → ltb n (e - d) ≡ q → ltb n (e - d) ≡ ltb (a + n) b
+    go a b ha hb true h = h ∙ sym (lt-ltb (a + n) b (omega (arith, ltb-true n (e - d) h)))
+    go a b ha hb false h = h ∙ sym (le-ltb (a + n) b (omega (arith, ltb-false n (e - d) h)))
 
 -- ── `join` ──
 
@@ -100,7 +103,13 @@ column-past : (t : List ℕ) (x c d v : ℕ) → c < d → column (set t (row_wi
 column-past t x c d v h = get_or-set_other t (row_width * x + d) (row_width * x + c) v 0 (omega arith)
 
 -- three stores make the row x the root over two trees that do not have it
-module _ (t : List ℕ) (l x r d dl dr : ℕ) (hl : Deep t l dl) (hr : Deep t r dr) (hd : dl < 2 ^ 63 → dr < 2 ^ 63 → d ≡ suc (max dl dr)) where
+module _ (t : List ℕ) (l x r d dl dr : ℕ) (el : dl ≡ deep_at t l) (er : dr ≡ deep_at t r) (ed : d ≡ plus_up_to (max dl dr) 1) where
+  hl : Deep t l dl
+  hl = deep_at_lem el
+
+  hr : Deep t r dr
+  hr = deep_at_lem er
+
   pub joined : (t₁ t₂ t₃ : List ℕ) → t₁ ≡ set t (row_width * x + 4) l → t₂ ≡ set t₁ (row_width * x + 5) r → t₃ ≡ set t₂ (row_width * x + 6) d → Made t t₃ l x r node x
   unfolding Shape height
   joined t₁ t₂ t₃ e₁ e₂ e₃ = record { done = go }
@@ -125,7 +134,7 @@ module _ (t : List ℕ) (l x r d dl dr : ℕ) (hl : Deep t l dl) (hr : Deep t r 
           let n : length (rows A ++ x ∷ rows B) ≡ length (rows A) + suc (length (rows B)) = length-append (rows A) (x ∷ rows B) in
           let pa : dl < 2 ^ 63 = omega (arith, hl.says A sa, height-rows A, g.few) in
           let pb : dr < 2 ^ 63 = omega (arith, hr.says B sb, height-rows B, g.few) in
-          let h : d ≡ suc (max (height A) (height B)) = rw (← hl.says A sa, ← hr.says B sb) (hd pa pb) in
+          let h : d ≡ suc (max (height A) (height B)) = rw (← hl.says A sa, ← hr.says B sb) (omega (arith, ed)) in
           record {
             shape = record {
               is = refl;
@@ -152,6 +161,3 @@ pub on_right : {t t₁ t₂ : List ℕ} {m y l o : ℕ} {w : Maker} {xs zs : Lis
 on_right {t} {t₁} {t₂} {m} {y} {l} {o} {w} {xs} {zs} {I} A one q s_a v apart g f h =
     let two : Result t₁ t₂ o (w A y I) (rows A ++ y ∷ rows I) = q.done A I (keep l A one.only apart s_a) one.shape (valid_keep one.only v) g in
     record { shape = two.shape; only = only_then (only_wider f one.only) (only_wider h two.only) }
-
--- the steps, for `search` at a return
-pub ruleset framing = (deep_at_lem, joined)

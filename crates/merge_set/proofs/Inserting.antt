@@ -9,7 +9,7 @@ use Rattle.lists.proofs.Lists.{mem_left, mem_right}
 use Rattle.lists.specs.Lists.{there}
 use Rattle.tables.specs.Columns.{column, piece_right, piece_left}
 use Rattle.merge_set.proofs.Frame.{only_then, only_wider, valid_keep, keep}
-use Rattle.merge_set.proofs.Links.{good_left, good_right, good-apart, Put, put_left, put_right, mem_put, good_put, swap}
+use Rattle.merge_set.proofs.Links.{good_left, good_right, good-apart, Put, put_left, put_right, mem_put, good_put}
 use Rattle.merge_set.proofs.Order.{inserted_put}
 use Rattle.merge_set.specs.Table.{StartsBefore, Good, Valid, Shape, Result, Made, Inserted, first_at}
 use Rattle.merge_set.specs.Tree.{Tree, leaf, node, height, rows, updated, inserted}
@@ -78,5 +78,5 @@ module _ {t t₁ t₂ : List ℕ} {k x n l r m o : ℕ} {before : Bool} (nz : k 
             only = only_then (only_wider (λ j i. mem_put swap (mem_right (rows A ++ y ∷ []) (x ∷ rows B) i)) one.only) (only_wider (λ j i. mem_put put i) two.only);
           })
 
--- the steps, for `search` at a return
+-- the steps, one for each return
 pub ruleset inserting = (inserts_first, inserts_none, inserts_left, inserts_right)

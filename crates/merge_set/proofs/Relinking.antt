@@ -1,23 +1,21 @@
--- `copy_row` and `relink`: one step for each return. Assumes nothing.
+-- `copy_row`, its invariant; `relink`, one step for each return. Assumes nothing.
 use mathlib.Core.Bool.{Bool, true, false}
 use mathlib.Core.List.{List, [], ◌∷◌, ◌++◌, append_assoc}
 use mathlib.Core.Path.{◌≡◌, refl, sym, ◌∙◌}
-use Prim.Native.Nat.{ℕ, ◌+◌, ◌-◌, ◌*◌, ◌<◌, ◌≤◌}
-use native.Mathlib.Decide.{dec_lt}
+use Prim.Native.Nat.{ℕ, ◌-◌, ◌<◌, ◌≤◌}
 use native.Mathlib.Omega.{arith}
-use lib.ListN.{length, set, length-set}
-use lib.Seq.{get_or-set_same, get_or-set_other}
+use lib.ListN.{length}
 use lib.Dec.{ltb}
 use borrow.Author.Tests.{eq-eqb, ne_eqb}
 use Rattle.lists.proofs.Lists.{mem_left, mem_right}
 use Rattle.lists.specs.Lists.{there}
 use Rattle.history.specs.Lent.{row_width}
 use Rattle.tables.specs.Columns.{column, piece_right, piece_left}
-use Rattle.merge_set.proofs.Frame.{column_eq, on_left, on_right}
+use Rattle.merge_set.proofs.Frame.{on_left, on_right}
 use Rattle.merge_set.proofs.Links.{good_left, good_right, good-apart, Swapped, swapped_left, swapped_right, mem_swapped, good_swapped, good_put, mem_put, Put}
 use Rattle.merge_set.proofs.Order.{relinked_swapped}
 use Rattle.merge_set.proofs.Removing.{unchanged}
-use Rattle.merge_set.specs.Table.{StartsBefore, Good, Valid, Shape, Result, Made, CopyOf, CopiedRow, Relinked, first_at}
+use Rattle.merge_set.specs.Table.{StartsBefore, Good, Valid, Shape, Result, Made, CopyOf, Relinked, first_at}
 use Rattle.merge_set.specs.Tree.{Tree, leaf, node, height, rows, relinked}
 
 module _ {t : List ℕ} {k y x n : ℕ} where
@@ -102,30 +100,5 @@ pub record Copying (t t' : List ℕ) (y x i : ℕ) : Type 0 where
   pub upto : Valid t x → (c : ℕ) → c < i → column t' x c ≡ column t y c
   pub rest : (k c : ℕ) → c < row_width → (k ≡ x → ⊥) → column t' k c ≡ column t k c
 
--- ── `copy_row` ──
-
--- none copied, one more, all
-pub copying_none : (t : List ℕ) (y x : ℕ) → Copying t t y x 0
-copying_none t y x = record { small = omega arith; len = refl; upto = λ v c h. absurd (omega arith); rest = λ k c h n. refl }
-
-pub copying_more : {t t₁ t₂ : List ℕ} {y x i v : ℕ} → Copying t t₁ y x i → i < 8 → (x ≡ y → ⊥) → v ≡ column t₁ y i → t₂ ≡ set t₁ (row_width * x + i) v → Copying t t₂ y x (i + 1)
-copying_more {t} {t₁} {t₂} {y} {x} {i} {v} o h ne ev et =
-    rw et
-    (record {
-      small = omega arith;
-      len = length-set t₁ (row_width * x + i) v ∙ o.len;
-      upto = λ w c lt. go w c lt (dec_lt c i);
-      rest = λ k c l n. get_or-set_other t₁ (row_width * x + i) (row_width * k + c) v 0 (λ e. n (column_eq k c x i l h e).0) ∙ o.rest k c l n;
-    })
-  where
-    go : Valid t x → (c : ℕ) → c < i + 1 → Dec (c < i) → column (set t₁ (row_width * x + i) v) x c ≡ column t y c
-    go w c lt (yes p) = get_or-set_other t₁ (row_width * x + i) (row_width * x + c) v 0 (λ e. omega arith) ∙ o.upto w c p
-    go w c lt (no p) =
-        let e : c ≡ i = omega arith in
-        rw e (get_or-set_same t₁ (row_width * x + i) v 0 (omega (arith, o.len, w.room)) ∙ ev ∙ o.rest y i h (λ z. ne (sym z)))
-
-pub copying_done : {t t' : List ℕ} {y x i : ℕ} → Copying t t' y x i → 8 ≤ i → CopiedRow t t' y x
-copying_done o h = record { len = o.len; there = λ v c l. o.upto v c (omega (arith, o.small)); rest = o.rest }
-
--- the steps, for `search` at a return
-pub ruleset relinking = (relinks_none, relinks_here, relinks_stop, relinks_left, relinks_right, copying_none, copying_more, copying_done)
+-- the steps, one for each return
+pub ruleset relinking = (relinks_none, relinks_here, relinks_stop, relinks_left, relinks_right)

@@ -202,5 +202,5 @@ module _ {t : List ℕ} {k x n : ℕ} (nz : k ≡ 0 → ⊥) where
               rw (test, test')
               (record { shape = one.shape; only = only_wider (λ j i. mem_less less i) one.only })
 
--- the steps, for `search` at a return
+-- the steps, one for each return
 pub ruleset removing = (least-none, least_here, least_left, without-least-none, without-least_here, without-least_left, glues_none, glues, removes_none, removes_stop, removes_left, removes_right, removes_here)

@@ -162,5 +162,5 @@ module _ {t : List ℕ} {l x r n : ℕ} {q : Bool} (nz : n ≡ 0 → ⊥) (hq : 
             rw (suc_of n nz, goes_right (n - 1) (node A y B) x C (sym (hq.says (node A y B) C sl sr) ∙ e₁) (sym (hq₂.says C (node A y B) sr sl) ∙ e), leans_right (updated (n - 1)) A y B (sym (hq'.says A B s_a s_b) ∙ e'))
             (then-right law py p' A B C s_a s_b sr sl.valid v g)
 
--- the steps, for `search` at a return
+-- the steps, one for each return
 pub ruleset turning = (updated_orderly, turns_left, turns_right, turns_none_left, turns_none_right, updates_none, updates_put, updates_left, updates_right_left, updates_right, updates_left_right)

@@ -2,7 +2,6 @@
 //
 //   specs/Tree        the model: trees of links, each operation a function
 //   specs/Table       which tree stands in the table, and what each function ensures
-//   proofs/Places     the tests of places
 //   proofs/Links      lists of links: one put in, one left out, one exchanged
 //   proofs/Order      operations keep the order
 //   proofs/Balance    and the balance
@@ -11,14 +10,12 @@
 
 #![tactic(auto)]
 
-ghost use Rattle.std.specs.Prelude.{◌≡◌, ℕ, suc, ◌<◌, ◌^◌, max};
+ghost use Rattle.std.specs.Prelude.{◌≡◌, ℕ, ◌<◌};
+ghost use Rattle.tables.specs.Columns.{column, piece_left, piece_right};
 ghost use Rattle.merge_set.specs.Tree.{Tree, node, rotated_left, rotated_right, updated};
 ghost use Rattle.merge_set.specs.Table.{StartsBelow, StartsBefore, deep_at, Made, Higher, Inserted, Least, WithoutLeast, Glued, Removed, Relinked, CopiedRow};
 
 use tables::piece::{DEPTH, FIRST, LEFT, RIGHT};
-
-// No depth reaches this: a sum with one is safe.
-const DEEP: u64 = 1 << 63;
 
 // The rotations that an update may make after an insertion or a removal: one level suffices, so that the tree is balanced after every call. It is no leave to
 // stop early: with fewer the balance is lost.
@@ -48,47 +45,38 @@ pub fn starts_before(table: &[u64], one: u64, other: u64) -> bool
     starts_below(table, one, tables::get(table, other, FIRST))
 }
 
-// One more than the larger of two depths.
-fn above(d: u64, e: u64) -> u64
-    ensures { d < 2 ^ 63 → e < 2 ^ 63 → result ≡ suc (max d e) }
+// The links of the two subtrees of a row.
+fn children(table: &[u64], link: u64) -> (u64, u64)
+    ensures left { result.0 ≡ column table.now link piece_left }
+    ensures right { result.1 ≡ column table.now link piece_right }
 {
-    if d < e {
-        if e < DEEP {
-            return e + 1;
-        }
-        return 0;
-    }
-    if d < DEEP {
-        return d + 1;
-    }
-    0
+    (
+        tables::get(table, link, LEFT),
+        tables::get(table, link, RIGHT),
+    )
 }
 
 // Whether the tree at `right` is higher than the tree at `left` by more than `n`.
+#[tactic(auto, using(crate::proofs::Frame::higher_by))]
 fn higher(table: &[u64], left: u64, right: u64, n: u64) -> bool
     ensures { Higher table.now left right n result }
 {
-    let d = depth(table, left);
-    let e = depth(table, right);
-    if d < e {
-        if n < e - d {
-            return true;
-        }
-    }
-    false
+    n < depth(table, right).saturating_sub(depth(table, left))
 }
 
 // Makes `row` the root over the trees at `left` and `right`. No other function writes tree columns.
+#[tactic(auto, using(crate::proofs::Frame::joined))]
 fn join(table: &mut [u64], left: u64, row: u64, right: u64)
     ensures { Made table.old table.new left row right node row }
 {
-    let d = above(depth(table, left), depth(table, right));
+    let deeper = depth(table, left).max(depth(table, right));
     tables::put(table, row, LEFT, left);
     tables::put(table, row, RIGHT, right);
-    tables::put(table, row, DEPTH, d);
+    tables::put(table, row, DEPTH, deeper.saturating_add(1));
 }
 
 // Makes a tree of the trees at `left` and `right` and the row between them, with `turns` levels of rotations left, and gives its link.
+#[tactic(auto, using(crate::proofs::Turns::turning))]
 #[cycle(rotate_left_rotate_right_update)]
 fn update(table: &mut [u64], left: u64, row: u64, right: u64, turns: u64) -> u64
     ensures { Made table.old table.new left row right (updated turns) result }
@@ -98,8 +86,7 @@ fn update(table: &mut [u64], left: u64, row: u64, right: u64, turns: u64) -> u64
         return row;
     }
     if higher(table, left, right, 1) {
-        let b = tables::get(table, right, LEFT);
-        let c = tables::get(table, right, RIGHT);
+        let (b, c) = children(table, right);
         if higher(table, c, b, 0) {
             let m = rotate_right(table, b, right, c, turns - 1);
             return rotate_left(table, left, row, m, turns - 1);
@@ -107,8 +94,7 @@ fn update(table: &mut [u64], left: u64, row: u64, right: u64, turns: u64) -> u64
         return rotate_left(table, left, row, right, turns - 1);
     }
     if higher(table, right, left, 1) {
-        let a = tables::get(table, left, LEFT);
-        let b = tables::get(table, left, RIGHT);
+        let (a, b) = children(table, left);
         if higher(table, a, b, 0) {
             let m = rotate_left(table, a, left, b, turns - 1);
             return rotate_right(table, m, row, right, turns - 1);
@@ -120,6 +106,7 @@ fn update(table: &mut [u64], left: u64, row: u64, right: u64, turns: u64) -> u64
 }
 
 // Turns left: the root of the tree at `right` becomes the root.
+#[tactic(auto, using(crate::proofs::Turns::turning))]
 #[cycle(rotate_left_rotate_right_update)]
 fn rotate_left(table: &mut [u64], left: u64, row: u64, right: u64, turns: u64) -> u64
     ensures { Made table.old table.new left row right (rotated_left (updated turns)) result }
@@ -128,13 +115,13 @@ fn rotate_left(table: &mut [u64], left: u64, row: u64, right: u64, turns: u64) -
         join(table, left, row, right);
         return row;
     }
-    let b = tables::get(table, right, LEFT);
-    let c = tables::get(table, right, RIGHT);
+    let (b, c) = children(table, right);
     let m = update(table, left, row, b, turns);
     update(table, m, right, c, turns)
 }
 
 // Turns right: the root of the tree at `left` becomes the root.
+#[tactic(auto, using(crate::proofs::Turns::turning))]
 #[cycle(rotate_left_rotate_right_update)]
 fn rotate_right(table: &mut [u64], left: u64, row: u64, right: u64, turns: u64) -> u64
     ensures { Made table.old table.new left row right (rotated_right (updated turns)) result }
@@ -143,13 +130,13 @@ fn rotate_right(table: &mut [u64], left: u64, row: u64, right: u64, turns: u64) 
         join(table, left, row, right);
         return row;
     }
-    let a = tables::get(table, left, LEFT);
-    let b = tables::get(table, left, RIGHT);
+    let (a, b) = children(table, left);
     let m = update(table, b, row, right, turns);
     update(table, a, left, m, turns)
 }
 
 // Inserts a row into the tree at `link`, which is at most `fuel` deep, by its first cell, and gives the new link.
+#[tactic(auto, using(crate::proofs::Inserting::inserting))]
 pub fn insert(table: &mut [u64], link: u64, row: u64, fuel: u64) -> u64
     ensures { Inserted table.old table.new link row fuel result }
 {
@@ -160,8 +147,7 @@ pub fn insert(table: &mut [u64], link: u64, row: u64, fuel: u64) -> u64
     if fuel == 0 {
         return link;
     }
-    let l = tables::get(table, link, LEFT);
-    let r = tables::get(table, link, RIGHT);
+    let (l, r) = children(table, link);
     if starts_before(table, row, link) {
         let m = insert(table, l, row, fuel - 1);
         return update(table, m, link, r, TURNS);
@@ -171,6 +157,7 @@ pub fn insert(table: &mut [u64], link: u64, row: u64, fuel: u64) -> u64
 }
 
 // The first link of the tree at `link`, which is at most `fuel` deep.
+#[tactic(auto, using(crate::proofs::Removing::removing))]
 fn least(table: &[u64], link: u64, fuel: u64) -> u64
     ensures { Least table.now link fuel result }
 {
@@ -185,14 +172,14 @@ fn least(table: &[u64], link: u64, fuel: u64) -> u64
 }
 
 // Takes the first link out of the tree at `link`, which is at most `fuel` deep.
+#[tactic(auto, using(crate::proofs::Removing::removing))]
 fn without_least(table: &mut [u64], link: u64, fuel: u64) -> u64
     ensures { WithoutLeast table.old table.new link fuel result }
 {
     if fuel == 0 {
         return link;
     }
-    let l = tables::get(table, link, LEFT);
-    let r = tables::get(table, link, RIGHT);
+    let (l, r) = children(table, link);
     if l == 0 {
         return r;
     }
@@ -201,6 +188,7 @@ fn without_least(table: &mut [u64], link: u64, fuel: u64) -> u64
 }
 
 // Makes one tree of the trees at `left` and `right`, of which the second is at most `fuel` deep.
+#[tactic(auto, using(crate::proofs::Removing::removing))]
 fn glue(table: &mut [u64], left: u64, right: u64, fuel: u64) -> u64
     ensures { Glued table.old table.new left right fuel result }
 {
@@ -213,17 +201,14 @@ fn glue(table: &mut [u64], left: u64, right: u64, fuel: u64) -> u64
 }
 
 // Takes a row out of the tree at `link`, which is at most `fuel` deep.
+#[tactic(auto, using(crate::proofs::Removing::removing))]
 pub fn remove(table: &mut [u64], link: u64, row: u64, fuel: u64) -> u64
     ensures { Removed table.old table.new link row fuel result }
 {
-    if link == 0 {
+    if link == 0 || fuel == 0 {
         return link;
     }
-    if fuel == 0 {
-        return link;
-    }
-    let l = tables::get(table, link, LEFT);
-    let r = tables::get(table, link, RIGHT);
+    let (l, r) = children(table, link);
     if starts_before(table, row, link) {
         let m = remove(table, l, row, fuel - 1);
         return update(table, m, link, r, TURNS);
@@ -240,15 +225,14 @@ pub fn copy_row(table: &mut [u64], old: u64, new: u64)
     requires { new ≡ old → ⊥ }
     ensures { CopiedRow table.old table.new old new }
 {
-    let mut i: usize = 0;
-    while i < tables::ROW {
+    for i in 0..tables::ROW {
         let v = tables::get(table, old, i);
         tables::put(table, new, i, v);
-        i += 1;
     }
 }
 
 // Puts the row `new`, a copy of the row `old`, in the place of `old` in the tree at `link`, which is at most `fuel` deep.
+#[tactic(auto, using(crate::proofs::Relinking::relinking))]
 pub fn relink(table: &mut [u64], link: u64, old: u64, new: u64, fuel: u64) -> u64
     ensures { Relinked table.old table.new link old new fuel result }
 {
@@ -261,8 +245,7 @@ pub fn relink(table: &mut [u64], link: u64, old: u64, new: u64, fuel: u64) -> u6
     if fuel == 0 {
         return link;
     }
-    let l = tables::get(table, link, LEFT);
-    let r = tables::get(table, link, RIGHT);
+    let (l, r) = children(table, link);
     if starts_before(table, old, link) {
         let m = relink(table, l, old, new, fuel - 1);
         join(table, m, link, r);

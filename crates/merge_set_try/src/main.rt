@@ -6,7 +6,9 @@
 
 ghost use Rattle.std.specs.Prelude.{◌<◌};
 
+use piece_table::Piece;
 use tables::piece;
+use tally::Tally;
 
 const PIECES: u64 = 4096;
 // A head and as many rows.
@@ -16,29 +18,20 @@ const CELLS: u64 = 5;
 
 const APART: u64 = 10;
 
-// The depth that a tree of links cannot pass.
-const DEEPEST: u64 = 92;
-
 // The step of the shuffled order, which is odd.
 const STEP: u64 = 1597;
 
 fn main(rt: HostRuntime) {
-    let mut tally = [0; 8];
+    let mut tally = Tally::default();
     let mut table = [0; NUMBERS];
     let mut line = [0; tally::LINE];
     try_orders(&mut tally, &mut table);
     try_spoiled(&mut tally, &mut table);
-    tally::print(
-        &rt.stdout(),
-        &mut line,
-        &tally,
-        tally::REFUSED,
-        b" tables refused",
-    );
+    tally.print(&rt.stdout(), &mut line, b" tables refused");
 }
 
 // The depths are those that a balanced tree gets by rotations: 4,096 pieces need 13, and 2,048 need 12.
-fn try_orders(tally: &mut [u64], table: &mut [u64]) {
+fn try_orders(tally: &mut Tally, table: &mut [u64]) {
     build(table, 0, 1);
     try_pieces(tally, table, PIECES, 13);
     build(table, PIECES - 1, PIECES - 1);
@@ -49,7 +42,7 @@ fn try_orders(tally: &mut [u64], table: &mut [u64]) {
     try_pieces(tally, table, PIECES / 2, 12);
 }
 
-fn try_spoiled(tally: &mut [u64], table: &mut [u64]) {
+fn try_spoiled(tally: &mut Tally, table: &mut [u64]) {
     chain(table);
     try_test(tally, table, false);
     own_child(table);
@@ -59,68 +52,58 @@ fn try_spoiled(tally: &mut [u64], table: &mut [u64]) {
 }
 
 // Compares how many pieces are found and how deep the tree is; the table is well formed.
-fn try_pieces(tally: &mut [u64], table: &[u64], many: u64, deep: u64) {
+fn try_pieces(tally: &mut Tally, table: &[u64], many: u64, deep: u64) {
     let root = tables::get(table, 0, piece::ROOT);
-    tally::compare(tally, found(table) == many);
-    tally::compare(tally, merge_set::depth(table, root) == deep);
+    tally.compare(found(table) as u64 == many);
+    tally.compare(merge_set::depth(table, root) == deep);
     try_test(tally, table, true);
 }
 
 // Tests the table, which is well formed or not.
-fn try_test(tally: &mut [u64], table: &[u64], right: bool) {
+fn try_test(tally: &mut Tally, table: &[u64], right: bool) {
     let yes = piece_table::test_pieces(table, 0, CELLS * PIECES, 1);
-    tally::compare(tally, yes == right);
-    tally::count_if(tally, tally::REFUSED, !yes);
+    tally.compare(yes == right);
+    if !yes {
+        tally.refuse();
+    }
 }
 
 // Inserts the pieces, each `step` after the one before, from number `start` on. An odd step comes to all of them.
 fn build(table: &mut [u64], start: u64, step: u64)
     requires { (start < 4096) × (step < 4096) }
 {
-    tables::zero(table);
+    table.fill(0);
     let mut n = start;
-    let mut i: u64 = 0;
-    while i < PIECES {
-        piece_table::insert_piece(table, APART * n, CELLS, 1, CELLS * n, 0);
+    for _piece in 0..PIECES {
+        let piece = Piece {
+            first: APART * n,
+            size: CELLS,
+            written: 1,
+            offset: CELLS * n,
+            owner: 0,
+        };
+        piece_table::insert_piece(table, piece);
         n = (n + step) % PIECES;
-        i += 1;
     }
 }
 
 // Removes every second piece.
 fn thin(table: &mut [u64]) {
-    let mut i: u64 = 1;
-    while i < PIECES {
-        let link = piece_table::seek(table, APART * i);
+    for pair in 0..PIECES / 2 {
+        let link = piece_table::seek(table, APART * (2 * pair + 1));
         piece_table::remove_piece(table, link);
-        i += 2;
     }
 }
 
 // How many of the pieces a seek finds at their first cell.
-fn found(table: &[u64]) -> u64 {
-    let mut n: u64 = 0;
-    let mut i: u64 = 0;
-    while i < PIECES {
-        n = counted(table, APART * i, n);
-        i += 1;
-    }
-    n
+fn found(table: &[u64]) -> usize {
+    (0..PIECES).filter(|i| starts_at(table, APART * *i)).count()
 }
 
-// One more than `n` if a piece starts at the cell.
-fn counted(table: &[u64], cell: u64, n: u64) -> u64 {
+// Whether the lowest piece that ends after a cell starts there.
+fn starts_at(table: &[u64], cell: u64) -> bool {
     let link = piece_table::seek(table, cell);
-    if link == 0 {
-        return n;
-    }
-    if tables::get(table, link, piece::FIRST) != cell {
-        return n;
-    }
-    if n < PIECES {
-        return n + 1;
-    }
-    n
+    link != 0 && tables::get(table, link, piece::FIRST) == cell
 }
 
 // Writes a row as it may stand in a table that nobody has tested.
@@ -136,7 +119,7 @@ fn row(table: &mut [u64], link: u64, left: u64, right: u64, depth: u64)
 }
 
 fn head(table: &mut [u64], count: u64) {
-    tables::zero(table);
+    table.fill(0);
     tables::put(table, 0, piece::ROOT, 1);
     tables::put(table, 0, piece::COUNT, count);
 }
@@ -144,10 +127,8 @@ fn head(table: &mut [u64], count: u64) {
 // Every row is the right child of the one before, with the depth that it has.
 fn chain(table: &mut [u64]) {
     head(table, PIECES);
-    let mut i: u64 = 1;
-    while i < PIECES {
+    for i in 1..PIECES {
         row(table, i, 0, i + 1, PIECES + 1 - i);
-        i += 1;
     }
     row(table, PIECES, 0, 0, 1);
 }
@@ -160,11 +141,9 @@ fn own_child(table: &mut [u64]) {
 
 // Both children of a row are the next one, as deep as can be: as many paths as there are numbers of 91 bits.
 fn shared(table: &mut [u64]) {
-    head(table, DEEPEST);
-    let mut i: u64 = 1;
-    while i < DEEPEST {
-        row(table, i, i + 1, i + 1, DEEPEST + 1 - i);
-        i += 1;
+    head(table, piece_table::DEEPEST);
+    for i in 1..piece_table::DEEPEST {
+        row(table, i, i + 1, i + 1, piece_table::DEEPEST + 1 - i);
     }
-    row(table, DEEPEST, 0, 0, 1);
+    row(table, piece_table::DEEPEST, 0, 0, 1);
 }

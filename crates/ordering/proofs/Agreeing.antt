@@ -1,8 +1,8 @@
 -- Rule 24 over the rows of a table is rule 24 of history over the blocks that they stand for. Assumes nothing.
 use mathlib.Core.Path.{◌≡◌}
-use mathlib.Core.Logic.{◌⊎◌, ⊎_elim}
+use mathlib.Core.Logic.{⊎_elim}
 use mathlib.Core.List.{List}
-use Prim.Native.Nat.{ℕ, zero, suc, ◌+◌, ◌-◌, ◌≤◌, ◌<◌}
+use Prim.Native.Nat.{ℕ, zero, suc, ◌+◌, ◌≤◌, ◌<◌}
 use native.Mathlib.Omega.{arith}
 use lib.ListN.{length, get_or}
 use Rattle.lists.proofs.Lists.{pairs_at, pairs_of_at}
@@ -10,9 +10,8 @@ use Rattle.lists.proofs.Numbers.{lt_or_le}
 use Rattle.history.specs.Words.{Holds}
 use Rattle.history.specs.Tree.{no_block}
 use Rattle.history.specs.Rules.{Apart}
-use Rattle.block_table.specs.Blocks.{length_at, offset_at, block_of_row, blocks_of, Filled, Stored}
+use Rattle.block_table.specs.Blocks.{length_at, offset_at, block_of_row, blocks_of, Stored}
 use Rattle.block_table.proofs.Blocks.{bytes_length, blocks_length, blocks_at}
-use Rattle.ordering.specs.Order.{InOrder}
 use Rattle.ordering.specs.Apart.{HoldsAt, Clash, Unshared}
 use Rattle.ordering.proofs.Parting.{clash_turned}
 

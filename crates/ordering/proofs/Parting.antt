@@ -5,7 +5,6 @@ use mathlib.Core.List.{List, [], ◌∷◌}
 use Prim.Native.Nat.{ℕ, ◌-◌, ◌≤◌, ◌<◌, max, ◌^◌}
 use native.Mathlib.Omega.{arith}
 use borrow.Author.Tests.{ltb-true, ltb-false, not-true, not-false}
-use lib.Dec.{ltb}
 use lib.ListN.{length}
 use Rattle.lists.specs.Lists.{all_nil, all_cons, pairs_nil, pairs_cons, Mem, here, there}
 use Rattle.lists.specs.Tests.{Decides}
@@ -17,40 +16,6 @@ use Rattle.ordering.specs.Apart.{Clash, Unshared, StartsWithin, LivesMeet, Clear
 use Rattle.ordering.proofs.Rank.{rank_first}
 use Rattle.ordering.proofs.Trail.{trail_wider}
 use Rattle.ordering.proofs.Dense.{Met, trail_met, trail_distinct, order_dense}
-
--- ── the returns of `starts_within` ──
-
-module _ {t : List ℕ} {j k first start : ℕ} (ef : first ≡ first_cell_at t j) (es : start ≡ first_cell_at t k) where
-  pub starts_before : start < first → Decides false (StartsWithin t j k)
-  starts_before less = refute (λ w. omega (arith, w.after))
-
-  pub starts_after : {n : ℕ} → first ≤ start → n ≡ length_at t j → Decides (ltb (start - first) n) (StartsWithin t j k)
-  starts_after {n} le en =
-      record {
-        yes = λ e. record { after = omega arith; below = omega (arith, ltb-true (start - first) n e) };
-        not = λ e w. omega (arith, ltb-false (start - first) n e, w.below);
-      }
-
--- ── the returns of `lives_meet` ──
-
-module _ {t : List ℕ} {j k c d from to : ℕ} (ec : c ≡ created_at t j) (ed : d ≡ destroyed_at t j) (ef : from ≡ created_at t k) (et : to ≡ destroyed_at t k) where
-  pub lives-none : d ≤ c → Decides false (LivesMeet t j k)
-  lives-none h = refute (λ m. omega (arith, m.first))
-
-  pub lives-none_other : to ≤ from → Decides false (LivesMeet t j k)
-  lives-none_other h = refute (λ m. omega (arith, m.second))
-
-  pub lives-over : to ≤ c → Decides false (LivesMeet t j k)
-  lives-over h = refute (λ m. omega (arith, m.across))
-
-  pub lives_last : c < d → from < to → c < to → Decides (ltb from d) (LivesMeet t j k)
-  lives_last a b h =
-      record {
-        yes = λ e. record { first = omega arith; second = omega arith; across = omega arith; back = omega (arith, ltb-true from d e) };
-        not = λ e m. omega (arith, ltb-false from d e, m.back);
-      }
-
-pub ruleset meeting = (starts_before, starts_after, lives-none, lives-none_other, lives-over, lives_last)
 
 -- ── two blocks ──
 

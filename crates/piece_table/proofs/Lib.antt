@@ -1,4 +1,5 @@
 pub mod Order
+pub mod Clipping
 pub mod Parts
 pub mod Removing
 pub mod Seeking

@@ -1,10 +1,9 @@
 -- `set_head` and `remove_piece`: the tree loses a link, and the last row takes the freed one's place. Assumes nothing.
 use mathlib.Core.List.{List, ◌∷◌, ◌++◌, map}
 use mathlib.Core.Path.{◌≡◌, refl, sym, ap, ◌∙◌}
-use Prim.Native.Nat.{ℕ, ◌+◌, ◌-◌, ◌*◌, ◌≤◌, ◌<◌}
+use Prim.Native.Nat.{ℕ, ◌-◌, ◌≤◌, ◌<◌}
 use native.Mathlib.Omega.{arith}
-use lib.ListN.{length, set, length-set, length-append}
-use lib.Seq.{get_or-set_same, get_or-set_other}
+use lib.ListN.{length, length-append}
 use Rattle.lists.proofs.Lists.{all_of_mem}
 use Rattle.lists.proofs.Maps.{map-append, map_all}
 use Rattle.lists.specs.Lists.{Mem, here, there, Distinct, Ascending}
@@ -23,18 +22,6 @@ use Rattle.piece_table.proofs.Order.{map-exchange, ascending_same, split_once, f
 use Rattle.piece_table.specs.Calls.{HeadSet, RemovedPiece}
 use Rattle.piece_table.specs.Piece.{piece_at, Follow}
 use Rattle.piece_table.specs.Rep.{Linked, Rep, Becomes}
-
--- ── `set_head` ──
-
-pub set_head_done : {t t₁ t₂ : List ℕ} {root count : ℕ} → t₁ ≡ set t 0 root → t₂ ≡ set t₁ 1 count → HeadSet t t₂ root count
-set_head_done {t} {t₁} {t₂} {root} {count} e₁ e₂ =
-    let len₁ : length t₁ ≡ length t = rw e₁ (length-set t 0 root) in
-    record {
-      len = rw e₂ (length-set t₁ 1 count ∙ len₁);
-      is_root = λ h. rw (e₂, get_or-set_other t₁ 1 0 count 0 (omega arith), e₁) (get_or-set_same t 0 root 0 (omega arith));
-      is_count = λ h. rw e₂ (get_or-set_same t₁ 1 count 0 (omega (arith, len₁)));
-      rest = λ j c h. rw (e₂, get_or-set_other t₁ 1 (row_width * j + c) count 0 (omega arith), e₁) (get_or-set_other t 0 (row_width * j + c) root 0 (omega arith));
-    }
 
 -- ── what a linked table has ──
 
@@ -91,9 +78,6 @@ loosened {t} {t₁} {root} {x} {top} xs ys er gone r =
       len = res.only.len;
       same = λ j c h n. res.only.same j c h (λ m lo hi. n lo hi);
     }
-
-pub removes_empty : {t : List ℕ} {count x : ℕ} → count ≡ column t 0 pieces_count → count ≡ 0 → RemovedPiece t t x
-removes_empty {t} {count} {x} ec z = record { done = λ xs ys r. absurd (omega (arith, r.dense.count, length-append xs (x ∷ ys))) }
 
 module _ {t t₁ : List ℕ} {root count x top : ℕ} (er : root ≡ column t 0 pieces_root) (ec : count ≡ column t 0 pieces_count) where
   module _ (gone : Removed t t₁ root x 92 top) where
@@ -199,5 +183,5 @@ module _ {t t₁ : List ℕ} {root count x top : ℕ} (er : root ≡ column t 0 
             order : (xs ys : List ℕ) → Linked t (xs ++ x ∷ ys) → Follow 0 (map (piece_at t) (xs ++ ys))
             order xs ys r = rw (map-append (piece_at t) xs ys) (follow_without 0 (map (piece_at t) xs) (piece_at t x) (map (piece_at t) ys) (rw (map-append (piece_at t) xs (x ∷ ys)) at r.order))
 
--- the steps, for `search` at a return
-pub ruleset removing = (set_head_done, removes_empty, removes_last, removes_inner)
+-- the steps, one for each return
+pub ruleset removing = (removes_last, removes_inner)

@@ -1,13 +1,13 @@
 -- `seek`: the descent finds what a walk along the list would. Assumes nothing.
-use mathlib.Core.Bool.{Bool, true, false, cond, not, false≢true}
+use mathlib.Core.Bool.{Bool, true, false, cond}
 use mathlib.Core.Logic.{◌⊎◌, inl, inr}
 use mathlib.Core.List.{List, [], ◌∷◌, ◌++◌, map, append_assoc, append-nil}
 use mathlib.Core.Path.{◌≡◌, refl, sym, ap, ◌∙◌}
-use Prim.Native.Nat.{ℕ, ◌+◌, ◌-◌, ◌/◌, ◌≤◌, ◌<◌}
+use Prim.Native.Nat.{ℕ, ◌-◌, ◌/◌, ◌≤◌, ◌<◌}
 use native.Mathlib.Omega.{arith}
 use lib.Dec.{ltb}
 use lib.ListN.{length}
-use borrow.Author.Tests.{lt-ltb, le-ltb, ltb-true, ltb-false, not-true, not-false}
+use borrow.Author.Tests.{le-ltb, ltb-true, ltb-false}
 use Rattle.lists.proofs.Lists.{all_append, mem_split}
 use Rattle.lists.proofs.Maps.{map-append}
 use Rattle.lists.specs.Lists.{All, all_nil, all_cons, Mem, here, there, Ascending}
@@ -19,25 +19,9 @@ use Rattle.merge_set.specs.Table.{Shape, first_at}
 use Rattle.merge_set.specs.Tree.{Tree, leaf, node, height, rows}
 use Rattle.piece_table.proofs.Order.{follow_ends}
 use Rattle.piece_table.proofs.Removing.{linked_depth, linked_dense}
-use Rattle.piece_table.specs.Calls.{end_at, EndsPast, EndsAfter, sought, first_past, SoughtFrom, Met, Sought, HasCell, HasEnded}
+use Rattle.piece_table.specs.Calls.{end_at, EndsPast, sought, first_past, SoughtFrom, Met, Sought, HasCell, HasEnded}
 use Rattle.piece_table.specs.Piece.{PieceRow, row_end, piece_at, Follow}
 use Rattle.piece_table.specs.Rep.{Linked}
-
--- ── `ends_past`, `ends_after` ──
-
-pub ends-past_low : {first size place : ℕ} → place < first → EndsPast first size place true
-ends-past_low {first} {size} {place} h = record { is = sym (lt-ltb place (first + size) (omega arith)) }
-
-pub ends-past_rest : {first size place : ℕ} → first ≤ place → EndsPast first size place (ltb (place - first) size)
-ends-past_rest {first} {size} {place} h = record { is = go (ltb (place - first) size) refl }
-  where
-    go : (q : Bool) → ltb (place - first) size ≡ q → ltb (place - first) size ≡ ltb place (first + size)
-    go true e = e ∙ sym (lt-ltb place (first + size) (omega (arith, ltb-true (place - first) size e)))
-    go false e = e ∙ sym (le-ltb place (first + size) (omega (arith, ltb-false (place - first) size e)))
-
-pub ends-after_done : {t : List ℕ} {k place first size : ℕ} {q : Bool} → first ≡ column t k piece_first → size ≡ column t k piece_length
-    → EndsPast first size place q → EndsAfter t k place q
-ends-after_done ef es e = record { is = rw (← ef, ← es) e.is }
 
 -- ── the model ──
 
@@ -154,24 +138,7 @@ search_done {t} {root} {place} {o} er p = record { says = go }
         let e : o ≡ first_past (end_at t) place 0 xs = p.says r.dense.tree (rw er r.dense.shape) (linked_depth r) ∙ sought-rows (end_at t) place 0 r.dense.tree asc ∙ ap (first_past (end_at t) place 0) r.dense.is in
         rw e (met t place xs)
 
--- ── `has_cell` ──
-
-pub has_cell_none : {t : List ℕ} {link cell : ℕ} → link ≡ 0 → Decides false (HasCell t link cell)
-has_cell_none z = record { yes = λ e. absurd (false≢true e); not = λ _ h. omega (arith, h.some) }
-
-pub has_cell_high : {t : List ℕ} {link cell count : ℕ} → count ≡ column t 0 pieces_count → count < link → Decides false (HasCell t link cell)
-has_cell_high ec far = record { yes = λ e. absurd (false≢true e); not = λ _ h. omega (arith, far, h.within) }
-
-pub has_cell_low : {t : List ℕ} {link cell first : ℕ} → first ≡ column t link piece_first → cell < first → Decides false (HasCell t link cell)
-has_cell_low ef low = record { yes = λ e. absurd (false≢true e); not = λ _ h. omega (arith, low, h.from) }
-
-pub has_cell_rest : {t : List ℕ} {link cell count first : ℕ} {q : Bool} → (link ≡ 0 → ⊥) → count ≡ column t 0 pieces_count → link ≤ count
-    → first ≡ column t link piece_first → first ≤ cell → EndsAfter t link cell q → Decides q (HasCell t link cell)
-has_cell_rest {t} {link} {cell} nz ec le ef from e =
-    record {
-      yes = λ y. record { some = omega (arith, nz); within = omega arith; from = omega arith; below = ltb-true cell (end_at t link) (sym e.is ∙ y) };
-      not = λ n h. omega (arith, h.below, ltb-false cell (end_at t link) (sym e.is ∙ n));
-    }
+-- ── `search_next` ──
 
 -- what stands before a piece ends where it starts, or before
 before_first : (qs : List PieceRow) (p : PieceRow) (rs : List PieceRow) (low place : ℕ) → Follow low (qs ++ p ∷ rs) → p.first ≤ place → low ≤ place × All (λ (q : PieceRow). row_end q ≤ place) qs
@@ -204,22 +171,6 @@ search_next_here {t} {place} {near} d y = record { says = go }
         let h : HasCell t near place = d.yes y in
         let s : Standing t near xs = standing r h.some h.within in
         record { front = s.front; back = near ∷ s.back; is = s.is; left = s.before place h.from; head = (refl, h.below) }
-
--- ── `has_ended`, `search_next` ──
-
-pub has_ended_none : {t : List ℕ} {link place : ℕ} → link ≡ 0 → Decides false (HasEnded t link place)
-has_ended_none z = record { yes = λ e. absurd (false≢true e); not = λ _ h. omega (arith, h.some) }
-
-pub has_ended_high : {t : List ℕ} {link place count : ℕ} → count ≡ column t 0 pieces_count → count < link → Decides false (HasEnded t link place)
-has_ended_high ec far = record { yes = λ e. absurd (false≢true e); not = λ _ h. omega (arith, far, h.within) }
-
-pub has_ended_rest : {t : List ℕ} {link place count : ℕ} {q : Bool} → (link ≡ 0 → ⊥) → count ≡ column t 0 pieces_count → link ≤ count
-    → EndsAfter t link place q → Decides (not q) (HasEnded t link place)
-has_ended_rest {t} {link} {place} {q = q} nz ec le e =
-    record {
-      yes = λ y. record { some = omega (arith, nz); within = omega arith; to = ltb-false place (end_at t link) (sym e.is ∙ not-true q y) };
-      not = λ n h. omega (arith, h.to, ltb-true place (end_at t link) (sym e.is ∙ not-false q n));
-    }
 
 -- the links behind one: those of the tree right below it, and the rest
 record Behind (t : List ℕ) (x : ℕ) (T : Tree) : Type 0 where
@@ -302,5 +253,7 @@ search_next_below {t} {place} {near} {right} {o} d y er p nz = record { says = g
               head = (e ∙ head.0, head.1);
             }
 
--- the steps, for `search` at a return
-pub ruleset seeking = (ends-past_low, ends-past_rest, ends-after_done, sinks_start, sinks_leaf, sinks_end, sinks_far, sinks_left, sinks_right, search_done, has_cell_none, has_cell_high, has_cell_low, has_cell_rest, has_ended_none, has_ended_high, has_ended_rest, search_next_here, search_next_below)
+-- the steps, one for each turn and return
+pub ruleset sinking = (sinks_start, sinks_leaf, sinks_end, sinks_far, sinks_left, sinks_right)
+
+pub ruleset seeking = (search_done, search_next_here, search_next_below)

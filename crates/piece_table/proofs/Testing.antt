@@ -1,101 +1,31 @@
 -- The test of a piece table decides whether it is well formed: rows, then the walk, one step for each return, then the whole. Assumes nothing.
 use mathlib.Core.Path.{◌≡◌, refl, sym, ap, subst, ◌∙◌}
 use mathlib.Core.Logic.{⊎_elim}
-use mathlib.Core.Bool.{Bool, true, false, not}
+use mathlib.Core.Bool.{Bool, true, false}
 use mathlib.Core.List.{List, [], ◌∷◌, ◌++◌, map}
 use Prim.Native.Nat.{ℕ, suc, ◌+◌, ◌-◌, ◌*◌, ◌/◌, ◌≤◌, ◌<◌, ◌^◌}
 use native.Mathlib.Omega.{arith}
 use lib.ListN.{length, length-append}
-use lib.Dec.{eqb, ltb}
-use borrow.Author.Tests.{eqb-true, eqb-false, ltb-true, ltb-false, not-true, not-false}
+use lib.Dec.{eqb}
 use Rattle.lists.specs.Lists.{Mem, here, there, All, all_nil, all_cons}
 use Rattle.lists.specs.Tests.{Decides}
 use Rattle.lists.proofs.Lists.{mem_left, mem_right, mem_split, all_left, all_right, all_append, all_head, all_tail}
 use Rattle.lists.proofs.Maps.{map-append}
 use Rattle.lists.proofs.Numbers.{refute, decides_iff, decides_eqb}
 use Rattle.history.specs.Lent.{row_width}
-use Rattle.tables.specs.Columns.{column, piece_length, piece_written, piece_offset, piece_left, piece_right, piece_depth, piece_owner, pieces_root, pieces_count}
+use Rattle.tables.specs.Sums.{plus_up_to}
+use Rattle.tables.specs.Columns.{column, piece_left, piece_right, pieces_root, pieces_count}
 use Rattle.merge_set.specs.Tree.{Tree, leaf, node, height, rows, Balanced}
-use Rattle.merge_set.specs.Table.{first_at, StartsBelow, deep_at, Shape}
+use Rattle.merge_set.specs.Table.{deep_at, Shape}
 use Rattle.merge_set.proofs.Frame.{deep_at_lem}
 use Rattle.piece_table.specs.Piece.{PieceRow, row_end, piece_at, Follow}
 use Rattle.piece_table.specs.Rep.{Linked}
 use Rattle.piece_table.specs.Test.{Allowed, WellFormed, RowStands, RowFits, last_end, Stands, Found, Outcome, Walked}
 use Rattle.piece_table.specs.declared.Limits.{Limits}
 use Rattle.piece_table.specs.declared.Walk.{Walk}
-use Rattle.piece_table.specs.declared.Walk.TheVariants.{Bad, Fine}
+use Rattle.std.specs.Prelude.{Option, Some, None}
 use Rattle.piece_table.proofs.Order.{follow_distinct}
 use Rattle.piece_table.proofs.Removing.{linked_depth}
-
--- ── `row_stands` ──
-
-module _ {t : List ℕ} {count link fuel : ℕ} where
-  pub row_stands_past : count < link → Decides false (RowStands t count link fuel)
-  row_stands_past h = refute (λ s. omega (arith, s.within))
-
-  module _ {own : ℕ} (eo : own ≡ column t link piece_depth) where
-    pub row_stands_zero : own ≡ 0 → Decides false (RowStands t count link fuel)
-    row_stands_zero h = refute (λ s. omega (arith, s.deep))
-
-    pub row_stands_high : fuel < own → Decides false (RowStands t count link fuel)
-    row_stands_high h = refute (λ s. omega (arith, s.high))
-
-    module _ {l r d e : ℕ} (el : l ≡ column t link piece_left) (ed : d ≡ deep_at t l) (er : r ≡ column t link piece_right) (ee : e ≡ deep_at t r) where
-      pub row_stands_right_heavy : d < e → 1 < e - d → Decides false (RowStands t count link fuel)
-      row_stands_right_heavy h k = refute (λ s. omega (arith, s.right, ed ∙ ap (deep_at t) el, ee ∙ ap (deep_at t) er))
-
-      pub row_stands_left_heavy : e ≤ d → 1 < d - e → Decides false (RowStands t count link fuel)
-      row_stands_left_heavy h k = refute (λ s. omega (arith, s.left, ed ∙ ap (deep_at t) el, ee ∙ ap (deep_at t) er))
-
-      module _ (within : link ≤ count) (some : own ≡ 0 → ⊥) (high : own ≤ fuel) where
-        pub row_stands_right : d < e → e - d ≤ 1 → Decides (eqb (own - 1) e) (RowStands t count link fuel)
-        row_stands_right h k =
-            decides_iff (eqb (own - 1) e)
-            (λ z. record { within = within; high = omega arith; deep = omega (arith, ed ∙ ap (deep_at t) el, ee ∙ ap (deep_at t) er); left = omega (arith, ed ∙ ap (deep_at t) el, ee ∙ ap (deep_at t) er); right = omega (arith, ed ∙ ap (deep_at t) el, ee ∙ ap (deep_at t) er) })
-            (λ s. omega (arith, s.deep, ed ∙ ap (deep_at t) el, ee ∙ ap (deep_at t) er))
-            (decides_eqb (own - 1) e)
-
-        pub row_stands_left : e ≤ d → d - e ≤ 1 → Decides (eqb (own - 1) d) (RowStands t count link fuel)
-        row_stands_left h k =
-            decides_iff (eqb (own - 1) d)
-            (λ z. record { within = within; high = omega arith; deep = omega (arith, ed ∙ ap (deep_at t) el, ee ∙ ap (deep_at t) er); left = omega (arith, ed ∙ ap (deep_at t) el, ee ∙ ap (deep_at t) er); right = omega (arith, ed ∙ ap (deep_at t) el, ee ∙ ap (deep_at t) er) })
-            (λ s. omega (arith, s.deep, ed ∙ ap (deep_at t) el, ee ∙ ap (deep_at t) er))
-            (decides_eqb (own - 1) d)
-
--- ── `row_fits` ──
-
-module _ {t : List ℕ} {link low kind used last first size : ℕ} (ef : first ≡ first_at t link) (es : size ≡ column t link piece_length) where
-  pub row_fits_low : {starts : Bool} → StartsBelow t link low starts → starts ≡ true → Decides false (RowFits t link low kind used last)
-  row_fits_low tested h = refute (λ s. omega (arith, s.from, ltb-true (first_at t link) low (sym tested.is ∙ h)))
-
-  pub row_fits-empty : size ≡ 0 → Decides false (RowFits t link low kind used last)
-  row_fits-empty h = refute (λ s. omega (arith, s.filled.some))
-
-  pub row_fits_wraps : 18446744073709551615 - first < size → Decides false (RowFits t link low kind used last)
-  row_fits_wraps h = refute (λ s. omega (arith, s.filled.near))
-
-  pub row_fits_long : used < size → Decides false (RowFits t link low kind used last)
-  row_fits_long h = refute (λ s. omega (arith, s.allowed.inside))
-
-  module _ {offset : ℕ} (eo : offset ≡ column t link piece_offset) where
-    pub row_fits-past : size ≤ used → used - size < offset → Decides false (RowFits t link low kind used last)
-    row_fits-past k h = refute (λ s. omega (arith, s.allowed.inside))
-
-    module _ {written : ℕ} (ew : written ≡ column t link piece_written) where
-      pub row_fits_late : last < written → Decides false (RowFits t link low kind used last)
-      row_fits_late h = refute (λ s. omega (arith, s.allowed.known))
-
-      pub row_fits_rest : {owner : ℕ} {starts : Bool} → owner ≡ column t link piece_owner → StartsBelow t link low starts → starts ≡ false → (size ≡ 0 → ⊥) → size ≤ 18446744073709551615 - first
-          → size ≤ used → offset ≤ used - size → used < 2 ^ 64 → written ≤ last → Decides (eqb owner kind) (RowFits t link low kind used last)
-      row_fits_rest {owner} en tested high some near small inside far known =
-          decides_iff (eqb owner kind)
-          (λ z. record {
-            from = ltb-false (first_at t link) low (sym tested.is ∙ high);
-            filled = record { some = omega arith; near = omega arith; stored = omega arith };
-            allowed = record { inside = omega arith; known = omega arith; owned = sym en ∙ z };
-          })
-          (λ s. en ∙ s.allowed.owned)
-          (decides_eqb owner kind)
 
 -- ── pieces that follow one another ──
 
@@ -183,7 +113,7 @@ module _ {t : List ℕ} {limits : Limits} {link low seen fuel x : ℕ} (A B : Tr
   stands_few : seen + length (rows A) < limits.count
   stands_few = omega (arith, s.few, many)
 
-  stands_fits : RowFits t link (last_end low (map (piece_at t) (rows A))) limits.kind limits.used limits.last
+  stands_fits : RowFits t link (last_end low (map (piece_at t) (rows A))) limits
   stands_fits =
       let f : Follow (last_end low (map (piece_at t) (rows A))) (piece_at t x ∷ map (piece_at t) (rows B)) = follow_back low (map (piece_at t) (rows A)) (piece_at t x ∷ map (piece_at t) (rows B)) order in
       rw stands_is
@@ -206,7 +136,7 @@ module _ {t : List ℕ} {limits : Limits} {link low seen fuel x : ℕ} (A B : Tr
 -- and a tree stands where its root and its subtrees do
 stands_node : {t : List ℕ} {limits : Limits} {link low seen fuel : ℕ} (A B : Tree) → row_width * limits.count + row_width ≤ length t → (link ≡ 0 → ⊥) → RowStands t limits.count link fuel
     → Stands t limits (column t link piece_left) low seen (fuel - 1) A → seen + length (rows A) < limits.count
-    → RowFits t link (last_end low (map (piece_at t) (rows A))) limits.kind limits.used limits.last
+    → RowFits t link (last_end low (map (piece_at t) (rows A))) limits
     → Stands t limits (column t link piece_right) (row_end (piece_at t link)) (seen + length (rows A) + 1) (fuel - 1) B → Stands t limits link low seen fuel (node A link B)
 unfolding Shape Balanced height rows
 stands_node {t} {limits} {link} {low} {seen} {fuel} A B room nz row s_a few fits s_b =
@@ -235,9 +165,9 @@ stands_node {t} {limits} {link} {low} {seen} {fuel} A B room nz row s_a few fits
 
 -- ── `walk_tree` ──
 
-pub walk_leaf : {t : List ℕ} {limits : Limits} {link low seen fuel : ℕ} → link ≡ 0 → Walked t limits link low seen fuel (Fine seen low)
+pub walk_leaf : {t : List ℕ} {limits : Limits} {link fuel : ℕ} {walk : Walk} → link ≡ 0 → Walked t limits link walk fuel (Some walk)
 unfolding Shape Balanced height rows
-walk_leaf {seen = seen} z =
+walk_leaf z =
     record {
       is = λ room.
           record {
@@ -248,101 +178,99 @@ walk_leaf {seen = seen} z =
           };
     }
 
-module _ {t : List ℕ} {limits : Limits} {link low seen fuel : ℕ} (nz : link ≡ 0 → ⊥) where
+module _ {t : List ℕ} {limits : Limits} {link fuel : ℕ} {walk : Walk} (nz : link ≡ 0 → ⊥) where
   -- no tree stands: a leaf does not, and a node would have to be as said
-  bad : ((A B : Tree) (x : ℕ) → Stands t limits link low seen fuel (node A x B) → ⊥) → Walked t limits link low seen fuel Bad
+  bad : ((A B : Tree) (x : ℕ) → Stands t limits link walk.end walk.seen fuel (node A x B) → ⊥) → Walked t limits link walk fuel None
   unfolding Shape
   bad f = record { is = λ room. go }
     where
-      go : (T : Tree) → Stands t limits link low seen fuel T → ⊥
+      go : (T : Tree) → Stands t limits link walk.end walk.seen fuel T → ⊥
       go leaf s = nz s.shape
       go (node A x B) s = f A B x s
 
-  pub walk_stop : fuel ≡ 0 → Walked t limits link low seen fuel Bad
+  pub walk_stop : fuel ≡ 0 → Walked t limits link walk fuel None
   unfolding height
   walk_stop z = bad (λ A B x s. omega (arith, s.high))
 
   module _ {q : Bool} (row : Decides q (RowStands t limits.count link fuel)) where
-    pub walk_misplaced : q ≡ false → Walked t limits link low seen fuel Bad
+    pub walk_misplaced : q ≡ false → Walked t limits link walk fuel None
     walk_misplaced e = bad (λ A B x s. row.not e (stands_row A B s))
 
-    module _ (ok : q ≡ true) {l : ℕ} {w : Walk} (el : l ≡ column t link piece_left) (left : Walked t limits l low seen (fuel - 1) w) where
-      at_left : Walked t limits (column t link piece_left) low seen (fuel - 1) w
+    module _ (ok : q ≡ true) {l : ℕ} {w : Option Walk} (el : l ≡ column t link piece_left) (left : Walked t limits l walk (fuel - 1) w) where
+      at_left : Walked t limits (column t link piece_left) walk (fuel - 1) w
       at_left = rw el at left
 
-      pub walk_left_bad : w ≡ Bad → Walked t limits link low seen fuel Bad
+      pub walk_left_bad : w ≡ None → Walked t limits link walk fuel None
       unfolding Shape
       walk_left_bad e =
           record {
-            is = λ room. go (subst (Outcome t limits (column t link piece_left) low seen (fuel - 1)) e (at_left.is room));
+            is = λ room. go (subst (Outcome t limits (column t link piece_left) walk.end walk.seen (fuel - 1)) e (at_left.is room));
           }
         where
-          go : ((A : Tree) → Stands t limits (column t link piece_left) low seen (fuel - 1) A → ⊥) → (T : Tree) → Stands t limits link low seen fuel T → ⊥
+          go : ((A : Tree) → Stands t limits (column t link piece_left) walk.end walk.seen (fuel - 1) A → ⊥) → (T : Tree) → Stands t limits link walk.end walk.seen fuel T → ⊥
           go f leaf s = nz s.shape
           go f (node A x B) s = f A (stands_left A B s)
 
-      module _ {n end : ℕ} (fine : w ≡ Fine n end) where
-        found : row_width * limits.count + row_width ≤ length t → Found t limits (column t link piece_left) low seen (fuel - 1) n end
-        found room = subst (Outcome t limits (column t link piece_left) low seen (fuel - 1)) fine (at_left.is room)
+      module _ {so : Walk} (fine : w ≡ Some so) where
+        found : row_width * limits.count + row_width ≤ length t → Found t limits (column t link piece_left) walk.end walk.seen (fuel - 1) so.seen so.end
+        found room = subst (Outcome t limits (column t link piece_left) walk.end walk.seen (fuel - 1)) fine (at_left.is room)
 
         -- the left subtree of a tree that stands is the one that was found
-        same_left : (f : Found t limits (column t link piece_left) low seen (fuel - 1) n end) (A B : Tree) {x : ℕ} → Stands t limits link low seen fuel (node A x B) → A ≡ f.tree
+        same_left : (f : Found t limits (column t link piece_left) walk.end walk.seen (fuel - 1) so.seen so.end) (A B : Tree) {x : ℕ} → Stands t limits link walk.end walk.seen fuel (node A x B) → A ≡ f.tree
         same_left f A B s = shape_one t (column t link piece_left) A f.tree (stands_left A B s).shape f.stands.shape
 
-        pub walk_full : limits.count ≤ n → Walked t limits link low seen fuel Bad
+        pub walk_full : limits.count ≤ so.seen → Walked t limits link walk fuel None
         unfolding Shape
         walk_full h = record { is = λ room. go (found room) }
           where
-            go : Found t limits (column t link piece_left) low seen (fuel - 1) n end → (T : Tree) → Stands t limits link low seen fuel T → ⊥
+            go : Found t limits (column t link piece_left) walk.end walk.seen (fuel - 1) so.seen so.end → (T : Tree) → Stands t limits link walk.end walk.seen fuel T → ⊥
             go f leaf s = nz s.shape
             go f (node A x B) s = omega (arith, stands_few A B s, ap (λ (T : Tree). length (rows T)) (same_left f A B s), f.many)
 
-        module _ (few : n < limits.count) {q' : Bool} (fits : Decides q' (RowFits t link end limits.kind limits.used limits.last)) where
-          pub walk_misfit : q' ≡ false → Walked t limits link low seen fuel Bad
+        module _ {q' : Bool} (fits : Decides q' (RowFits t link so.end limits)) where
+          pub walk_misfit : q' ≡ false → Walked t limits link walk fuel None
           unfolding Shape
           walk_misfit e = record { is = λ room. go (found room) }
             where
-              go : Found t limits (column t link piece_left) low seen (fuel - 1) n end → (T : Tree) → Stands t limits link low seen fuel T → ⊥
+              go : Found t limits (column t link piece_left) walk.end walk.seen (fuel - 1) so.seen so.end → (T : Tree) → Stands t limits link walk.end walk.seen fuel T → ⊥
               go f leaf s = nz s.shape
               go f (node A x B) s =
-                  let z : last_end low (map (piece_at t) (rows A)) ≡ end = ap (λ (T : Tree). last_end low (map (piece_at t) (rows T))) (same_left f A B s) ∙ f.ends in
-                  fits.not e (subst (λ (k : ℕ). RowFits t link k limits.kind limits.used limits.last) z (stands_fits A B s))
+                  let z : last_end walk.end (map (piece_at t) (rows A)) ≡ so.end = ap (λ (T : Tree). last_end walk.end (map (piece_at t) (rows T))) (same_left f A B s) ∙ f.ends in
+                  fits.not e (subst (λ (k : ℕ). RowFits t link k limits) z (stands_fits A B s))
 
-          pub walk_right : {r first size : ℕ} {w' : Walk} → q' ≡ true → r ≡ column t link piece_right → first ≡ first_at t link → size ≡ column t link piece_length
-              → Walked t limits r (first + size) (n + 1) (fuel - 1) w' → Walked t limits link low seen fuel w'
+          pub walk_right : {r z : ℕ} {w' : Option Walk} → so.seen < limits.count → q' ≡ true → r ≡ column t link piece_right → z ≡ plus_up_to (piece_at t link).first (piece_at t link).size
+              → Walked t limits r (record { seen = so.seen + 1; end = z }) (fuel - 1) w' → Walked t limits link walk fuel w'
           unfolding Shape rows
-          walk_right {r} {first} {size} {w'} y er ef es right = record { is = λ room. go room (found room) w' (at_right.is room) }
+          walk_right {r} {z} {w'} few y er ez right = record { is = λ room. go room (found room) w' (at_right.is room) }
             where
-              at_right : Walked t limits (column t link piece_right) (row_end (piece_at t link)) (n + 1) (fuel - 1) w'
-              at_right = rw (er, ef, es) at right
+              whole : z ≡ row_end (piece_at t link)
+              whole = omega (arith, ez, (fits.yes y).filled.near)
 
-              go : row_width * limits.count + row_width ≤ length t → Found t limits (column t link piece_left) low seen (fuel - 1) n end → (w : Walk)
-                  → Outcome t limits (column t link piece_right) (row_end (piece_at t link)) (n + 1) (fuel - 1) w → Outcome t limits link low seen fuel w
-              go room f Bad o = none
+              at_right : Walked t limits (column t link piece_right) (record { seen = so.seen + 1; end = row_end (piece_at t link) }) (fuel - 1) w'
+              at_right = rw (er, whole) at right
+
+              go : row_width * limits.count + row_width ≤ length t → Found t limits (column t link piece_left) walk.end walk.seen (fuel - 1) so.seen so.end → (w : Option Walk)
+                  → Outcome t limits (column t link piece_right) (row_end (piece_at t link)) (so.seen + 1) (fuel - 1) w → Outcome t limits link walk.end walk.seen fuel w
+              go room f None o = none
                 where
-                  none : (T : Tree) → Stands t limits link low seen fuel T → ⊥
+                  none : (T : Tree) → Stands t limits link walk.end walk.seen fuel T → ⊥
                   none leaf s = nz s.shape
                   none (node A x B) s =
-                      let e : seen + length (rows A) ≡ n = ap (λ (T : Tree). seen + length (rows T)) (same_left f A B s) ∙ f.many in
+                      let e : walk.seen + length (rows A) ≡ so.seen = ap (λ (T : Tree). walk.seen + length (rows T)) (same_left f A B s) ∙ f.many in
                       o B (subst (λ (k : ℕ). Stands t limits (column t link piece_right) (row_end (piece_at t link)) (k + 1) (fuel - 1) B) e (stands_right A B s))
-              go room f (Fine m z) o =
+              go room f (Some so') o =
                   let A : Tree = f.tree in
                   let B : Tree = o.tree in
-                  let s_b : Stands t limits (column t link piece_right) (row_end (piece_at t link)) (seen + length (rows A) + 1) (fuel - 1) B
+                  let s_b : Stands t limits (column t link piece_right) (row_end (piece_at t link)) (walk.seen + length (rows A) + 1) (fuel - 1) B
                   = subst (λ (k : ℕ). Stands t limits (column t link piece_right) (row_end (piece_at t link)) (k + 1) (fuel - 1) B) (sym f.many) o.stands in
-                  let fit : RowFits t link (last_end low (map (piece_at t) (rows A))) limits.kind limits.used limits.last
-                  = subst (λ (k : ℕ). RowFits t link k limits.kind limits.used limits.last) (sym f.ends) (fits.yes y) in
+                  let fit : RowFits t link (last_end walk.end (map (piece_at t) (rows A))) limits
+                  = subst (λ (k : ℕ). RowFits t link k limits) (sym f.ends) (fits.yes y) in
                   record {
                     tree = node A link B;
                     stands = stands_node A B room nz (row.yes ok) f.stands (omega (arith, f.many)) fit s_b;
                     many = omega (arith, length-append (rows A) (link ∷ rows B), f.many, o.many);
-                    ends = ap (last_end low) (map-append (piece_at t) (rows A) (link ∷ rows B)) ∙ last_end_append low (map (piece_at t) (rows A)) (piece_at t link ∷ map (piece_at t) (rows B)) ∙ o.ends;
+                    ends = ap (last_end walk.end) (map-append (piece_at t) (rows A) (link ∷ rows B)) ∙ last_end_append walk.end (map (piece_at t) (rows A)) (piece_at t link ∷ map (piece_at t) (rows B)) ∙ o.ends;
                   }
-
--- the sum that the walk goes on from does not wrap
-pub fits-near : {t : List ℕ} {link low kind used last first size : ℕ} {q : Bool} → Decides q (RowFits t link low kind used last) → q ≡ true → first ≡ first_at t link → size ≡ column t link piece_length
-    → first + size < 2 ^ 64
-fits-near d e ef es = omega (arith, (d.yes e).filled.near)
 
 -- ── `test_pieces` ──
 
@@ -353,8 +281,8 @@ module _ {t : List ℕ} {kind used last count : ℕ} (ec : count ≡ column t 0 
   pub test_small : {many : ℕ} → many ≡ (length t - 0) / row_width → many ≤ count → Decides false (WellFormed t kind used last)
   test_small em h = refute (λ w. omega (arith, w.rep.linked.dense.room))
 
-  module _ {root many : ℕ} {w : Walk} (em : many ≡ (length t - 0) / row_width) (room : count < many) (er : root ≡ column t 0 pieces_root)
-      (walked : Walked t (limits_of count kind used last) root 0 0 92 w) where
+  module _ {root many : ℕ} {w : Option Walk} (em : many ≡ (length t - 0) / row_width) (room : count < many) (er : root ≡ column t 0 pieces_root)
+      (walked : Walked t (limits_of count kind used last) root (record { seen = 0; end = 0 }) 92 w) where
     fits : row_width * count + row_width ≤ length t
     fits = omega arith
 
@@ -373,15 +301,21 @@ module _ {t : List ℕ} {kind used last count : ℕ} (ec : count ≡ column t 0 
           allowed = rw is r.allowed;
         }
 
-    pub test_bad : w ≡ Bad → Decides false (WellFormed t kind used last)
+    pub test_bad : w ≡ None → Decides false (WellFormed t kind used last)
     test_bad e = refute (λ r. none (subst (Outcome t (limits_of count kind used last) root 0 0 92) e (walked.is fits)) r.rep.linked.dense.tree (stands_whole r))
       where
-        none : Outcome t (limits_of count kind used last) root 0 0 92 Bad → (T : Tree) → Stands t (limits_of count kind used last) root 0 0 92 T → ⊥
+        none : Outcome t (limits_of count kind used last) root 0 0 92 None → (T : Tree) → Stands t (limits_of count kind used last) root 0 0 92 T → ⊥
         none f = f
 
-    pub test_fine : {n z : ℕ} → length t < 2 ^ 64 → w ≡ Fine n z → Decides (eqb n count) (WellFormed t kind used last)
-    test_fine {n} {z} small e = decides_iff (eqb n count) yes no (decides_eqb n count)
+    pub test_fine : {so : Walk} → length t < 2 ^ 64 → w ≡ Some so → Decides (eqb so.seen count) (WellFormed t kind used last)
+    test_fine {so} small e = decides_iff (eqb n count) yes no (decides_eqb n count)
       where
+        n : ℕ
+        n = so.seen
+
+        z : ℕ
+        z = so.end
+
         f : Found t (limits_of count kind used last) root 0 0 92 n z
         f = subst (Outcome t (limits_of count kind used last) root 0 0 92) e (walked.is fits)
 
@@ -418,5 +352,7 @@ module _ {t : List ℕ} {kind used last count : ℕ} (ec : count ≡ column t 0 
             let one : r.rep.linked.dense.tree ≡ f.tree = shape_one t root r.rep.linked.dense.tree f.tree (stands_whole r).shape s.shape in
             omega (arith, f.many, ap (λ (T : Tree). length (rows T)) one, ap length r.rep.linked.dense.is, r.rep.linked.dense.count)
 
--- the steps, for `search` at a return
-pub ruleset testing = (not-true, not-false, row_stands_past, row_stands_zero, row_stands_high, row_stands_right_heavy, row_stands_left_heavy, row_stands_right, row_stands_left, row_fits_low, row_fits-empty, row_fits_wraps, row_fits_long, row_fits-past, row_fits_late, walk_leaf, walk_stop, walk_misplaced, walk_left_bad, walk_full, walk_misfit, walk_right, test_small, test_bad)
+-- the steps, one for each return
+pub ruleset walking = (walk_leaf, walk_stop, walk_misplaced, walk_left_bad, walk_full, walk_misfit, walk_right)
+
+pub ruleset testing = (test_small, test_bad, test_fine)

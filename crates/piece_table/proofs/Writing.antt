@@ -2,7 +2,7 @@
 use mathlib.Core.Bool.{Bool, true, false, cond}
 use mathlib.Core.List.{List, [], ◌∷◌, ◌++◌, map}
 use mathlib.Core.Path.{◌≡◌, refl, sym, ap, ap₂, ◌∙◌}
-use Prim.Native.Nat.{ℕ, ◌+◌, ◌-◌, ◌*◌, ◌/◌, ◌≤◌, ◌<◌}
+use Prim.Native.Nat.{ℕ, ◌+◌, ◌-◌, ◌*◌, ◌≤◌, ◌<◌}
 use native.Mathlib.Omega.{arith}
 use lib.Dec.{ltb}
 use lib.ListN.{length, set, length-set, length-map}
@@ -11,16 +11,18 @@ use Rattle.lists.proofs.Lists.{all_of_mem, mem_left, mem_right}
 use Rattle.lists.proofs.Maps.{map-append, map_all}
 use Rattle.lists.specs.Lists.{Mem, here, there, Distinct, Ascending}
 use Rattle.history.specs.Lent.{row_width}
-use Rattle.tables.specs.Columns.{column, piece_offset, piece_length, piece_first, pieces_count, pieces_root, piece_depth, piece_left}
+use Rattle.tables.specs.Columns.{column, piece_offset, piece_first, pieces_count, pieces_root, piece_depth, piece_left, piece_written, piece_owner}
 use Rattle.merge_set.proofs.Balance.{Grown, inserted_balanced}
 use Rattle.merge_set.proofs.Frame.{column_eq, stays}
 use Rattle.merge_set.proofs.Links.{Put, put_at, mem_put, mem_unput, distinct_put, put_length}
 use Rattle.merge_set.proofs.Order.{inserted_put, inserted-rows}
 use Rattle.merge_set.specs.Table.{Good, Valid, Shape, Result, Inserted}
 use Rattle.merge_set.specs.Tree.{Tree, rows, inserted, in_order}
+use Rattle.std.specs.Prelude.{Some, None}
+use Rattle.piece_table.proofs.Clipping.{clip_some, clip_is}
 use Rattle.piece_table.proofs.Order.{ascending_same, follow_part, follow_from, follow_distinct}
 use Rattle.piece_table.proofs.Removing.{piece_same, linked_ascending, linked_depth, linked_valid}
-use Rattle.piece_table.specs.Calls.{HeadSet, WroteRow, ReplacedPiece, InsertedPiece, TrimmedBack, TrimmedFront, end_at}
+use Rattle.piece_table.specs.Calls.{HeadSet, WroteRow, ReplacedPiece, InsertedPiece, TrimmedBack, TrimmedFront, Clipped, end_at}
 use Rattle.piece_table.specs.Piece.{PieceRow, piece_at, part, Filled, Follow, placed}
 use Rattle.piece_table.specs.Rep.{Linked, Rep, Becomes}
 
@@ -38,28 +40,6 @@ piece a b c d e = record { first = a; size = b; written = c; offset = d; owner =
 -- a piece is its five numbers
 pub piece_eq : {a b c d e a' b' c' d' e' : ℕ} → a ≡ a' → b ≡ b' → c ≡ c' → d ≡ d' → e ≡ e' → piece a b c d e ≡ piece a' b' c' d' e'
 piece_eq p q r s u = rw (p, q, r, s, u)
-
--- ── `write_row` ──
-
-pub write_row_done : {t t₁ t₂ t₃ t₄ t₅ : List ℕ} {k first size written offset owner : ℕ}
-    → t₁ ≡ set t (row_width * k + 0) first → t₂ ≡ set t₁ (row_width * k + 1) size → t₃ ≡ set t₂ (row_width * k + 2) written → t₄ ≡ set t₃ (row_width * k + 3) offset → t₅ ≡ set t₄ (row_width * k + 7) owner
-    → WroteRow t t₅ k (record { first = first; size = size; written = written; offset = offset; owner = owner })
-write_row_done {t} {t₁} {t₂} {t₃} {t₄} {t₅} {k} {first} {size} {written} {offset} {owner} e₁ e₂ e₃ e₄ e₅ =
-    let len₁ : length t₁ ≡ length t = rw e₁ (length-set t (row_width * k + 0) first) in
-    let len₂ : length t₂ ≡ length t = rw e₂ (length-set t₁ (row_width * k + 1) size) ∙ len₁ in
-    let len₃ : length t₃ ≡ length t = rw e₃ (length-set t₂ (row_width * k + 2) written) ∙ len₂ in
-    let len₄ : length t₄ ≡ length t = rw e₄ (length-set t₃ (row_width * k + 3) offset) ∙ len₃ in
-    let len₅ : length t₅ ≡ length t = rw e₅ (length-set t₄ (row_width * k + 7) owner) ∙ len₄ in
-    record {
-      len = len₅;
-      there = λ v. piece_eq
-          (rw (e₅, column-set_other t₄ k k 0 7 owner (omega arith) (omega arith) (λ z w. omega arith), e₄, column-set_other t₃ k k 0 3 offset (omega arith) (omega arith) (λ z w. omega arith), e₃, column-set_other t₂ k k 0 2 written (omega arith) (omega arith) (λ z w. omega arith), e₂, column-set_other t₁ k k 0 1 size (omega arith) (omega arith) (λ z w. omega arith), e₁) (column-set_same t k 0 first (omega arith) (record { some = v.some; room = omega (arith, v.room) })))
-          (rw (e₅, column-set_other t₄ k k 1 7 owner (omega arith) (omega arith) (λ z w. omega arith), e₄, column-set_other t₃ k k 1 3 offset (omega arith) (omega arith) (λ z w. omega arith), e₃, column-set_other t₂ k k 1 2 written (omega arith) (omega arith) (λ z w. omega arith), e₂) (column-set_same t₁ k 1 size (omega arith) (record { some = v.some; room = omega (arith, v.room, len₁) })))
-          (rw (e₅, column-set_other t₄ k k 2 7 owner (omega arith) (omega arith) (λ z w. omega arith), e₄, column-set_other t₃ k k 2 3 offset (omega arith) (omega arith) (λ z w. omega arith), e₃) (column-set_same t₂ k 2 written (omega arith) (record { some = v.some; room = omega (arith, v.room, len₁, len₂) })))
-          (rw (e₅, column-set_other t₄ k k 3 7 owner (omega arith) (omega arith) (λ z w. omega arith), e₄) (column-set_same t₃ k 3 offset (omega arith) (record { some = v.some; room = omega (arith, v.room, len₁, len₂, len₃) })))
-          (rw e₅ (column-set_same t₄ k 7 owner (omega arith) (record { some = v.some; room = omega (arith, v.room, len₁, len₂, len₃, len₄) })));
-      rest = λ j c h n. rw (e₅, column-set_other t₄ k j c 7 owner h (omega arith) (λ z w. let b : (piece_left ≤ c) × (c ≤ piece_depth) = n z in omega arith), e₄, column-set_other t₃ k j c 3 offset h (omega arith) (λ z w. let b : (piece_left ≤ c) × (c ≤ piece_depth) = n z in omega arith), e₃, column-set_other t₂ k j c 2 written h (omega arith) (λ z w. let b : (piece_left ≤ c) × (c ≤ piece_depth) = n z in omega arith), e₂, column-set_other t₁ k j c 1 size h (omega arith) (λ z w. let b : (piece_left ≤ c) × (c ≤ piece_depth) = n z in omega arith), e₁) (column-set_other t k j c 0 first h (omega arith) (λ z w. let b : (piece_left ≤ c) × (c ≤ piece_depth) = n z in omega arith));
-    }
 
 -- ── a row of the tree gets another piece, in order ──
 
@@ -104,9 +84,6 @@ replace_piece_done w = record { done = λ xs ys r f. rewritten xs ys r w f }
 around : {t : List ℕ} (k : ℕ) (xs ys : List ℕ) → Linked t (xs ++ k ∷ ys) → Follow 0 (map (piece_at t) xs ++ piece_at t k ∷ map (piece_at t) ys)
 around {t} k xs ys r = rw (map-append (piece_at t) xs (k ∷ ys)) at r.order
 
-pub trim_back_none : {t : List ℕ} {k end first : ℕ} → first ≡ column t k piece_first → end < first → TrimmedBack t t k end
-trim_back_none e h = record { done = λ xs ys r lo hi. absurd (omega arith) }
-
 pub trim_back_done : {t t₁ : List ℕ} {k end first : ℕ} → first ≡ column t k piece_first → first ≤ end → t₁ ≡ set t (row_width * k + 1) (end - first) → TrimmedBack t t₁ k end
 trim_back_done {t} {t₁} {k} {end} {first} e le e₁ = record { done = go }
   where
@@ -135,69 +112,60 @@ trim_back_done {t} {t₁} {k} {end} {first} e le e₁ = record { done = go }
         (record { some = omega arith; near = omega (arith, h.near); stored = omega (arith, h.stored) })
         f)
 
-module _ {t : List ℕ} {k first was size offset : ℕ} (ew : was ≡ column t k piece_first) (es : size ≡ column t k piece_length) (eo : offset ≡ column t k piece_offset) where
-  pub trim_front_low : first < was → TrimmedFront t t k first
-  trim_front_low h = record { done = λ xs ys r lo hi. absurd (omega arith) }
+-- three stores, where the rest of the row is as it is to be
+moved : {t t₁ t₂ t₃ : List ℕ} {k : ℕ} (q : PieceRow) → column t k piece_written ≡ q.written → column t k piece_owner ≡ q.owner
+    → t₁ ≡ set t (row_width * k + 0) q.first → t₂ ≡ set t₁ (row_width * k + 1) q.size → t₃ ≡ set t₂ (row_width * k + 3) q.offset → WroteRow t t₃ k q
+moved {t} {t₁} {t₂} {t₃} {k} q ew eo e₁ e₂ e₃ =
+    record {
+      len = rw e₃ (length-set t₂ (row_width * k + 3) q.offset) ∙ len₂;
+      there = λ v. piece_eq
+          (rw (e₃, column-set_other t₂ k k 0 3 q.offset (omega arith) (omega arith) (λ z w. omega arith), e₂, column-set_other t₁ k k 0 1 q.size (omega arith) (omega arith) (λ z w. omega arith), e₁) (column-set_same t k 0 q.first (omega arith) v))
+          (rw (e₃, column-set_other t₂ k k 1 3 q.offset (omega arith) (omega arith) (λ z w. omega arith), e₂) (column-set_same t₁ k 1 q.size (omega arith) (record { some = v.some; room = omega (arith, v.room, len₁) })))
+          (other k 2 (omega arith) (λ z w. omega arith) (λ z w. omega arith) (λ z w. omega arith) ∙ ew)
+          (rw e₃ (column-set_same t₂ k 3 q.offset (omega arith) (record { some = v.some; room = omega (arith, v.room, len₂) })))
+          (other k 7 (omega arith) (λ z w. omega arith) (λ z w. omega arith) (λ z w. omega arith) ∙ eo);
+      rest = λ j c h n. other j c h (λ z w. let b : (piece_left ≤ c) × (c ≤ piece_depth) = n z in omega arith) (λ z w. let b : (piece_left ≤ c) × (c ≤ piece_depth) = n z in omega arith) (λ z w. let b : (piece_left ≤ c) × (c ≤ piece_depth) = n z in omega arith);
+    }
+  where
+    len₁ : length t₁ ≡ length t
+    len₁ = rw e₁ (length-set t (row_width * k + 0) q.first)
 
-  pub trim_front_high : size < first - was → TrimmedFront t t k first
-  trim_front_high h = record { done = λ xs ys r lo hi. absurd (omega arith) }
+    len₂ : length t₂ ≡ length t
+    len₂ = rw e₂ (length-set t₁ (row_width * k + 1) q.size) ∙ len₁
 
-  pub trim_front_far : 18446744073709551615 - offset < first - was → TrimmedFront t t k first
-  trim_front_far h =
+    other : (j c : ℕ) → c < row_width → (j ≡ k → c ≡ 0 → ⊥) → (j ≡ k → c ≡ 1 → ⊥) → (j ≡ k → c ≡ 3 → ⊥) → column t₃ j c ≡ column t j c
+    other j c h n₀ n₁ n₃ =
+        rw (e₃, column-set_other t₂ k j c 3 q.offset h (omega arith) n₃, e₂, column-set_other t₁ k j c 1 q.size h (omega arith) n₁, e₁)
+        (column-set_other t k j c 0 q.first h (omega arith) n₀)
+
+-- the link's piece is filled
+whole : {t : List ℕ} (k : ℕ) (xs ys : List ℕ) → Linked t (xs ++ k ∷ ys) → Filled (piece_at t k)
+whole {t} k xs ys r = (follow_from 0 (map (piece_at t) xs) (piece_at t k) (map (piece_at t) ys) (around k xs ys r)).0
+
+module _ {t : List ℕ} {k first : ℕ} {p : PieceRow} (ep : p ≡ piece_at t k) where
+  pub trim_front_none : Clipped p first 18446744073709551615 None → TrimmedFront t t k first
+  trim_front_none c =
       record {
         done = λ xs ys r lo hi.
-            let s : Filled (piece_at t k) = (follow_from 0 (map (piece_at t) xs) (piece_at t k) (map (piece_at t) ys) (around k xs ys r)).0 in
-            absurd (omega (arith, s.stored));
+            let h : Filled (piece_at t k) = whole k xs ys r in
+            absurd (clip_some first (end_at t k) (rw ep at c) h (omega arith) (omega (arith, h.near)) hi);
       }
 
-  pub trim_front_done : {t₁ t₂ t₃ : List ℕ} → was ≤ first → first - was ≤ size → t₁ ≡ set t (row_width * k + 0) first → t₂ ≡ set t₁ (row_width * k + 1) (size - (first - was)) → t₃ ≡ set t₂ (row_width * k + 3) (offset + (first - was))
-      → TrimmedFront t t₃ k first
-  trim_front_done {t₁} {t₂} {t₃} le ge e₁ e₂ e₃ = record { done = go }
+  pub trim_front_done : {rest : PieceRow} {t₁ t₂ t₃ : List ℕ} → Clipped p first 18446744073709551615 (Some rest)
+      → t₁ ≡ set t (row_width * k + 0) rest.first → t₂ ≡ set t₁ (row_width * k + 1) rest.size → t₃ ≡ set t₂ (row_width * k + 3) rest.offset → TrimmedFront t t₃ k first
+  trim_front_done {rest} {t₁} {t₂} {t₃} c e₁ e₂ e₃ = record { done = go }
     where
-      len₁ : length t₁ ≡ length t
-      len₁ = rw e₁ (length-set t (row_width * k + 0) first)
-
-      len₂ : length t₂ ≡ length t
-      len₂ = rw e₂ (length-set t₁ (row_width * k + 1) (size - (first - was))) ∙ len₁
-
-      other : (j c : ℕ) → c < row_width → (j ≡ k → c ≡ 0 → ⊥) → (j ≡ k → c ≡ 1 → ⊥) → (j ≡ k → c ≡ 3 → ⊥) → column t₃ j c ≡ column t j c
-      other j c h n₀ n₁ n₃ =
-          rw (e₃, column-set_other t₂ k j c 3 (offset + (first - was)) h (omega arith) n₃, e₂, column-set_other t₁ k j c 1 (size - (first - was)) h (omega arith) n₁, e₁)
-          (column-set_other t k j c 0 first h (omega arith) n₀)
-
-      wrote : WroteRow t t₃ k (part first (end_at t k) (piece_at t k))
-      wrote =
-          record {
-            len = rw e₃ (length-set t₂ (row_width * k + 3) (offset + (first - was))) ∙ len₂;
-            there = λ v. piece_eq
-                (rw (e₃, column-set_other t₂ k k 0 3 (offset + (first - was)) (omega arith) (omega arith) (λ z w. omega arith), e₂, column-set_other t₁ k k 0 1 (size - (first - was)) (omega arith) (omega arith) (λ z w. omega arith), e₁) (column-set_same t k 0 first (omega arith) v))
-                (rw (e₃, column-set_other t₂ k k 1 3 (offset + (first - was)) (omega arith) (omega arith) (λ z w. omega arith), e₂) (column-set_same t₁ k 1 (size - (first - was)) (omega arith) (record { some = v.some; room = omega (arith, v.room, len₁) })) ∙ sizes)
-                (other k 2 (omega arith) (λ z w. omega arith) (λ z w. omega arith) (λ z w. omega arith))
-                (rw e₃ (column-set_same t₂ k 3 (offset + (first - was)) (omega arith) (record { some = v.some; room = omega (arith, v.room, len₂) })) ∙ offsets)
-                (other k 7 (omega arith) (λ z w. omega arith) (λ z w. omega arith) (λ z w. omega arith));
-            rest = λ j c h n. other j c h (λ z w. let b : (piece_left ≤ c) × (c ≤ piece_depth) = n z in omega arith) (λ z w. let b : (piece_left ≤ c) × (c ≤ piece_depth) = n z in omega arith) (λ z w. let b : (piece_left ≤ c) × (c ≤ piece_depth) = n z in omega arith);
-          }
-        where
-          sizes : size - (first - was) ≡ end_at t k - first
-          sizes = omega arith
-
-          offsets : offset + (first - was) ≡ column t k piece_offset + (first - column t k piece_first)
-          offsets = omega arith
-
       go : (xs ys : List ℕ) → Linked t (xs ++ k ∷ ys) → column t k piece_first ≤ first → first < end_at t k → Becomes t t₃ (map (piece_at t) xs ++ part first (end_at t k) (piece_at t k) ∷ map (piece_at t) ys)
       go xs ys r lo hi =
-          let f : Follow 0 (map (piece_at t) xs ++ piece_at t k ∷ map (piece_at t) ys) = around k xs ys r in
-          let h : Filled (piece_at t k) = (follow_from 0 (map (piece_at t) xs) (piece_at t k) (map (piece_at t) ys) f).0 in
-          rewritten xs ys r wrote
+          let h : Filled (piece_at t k) = whole k xs ys r in
+          let e : rest ≡ part first (end_at t k) (piece_at t k) = clip_is first (end_at t k) (rw ep at c) h (omega arith) (omega (arith, h.near)) hi in
+          let wrote : WroteRow t t₃ k rest = moved rest (ap (λ (q : PieceRow). q.written) (sym e)) (ap (λ (q : PieceRow). q.owner) (sym e)) e₁ e₂ e₃ in
+          rewritten xs ys r (rw e at wrote)
           (follow_part 0 (map (piece_at t) xs) (piece_at t k) (part first (end_at t k) (piece_at t k)) (map (piece_at t) ys) lo (omega arith)
           (record { some = omega arith; near = omega (arith, h.near); stored = omega (arith, h.stored) })
-          f)
+          (around k xs ys r))
 
 -- ── `insert_piece` ──
-
-pub insert-piece_full : {t : List ℕ} {count many : ℕ} (p : PieceRow) → count ≡ column t 0 pieces_count → many ≡ (length t - 0) / row_width → many ≤ count
-    → InsertedPiece t t p
-insert-piece_full {t} {count} p ec em h = record { done = λ ps r s f. absurd (omega (arith, r.linked.dense.room)) }
 
 -- a link put in order is its piece put in order
 map-in_order : (key : ℕ → ℕ) (f : ℕ → PieceRow) (x : ℕ) (xs : List ℕ) → ((j : ℕ) → Mem j (x ∷ xs) → key j ≡ (f j).first) → map f (in_order key x xs) ≡ placed (f x) (map f xs)
@@ -272,5 +240,5 @@ module _ {t t₁ t₂ t₃ : List ℕ} {root count top : ℕ} {p : PieceRow} (er
           } in
           record { rep = out; len = len₃ }
 
--- the steps, for `search` at a return
-pub ruleset writing = (write_row_done, replace_piece_done, trim_back_none, trim_back_done, trim_front_low, trim_front_high, trim_front_far, trim_front_done, insert-piece_full, insert-piece_done)
+-- the steps, one for each return
+pub ruleset writing = (replace_piece_done, trim_back_done, trim_front_none, trim_front_done, insert-piece_done)

@@ -1,12 +1,21 @@
 -- What the functions ensure: `t` is the table at entry, `t'` at exit; `link` is the link of a row. Definitions alone.
-use Rattle.std.specs.Prelude.{◌≡◌, Bool, cond, List, [], ◌∷◌, ◌++◌, map, ℕ, ◌+◌, ◌*◌, ◌≤◌, ◌<◌, length, ltb}
+use Rattle.std.specs.Prelude.{◌≡◌, Bool, cond, ◌&&◌, List, [], ◌∷◌, ◌++◌, map, ℕ, ◌+◌, ◌-◌, ◌*◌, ◌^◌, ◌≤◌, ◌<◌, min, max, length, ltb, Option}
+use Rattle.std.specs.Bool.{then_some}
 use Rattle.lists.specs.Lists.{All}
 use Rattle.history.specs.Lent.{row_width}
 use Rattle.tables.specs.Columns.{column, piece_length, piece_left, piece_depth, pieces_root, pieces_count}
+use Rattle.tables.specs.Sums.{plus_up_to}
 use Rattle.merge_set.specs.Tree.{Tree, leaf, node, height}
 use Rattle.merge_set.specs.Table.{first_at, Valid, Shape}
 use Rattle.piece_table.specs.Piece.{PieceRow, row_end, piece_at, part, Follow, placed}
 use Rattle.piece_table.specs.Rep.{Linked, Rep, Becomes}
+
+-- ── a piece ──
+
+-- `clip`: the part in [from, to), if there is any, and its offset is a number of 64 bits; no piece of a well-formed table fails at the latter
+pub record Clipped (p : PieceRow) (from to : ℕ) (out : Option PieceRow) : Type 0 where
+  pub is : out ≡ then_some (ltb (max from p.first) (min to (plus_up_to p.first p.size)) && ltb (p.offset + (max from p.first - p.first)) (2 ^ 64))
+      (part (max from p.first) (min to (plus_up_to p.first p.size)) p)
 
 -- ── stores ──
 

@@ -3,16 +3,14 @@
 use Rattle.std.specs.Prelude.{cond, ℕ, ◌+◌, ◌-◌, ◌≤◌, ◌<◌, ◌^◌, min, max, ltb}
 use Rattle.std.proofs.Math.Option.{Option, none, some}
 use mathlib.Core.List.{List, [], ◌∷◌, filter_map}
+use Rattle.piece_table.specs.declared.Piece.{Piece}
 use Rattle.tables.specs.Columns.{column, piece_first, piece_length, piece_written, piece_offset, piece_owner}
 
 -- ── a piece ──
 
-pub record PieceRow : Type 0 where
-  pub first : ℕ
-  pub size : ℕ
-  pub written : ℕ
-  pub offset : ℕ
-  pub owner : ℕ
+-- the code's own: first cell, how many cells, tick, offset and owner
+abbrev pub PieceRow : Type 0
+PieceRow = Piece
 
 -- the cell after the last one
 abbrev pub row_end : PieceRow → ℕ

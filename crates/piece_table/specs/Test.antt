@@ -1,5 +1,5 @@
 -- What makes a piece table well formed: the layout, and document 01's conditions on pieces. Definitions alone: `test_pieces` decides it.
-use Rattle.std.specs.Prelude.{◌≡◌, List, [], ◌∷◌, map, ℕ, suc, ◌+◌, ◌-◌, ◌*◌, ◌≤◌, max, length}
+use Rattle.std.specs.Prelude.{◌≡◌, List, [], ◌∷◌, map, ℕ, suc, ◌+◌, ◌-◌, ◌*◌, ◌≤◌, max, length, Option, Some, None}
 use Rattle.lists.specs.Lists.{All, Mem}
 use Rattle.history.specs.Lent.{row_width}
 use Rattle.tables.specs.Columns.{column, piece_left, piece_right, piece_depth}
@@ -9,7 +9,6 @@ use Rattle.piece_table.specs.Piece.{PieceRow, row_end, piece_at, Filled, Follow}
 use Rattle.piece_table.specs.Rep.{Rep}
 use Rattle.piece_table.specs.declared.Limits.{Limits}
 use Rattle.piece_table.specs.declared.Walk.{Walk}
-use Rattle.piece_table.specs.declared.Walk.TheVariants.{Bad, Fine}
 
 -- ── well formed ──
 
@@ -37,10 +36,10 @@ pub record RowStands (t : List ℕ) (count link fuel : ℕ) : Type 0 where
   pub right : deep_at t (column t link piece_right) ≤ deep_at t (column t link piece_left) + 1
 
 -- `row_fits`: its piece is allowed, and starts at `low` or past it
-pub record RowFits (t : List ℕ) (link low kind used last : ℕ) : Type 0 where
+pub record RowFits (t : List ℕ) (link low : ℕ) (limits : Limits) : Type 0 where
   pub from : low ≤ first_at t link
   pub filled : Filled (piece_at t link)
-  pub allowed : Allowed kind used last (piece_at t link)
+  pub allowed : Allowed limits.kind limits.used limits.last (piece_at t link)
 
 -- ── the walk ──
 
@@ -67,9 +66,9 @@ pub record Found (t : List ℕ) (limits : Limits) (link low seen fuel n end : �
   pub ends : last_end low (map (piece_at t) (rows tree)) ≡ end
 
 -- `walk_tree`: a tree stands there, or none does; where the table has as many rows as the count says
-abbrev pub Outcome : (t : List ℕ) (limits : Limits) (link low seen fuel : ℕ) → Walk → Type 0
-Outcome t limits link low seen fuel Bad = (T : Tree) → Stands t limits link low seen fuel T → ⊥
-Outcome t limits link low seen fuel (Fine n end) = Found t limits link low seen fuel n end
+abbrev pub Outcome : (t : List ℕ) (limits : Limits) (link low seen fuel : ℕ) → Option Walk → Type 0
+Outcome t limits link low seen fuel None = (T : Tree) → Stands t limits link low seen fuel T → ⊥
+Outcome t limits link low seen fuel (Some w) = Found t limits link low seen fuel w.seen w.end
 
-pub record Walked (t : List ℕ) (limits : Limits) (link low seen fuel : ℕ) (w : Walk) : Type 0 where
-  pub is : row_width * limits.count + row_width ≤ length t → Outcome t limits link low seen fuel w
+pub record Walked (t : List ℕ) (limits : Limits) (link : ℕ) (walk : Walk) (fuel : ℕ) (out : Option Walk) : Type 0 where
+  pub is : row_width * limits.count + row_width ≤ length t → Outcome t limits link walk.end walk.seen fuel out

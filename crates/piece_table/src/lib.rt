@@ -1,11 +1,12 @@
 // Which pieces the piece table stands for, and the calls that change one of them. Links of rows are used between calls; callers above speak of pieces.
 //
-//   specs/Piece     a piece by offsets, its parts, the order
+//   specs/Piece     a piece's parts, and the order
 //   specs/Rep       which pieces a table stands for: the layout
 //   specs/Calls     what each function ensures
 //   specs/Test      what makes a table well formed
 //   specs/Shown     the ledger's piece that a row's piece stands for
 //   proofs/Order    lists in order
+//   proofs/Clipping what `clip` gives
 //   proofs/Parts    the parts of pieces below a cell, in a range and from a cell on
 //   proofs/Showing  clipping rows is clipping the ledger's pieces
 //   proofs/Seeking, Removing, Writing    one step for each return
@@ -15,7 +16,9 @@
 #![tactic(auto)]
 
 ghost use Rattle.std.specs.Prelude.{◌≡◌};
-ghost use Rattle.piece_table.specs.Calls.{HeadSet, WroteRow, EndsPast, EndsAfter, SoughtFrom, Sought, HasCell, HasEnded, RemovedPiece, ReplacedPiece, InsertedPiece, TrimmedBack, TrimmedFront};
+ghost use Rattle.tables.specs.Sums.{plus_up_to};
+ghost use Rattle.piece_table.specs.Piece.{piece_at};
+ghost use Rattle.piece_table.specs.Calls.{Clipped, HeadSet, WroteRow, EndsPast, EndsAfter, SoughtFrom, Sought, HasCell, HasEnded, RemovedPiece, ReplacedPiece, InsertedPiece, TrimmedBack, TrimmedFront};
 ghost use Rattle.lists.specs.Tests.{Decides};
 ghost use Rattle.piece_table.specs.Test.{RowStands, RowFits, Walked, WellFormed};
 
@@ -23,6 +26,65 @@ use tables::piece::{COUNT, DEPTH, FIRST, LEFT, LENGTH, OFFSET, OWNER, RIGHT, ROO
 
 // No balanced tree of fewer than 2^63 rows is deeper.
 pub const DEEPEST: u64 = 92;
+
+// So many cells from `first` on, written at a tick; their bytes stand in the store from `offset` on. The owner is the kind of the piece.
+#[derive(Clone, Copy)]
+pub struct Piece {
+    pub first: u64,
+    pub size: u64,
+    pub written: u64,
+    pub offset: u64,
+    pub owner: u64,
+}
+
+impl Piece {
+    // The cell after the last one, or the largest number where that is passed: in tables that nobody has tested.
+    pub fn end(self) -> u64
+        ensures { result ≡ plus_up_to self.first self.size }
+    {
+        self.first.saturating_add(self.size)
+    }
+
+    // The part of the piece that lies in [from, to), if there is any. First cell and offset move together.
+    pub fn clip(self, from: u64, to: u64) -> Option<Piece>
+        ensures { Clipped self from to result }
+    {
+        let first = from.max(self.first);
+        let end = to.min(self.end());
+        if end <= first {
+            return None;
+        }
+        Some(Piece {
+            first,
+            size: end - first,
+            offset: self.offset.checked_add(first - self.first)?,
+            ..self
+        })
+    }
+}
+
+// Reads the row of a link, under one test where the table has it: record does so for every piece that it meets.
+pub fn read(table: &[u64], link: u64) -> Piece
+    ensures { result ≡ piece_at table.now link }
+{
+    let row = link as usize;
+    if row < table.len() / tables::ROW {
+        return Piece {
+            first: table[tables::ROW * row + FIRST],
+            size: table[tables::ROW * row + LENGTH],
+            written: table[tables::ROW * row + WRITTEN],
+            offset: table[tables::ROW * row + OFFSET],
+            owner: table[tables::ROW * row + OWNER],
+        };
+    }
+    Piece {
+        first: tables::get(table, link, FIRST),
+        size: tables::get(table, link, LENGTH),
+        written: tables::get(table, link, WRITTEN),
+        offset: tables::get(table, link, OFFSET),
+        owner: tables::get(table, link, OWNER),
+    }
+}
 
 // Sets the head of the table.
 fn set_head(table: &mut [u64], root: u64, count: u64)
@@ -33,6 +95,7 @@ fn set_head(table: &mut [u64], root: u64, count: u64)
 }
 
 // Takes the piece of a link out. The last row moves to the freed one, so that the rows stay dense.
+#[tactic(auto, using(crate::proofs::Removing::removing))]
 pub fn remove_piece(table: &mut [u64], link: u64)
     ensures { RemovedPiece table.old table.new link }
 {
@@ -55,10 +118,7 @@ pub fn remove_piece(table: &mut [u64], link: u64)
 fn ends_past(first: u64, length: u64, place: u64) -> bool
     ensures { EndsPast first length place result }
 {
-    if place < first {
-        return true;
-    }
-    place - first < length
+    place < first || place - first < length
 }
 
 // Whether the piece of a link ends after `place`.
@@ -70,8 +130,8 @@ pub fn ends_after(table: &[u64], link: u64, place: u64) -> bool
     ends_past(first, length, place)
 }
 
-// What a search finds: the link of the lowest piece that ends after a place, 0 if there is none. `after` is a guess for `seek_next`: the next piece's, where
-// the found one has none right below it; any number.
+// What a search finds: the link of the lowest piece that ends after a place; 0, as in the tables, if there is none. `after` is a guess for `search_next`:
+// the next piece's, where the found one has none right below it; any number.
 #[derive(Clone, Copy)]
 pub struct Found {
     pub link: u64,
@@ -80,6 +140,7 @@ pub struct Found {
 
 // The link of the lowest piece of the tree at `link`, at most `fuel` deep, that ends after `place`; 0 if there is none. One test a row: this is where
 // record spends most of its time.
+#[tactic(auto, using(crate::proofs::Seeking::sinking))]
 fn seek_from(table: &[u64], link: u64, place: u64, fuel: u64) -> Found
     ensures { SoughtFrom table.now link place 0 fuel result.link }
 {
@@ -90,17 +151,8 @@ fn seek_from(table: &[u64], link: u64, place: u64, fuel: u64) -> Found
     let mut left = fuel;
     while left > 0 {
         let row = at as usize;
-        if row == 0 {
-            return Found {
-                link: found,
-                after: after,
-            };
-        }
-        if rows <= row {
-            return Found {
-                link: found,
-                after: after,
-            };
+        if row == 0 || rows <= row {
+            break;
         }
         let first = table[tables::ROW * row + FIRST];
         let length = table[tables::ROW * row + LENGTH];
@@ -115,13 +167,11 @@ fn seek_from(table: &[u64], link: u64, place: u64, fuel: u64) -> Found
             at = above;
         }
     }
-    Found {
-        link: found,
-        after: after,
-    }
+    Found { link: found, after }
 }
 
 // Searches the lowest piece that ends after `place`.
+#[tactic(auto, using(crate::proofs::Seeking::search_done))]
 pub fn search(table: &[u64], place: u64) -> Found
     ensures { Sought table.now place result.link }
 {
@@ -133,41 +183,29 @@ pub fn search(table: &[u64], place: u64) -> Found
 pub fn seek(table: &[u64], place: u64) -> u64
     ensures { Sought table.now place result }
 {
-    let found = search(table, place);
-    found.link
+    search(table, place).link
 }
 
 // Whether the row of a link is in use, and its piece has the cell.
 fn has_cell(table: &[u64], link: u64, cell: u64) -> bool
     ensures { Decides result (HasCell table.now link cell) }
 {
-    if link == 0 {
-        return false;
-    }
-    if tables::get(table, 0, COUNT) < link {
-        return false;
-    }
-    if cell < tables::get(table, link, FIRST) {
-        return false;
-    }
-    ends_after(table, link, cell)
+    link != 0
+        && link <= tables::get(table, 0, COUNT)
+        && tables::get(table, link, FIRST) <= cell
+        && ends_after(table, link, cell)
 }
 
 // Whether the row of a link is in use, and its piece ends at `place` or before.
 fn has_ended(table: &[u64], link: u64, place: u64) -> bool
     ensures { Decides result (HasEnded table.now link place) }
 {
-    if link == 0 {
-        return false;
-    }
-    if tables::get(table, 0, COUNT) < link {
-        return false;
-    }
-    !ends_after(table, link, place)
+    link != 0 && link <= tables::get(table, 0, COUNT) && !ends_after(table, link, place)
 }
 
 // The same as `search`, by guesses that may be any numbers: where `near` or `after` is the link of the piece that has the place, or the piece stands
 // right below that of `near`, which ends before it, no way down from the root is needed.
+#[tactic(auto, using(crate::proofs::Seeking::seeking))]
 pub fn search_next(table: &[u64], place: u64, near: u64, after: u64) -> Found
     ensures { Sought table.now place result.link }
 {
@@ -179,8 +217,7 @@ pub fn search_next(table: &[u64], place: u64, near: u64, after: u64) -> Found
     }
     if has_ended(table, near, place) {
         let found = seek_from(table, tables::get(table, near, RIGHT), place, DEEPEST);
-        let link = found.link;
-        if link != 0 {
+        if found.link != 0 {
             return found;
         }
     }
@@ -191,57 +228,32 @@ pub fn search_next(table: &[u64], place: u64, near: u64, after: u64) -> Found
 pub fn seek_near(table: &[u64], place: u64, near: u64) -> u64
     ensures { Sought table.now place result }
 {
-    let found = search_next(table, place, near, near);
-    found.link
+    search_next(table, place, near, near).link
 }
 
 // Writes a piece to the row of a link, and leaves its place in the tree.
-fn write_row(
-    table: &mut [u64],
-    link: u64,
-    first: u64,
-    length: u64,
-    written: u64,
-    offset: u64,
-    owner: u64,
-)
-    ensures { WroteRow table.old table.new link
-        (record { first = first; size = length; written = written; offset = offset; owner = owner }) }
+fn write_row(table: &mut [u64], link: u64, piece: Piece)
+    ensures { WroteRow table.old table.new link piece }
 {
-    tables::put(table, link, FIRST, first);
-    tables::put(table, link, LENGTH, length);
-    tables::put(table, link, WRITTEN, written);
-    tables::put(table, link, OFFSET, offset);
-    tables::put(table, link, OWNER, owner);
+    tables::put(table, link, FIRST, piece.first);
+    tables::put(table, link, LENGTH, piece.size);
+    tables::put(table, link, WRITTEN, piece.written);
+    tables::put(table, link, OFFSET, piece.offset);
+    tables::put(table, link, OWNER, piece.owner);
 }
 
 // Puts another piece in the place of a link's: in its row, so that the tree stays as it is.
-pub fn replace_piece(
-    table: &mut [u64],
-    link: u64,
-    first: u64,
-    length: u64,
-    written: u64,
-    offset: u64,
-    owner: u64,
-)
-    ensures { ReplacedPiece table.old table.new link
-        (record { first = first; size = length; written = written; offset = offset; owner = owner }) }
+#[tactic(auto, using(crate::proofs::Writing::writing))]
+pub fn replace_piece(table: &mut [u64], link: u64, piece: Piece)
+    ensures { ReplacedPiece table.old table.new link piece }
 {
-    write_row(table, link, first, length, written, offset, owner);
+    write_row(table, link, piece);
 }
 
 // Inserts a piece that meets no other, where there is a row for it.
-pub fn insert_piece(
-    table: &mut [u64],
-    first: u64,
-    length: u64,
-    written: u64,
-    offset: u64,
-    owner: u64,
-)
-    ensures { InsertedPiece table.old table.new
-        (record { first = first; size = length; written = written; offset = offset; owner = owner }) }
+#[tactic(auto, using(crate::proofs::Writing::writing))]
+pub fn insert_piece(table: &mut [u64], piece: Piece)
+    ensures { InsertedPiece table.old table.new piece }
 {
     let root = tables::get(table, 0, ROOT);
     let count = tables::get(table, 0, COUNT);
@@ -249,42 +261,33 @@ pub fn insert_piece(
         return;
     }
     let link = count + 1;
-    write_row(table, link, first, length, written, offset, owner);
+    write_row(table, link, piece);
     let top = merge_set::insert(table, root, link, DEEPEST);
     set_head(table, top, link);
 }
 
 // Cuts the piece of a link to what it has below `end`.
+#[tactic(auto, using(crate::proofs::Writing::writing))]
 pub fn trim_back(table: &mut [u64], link: u64, end: u64)
     ensures { TrimmedBack table.old table.new link end }
 {
-    let first = tables::get(table, link, FIRST);
-    if end < first {
+    let Some(size) = end.checked_sub(tables::get(table, link, FIRST)) else {
         return;
-    }
-    tables::put(table, link, LENGTH, end - first);
+    };
+    tables::put(table, link, LENGTH, size);
 }
 
 // Cuts the piece of a link to what it has from `first` on. Cell and offset move together.
+#[tactic(auto, using(crate::proofs::Writing::writing))]
 pub fn trim_front(table: &mut [u64], link: u64, first: u64)
     ensures { TrimmedFront table.old table.new link first }
 {
-    let was = tables::get(table, link, FIRST);
-    let length = tables::get(table, link, LENGTH);
-    let offset = tables::get(table, link, OFFSET);
-    if first < was {
+    let Some(rest) = read(table, link).clip(first, u64::MAX) else {
         return;
-    }
-    let cut = first - was;
-    if length < cut {
-        return;
-    }
-    if u64::MAX - offset < cut {
-        return;
-    }
-    tables::put(table, link, FIRST, first);
-    tables::put(table, link, LENGTH, length - cut);
-    tables::put(table, link, OFFSET, offset + cut);
+    };
+    tables::put(table, link, FIRST, rest.first);
+    tables::put(table, link, LENGTH, rest.size);
+    tables::put(table, link, OFFSET, rest.offset);
 }
 
 // What the pieces of a table may be: how many, their kind, the bytes in use, the last accepted tick.
@@ -296,106 +299,75 @@ pub struct Limits {
     pub last: u64,
 }
 
-// What a walk through a tree finds: something wrong, or how many pieces it has seen now, and where the last one ends.
+// How far a walk through the tree has come: how many pieces it has seen, and where the last one ends.
 #[derive(Clone, Copy)]
-pub enum Walk {
-    Bad,
-    Fine(u64, u64),
+pub struct Walk {
+    pub seen: u64,
+    pub end: u64,
 }
 
 // Whether the row of a link can be a node of the tree, at most `fuel` deep: its depth and its children's say so. It is asked before the walk goes down.
 fn row_stands(table: &[u64], count: u64, link: u64, fuel: u64) -> bool
     ensures { Decides result (RowStands table.now count link fuel) }
 {
-    if count < link {
-        return false;
-    }
     let own = tables::get(table, link, DEPTH);
-    if own == 0 {
-        return false;
-    }
-    if fuel < own {
-        return false;
-    }
     let d = merge_set::depth(table, tables::get(table, link, LEFT));
     let e = merge_set::depth(table, tables::get(table, link, RIGHT));
-    if d < e {
-        if 1 < e - d {
-            return false;
-        }
-        return own - 1 == e;
-    }
-    if 1 < d - e {
-        return false;
-    }
-    own - 1 == d
+    link <= count && own != 0 && own <= fuel && d.abs_diff(e) <= 1 && own - 1 == d.max(e)
 }
 
 // Whether the piece of a link is allowed, and starts at `low` or past it.
-fn row_fits(table: &[u64], link: u64, low: u64, kind: u64, used: u64, last: u64) -> bool
-    ensures { Decides result (RowFits table.now link low kind used last) }
+fn row_fits(table: &[u64], link: u64, low: u64, limits: Limits) -> bool
+    ensures { Decides result (RowFits table.now link low limits) }
 {
-    let first = tables::get(table, link, FIRST);
-    let length = tables::get(table, link, LENGTH);
-    let written = tables::get(table, link, WRITTEN);
-    let offset = tables::get(table, link, OFFSET);
-    let owner = tables::get(table, link, OWNER);
-    if merge_set::starts_below(table, link, low) {
-        return false;
-    }
-    if length == 0 {
-        return false;
-    }
-    if u64::MAX - first < length {
-        return false;
-    }
-    if used < length {
-        return false;
-    }
-    if used - length < offset {
-        return false;
-    }
-    if last < written {
-        return false;
-    }
-    owner == kind
+    let piece = read(table, link);
+    !merge_set::starts_below(table, link, low)
+        && piece.size != 0
+        && piece.size <= u64::MAX - piece.first
+        && piece.size <= limits.used
+        && piece.offset <= limits.used - piece.size
+        && piece.written <= limits.last
+        && piece.owner == limits.kind
 }
 
-// Walks through the tree at `link` in order. It is at most `fuel` deep, its pieces start at `low` or past it, and `seen` pieces stand before them. It
-// ends at the first fault. A row that comes again starts before the last end, so every row passes once: after `count` rows and at most `fuel` more on
-// the way down it has ended, on any table.
-fn walk_tree(table: &[u64], limits: Limits, link: u64, low: u64, seen: u64, fuel: u64) -> Walk
-    ensures { Walked table.now limits link low seen fuel result }
+// Walks on through the tree at `link` in order. It is at most `fuel` deep, and its pieces start past those that the walk has seen. It ends at the first
+// fault. A row that comes again starts before the last end, so every row passes once: after `count` rows and at most `fuel` more on the way down it has
+// ended, on any table.
+#[tactic(auto, using(crate::proofs::Testing::walking))]
+fn walk_tree(table: &[u64], limits: Limits, link: u64, walk: Walk, fuel: u64) -> Option<Walk>
+    ensures { Walked table.now limits link walk fuel result }
 {
     if link == 0 {
-        return Walk::Fine(seen, low);
+        return Some(walk);
     }
-    if fuel == 0 {
-        return Walk::Bad;
+    if fuel == 0 || !row_stands(table, limits.count, link, fuel) {
+        return None;
     }
-    if !row_stands(table, limits.count, link, fuel) {
-        return Walk::Bad;
+    let left = walk_tree(
+        table,
+        limits,
+        tables::get(table, link, LEFT),
+        walk,
+        fuel - 1,
+    )?;
+    if limits.count <= left.seen || !row_fits(table, link, left.end, limits) {
+        return None;
     }
-    let l = tables::get(table, link, LEFT);
-    let r = tables::get(table, link, RIGHT);
-    let before = walk_tree(table, limits, l, low, seen, fuel - 1);
-    match before {
-        Walk::Bad => Walk::Bad,
-        Walk::Fine(n, end) => {
-            if limits.count <= n {
-                return Walk::Bad;
-            }
-            if !row_fits(table, link, end, limits.kind, limits.used, limits.last) {
-                return Walk::Bad;
-            }
-            let first = tables::get(table, link, FIRST);
-            let length = tables::get(table, link, LENGTH);
-            walk_tree(table, limits, r, first + length, n + 1, fuel - 1)
-        }
-    }
+    let here = Walk {
+        seen: left.seen + 1,
+        end: read(table, link).end(),
+    };
+    walk_tree(
+        table,
+        limits,
+        tables::get(table, link, RIGHT),
+        here,
+        fuel - 1,
+    )
 }
 
 // Whether a piece table is well formed, for an index of one kind, with so many bytes of the store in use and that last accepted tick.
+#[tactic(auto, using(crate::proofs::Testing::testing))]
 pub fn test_pieces(table: &[u64], kind: u64, used: u64, last: u64) -> bool
     ensures { Decides result (WellFormed table.now kind used last) }
 {
@@ -403,16 +375,15 @@ pub fn test_pieces(table: &[u64], kind: u64, used: u64, last: u64) -> bool
     if tables::rows(table.len(), 0) <= count {
         return false;
     }
-    let root = tables::get(table, 0, ROOT);
     let limits = Limits {
-        count: count,
-        kind: kind,
-        used: used,
-        last: last,
+        count,
+        kind,
+        used,
+        last,
     };
-    let found = walk_tree(table, limits, root, 0, 0, DEEPEST);
-    match found {
-        Walk::Bad => false,
-        Walk::Fine(n, _) => n == count,
-    }
+    let root = tables::get(table, 0, ROOT);
+    let Some(walk) = walk_tree(table, limits, root, Walk { seen: 0, end: 0 }, DEEPEST) else {
+        return false;
+    };
+    walk.seen == count
 }

@@ -1,15 +1,10 @@
 -- What an answer means tells the answer: no two answers of a call mean the same. Statements alone: the proof stands in proofs/Telling.
-use Rattle.std.specs.Prelude.{◌≡◌}
-use Rattle.index_record.specs.Calls.{recorded_of}
-use Rattle.index_finish.specs.Answers.{finished_of}
-use Rattle.index_read.specs.Answers.{found_of, given_of}
-use Rattle.index.specs.Answers.{opened_of}
-use Rattle.install.specs.Answers.{installed_of}
-use Rattle.clock.specs.Answers.{told_of}
-use Rattle.touching_read.specs.Answers.{touching_of, neighbour_of}
-use Rattle.cells_read.specs.Answers.{read_of}
-use Rattle.file_write.specs.Answers.{written_of}
-use Rattle.file_load.specs.Load.{loaded_of}
+use Rattle.std.specs.Prelude.{◌≡◌, ℕ, Option}
+use Rattle.index_record.specs.Calls.{recorded}
+use Rattle.index_read.specs.Answers.{counts_given, fields_given}
+use Rattle.history.specs.Results.{done}
+use Rattle.refusals.specs.Numbers.{answer_by}
+use Rattle.touching_read.specs.Answers.{near_told}
 
 -- a meaning is injective
 abbrev pub Injective : {A B : Type 0} → (A → B) → Type 0
@@ -17,17 +12,17 @@ Injective {A} {B} of = (x y : A) → of x ≡ of y → x ≡ y
 
 -- of each public call
 pub record Meanings : Type 0 where
-  pub opening : Injective opened_of
-  pub record_op : Injective recorded_of
-  pub finalize : Injective finished_of
+  pub opening : Injective (answer_by (λ (u : Unit {0}). u))
+  pub record_op : Injective (answer_by recorded)
+  pub finalize : Injective (answer_by (λ (u : Unit {0}). done))
   -- a calendar and a list of days
-  pub install : Injective installed_of
-  pub clock : Injective told_of
-  pub block : Injective given_of
-  pub find : Injective found_of
-  pub touching : Injective touching_of
+  pub install : Injective (answer_by (λ (u : Unit {0}). done))
+  pub clock : Injective (answer_by (λ (n : ℕ). n))
+  pub block : Injective (answer_by fields_given)
+  pub find : Injective (answer_by counts_given)
+  pub touching : Injective (answer_by (λ (n : ℕ). n))
   -- next and last
-  pub neighbours : Injective neighbour_of
-  pub read_cells : Injective read_of
-  pub serialize_to : Injective written_of
-  pub deserialize : Injective loaded_of
+  pub neighbours : Injective (answer_by near_told)
+  pub read_cells : Injective (answer_by (λ (u : Unit {0}). tt {0}))
+  pub serialize_to : Injective (answer_by (λ (n : ℕ). n))
+  pub deserialize : Injective (answer_by (λ (n : ℕ). n))

@@ -10,17 +10,13 @@ use Rattle.std.specs.Borrow.{Bor, MutBor}
 use Rattle.layout.specs.Tables.{Tables, tables}
 use Rattle.layout.specs.Relations.{OpenedBy, RecordedBy, FinishedBy, InstalledBy, DaysInstalledBy, ClockGivenBy, FoundBy, TouchedBy, NextGivenBy, LastGivenBy, BlockGivenBy}
 use Rattle.layout.specs.Files.{WrittenBy, LoadedBy}
-use Rattle.index_record.specs.Calls.{operation, recorded_of}
-use Rattle.index_finish.specs.Answers.{finished_of}
-use Rattle.index_read.specs.Answers.{found_of, given_of}
-use Rattle.index.specs.Answers.{opened_of, BytesGivenBy}
-use Rattle.install.specs.Answers.{installed_of}
-use Rattle.clock.specs.Answers.{told_of}
-use Rattle.touching_read.specs.Answers.{touching_of, neighbour_of}
-use Rattle.cells_read.specs.Answers.{read_of}
+use Rattle.index_record.specs.Calls.{operation, recorded}
+use Rattle.index_read.specs.Answers.{counts_given, fields_given}
+use Rattle.index.specs.Answers.{BytesGivenBy}
+use Rattle.history.specs.Results.{done}
+use Rattle.refusals.specs.Numbers.{answer_by}
+use Rattle.touching_read.specs.Answers.{near_told}
 use Rattle.cells.specs.Answers.{CellsReadBy}
-use Rattle.file_write.specs.Answers.{written_of}
-use Rattle.file_load.specs.Load.{loaded_of}
 use Rattle.record_all.specs.Many.{RecordedAll}
 use Rattle.find_all.specs.Many.{FoundAll}
 use Rattle.board_run.specs.Room.{PrintsBoard}
@@ -95,37 +91,37 @@ behind a = a.1.1.1.1.1
 pub record Contracts : Type 0 where
   pub opening : Says open-contract.ended (open-contract.clauses w₀.𝓛 w₀.𝓜.mem w₀.𝓡.returns) (λ κs a g. r_top) (λ κs a g x e. r_last _)
       (λ κs a x e. OpenedBy (behind a).0 (behind a).1.0 (held_open a)
-      (tables (held_open e).pieces (held_open e).blocks (held_open a).store (held_open e).nodes (held_open e).entries) (opened_of x))
+      (tables (held_open e).pieces (held_open e).blocks (held_open a).store (held_open e).nodes (held_open e).entries) (answer_by (λ u. u) x))
   pub record_op : Says record-contract.ended (record-contract.clauses w₀.𝓛 w₀.𝓜.mem w₀.𝓡.returns) (λ κs a g. r_top) (λ κs a g x e. r_last _)
       (λ κs a x e. RecordedBy (length (behind a).0.now) (operation (behind a).1.0 (behind a).1.1.0 (behind a).1.1.1.0.now) (held_record a)
-      (tables (held_record e).pieces (held_record e).blocks (held_record e).store (held_record a).nodes (held_record a).entries) (recorded_of x))
+      (tables (held_record e).pieces (held_record e).blocks (held_record e).store (held_record a).nodes (held_record a).entries) (answer_by recorded x))
   pub finalize : Says finish-contract.ended (finish-contract.clauses w₀.𝓛 w₀.𝓜.mem w₀.𝓡.returns) (λ κs a g. r_top) (λ κs a g x e. r_last _)
-      (λ κs a x e. FinishedBy (held_open a) (tables (held_open e).pieces (held_open e).blocks (held_open a).store (held_open e).nodes (held_open e).entries) (finished_of x))
+      (λ κs a x e. FinishedBy (held_open a) (tables (held_open e).pieces (held_open e).blocks (held_open a).store (held_open e).nodes (held_open e).entries) (answer_by (λ _. done) x))
   pub install_calendar : Says install-contract.ended (install-contract.clauses w₀.𝓛 w₀.𝓜.mem w₀.𝓡.returns) (λ κs a g. r_top) (λ κs a g x e. r_last _)
-      (λ κs a x e. InstalledBy (behind a).0.now (held_install a) (tables (held_install a).pieces (held_install e).blocks (held_install a).store (held_install a).nodes (held_install a).entries) (installed_of x))
+      (λ κs a x e. InstalledBy (behind a).0.now (held_install a) (tables (held_install a).pieces (held_install e).blocks (held_install a).store (held_install a).nodes (held_install a).entries) (answer_by (λ _. done) x))
   pub install_days : Says days-contract.ended (days-contract.clauses w₀.𝓛 w₀.𝓜.mem w₀.𝓡.returns) (λ κs a g. r_top) (λ κs a g x e. r_last _)
-      (λ κs a x e. DaysInstalledBy (behind a).0.now (held_install a) (tables (held_install a).pieces (held_install e).blocks (held_install a).store (held_install a).nodes (held_install a).entries) (installed_of x))
+      (λ κs a x e. DaysInstalledBy (behind a).0.now (held_install a) (tables (held_install a).pieces (held_install e).blocks (held_install a).store (held_install a).nodes (held_install a).entries) (answer_by (λ _. done) x))
   pub block : Says block-contract.ended (block-contract.clauses w₀.𝓛 w₀.𝓜.mem w₀.𝓡.returns) (λ κs a g. r_top) (λ κs a g x e. r_last _)
-      (λ κs a x e. BlockGivenBy (held a) (behind a).0 (given_of x))
+      (λ κs a x e. BlockGivenBy (held a) (behind a).0 (answer_by fields_given x))
   pub block_bytes_lem : Says bytes-contract.ended (bytes-contract.clauses w₀.𝓛 w₀.𝓜.mem w₀.𝓡.returns) (λ κs a g. r_top) (λ κs a g x e. r_last _)
       (λ κs a x e. BytesGivenBy (held a) (behind a).0 x.now)
   pub find : Says find-contract.ended (find-contract.clauses w₀.𝓛 w₀.𝓜.mem w₀.𝓡.returns) (λ κs a g. r_top) (λ κs a g x e. r_last _)
-      (λ κs a x e. FoundBy (held a) (behind a).0 (behind a).1.0 (behind a).1.1.0 (behind a).1.1.1.0.now (behind e).1.1.1.0.now (found_of x))
+      (λ κs a x e. FoundBy (held a) (behind a).0 (behind a).1.0 (behind a).1.1.0 (behind a).1.1.1.0.now (behind e).1.1.1.0.now (answer_by counts_given x))
   pub touching : Says touching-contract.ended (touching-contract.clauses w₀.𝓛 w₀.𝓜.mem w₀.𝓡.returns) (λ κs a g. r_top) (λ κs a g x e. r_last _)
-      (λ κs a x e. TouchedBy (held a) (behind a).0 (behind a).1.0 (behind a).1.1.0 (behind a).1.1.1.0.now (behind e).1.1.1.0.now (touching_of x))
+      (λ κs a x e. TouchedBy (held a) (behind a).0 (behind a).1.0 (behind a).1.1.0 (behind a).1.1.1.0.now (behind e).1.1.1.0.now (answer_by (λ n. n) x))
   pub next : Says next-contract.ended (next-contract.clauses w₀.𝓛 w₀.𝓜.mem w₀.𝓡.returns) (λ κs a g. r_top) (λ κs a g x e. r_last _)
-      (λ κs a x e. NextGivenBy (held a) (behind a).0 (behind a).1.0 (neighbour_of x))
+      (λ κs a x e. NextGivenBy (held a) (behind a).0 (behind a).1.0 (answer_by near_told x))
   pub last : Says last-contract.ended (last-contract.clauses w₀.𝓛 w₀.𝓜.mem w₀.𝓡.returns) (λ κs a g. r_top) (λ κs a g x e. r_last _)
-      (λ κs a x e. LastGivenBy (held a) (behind a).0 (behind a).1.0 (neighbour_of x))
+      (λ κs a x e. LastGivenBy (held a) (behind a).0 (behind a).1.0 (answer_by near_told x))
   pub read_cells : Says cells-contract.ended (cells-contract.clauses w₀.𝓛 w₀.𝓜.mem w₀.𝓡.returns) (λ κs a g. r_top) (λ κs a g x e. r_last _)
       (λ κs a x e. CellsReadBy (held a) (behind a).0 (behind a).1.0 (behind a).1.1.0 (behind a).1.1.1.0.now (behind e).1.1.1.0.now
-      (behind a).1.1.1.1.0.now (behind e).1.1.1.1.0.now (read_of x))
+      (behind a).1.1.1.1.0.now (behind e).1.1.1.1.0.now (answer_by (λ _. tt) x))
   pub clock : Says clock-contract.ended (clock-contract.clauses w₀.𝓛 w₀.𝓜.mem w₀.𝓡.returns) (λ κs a g. r_top) (λ κs a g x e. r_last _)
-      (λ κs a x e. ClockGivenBy (held a) (behind a).0 (told_of x))
+      (λ κs a x e. ClockGivenBy (held a) (behind a).0 (answer_by (λ n. n) x))
   pub serialize_to : Says write-contract.ended (write-contract.clauses w₀.𝓛 w₀.𝓜.mem w₀.𝓡.returns) (λ κs a g. r_top) (λ κs a g x e. r_last _)
-      (λ κs a x e. WrittenBy (held a) (behind a).0.now (behind e).0.now (written_of x))
+      (λ κs a x e. WrittenBy (held a) (behind a).0.now (behind e).0.now (answer_by (λ n. n) x))
   pub deserialize : Says load-contract.ended (load-contract.clauses w₀.𝓛 w₀.𝓜.mem w₀.𝓡.returns) (λ κs a g. r_top) (λ κs a g x e. r_last _)
-      (λ κs a x e. LoadedBy (behind a).0.now (behind a).1.0 (held_load a) (held_load e) (loaded_of x))
+      (λ κs a x e. LoadedBy (behind a).0.now (behind a).1.0 (held_load a) (held_load e) (answer_by (λ n. n) x))
   pub record_all : Says all-contract.ended (all-contract.clauses w₀.𝓛 w₀.𝓜.mem w₀.𝓡.returns) (λ κs a g. r_top) (λ κs a g x e. r_last _)
       (λ κs a x e. RecordedAll (length (behind a).0.now) (behind a).1.0.now (held_record a)
       (tables (held_record e).pieces (held_record e).blocks (held_record e).store (held_record a).nodes (held_record a).entries) (behind a).1.1.0.now (behind e).1.1.0.now x.count x.next)

@@ -7,17 +7,12 @@
 
 #![tactic(auto)]
 
-ghost use Rattle.touching_read.specs.Answers.{touching_of, neighbour_of};
-ghost use Rattle.cells_read.specs.Answers.{read_of};
-ghost use Rattle.file_write.specs.Answers.{written_of};
-ghost use Rattle.clock.specs.Answers.{told_of};
+ghost use Rattle.touching_read.specs.Answers.{near_told};
+ghost use Rattle.refusals.specs.Numbers.{answer_by};
 ghost use Rattle.reads_tested.specs.Tested.{TouchedTested, NextTested, LastTested, CellsTested, WrittenTested, ClockTested};
 
-use cells_read::Read;
-use clock::Told;
-use file_write::Written;
 use index_test::State;
-use touching_read::{Nearest, Touching};
+use refusals::Refusal;
 
 // The live blocks that hold a cell of [start, end) at a tick, ascending by first cell.
 pub fn touching_tested(
@@ -29,17 +24,12 @@ pub fn touching_tested(
     start: u64,
     end: u64,
     answer: &mut [u64],
-) -> Touching
+) -> Result<u64, Refusal>
     ensures { TouchedTested state blocks.now nodes.now entries.now tick start end
-        answer.old answer.new (touching_of result) }
+        answer.old answer.new (answer_by (λ n. n) result) }
 {
-    match state {
-        State::Bad => Touching::Refused(2),
-        State::Open => Touching::Refused(4),
-        State::Closed => {
-            touching_read::touching_closed(blocks, nodes, entries, tick, start, end, answer)
-        }
-    }
+    state.closed()?;
+    touching_read::touching_closed(blocks, nodes, entries, tick, start, end, answer)
 }
 
 // The first live block that starts at the cell or after it.
@@ -50,14 +40,11 @@ pub fn next_tested(
     entries: &[u64],
     tick: u64,
     cell: u64,
-) -> Nearest
-    ensures { NextTested state blocks.now nodes.now entries.now tick cell (neighbour_of result) }
+) -> Result<Option<u64>, Refusal>
+    ensures { NextTested state blocks.now nodes.now entries.now tick cell (answer_by near_told result) }
 {
-    match state {
-        State::Bad => Nearest::Refused(2),
-        State::Open => Nearest::Refused(4),
-        State::Closed => touching_read::next_closed(blocks, nodes, entries, tick, cell),
-    }
+    state.closed()?;
+    touching_read::next_closed(blocks, nodes, entries, tick, cell)
 }
 
 // The last live block whose cells are all below the cell.
@@ -68,14 +55,11 @@ pub fn last_tested(
     entries: &[u64],
     tick: u64,
     cell: u64,
-) -> Nearest
-    ensures { LastTested state blocks.now nodes.now entries.now tick cell (neighbour_of result) }
+) -> Result<Option<u64>, Refusal>
+    ensures { LastTested state blocks.now nodes.now entries.now tick cell (answer_by near_told result) }
 {
-    match state {
-        State::Bad => Nearest::Refused(2),
-        State::Open => Nearest::Refused(4),
-        State::Closed => touching_read::last_closed(blocks, nodes, entries, tick, cell),
-    }
+    state.closed()?;
+    touching_read::last_closed(blocks, nodes, entries, tick, cell)
 }
 
 // The cells of [start, end) at a tick, into two lent slices.
@@ -90,17 +74,12 @@ pub fn cells_tested(
     end: u64,
     bytes: &mut [u8],
     held: &mut [u8],
-) -> Read
+) -> Result<(), Refusal>
     ensures { CellsTested state blocks.now store.now nodes.now entries.now tick start end
-        bytes.old bytes.new held.old held.new (read_of result) }
+        bytes.old bytes.new held.old held.new (answer_by (λ _. tt) result) }
 {
-    match state {
-        State::Bad => Read::Refused(2),
-        State::Open => Read::Refused(4),
-        State::Closed => cells_read::read_closed(
-            blocks, store, nodes, entries, tick, start, end, bytes, held,
-        ),
-    }
+    state.closed()?;
+    cells_read::read_closed(blocks, store, nodes, entries, tick, start, end, bytes, held)
 }
 
 // Writes the file of a closed index from the slice's start on. Its loops run to the count of blocks.
@@ -111,29 +90,21 @@ pub fn write_tested(
     nodes: &[u64],
     entries: &[u64],
     out: &mut [u8],
-) -> Written
+) -> Result<u64, Refusal>
     ensures { WrittenTested state blocks.now store.now nodes.now entries.now
-        out.old out.new (written_of result) }
+        out.old out.new (answer_by (λ n. n) result) }
 {
-    match state {
-        State::Bad => Written::Refused(2),
-        State::Open => Written::Refused(4),
-        State::Closed => {
-            if !index_tested::blocks_fit(blocks) {
-                return Written::Refused(2);
-            }
-            file_write::write_closed(blocks, store, nodes, entries, out)
-        }
+    state.closed()?;
+    if !index_tested::blocks_fit(blocks) {
+        return Err(Refusal::Malformed);
     }
+    file_write::write_closed(blocks, store, nodes, entries, out)
 }
 
 // The clock label of a cell, of an open or a closed index.
-pub fn clock_tested(state: State, blocks: &[u64], cell: u64) -> Told
-    ensures { ClockTested state blocks.now cell (told_of result) }
+pub fn clock_tested(state: State, blocks: &[u64], cell: u64) -> Result<u64, Refusal>
+    ensures { ClockTested state blocks.now cell (answer_by (λ n. n) result) }
 {
-    match state {
-        State::Bad => Told::Refused(2),
-        State::Open => clock::clock_formed(blocks, cell),
-        State::Closed => clock::clock_formed(blocks, cell),
-    }
+    state.formed()?;
+    Ok(clock::clock_formed(blocks, cell))
 }

@@ -9,9 +9,9 @@ use Rattle.history.specs.Words.{Operation}
 use Rattle.history.specs.Results.{Result}
 use Rattle.history.specs.Refusals.{Answer}
 use Rattle.layout.specs.Tables.{Tables, tables}
-use Rattle.index_record.specs.Calls.{operation, recorded_of}
-use Rattle.index_record.specs.declared.Recorded.{Recorded}
-use Rattle.index_record.specs.declared.Recorded.TheVariants.{Read, Update, Refused}
+use Rattle.refusals.specs.declared.Refusal.{Refusal}
+use Rattle.refusals.specs.Numbers.{number_of, answer_by}
+use Rattle.index_record.specs.Calls.{operation, recorded}
 use Rattle.index_test.specs.Board.{Outcome}
 use Rattle.index_test.specs.declared.State.{State}
 use Rattle.index_tested.specs.Kept.{Kept}
@@ -19,28 +19,27 @@ use Rattle.index_tested.specs.Tested.{RecordedTested}
 use Rattle.index_tested.proofs.Keeping.{test_keeps}
 use Rattle.call_lists.specs.Operations.{ReadAs, ItemRead}
 use Rattle.call_lists.specs.declared.Item.{Item}
-use Rattle.call_lists.specs.declared.Item.TheVariants.{Operation as An, End}
+use Rattle.std.specs.Prelude.{Option, Some, None, Ok, Err}
+use Rattle.std.specs.Prelude.{Result as Told}
 use Rattle.call_lists.proofs.Threes.{Shown, shown-none, shown-length, shown_more}
 use Rattle.record_all.specs.Many.{shown_of, AnswerPut, Plays, plays_full, plays_end, plays_more, RecordedAll, RecordedOne}
 
 -- ── one answer ──
 
-module _ {answers answers' : List ℕ} {at : ℕ} {r : Recorded} where
-  pub answer_read : r ≡ Read → answers' ≡ sets answers at (0 ∷ 0 ∷ 0 ∷ []) → AnswerPut r answers at answers'
-  answer_read e p = rw e (record { is = p })
+module _ {answers answers' : List ℕ} {at : ℕ} {r : Told (Option ℕ) Refusal} where
+  pub answer_read : {o : Option ℕ} → r ≡ Ok o → o ≡ None → answers' ≡ sets answers at (0 ∷ 0 ∷ 0 ∷ []) → AnswerPut r answers at answers'
+  answer_read e f p = rw (e, f) (record { is = p })
 
-  pub answer_update : {cell : ℕ} → r ≡ Update cell → answers' ≡ sets answers at (0 ∷ 1 ∷ cell ∷ []) → AnswerPut r answers at answers'
-  answer_update e p = rw e (record { is = p })
+  pub answer_update : {cell : ℕ} {o : Option ℕ} → r ≡ Ok o → o ≡ Some cell → answers' ≡ sets answers at (0 ∷ 1 ∷ cell ∷ []) → AnswerPut r answers at answers'
+  answer_update e f p = rw (e, f) (record { is = p })
 
-  pub answer_refused : {n : ℕ} → r ≡ Refused n → answers' ≡ sets answers at (n ∷ 0 ∷ 0 ∷ []) → AnswerPut r answers at answers'
-  answer_refused e p = rw e (record { is = p })
+  pub answer_refused : {x : Refusal} {n : ℕ} → r ≡ Err x → n ≡ number_of x → answers' ≡ sets answers at (n ∷ 0 ∷ 0 ∷ []) → AnswerPut r answers at answers'
+  answer_refused e m p = rw e (record { is = rw m at p })
 
-pub ruleset answering = (answer_read, answer_update, answer_refused)
-
-pub one_put : {s : State} {pieces blocks store pieces' blocks' store' answers answers' : List ℕ} {scratch at : ℕ} {o : Operation} {r : Recorded}
-    → RecordedTested s pieces blocks store pieces' blocks' store' scratch o (recorded_of r) → AnswerPut r answers at answers'
+pub one_put : {s : State} {pieces blocks store pieces' blocks' store' answers answers' : List ℕ} {scratch at : ℕ} {o : Operation} {r : Told (Option ℕ) Refusal}
+    → RecordedTested s pieces blocks store pieces' blocks' store' scratch o (answer_by recorded r) → AnswerPut r answers at answers'
     → RecordedOne s pieces blocks store pieces' blocks' store' scratch o answers at answers'
-one_put {r} d p = record { recorded = r; tested = d; put = p }
+one_put {r} d p = record { answer = r; tested = d; put = p }
 
 -- ── between turns ──
 
@@ -90,37 +89,36 @@ module _ {s : State} {scratch : ℕ} {list : List ℕ} {t₀ t : Tables} {answer
   turn_count h = omega (arith, turn.places, turn.few)
 
   -- no place is left
-  pub turn_full : most ≤ count → RecordedAll scratch list t₀ t answers₀ answers count at
+  pub turn_full : most ≤ count → RecordedAll scratch list t₀ t answers₀ answers most at
   turn_full h =
+      let all : most ≡ count = omega (arith, turn.room) in
       let none : turn.left ≡ 0 = omega (arith, turn.room) in
-      ended (subst (λ (n : ℕ). Plays scratch list n at t [] at t) (sym none) plays_full)
+      rw all (ended (subst (λ (n : ℕ). Plays scratch list n at t [] at t) (sym none) plays_full))
 
   -- no whole operation is left
-  pub turn_end : {r : Item} → ItemRead list at r → r ≡ End → RecordedAll scratch list t₀ t answers₀ answers count at
-  turn_end i e =
-      let says : ReadAs End list at = subst (λ (x : Item). ReadAs x list at) e i.says in
-      ended (plays_end says.1)
+  pub turn_end : ItemRead list at None → RecordedAll scratch list t₀ t answers₀ answers count at
+  turn_end i = ended (plays_end i.says.1)
 
 -- what an operation of the list is good for
-module _ {list : List ℕ} {at tick first start next : ℕ} {r : Item} (i : ItemRead list at r) (e : r ≡ An tick first start next) where
-  item_says : ReadAs (An tick first start next) list at
-  item_says = subst (λ (x : Item). ReadAs x list at) e i.says
+module _ {list : List ℕ} {at : ℕ} {r : Item} (i : ItemRead list at (Some r)) where
+  item_says : ReadAs (Some r) list at
+  item_says = i.says
 
-  pub item_forward : start ≤ next
+  pub item_forward : r.start ≤ r.next
   item_forward = item_says.1
 
-  pub item_inside : next ≤ length list
+  pub item_inside : r.next ≤ length list
   item_inside = item_says.2
 
 module _ {s : State} {scratch : ℕ} {list : List ℕ} {t₀ : Tables} {pieces blocks store nodes entries answers₀ answers : List ℕ} {most count at : ℕ}
     (turn : Turning s scratch list t₀ (tables pieces blocks store nodes entries) answers₀ answers most count at)
-    {tick first start next : ℕ} {r : Item} (i : ItemRead list at r) (e : r ≡ An tick first start next) (more : count < most) where
+    {r : Item} (i : ItemRead list at (Some r)) (more : count < most) where
   -- one operation more
   pub turn_on : {pieces' blocks' store' answers' : List ℕ}
-      → RecordedOne s pieces blocks store pieces' blocks' store' scratch (operation tick first (take (next - start) (drop start list))) answers (3 * count) answers'
-      → Turning s scratch list t₀ (tables pieces' blocks' store' nodes entries) answers₀ answers' most (count + 1) next
+      → RecordedOne s pieces blocks store pieces' blocks' store' scratch (operation r.tick r.first (take (r.next - r.start) (drop r.start list))) answers (3 * count) answers'
+      → Turning s scratch list t₀ (tables pieces' blocks' store' nodes entries) answers₀ answers' most (count + 1) r.next
   turn_on {pieces'} {blocks'} {store'} {answers'} d =
-      let a = recorded_of d.recorded in
+      let a = answer_by recorded d.answer in
       let t₁ = tables pieces' blocks' store' nodes entries in
       let one = d.tested.done nodes entries turn.kept in
       let one_left : turn.left ≡ suc (turn.left - 1) = omega (arith, turn.room) in
@@ -136,5 +134,5 @@ module _ {s : State} {scratch : ℕ} {list : List ℕ} {t₀ : Tables} {pieces b
             subst (λ (g : List (Answer Result)). Plays scratch list (length answers₀ / 3) 0 t₀ g after t') (sym (append_assoc turn.given (a ∷ []) others))
             (turn.whole (a ∷ others) after t'
             (subst (λ (n : ℕ). Plays scratch list n at (tables pieces blocks store nodes entries) (a ∷ others) after t') (sym one_left)
-            (plays_more (item_says i e).0 one.0 p)));
+            (plays_more (item_says i).0 one.0 p)));
       }

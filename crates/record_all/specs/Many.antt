@@ -1,5 +1,6 @@
 -- What `record_all` does: record calls one after the other. Definitions alone.
-use Rattle.std.specs.Prelude.{◌≡◌, List, [], ◌∷◌, map, ℕ, suc, ◌/◌, length}
+use Rattle.std.specs.Prelude.{◌≡◌, List, [], ◌∷◌, map, ℕ, suc, ◌/◌, length, Option}
+use Rattle.std.specs.Prelude.{Result as Told}
 use Rattle.std.proofs.lemmas.List.Edits.{sets}
 use Rattle.history.specs.Words.{Operation}
 use Rattle.history.specs.Results.{Result, done, read, update, number}
@@ -7,8 +8,9 @@ use Rattle.history.specs.Refusals.{Answer, accepted, refused}
 use Rattle.history.specs.File.{got, fault}
 use Rattle.layout.specs.Tables.{Tables}
 use Rattle.layout.specs.Relations.{RecordedBy}
-use Rattle.index_record.specs.Calls.{recorded_of}
-use Rattle.index_record.specs.declared.Recorded.{Recorded}
+use Rattle.refusals.specs.declared.Refusal.{Refusal}
+use Rattle.refusals.specs.Numbers.{answer_by}
+use Rattle.index_record.specs.Calls.{recorded}
 use Rattle.index_test.specs.declared.State.{State}
 use Rattle.index_tested.specs.Tested.{RecordedTested}
 use Rattle.call_lists.specs.Operations.{read_operation}
@@ -28,8 +30,8 @@ shown_of (accepted r) = result_shown r
 shown_of (refused n) = three n 0 0
 
 -- `put_answer`
-pub record AnswerPut (r : Recorded) (answers : List ℕ) (at : ℕ) (answers' : List ℕ) : Type 0 where
-  pub is : answers' ≡ sets answers at ((shown_of (recorded_of r)).refusal ∷ (shown_of (recorded_of r)).one ∷ (shown_of (recorded_of r)).other ∷ [])
+pub record AnswerPut (r : Told (Option ℕ) Refusal) (answers : List ℕ) (at : ℕ) (answers' : List ℕ) : Type 0 where
+  pub is : answers' ≡ sets answers at ((shown_of (answer_by recorded r)).refusal ∷ (shown_of (answer_by recorded r)).one ∷ (shown_of (answer_by recorded r)).other ∷ [])
 
 -- ── the calls ──
 
@@ -51,6 +53,6 @@ pub record RecordedAll (scratch : ℕ) (list : List ℕ) (t t' : Tables) (answer
 
 -- `record_one`: record at a state, its answer at a place
 pub record RecordedOne (s : State) (pieces blocks store pieces' blocks' store' : List ℕ) (scratch : ℕ) (o : Operation) (answers : List ℕ) (at : ℕ) (answers' : List ℕ) : Type 0 where
-  pub recorded : Recorded
-  pub tested : RecordedTested s pieces blocks store pieces' blocks' store' scratch o (recorded_of recorded)
-  pub put : AnswerPut recorded answers at answers'
+  pub answer : Told (Option ℕ) Refusal
+  pub tested : RecordedTested s pieces blocks store pieces' blocks' store' scratch o (answer_by recorded answer)
+  pub put : AnswerPut answer answers at answers'

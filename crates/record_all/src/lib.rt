@@ -14,8 +14,8 @@ ghost use Rattle.record_all.specs.Many.{AnswerPut, RecordedOne, RecordedAll};
 ghost use Rattle.record_all.specs.Law.{WrittenOut};
 
 use call_lists::Item;
-use index::Recorded;
 use index_test::State;
+use refusals::Refusal;
 
 // How many operations were played, and the position behind them.
 #[derive(Clone, Copy)]
@@ -25,14 +25,14 @@ pub struct Played {
 }
 
 // Puts an answer at its place: the refusal or 0, 1 of an update, its lowest changed cell.
-fn put_answer(answers: &mut [u64], at: usize, recorded: Recorded)
+fn put_answer(answers: &mut [u64], at: usize, recorded: Result<Option<u64>, Refusal>)
     requires { at + 3 ≤ length answers.old }
     ensures { AnswerPut recorded answers.old at answers.new }
 {
     match recorded {
-        Recorded::Read => call_lists::put_three(answers, at, 0, 0, 0),
-        Recorded::Update(cell) => call_lists::put_three(answers, at, 0, 1, cell),
-        Recorded::Refused(number) => call_lists::put_three(answers, at, number, 0, 0),
+        Ok(None) => call_lists::put_three(answers, at, 0, 0, 0),
+        Ok(Some(cell)) => call_lists::put_three(answers, at, 0, 1, cell),
+        Err(refusal) => call_lists::put_three(answers, at, u64::from(refusal), 0, 0),
     }
 }
 
@@ -77,41 +77,35 @@ pub fn record_all(
 {
     let state = index_test::test(pieces, blocks, store, nodes, entries);
     let most = answers.len() / 3;
-    let mut count = 0;
     let mut at = 0;
-    while count < most {
-        match call_lists::operation_at(list, at) {
-            Item::End => {
-                return Played {
-                    count: count,
-                    next: at,
-                };
-            }
-            Item::Operation {
+    for count in 0..most {
+        let Some(
+            Item {
                 tick,
                 first,
                 start,
                 next,
-            } => {
-                record_one(
-                    state,
-                    pieces,
-                    blocks,
-                    store,
-                    scratch,
-                    tick,
-                    first,
-                    &list[start..next],
-                    answers,
-                    count,
-                );
-                at = next;
-                count += 1;
-            }
-        }
+            },
+        ) = call_lists::operation_at(list, at)
+        else {
+            return Played { count, next: at };
+        };
+        record_one(
+            state,
+            pieces,
+            blocks,
+            store,
+            scratch,
+            tick,
+            first,
+            &list[start..next],
+            answers,
+            count,
+        );
+        at = next;
     }
     Played {
-        count: count,
+        count: most,
         next: at,
     }
 }

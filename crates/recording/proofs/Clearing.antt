@@ -3,56 +3,41 @@ use mathlib.Core.Path.{◌≡◌, refl, sym, ap, ap₂, subst, ◌∙◌}
 use mathlib.Core.Logic.{inl, inr}
 use mathlib.Core.Bool.{Bool, true, false, true≢false, false≢true}
 use mathlib.Core.List.{List, [], ◌∷◌, ◌++◌, map, append_assoc}
-use Prim.Native.Nat.{ℕ, ◌+◌, ◌-◌, ◌≤◌, ◌<◌, min, max}
+use Prim.Native.Nat.{ℕ, ◌+◌, ◌-◌, ◌≤◌, ◌<◌}
 use native.Mathlib.Omega.{arith}
 use lib.ListN.{length, length-append}
-use borrow.Author.Tests.{ltb-true, ltb-false, not-true, not-false}
+use borrow.Author.Tests.{ltb-true, ltb-false}
 use Rattle.lists.specs.Lists.{all_nil, all_cons}
 use Rattle.lists.proofs.Lists.{all_append, all_left, all_right, all_tail}
 use Rattle.lists.proofs.Maps.{map-append}
-use Rattle.tables.specs.Columns.{column, piece_length, piece_written, piece_offset, piece_owner, pieces_count}
+use Rattle.tables.specs.Columns.{column, pieces_count}
+use Rattle.std.specs.Prelude.{Some, None}
+use Rattle.std.proofs.lemmas.Option.{none-some, same_Some}
 use Rattle.block_table.specs.Appended.{AppendedRow}
 use Rattle.block_table.proofs.Appending.{appended-none, countable_less}
 use Rattle.merge_set.specs.Table.{first_at, StartsBelow}
 use Rattle.piece_table.specs.Piece.{PieceRow, row_end, piece_at, part, rows_below, rows_inside, rows_above}
-use Rattle.piece_table.specs.Calls.{end_at, EndsAfter, Sought, RemovedPiece, TrimmedFront}
+use Rattle.piece_table.proofs.Clipping.{clip_some, clip_is}
+use Rattle.piece_table.specs.Calls.{Clipped, end_at, EndsAfter, Sought, RemovedPiece, TrimmedFront}
 use Rattle.piece_table.proofs.Order.{follow_filled, follow_right}
 use Rattle.piece_table.proofs.Parts.{Left, Right, apart, covered-below, covered-above, front_cut, inside_left, inside_right, inside_skip, inside_here}
 use Rattle.piece_table.proofs.Seeing.{rep_follow, rep_count, Seen, seen_none, seen-some, becomes_same, becomes_eq, becomes_then, left_alone}
-use Rattle.piece_table.proofs.Writing.{piece_eq}
-use Rattle.recording.specs.Recorded.{recorded}
+use Rattle.recording.specs.Recorded.{recorded, block_row_of}
 use Rattle.recording.specs.Calls.{inner_part, RecordedPart, Uncrossed, Clearing, Clear, Given, Covered, MetOne, ClearedOne, Cleared}
 use Rattle.recording.proofs.Recorded.{recorded-append, recorded_more}
 
 -- ── `record_part` ──
 
-module _ {t b : List ℕ} {link tick first end was size offset from : ℕ} (ew : was ≡ first_at t link) (es : size ≡ column t link piece_length) (eo : offset ≡ column t link piece_offset) (ef : from ≡ max first was) where
-  pub record_part_far : 18446744073709551615 - was < size → RecordedPart t b b link tick first end
-  record_part_far h = record { done = λ p lt lo hi c. absurd (omega (arith, p.near)) }
+module _ {t b : List ℕ} {link tick first end : ℕ} {p : PieceRow} (ep : p ≡ piece_at t link) where
+  pub record_part_none : Clipped p first end None → RecordedPart t b b link tick first end
+  record_part_none k = record { done = λ w lt lo hi c. absurd (clip_some _ _ (rw ep at k) w refl refl (omega (arith, w.some))) }
 
-  module _ {to : ℕ} (et : to ≡ min end (was + size)) where
-    pub record_part-none : to < from → RecordedPart t b b link tick first end
-    record_part-none h = record { done = λ p lt lo hi c. absurd (omega (arith, p.some)) }
-
-    pub record_part_wide : 18446744073709551615 - offset < from - was → RecordedPart t b b link tick first end
-    record_part_wide h = record { done = λ p lt lo hi c. absurd (omega (arith, p.stored)) }
-
-    pub record_part_done : {b₁ : List ℕ} {written owner : ℕ} → written ≡ column t link piece_written → owner ≡ column t link piece_owner
-        → AppendedRow b b₁ (record { first = from; size = to - from; created = written; destroyed = tick; offset = offset + (from - was); owner = owner }) → RecordedPart t b b₁ link tick first end
-    record_part_done {b₁} {written} {owner} ewr eow one =
-        record {
-          done = λ p lt lo hi c.
-              one.done c ∙ ap (λ (q : PieceRow). recorded tick (q ∷ []) b) (piece_eq a z ewr o eow);
-        }
-      where
-        a : from ≡ max first (first_at t link)
-        a = omega arith
-
-        z : to - from ≡ min end (end_at t link) - max first (first_at t link)
-        z = rw (et, ef, ew, es)
-
-        o : offset + (from - was) ≡ column t link piece_offset + (max first (first_at t link) - first_at t link)
-        o = rw (eo, ef, ew)
+  pub record_part_done : {b₁ : List ℕ} {part : PieceRow} → Clipped p first end (Some part) → AppendedRow b b₁ (block_row_of tick part) → RecordedPart t b b₁ link tick first end
+  record_part_done {part = part} k one =
+      record {
+        done = λ w lt lo hi c.
+            one.done c ∙ ap (λ (q : PieceRow). recorded tick (q ∷ []) b) (clip_is _ _ (rw ep at k) w refl refl (omega (arith, w.some)));
+      }
 
 -- ── `meet_one` ──
 
@@ -60,8 +45,8 @@ module _ {t b : List ℕ} {link tick first end was size offset from : ℕ} (ew :
 pub nothing_inside : {b : List ℕ} (tick : ℕ) {qs : List PieceRow} → qs ≡ [] → b ≡ recorded tick qs b
 nothing_inside {b} tick e = sym (ap (λ (l : List PieceRow). recorded tick l b) e ∙ appended-none b)
 
-stops : {t t' b b' : List ℕ} {tick f e : ℕ} → ((ps : List PieceRow) → Given t b f e ps → Uncrossed f ps → Clear t t' b b' tick f e ps) → MetOne t t' b b' tick f e 0
-stops g = record { covers = λ nz. absurd (nz refl); stop = λ _. g }
+stops : {t t' b b' : List ℕ} {tick f e : ℕ} → ((ps : List PieceRow) → Given t b f e ps → Uncrossed f ps → Clear t t' b b' tick f e ps) → MetOne t t' b b' tick f e None
+stops g = record { covers = λ link y. absurd (none-some link y); stop = λ _. g }
 
 -- the link's piece does not start before the first cell
 uncrossed_here : {t : List ℕ} {f link : ℕ} {ps : List PieceRow} → Seen t f link ps → Uncrossed f ps → f ≤ first_at t link
@@ -76,14 +61,14 @@ pub inside-seen : {t : List ℕ} {f link : ℕ} {ps : List PieceRow} (e : ℕ) (
     → rows_inside f e ps ≡ inner_part t link f e ∷ rows_inside f e (map (piece_at t) v.ys)
 inside-seen {t} {f} {link} e v h lt = ap (rows_inside f e) v.is ∙ inside_here f e (map (piece_at t) v.xs) (piece_at t link) (map (piece_at t) v.ys) v.left h v.whole.some lt v.past
 
-pub meet_one-none : {t b : List ℕ} {tick f e link : ℕ} → Sought t f link → link ≡ 0 → MetOne t t b b tick f e 0
+pub meet_one-none : {t b : List ℕ} {tick f e link : ℕ} → Sought t f link → link ≡ 0 → MetOne t t b b tick f e None
 meet_one-none {t} {b} {tick} {f} {e} {link} s z =
     stops (λ ps g u.
     let l : Left f ps = seen_none s g.rep z in
     record { becomes = becomes_same g.rep (left_alone f e g.some l (rep_follow g.rep)); blocks = nothing_inside tick (inside_left f e l) })
 
 module _ {t b : List ℕ} {tick f e link was : ℕ} (s : Sought t f link) (nz : link ≡ 0 → ⊥) (ew : was ≡ first_at t link) where
-  right_of : e ≤ was → MetOne t t b b tick f e 0
+  right_of : e ≤ was → MetOne t t b b tick f e None
   right_of le =
       stops (λ ps g u.
       let v : Seen t f link ps = seen-some s g.rep nz in
@@ -105,7 +90,7 @@ module _ {t b : List ℕ} {tick f e link was : ℕ} (s : Sought t f link) (nz : 
       rec.done v.whole g.some lt v.past (countable_less (omega (arith, ap length (inside-seen e v g.some lt))) g.space)
 
   module _ {q : Bool} {b₁ : List ℕ} (lt : was < e) (rec : RecordedPart t b b₁ link tick f e) (eq : EndsAfter t link e q) where
-    front_met : {t₁ : List ℕ} → q ≡ true → TrimmedFront t t₁ link e → MetOne t t₁ b b₁ tick f e 0
+    front_met : {t₁ : List ℕ} → q ≡ true → TrimmedFront t t₁ link e → MetOne t t₁ b b₁ tick f e None
     front_met y trim =
         stops (λ ps g u.
         let v : Seen t f link ps = seen-some s g.rep nz in
@@ -122,45 +107,47 @@ module _ {t b : List ℕ} {tick f e link was : ℕ} (s : Sought t f link) (nz : 
           blocks = recorded-seen rec g (omega arith) ∙ ap (λ (l : List PieceRow). recorded tick l b) (sym (inside-seen e v g.some (omega arith) ∙ ap (λ (l : List PieceRow). inner_part t link f e ∷ l) none));
         })
 
-    whole-met : q ≡ false → MetOne t t b b₁ tick f e link
+    whole-met : q ≡ false → MetOne t t b b₁ tick f e (Some link)
     whole-met n =
         record {
-          covers = λ _ ps g u.
-              record {
+          covers = λ at y ps g u.
+              rw (← same_Some link at y)
+              (record {
+                some = nz;
                 same = refl;
                 sought = s;
                 from = uncrossed_here (seen-some s g.rep nz) u;
                 to = ltb-false e (end_at t link) (sym eq.is ∙ n);
                 blocks = recorded-seen rec g (omega arith);
-              };
-          stop = λ z. absurd (nz z);
+              });
+          stop = λ z. absurd (none-some link (sym z));
         }
 
 -- by the test whether the piece starts before the end
 module _ {t b : List ℕ} {tick f e link : ℕ} {starts : Bool} (s : Sought t f link) (nz : link ≡ 0 → ⊥) (tested : StartsBelow t link e starts) where
-  pub meet_one_right : starts ≡ false → MetOne t t b b tick f e 0
+  pub meet_one_right : starts ≡ false → MetOne t t b b tick f e None
   meet_one_right h = right_of s nz refl (ltb-false (first_at t link) e (sym tested.is ∙ h))
 
   module _ {q : Bool} {b₁ : List ℕ} (h : starts ≡ true) (rec : RecordedPart t b b₁ link tick f e) (eq : EndsAfter t link e q) where
-    pub meet_one_front : {t₁ : List ℕ} → q ≡ true → TrimmedFront t t₁ link e → MetOne t t₁ b b₁ tick f e 0
+    pub meet_one_front : {t₁ : List ℕ} → q ≡ true → TrimmedFront t t₁ link e → MetOne t t₁ b b₁ tick f e None
     meet_one_front = front_met s nz refl (ltb-true (first_at t link) e (sym tested.is ∙ h)) rec eq
 
-    pub meet_one-whole : q ≡ false → MetOne t t b b₁ tick f e link
+    pub meet_one-whole : q ≡ false → MetOne t t b b₁ tick f e (Some link)
     meet_one-whole = whole-met s nz refl (ltb-true (first_at t link) e (sym tested.is ∙ h)) rec eq
 
 -- ── `clear_one` ──
 
-module _ {t t₁ b b₁ : List ℕ} {tick f e link : ℕ} (met : MetOne t t₁ b b₁ tick f e link) where
-  pub clear_one_stop : link ≡ 0 → ClearedOne t t₁ b b₁ tick f e false
-  clear_one_stop z = record { step = λ y. absurd (false≢true y); stop = λ _. met.stop z }
+module _ {t t₁ b b₁ : List ℕ} {tick f e : ℕ} where
+  pub clear_one_stop : MetOne t t₁ b b₁ tick f e None → ClearedOne t t₁ b b₁ tick f e false
+  clear_one_stop met = record { step = λ y. absurd (false≢true y); stop = λ _. met.stop refl }
 
-  pub clear_one_more : {t₂ : List ℕ} → (link ≡ 0 → ⊥) → RemovedPiece t₁ t₂ link → ClearedOne t t₂ b b₁ tick f e true
-  clear_one_more {t₂} nz gone = record { step = λ _. go; stop = λ z. absurd (true≢false z) }
+  pub clear_one_more : {t₂ : List ℕ} {link : ℕ} → MetOne t t₁ b b₁ tick f e (Some link) → RemovedPiece t₁ t₂ link → ClearedOne t t₂ b b₁ tick f e true
+  clear_one_more {t₂} {link} met gone = record { step = λ _. go; stop = λ z. absurd (true≢false z) }
     where
       go : (ps : List PieceRow) → Given t b f e ps → Uncrossed f ps → Clearing t t₂ b b₁ tick f e (length ps - 1) ps
       go ps g u =
-          let k : Covered t t₁ b b₁ tick f e link = met.covers nz ps g u in
-          let v : Seen t f link ps = seen-some k.sought g.rep nz in
+          let k : Covered t t₁ b b₁ tick f e link = met.covers link refl ps g u in
+          let v : Seen t f link ps = seen-some k.sought g.rep k.some in
           let p : PieceRow = piece_at t link in
           let A : List PieceRow = map (piece_at t) v.xs in
           let B : List PieceRow = map (piece_at t) v.ys in
@@ -180,11 +167,9 @@ module _ {t t₁ b b₁ : List ℕ} {tick f e link : ℕ} (met : MetOne t t₁ b
 
 -- ── `clear` ──
 
--- between the rounds: `left` rounds suffice
-pub record Round (t t' b b' : List ℕ) (tick f e left : ℕ) : Type 0 where
-  pub len : length t' ≡ length t
-  pub len_blocks : length b' ≡ length b
-  pub done : (ps : List PieceRow) → Given t b f e ps → Uncrossed f ps → Clearing t t' b b' tick f e left ps
+-- between the rounds: those that are left suffice
+pub record Round (t t' b b' : List ℕ) (tick f e count round : ℕ) : Type 0 where
+  pub done : (ps : List PieceRow) → Given t b f e ps → Uncrossed f ps → Clearing t t' b b' tick f e (count - round) ps
 
 -- before the first of them
 pub clearing_same : {t b : List ℕ} {tick f e left : ℕ} {ps : List PieceRow} → Given t b f e ps → Uncrossed f ps → length ps ≤ left → Clearing t t b b tick f e left ps
@@ -201,8 +186,8 @@ clearing_same {b = b} {ps = ps} g u n =
       few = n;
     }
 
-pub clear_start : {t b : List ℕ} {tick f e left : ℕ} → left ≡ column t 0 pieces_count → Round t t b b tick f e left
-clear_start el = record { len = refl; len_blocks = refl; done = λ ps g u. clearing_same g u (omega (arith, rep_count g.rep)) }
+pub clear_start : {t b : List ℕ} {tick f e count : ℕ} → count ≡ column t 0 pieces_count → Round t t b b tick f e count 0
+clear_start el = record { done = λ ps g u. clearing_same g u (omega (arith, rep_count g.rep)) }
 
 -- what the next step may assume
 pub given_next : {t t₁ b b₁ : List ℕ} {tick f e left : ℕ} {ps : List PieceRow} → Given t b f e ps → (k : Clearing t t₁ b b₁ tick f e left ps) → Given t₁ b₁ f e k.now
@@ -213,13 +198,13 @@ given_next {tick = tick} {f} {e} g k =
       space = rw k.blocks (recorded_more tick k.gone (rows_inside f e k.now) _ (rw k.inside at g.space));
     }
 
-module _ {t t₁ t₂ b b₁ b₂ : List ℕ} {tick f e left : ℕ} {q : Bool} (c : Round t t₁ b b₁ tick f e left) (o : ClearedOne t₁ t₂ b₁ b₂ tick f e q) where
-  pub clear_more : length t₂ ≡ length t₁ → length b₂ ≡ length b₁ → q ≡ true → Round t t₂ b b₂ tick f e (left - 1)
-  clear_more l m y = record { len = l ∙ c.len; len_blocks = m ∙ c.len_blocks; done = go }
+module _ {t t₁ t₂ b b₁ b₂ : List ℕ} {tick f e count round : ℕ} {q : Bool} (c : Round t t₁ b b₁ tick f e count round) (o : ClearedOne t₁ t₂ b₁ b₂ tick f e q) where
+  pub clear_more : q ≡ true → Round t t₂ b b₂ tick f e count (round + 1)
+  clear_more y = record { done = go }
     where
-      go : (ps : List PieceRow) → Given t b f e ps → Uncrossed f ps → Clearing t t₂ b b₂ tick f e (left - 1) ps
+      go : (ps : List PieceRow) → Given t b f e ps → Uncrossed f ps → Clearing t t₂ b b₂ tick f e (count - (round + 1)) ps
       go ps g u =
-          let k : Clearing t t₁ b b₁ tick f e left ps = c.done ps g u in
+          let k : Clearing t t₁ b b₁ tick f e (count - round) ps = c.done ps g u in
           let n : Clearing t₁ t₂ b₁ b₂ tick f e (length k.now - 1) k.now = o.step y k.now (given_next g k) k.uncrossed in
           record {
             now = n.now;
@@ -238,15 +223,15 @@ module _ {t t₁ t₂ b b₁ b₂ : List ℕ} {tick f e left : ℕ} {q : Bool} (
     where
       go : (ps : List PieceRow) → Given t b f e ps → Uncrossed f ps → Clear t t₂ b b₂ tick f e ps
       go ps g u =
-          let k : Clearing t t₁ b b₁ tick f e left ps = c.done ps g u in
+          let k : Clearing t t₁ b b₁ tick f e (count - round) ps = c.done ps g u in
           let z : Clear t₁ t₂ b₁ b₂ tick f e k.now = o.stop n k.now (given_next g k) k.uncrossed in
           record {
             becomes = becomes_eq (becomes_then k.becomes z.becomes) (ap₂ (λ (x y : List PieceRow). x ++ y) (sym k.same_below) (sym k.same_above));
             blocks = z.blocks ∙ ap (recorded tick (rows_inside f e k.now)) k.blocks ∙ recorded-append tick k.gone (rows_inside f e k.now) b g.space.head ∙ ap (λ (l : List PieceRow). recorded tick l b) (sym k.inside);
           }
 
-pub clear_end : {t t' b b' : List ℕ} {tick f e left : ℕ} → Round t t' b b' tick f e left → left ≤ 0 → Cleared t t' b b' tick f e
-clear_end {t} {t'} {b} {b'} {tick} {f} {e} {left} c z = record { done = go }
+pub clear_end : {t t' b b' : List ℕ} {tick f e count round : ℕ} → Round t t' b b' tick f e count round → count ≤ round → Cleared t t' b b' tick f e
+clear_end {t} {t'} {b} {b'} {tick} {f} {e} {count} {round} c z = record { done = go }
   where
     nothing : (ps : List PieceRow) → length ps ≤ 0 → Left f ps
     nothing [] h = all_nil
@@ -254,12 +239,18 @@ clear_end {t} {t'} {b} {b'} {tick} {f} {e} {left} c z = record { done = go }
 
     go : (ps : List PieceRow) → Given t b f e ps → Uncrossed f ps → Clear t t' b b' tick f e ps
     go ps g u =
-        let k : Clearing t t' b b' tick f e left ps = c.done ps g u in
+        let k : Clearing t t' b b' tick f e (count - round) ps = c.done ps g u in
         let l : Left f k.now = nothing k.now (omega (arith, k.few)) in
         record {
           becomes = becomes_eq k.becomes (ap₂ (λ (x y : List PieceRow). x ++ y) (sym k.same_below) (sym k.same_above) ∙ left_alone f e g.some l (rep_follow k.becomes.rep));
           blocks = nothing_inside tick (inside_left f e l) ∙ ap (recorded tick (rows_inside f e k.now)) k.blocks ∙ recorded-append tick k.gone (rows_inside f e k.now) b g.space.head ∙ ap (λ (l : List PieceRow). recorded tick l b) (sym k.inside);
         }
 
--- the steps, for `search` at a return
-pub ruleset clearing = (not-true, not-false, record_part_far, record_part-none, record_part_wide, record_part_done, meet_one-none, meet_one_right, meet_one_front, meet_one-whole, clear_one_stop, clear_one_more, clear_start, clear_more, clear_stop, clear_end)
+-- the steps, one for each return
+pub ruleset recording = (record_part_none, record_part_done)
+
+pub ruleset meeting = (meet_one-none, meet_one_right, meet_one_front, meet_one-whole)
+
+pub ruleset clearing = (clear_one_stop, clear_one_more)
+
+pub ruleset rounds = (clear_start, clear_more, clear_stop, clear_end)

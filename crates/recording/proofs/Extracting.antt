@@ -5,7 +5,7 @@ use Prim.Native.Nat.{ℕ, suc, ◌+◌, ◌-◌, ◌≤◌}
 use native.Mathlib.Omega.{arith}
 use lib.ListN.{length, length-append, length-map}
 use Rattle.lists.proofs.Maps.{map-append}
-use Rattle.tables.specs.Columns.{column, piece_first, piece_length, piece_written, piece_offset, piece_left, piece_right, piece_owner, pieces_root}
+use Rattle.tables.specs.Columns.{column, piece_left, piece_right, pieces_root}
 use Rattle.block_table.specs.Appended.{Countable, AppendedRow}
 use Rattle.block_table.proofs.Appending.{appended-none, countable_less}
 use Rattle.merge_set.specs.Tree.{Tree, leaf, node, height, rows}
@@ -13,8 +13,7 @@ use Rattle.merge_set.specs.Table.{Shape}
 use Rattle.piece_table.specs.Piece.{PieceRow, piece_at}
 use Rattle.piece_table.specs.Rep.{Rep}
 use Rattle.piece_table.proofs.Removing.{linked_depth}
-use Rattle.piece_table.proofs.Writing.{piece, piece_eq}
-use Rattle.recording.specs.Recorded.{recorded}
+use Rattle.recording.specs.Recorded.{recorded, block_row_of}
 use Rattle.recording.specs.Calls.{Extracted, ExtractedMembers}
 use Rattle.recording.proofs.Recorded.{recorded-append, recorded_more}
 
@@ -28,21 +27,20 @@ extract_leaf {t} {b} {link} {end} {fuel} z = record { done = go }
     go leaf s h c = sym (appended-none b)
     go (node A x B) s h c = absurd (omega (arith, s.is, s.valid.some))
 
-module _ {t b : List ℕ} {link end fuel : ℕ} (nz : link ≡ 0 → ⊥) where
-  pub extract_stop : fuel ≡ 0 → Extracted t b b link end fuel
-  unfolding Shape height
-  extract_stop z = record { done = go }
-    where
-      go : (T : Tree) → Shape t link T → height T ≤ fuel → Countable b (length (rows T)) → b ≡ recorded end (map (piece_at t) (rows T)) b
-      go leaf s h c = absurd (nz s)
-      go (node A x B) s h c = absurd (omega arith)
+pub extract_stop : {t b : List ℕ} {link end fuel : ℕ} → fuel ≡ 0 → Extracted t b b link end fuel
+unfolding Shape height rows
+extract_stop {t} {b} {link} {end} {fuel} z = record { done = go }
+  where
+    go : (T : Tree) → Shape t link T → height T ≤ fuel → Countable b (length (rows T)) → b ≡ recorded end (map (piece_at t) (rows T)) b
+    go leaf s h c = sym (appended-none b)
+    go (node A x B) s h c = absurd (omega arith)
 
-  pub extract_node : {b₁ b₂ b₃ : List ℕ} {l r first size written offset owner : ℕ} → l ≡ column t link piece_left → r ≡ column t link piece_right → first ≡ column t link piece_first
-      → size ≡ column t link piece_length → written ≡ column t link piece_written → offset ≡ column t link piece_offset → owner ≡ column t link piece_owner
-      → Extracted t b b₁ l end (fuel - 1) → AppendedRow b₁ b₂ (record { first = first; size = size; created = written; destroyed = end; offset = offset; owner = owner })
+module _ {t b : List ℕ} {link end fuel : ℕ} (nz : link ≡ 0 → ⊥) where
+  pub extract_node : {b₁ b₂ b₃ : List ℕ} {l r : ℕ} {p : PieceRow} → l ≡ column t link piece_left → r ≡ column t link piece_right → p ≡ piece_at t link
+      → Extracted t b b₁ l end (fuel - 1) → AppendedRow b₁ b₂ (block_row_of end p)
       → Extracted t b₂ b₃ r end (fuel - 1) → Extracted t b b₃ link end fuel
   unfolding Shape height rows
-  extract_node {b₁} {b₂} {b₃} {l} {r} {first} {size} {written} {offset} {owner} el er ef es ew eo en one two three = record { done = go }
+  extract_node {b₁} {b₂} {b₃} {l} {r} {p} el er ep one two three = record { done = go }
     where
       at : ℕ → PieceRow
       at = piece_at t
@@ -60,7 +58,7 @@ module _ {t b : List ℕ} {link end fuel : ℕ} (nz : link ≡ 0 → ⊥) where
           let e₁ : b₁ ≡ recorded end L b = one.done A (rw (el, s.is) s.left) (omega arith) c_l in
           let c₁ : Countable b (length (L ++ at x ∷ R)) = countable_less (omega (arith, length-append L (at x ∷ R))) c in
           let c₂ : Countable b₁ (length (at x ∷ R)) = rw e₁ (recorded_more end L (at x ∷ R) b c₁) in
-          let px : piece first size written offset owner ≡ at x = rw (← s.is) (piece_eq ef es ew eo en) in
+          let px : p ≡ at x = rw (← s.is) ep in
           let e₂ : b₂ ≡ recorded end (at x ∷ []) b₁ = two.done (countable_less (omega arith) c₂) ∙ ap (λ (q : PieceRow). recorded end (q ∷ []) b₁) px in
           let c₃ : Countable b₂ (length (rows B)) = rw (e₂, ← n_r) (recorded_more end (at x ∷ []) R b₁ c₂) in
           let e₃ : b₃ ≡ recorded end R b₂ = three.done B (rw (er, s.is) s.right) (omega arith) c₃ in
@@ -83,5 +81,5 @@ extract_members_done {t} {b} {b'} {root} {end} er one = record { done = go }
         let n : length (rows T) ≡ length ps = sym (length-map (rows T) (piece_at t)) ∙ ap length is in
         one.done T (rw er r.linked.dense.shape) (linked_depth r.linked) (rw n c) ∙ ap (λ (l : List PieceRow). recorded end l b) is
 
--- the steps, for `search` at a return
+-- the steps, one for each return
 pub ruleset extracting = (extract_leaf, extract_stop, extract_node, extract_members_done)

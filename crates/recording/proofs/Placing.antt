@@ -1,4 +1,5 @@
 -- `clear_after` and `take_place`: one step for each return. Assumes nothing.
+use Rattle.std.specs.Prelude.{Some, None}
 use mathlib.Core.Path.{◌≡◌, refl, sym, ap, ap₂, subst, ◌∙◌}
 use mathlib.Core.Logic.{inl, inr}
 use mathlib.Core.List.{List, [], ◌∷◌, ◌++◌, map, append_assoc}
@@ -64,7 +65,7 @@ standing {t} link xs ys r =
     lefts l [] f = all_nil
     lefts l (o ∷ os) f = all_cons {x = o} (low (row_end o) os f.2) (lefts (row_end o) os f.2)
 
-module _ {t b : List ℕ} {tick link end first size next : ℕ} (ef : first ≡ column t link piece_first) (es : size ≡ column t link piece_length) (en : next ≡ plus_up_to first size) where
+module _ {t b : List ℕ} {tick link end next : ℕ} {p : PieceRow} (ep : p ≡ piece_at t link) (ee : next ≡ plus_up_to p.first p.size) where
   pub clear_after-none : end ≤ next → ClearedAfter t t b b tick link end
   clear_after-none h = record { done = go }
     where
@@ -72,6 +73,7 @@ module _ {t b : List ℕ} {tick link end first size next : ℕ} (ef : first ≡ 
       go xs ys r to space =
           let B : List PieceRow = map (piece_at t) ys in
           let s : Standing t link xs ys = standing link xs ys r in
+          let en : next ≡ plus_up_to (first_at t link) (column t link piece_length) = rw ep at ee in
           let right : Right end B = follow_right end (end_at t link) B (omega arith) s.after in
           record {
             becomes = becomes_same s.rep (ap (λ (l : List PieceRow). map (piece_at t) xs ++ piece_at t link ∷ l) (above_right end right (follow_filled (end_at t link) B s.after)));
@@ -87,6 +89,7 @@ module _ {t b : List ℕ} {tick link end first size next : ℕ} (ef : first ≡ 
           let B : List PieceRow = map (piece_at t) ys in
           let q : PieceRow = piece_at t link in
           let s : Standing t link xs ys = standing link xs ys r in
+          let en : next ≡ plus_up_to (first_at t link) (column t link piece_length) = rw ep at ee in
           let n : next ≡ end_at t link = omega (arith, s.whole.near) in
           let clear' : Cleared t t₁ b b₁ tick (end_at t link) end = rw n at clear in
           let eq : (A ++ q ∷ []) ++ B ≡ A ++ q ∷ B = append_assoc A (q ∷ []) B in
@@ -117,22 +120,22 @@ inserted_clear {t} {t₁} {ps = ps} p ins z k space =
     let f : Follow 0 (A ++ p ∷ B) = follow_between 0 A p B (omega arith) k (below-within p.first ps) (above_within (row_end p) ps) (rep_follow one.rep) in
     record { becomes = becomes_then one (becomes_eq (ins.done (A ++ B) one.rep (omega (arith, n, space, one.len)) (rw order f)) (sym order)); blocks = z.blocks }
 
-module _ {t t₁ b b₁ : List ℕ} {link : ℕ} (p : PieceRow) (met : MetOne t t₁ b b₁ p.written p.first (p.first + p.size) link) where
-  pub take_place_free : {t₂ : List ℕ} → link ≡ 0 → InsertedPiece t₁ t₂ p → TookPlace t t₂ b b₁ p
-  take_place_free z ins = record { done = λ ps g u k space. inserted_clear p ins (met.stop z ps g u) k space }
+module _ {t t₁ b b₁ : List ℕ} (p : PieceRow) where
+  pub take_place_free : {t₂ : List ℕ} → MetOne t t₁ b b₁ p.written p.first (p.first + p.size) None → InsertedPiece t₁ t₂ p → TookPlace t t₂ b b₁ p
+  take_place_free met ins = record { done = λ ps g u k space. inserted_clear p ins (met.stop refl ps g u) k space }
 
   -- the row of a covered piece: those left of it stay, and what of those behind it lies above
-  pub take_place_over : {t₂ t₃ b₂ : List ℕ} {was row : ℕ} → (link ≡ 0 → ⊥) → was ≡ column t₁ link piece_first → ClearedAfter t₁ t₂ b₁ b₂ p.written link (p.first + p.size)
+  pub take_place_over : {t₂ t₃ b₂ : List ℕ} {link was row : ℕ} → MetOne t t₁ b b₁ p.written p.first (p.first + p.size) (Some link) → was ≡ column t₁ link piece_first → ClearedAfter t₁ t₂ b₁ b₂ p.written link (p.first + p.size)
       → Sought t₂ was row → ReplacedPiece t₂ t₃ row p → TookPlace t t₃ b b₂ p
-  take_place_over {t₂} {t₃} {b₂} {was} {row} nz ew clear sought put = record { done = go }
+  take_place_over {t₂} {t₃} {b₂} {link} {was} {row} met ew clear sought put = record { done = go }
     where
       go : (ps : List PieceRow) → Given t b p.first (row_end p) ps → Uncrossed p.first ps → Filled p
           → row_width * length (rows_below p.first ps ++ p ∷ rows_above (row_end p) ps) + row_width ≤ length t → Updated t t₃ b b₂ p ps
       go ps g u k space =
           let f : ℕ = p.first in
           let e : ℕ = row_end p in
-          let c : Covered t t₁ b b₁ p.written f e link = met.covers nz ps g u in
-          let v : Seen t f link ps = seen-some c.sought g.rep nz in
+          let c : Covered t t₁ b b₁ p.written f e link = met.covers link refl ps g u in
+          let v : Seen t f link ps = seen-some c.sought g.rep c.some in
           let q : PieceRow = piece_at t link in
           let A : List PieceRow = map (piece_at t) v.xs in
           let B : List PieceRow = map (piece_at t) v.ys in
@@ -156,5 +159,7 @@ module _ {t t₁ b b₁ : List ℕ} {link : ℕ} (p : PieceRow) (met : MetOne t 
                 ∙ ap (λ (l : List PieceRow). recorded p.written l b) (sym all);
           }
 
--- the steps, for `search` at a return
-pub ruleset placing = (clear_after-none, clear_after_done, take_place_free, take_place_over)
+-- the steps, one for each return
+pub ruleset clearing_after = (clear_after-none, clear_after_done)
+
+pub ruleset placing = (take_place_free, take_place_over)

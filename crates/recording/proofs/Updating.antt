@@ -3,22 +3,24 @@ use mathlib.Core.Path.{◌≡◌, refl, sym, ap, ap₂, subst, ◌∙◌}
 use mathlib.Core.Logic.{inl, inr}
 use mathlib.Core.Bool.{Bool, true, false, true≢false, false≢true}
 use mathlib.Core.List.{List, [], ◌∷◌, ◌++◌, map, append_assoc}
-use Prim.Native.Nat.{ℕ, suc, ◌+◌, ◌-◌, ◌*◌, ◌≤◌, ◌<◌}
+use Prim.Native.Nat.{ℕ, ◌+◌, ◌*◌, ◌≤◌, ◌<◌}
 use native.Mathlib.Omega.{arith}
 use lib.ListN.{length, length-append, length-map}
-use borrow.Author.Tests.{ltb-true, ltb-false, not-true, not-false}
+use borrow.Author.Tests.{ltb-true, ltb-false}
 use Rattle.lists.specs.Lists.{all_nil, all_cons}
 use Rattle.lists.proofs.Lists.{all_append, all_map}
 use Rattle.lists.proofs.Maps.{map-append}
 use Rattle.history.specs.Lent.{row_width}
-use Rattle.tables.specs.Columns.{column, piece_first, piece_length, piece_written, piece_offset, piece_owner}
+use Rattle.tables.specs.Columns.{column, piece_first}
 use Rattle.block_table.specs.Appended.{Countable}
 use Rattle.merge_set.specs.Table.{first_at, StartsBelow}
 use Rattle.piece_table.specs.Piece.{PieceRow, row_end, piece_at, part, rows_below, rows_inside, rows_above, Filled, Follow, placed}
 use Rattle.piece_table.specs.Rep.{Linked, Rep, Becomes}
-use Rattle.piece_table.specs.Calls.{end_at, EndsAfter, Sought, TrimmedBack, InsertedPiece}
+use Rattle.std.specs.Prelude.{Some, None}
+use Rattle.piece_table.proofs.Clipping.{clip_some, clip_is}
+use Rattle.piece_table.specs.Calls.{Clipped, end_at, EndsAfter, Sought, TrimmedBack, InsertedPiece}
 use Rattle.piece_table.proofs.Order.{follow_filled, follow_right, follow_from, follow_between, placed-between}
-use Rattle.piece_table.proofs.Parts.{Left, Right, below-within, above_within, back_below, back_above, middle-cut, inside_left, inside_right, inside_skip}
+use Rattle.piece_table.proofs.Parts.{Left, Right, back_below, back_above, middle-cut, inside_left, inside_right, inside_skip}
 use Rattle.piece_table.proofs.Seeing.{rep_follow, Seen, seen_none, seen-some, becomes_same, becomes_eq, becomes_then, left_alone}
 use Rattle.recording.specs.Recorded.{recorded}
 use Rattle.recording.specs.Calls.{inner_part, RecordedPart, Uncrossed, Clearing, Clear, Given, SplitPiece, CutFirst, Updated, TookPlace, AppliedUpdate}
@@ -31,19 +33,17 @@ use Rattle.recording.proofs.Placing.{inserted_clear}
 around : (t : List ℕ) (link : ℕ) (xs ys : List ℕ) → Linked t (xs ++ link ∷ ys) → Filled (piece_at t link) × Follow (row_end (piece_at t link)) (map (piece_at t) ys)
 around t link xs ys r = follow_from 0 (map (piece_at t) xs) (piece_at t link) (map (piece_at t) ys) (rw (map-append (piece_at t) xs (link ∷ ys)) at r.order)
 
-module _ {t : List ℕ} {link f e was size written offset owner : ℕ} (ew : was ≡ column t link piece_first) (es : size ≡ column t link piece_length) (et : written ≡ column t link piece_written) (eo : offset ≡ column t link piece_offset) (en : owner ≡ column t link piece_owner) where
-  pub split_low : e < was → SplitPiece t t link f e
-  split_low h = record { done = λ xs ys r a b c s. absurd (omega arith) }
+module _ {t : List ℕ} {link f e : ℕ} {p : PieceRow} (ep : p ≡ piece_at t link) where
+  pub split_none : Clipped p e 18446744073709551615 None → SplitPiece t t link f e
+  split_none k =
+      record {
+        done = λ xs ys r a b c s.
+            let w : Filled (piece_at t link) = (around t link xs ys r).0 in
+            absurd (clip_some e (end_at t link) (rw ep at k) w (omega arith) (omega (arith, w.near)) c);
+      }
 
-  pub split_high : size < e - was → SplitPiece t t link f e
-  split_high h = record { done = λ xs ys r a b c s. absurd (omega arith) }
-
-  pub split_far : 18446744073709551615 - offset < e - was → SplitPiece t t link f e
-  split_far h = record { done = λ xs ys r a b c s. absurd (omega (arith, (around t link xs ys r).0.stored)) }
-
-  pub split_done : {t₁ t₂ : List ℕ} → was ≤ e → TrimmedBack t t₁ link f
-      → InsertedPiece t₁ t₂ (record { first = e; size = size - (e - was); written = written; offset = offset + (e - was); owner = owner }) → SplitPiece t t₂ link f e
-  split_done {t₁} {t₂} le trim ins = record { done = go }
+  pub split_done : {t₁ t₂ : List ℕ} {right : PieceRow} → Clipped p e 18446744073709551615 (Some right) → TrimmedBack t t₁ link f → InsertedPiece t₁ t₂ right → SplitPiece t t₂ link f e
+  split_done {t₁} {t₂} {right} k trim ins = record { done = go }
     where
       go : (xs ys : List ℕ) → Linked t (xs ++ link ∷ ys) → column t link piece_first < f → f < e → e < end_at t link → row_width * length (xs ++ link ∷ ys) + (row_width + row_width) ≤ length t
           → Becomes t t₂ (map (piece_at t) xs ++ part (column t link piece_first) f (piece_at t link) ∷ part e (end_at t link) (piece_at t link) ∷ map (piece_at t) ys)
@@ -53,8 +53,8 @@ module _ {t : List ℕ} {link f e was size written offset owner : ℕ} (ew : was
           let p : PieceRow = piece_at t link in
           let p₁ : PieceRow = part (column t link piece_first) f p in
           let p₂ : PieceRow = part e (end_at t link) p in
-          let same : p₂ ≡ record { first = e; size = size - (e - was); written = written; offset = offset + (e - was); owner = owner } = made in
-          let ins' : InsertedPiece t₁ t₂ p₂ = rw same ins in
+          let same : right ≡ p₂ = clip_is e (end_at t link) (rw ep at k) (around t link xs ys r).0 (omega arith) (omega (arith, (around t link xs ys r).0.near)) hi in
+          let ins' : InsertedPiece t₁ t₂ p₂ = rw same at ins in
           let one : Becomes t t₁ (A ++ p₁ ∷ B) = trim.done xs ys r lo (omega arith) in
           let w : Filled p × Follow (row_end p) B = around t link xs ys r in
           let h : Filled p₂ = record { some = omega arith; near = omega (arith, w.0.near); stored = omega (arith, w.0.stored) } in
@@ -67,12 +67,6 @@ module _ {t : List ℕ} {link f e was size written offset owner : ℕ} (ew : was
           let n : length (A ++ p₁ ∷ B) ≡ length (xs ++ link ∷ ys) = omega (arith, length-append A (p₁ ∷ B), length-append xs (link ∷ ys), length-map xs (piece_at t), length-map ys (piece_at t)) in
           becomes_then one (becomes_eq (ins'.done (A ++ p₁ ∷ B) one.rep (omega (arith, n, one.len)) (rw order f₂)) (sym order))
         where
-          made : part e (end_at t link) (piece_at t link) ≡ record { first = e; size = size - (e - was); written = written; offset = offset + (e - was); owner = owner }
-          made =
-              let a : end_at t link - e ≡ size - (e - was) = omega arith in
-              let b : column t link piece_offset + (e - column t link piece_first) ≡ offset + (e - was) = omega arith in
-              rw (a, b, et, en)
-
           lefts : (A : List PieceRow) (p : PieceRow) (B : List PieceRow) (low e : ℕ) → Follow low (A ++ p ∷ B) → p.first ≤ e → Left e A
           lefts [] p B low e f h = all_nil
           lefts (q ∷ A) p B low e f h = all_cons {x = q} (first_past A p B (row_end q) e f.2 h) (lefts A p B (row_end q) e f.2 h)
@@ -173,12 +167,16 @@ module _ {t b : List ℕ} {tick f e link : ℕ} {starts : Bool} (s : Sought t f 
 
 -- ── `apply_update` ──
 
-pub apply_update_far : {t b : List ℕ} (p : PieceRow) → 18446744073709551615 - p.first < p.size → AppliedUpdate t t b b p
-apply_update_far p h = record { done = λ ps r k c space. absurd (omega (arith, k.near)) }
-
-module _ {t t₁ t₂ b b₁ : List ℕ} {q : Bool} (p : PieceRow) (cut : CutFirst t t₁ b b₁ p.written p.first (p.first + p.size) q) where
+module _ {t t₁ t₂ b b₁ : List ℕ} {q : Bool} {e : ℕ} (p : PieceRow) (ee : e ≡ p.first + p.size) (cut : CutFirst t t₁ b b₁ p.written p.first e q) where
   pub apply_update_done : q ≡ false → InsertedPiece t₁ t₂ p → AppliedUpdate t t₂ b b₁ p
-  apply_update_done n ins = record { done = λ ps r k c space. inserted_clear p ins (cut.stop n ps (record { rep = r; some = omega (arith, k.some); space = c }) (fewer (rows_below p.first ps) (rows_above (row_end p) ps) space)) k space }
+  apply_update_done n ins =
+      record {
+        done = λ ps r k c space.
+            let cut' : CutFirst t t₁ b b₁ p.written p.first (row_end p) q = rw ee at cut in
+            let z : Clear t t₁ b b₁ p.written p.first (row_end p) ps
+            = cut'.stop n ps (record { rep = r; some = omega (arith, k.some); space = c }) (fewer (rows_below p.first ps) (rows_above (row_end p) ps) space) in
+            inserted_clear p ins z k space;
+      }
     where
       fewer : (A B : List PieceRow) → row_width * length (A ++ p ∷ B) + row_width ≤ length t → row_width * length (A ++ B) + row_width ≤ length t
       fewer A B h = omega (arith, h, length-append A (p ∷ B), length-append A B)
@@ -189,8 +187,9 @@ module _ {t t₁ t₂ b b₁ : List ℕ} {q : Bool} (p : PieceRow) (cut : CutFir
       go : (ps : List PieceRow) → Rep t ps → Filled p → Countable b (length (rows_inside p.first (row_end p) ps))
           → row_width * length (rows_below p.first ps ++ p ∷ rows_above (row_end p) ps) + row_width ≤ length t → Updated t t₂ b b₂ p ps
       go ps r k c space =
+          let cut' : CutFirst t t₁ b b₁ p.written p.first (row_end p) q = rw ee at cut in
           let g : Given t b p.first (row_end p) ps = record { rep = r; some = omega (arith, k.some); space = c } in
-          let z : Clearing t t₁ b b₁ p.written p.first (row_end p) (length ps) ps = cut.step y ps g in
+          let z : Clearing t t₁ b b₁ p.written p.first (row_end p) (length ps) ps = cut'.step y ps g in
           let same : rows_below p.first z.now ++ p ∷ rows_above (row_end p) z.now ≡ rows_below p.first ps ++ p ∷ rows_above (row_end p) ps
           = ap₂ (λ (x y : List PieceRow). x ++ p ∷ y) z.same_below z.same_above in
           let o : Updated t₁ t₂ b₁ b₂ p z.now = took.done z.now (given_next g z) z.uncrossed k (rw same (omega (arith, space, z.becomes.len))) in
@@ -200,5 +199,9 @@ module _ {t t₁ t₂ b b₁ : List ℕ} {q : Bool} (p : PieceRow) (cut : CutFir
                 ∙ recorded-append p.written z.gone (rows_inside p.first (row_end p) z.now) b c.head ∙ ap (λ (l : List PieceRow). recorded p.written l b) (sym z.inside);
           }
 
--- the steps, for `search` at a return
-pub ruleset updating = (not-true, not-false, split_low, split_high, split_far, split_done, cut_first_none, cut_first_uncut, cut_first_middle, cut_first_back, apply_update_far, apply_update_done, apply_update_more)
+-- the steps, one for each return
+pub ruleset splitting = (split_none, split_done)
+
+pub ruleset cutting = (cut_first_none, cut_first_uncut, cut_first_middle, cut_first_back)
+
+pub ruleset updating = (apply_update_done, apply_update_more)

@@ -1,6 +1,6 @@
 -- What the functions ensure: `t` is the piece table at entry and `t'` at exit, `b` and `b'` the block table. `first` and `end` bound the operation's
 -- cells. Definitions alone.
-use Rattle.std.specs.Prelude.{◌≡◌, ◌⊎◌, Bool, true, false, List, [], ◌∷◌, ◌++◌, map, ℕ, ◌+◌, ◌-◌, ◌*◌, ◌≤◌, ◌<◌, min, max, length}
+use Rattle.std.specs.Prelude.{◌≡◌, ◌⊎◌, Bool, true, false, List, [], ◌∷◌, ◌++◌, map, ℕ, ◌+◌, ◌-◌, ◌*◌, ◌≤◌, ◌<◌, min, max, length, Option, Some, None}
 use Rattle.lists.specs.Lists.{All}
 use Rattle.history.specs.Lent.{row_width}
 use Rattle.merge_set.specs.Tree.{Tree, height, rows}
@@ -62,6 +62,7 @@ pub record Given (t b : List ℕ) (first end : ℕ) (ps : List PieceRow) : Type 
 
 -- the link's piece is the lowest in [first, end) and lies in there wholly; it is recorded
 pub record Covered (t t' b b' : List ℕ) (tick first end link : ℕ) : Type 0 where
+  pub some : link ≡ 0 → ⊥
   pub same : t' ≡ t
   pub sought : Sought t first link
   pub from : first ≤ first_at t link
@@ -69,9 +70,9 @@ pub record Covered (t t' b b' : List ℕ) (tick first end link : ℕ) : Type 0 w
   pub blocks : b' ≡ recorded tick (inner_part t link first end ∷ []) b
 
 -- `meet_one`: a covered piece is recorded, or none is left in [first, end)
-pub record MetOne (t t' b b' : List ℕ) (tick first end link : ℕ) : Type 0 where
-  pub covers : (link ≡ 0 → ⊥) → (ps : List PieceRow) → Given t b first end ps → Uncrossed first ps → Covered t t' b b' tick first end link
-  pub stop : link ≡ 0 → (ps : List PieceRow) → Given t b first end ps → Uncrossed first ps → Clear t t' b b' tick first end ps
+pub record MetOne (t t' b b' : List ℕ) (tick first end : ℕ) (met : Option ℕ) : Type 0 where
+  pub covers : (link : ℕ) → met ≡ Some link → (ps : List PieceRow) → Given t b first end ps → Uncrossed first ps → Covered t t' b b' tick first end link
+  pub stop : met ≡ None → (ps : List PieceRow) → Given t b first end ps → Uncrossed first ps → Clear t t' b b' tick first end ps
 
 -- `clear_one`: one covered piece is gone, or none is left in [first, end)
 pub record ClearedOne (t t' b b' : List ℕ) (tick first end : ℕ) (more : Bool) : Type 0 where

@@ -11,239 +11,205 @@
 
 #![tactic(auto)]
 
-ghost use Rattle.std.specs.Prelude.{◌+◌, ◌<◌, ◌^◌};
+ghost use Rattle.std.specs.Prelude.{◌≡◌, ◌+◌, ◌<◌, ◌^◌};
+ghost use Rattle.recording.specs.Recorded.{block_row_of};
 ghost use Rattle.recording.specs.Calls.{RecordedPart, Extracted, ExtractedMembers, MetOne, ClearedOne, Cleared, ClearedAfter, SplitPiece, CutFirst, TookPlace, AppliedUpdate};
 
+use block_table::Block;
+use piece_table::Piece;
 use tables::piece;
 
-// Records the part of a link's piece in [first, end), which it meets, as a block destroyed at `tick`.
-fn record_part(pieces: &[u64], blocks: &mut [u64], link: u64, tick: u64, first: u64, end: u64)
-    ensures { RecordedPart pieces.now blocks.old blocks.new link tick first end }
+// The cells [first, end) that an operation at `tick` takes. `near` is a guess: the link of a piece that has the first cell or ends there, or any number.
+#[derive(Clone, Copy)]
+struct Cells {
+    tick: u64,
+    first: u64,
+    end: u64,
+    near: u64,
+}
+
+// The block that a piece becomes when it is destroyed.
+fn block_of(piece: Piece, destroyed: u64) -> Block
+    ensures { result ≡ block_row_of destroyed piece }
 {
-    let was = tables::get(pieces, link, piece::FIRST);
-    let length = tables::get(pieces, link, piece::LENGTH);
-    let written = tables::get(pieces, link, piece::WRITTEN);
-    let offset = tables::get(pieces, link, piece::OFFSET);
-    let owner = tables::get(pieces, link, piece::OWNER);
-    let from = tables::larger(first, was);
-    if u64::MAX - was < length {
-        return;
+    Block {
+        first: piece.first,
+        size: piece.size,
+        created: piece.written,
+        destroyed,
+        offset: piece.offset,
+        owner: piece.owner,
     }
-    let to = tables::smaller(end, was + length);
-    if to < from {
-        return;
+}
+
+// Records the part of a link's piece in the cells, which it meets, as a block.
+#[tactic(auto, using(crate::proofs::Clearing::recording))]
+fn record_part(pieces: &[u64], blocks: &mut [u64], link: u64, cells: Cells)
+    ensures { RecordedPart pieces.now blocks.old blocks.new link cells.tick cells.first cells.end }
+{
+    if let Some(part) = piece_table::read(pieces, link).clip(cells.first, cells.end) {
+        block_table::append(blocks, block_of(part, cells.tick));
     }
-    if u64::MAX - offset < from - was {
-        return;
-    }
-    block_table::append(
-        blocks,
-        from,
-        to - from,
-        written,
-        tick,
-        offset + (from - was),
-        owner,
-    );
 }
 
 // Cuts [from, to) out of the piece of a link, which reaches over both ends: the left part stays in its row, the right one gets a new row.
+#[tactic(auto, using(crate::proofs::Updating::splitting))]
 fn split(pieces: &mut [u64], link: u64, from: u64, to: u64)
     ensures { SplitPiece pieces.old pieces.new link from to }
 {
-    let was = tables::get(pieces, link, piece::FIRST);
-    let length = tables::get(pieces, link, piece::LENGTH);
-    let written = tables::get(pieces, link, piece::WRITTEN);
-    let offset = tables::get(pieces, link, piece::OFFSET);
-    let owner = tables::get(pieces, link, piece::OWNER);
-    if to < was {
+    let Some(right) = piece_table::read(pieces, link).clip(to, u64::MAX) else {
         return;
-    }
-    let cut = to - was;
-    if length < cut {
-        return;
-    }
-    if u64::MAX - offset < cut {
-        return;
-    }
+    };
     piece_table::trim_back(pieces, link, from);
-    piece_table::insert_piece(pieces, to, length - cut, written, offset + cut, owner);
+    piece_table::insert_piece(pieces, right);
 }
 
-// Records what the lowest piece in [first, end) has there, and gives its link, if it lies in there wholly; cuts it at the end and gives 0, if it
-// reaches on; 0 if there is none. `near` is a guess, here and below: the link of a piece that has the first cell or ends there, or any number.
-fn meet_one(
-    pieces: &mut [u64],
-    blocks: &mut [u64],
-    tick: u64,
-    first: u64,
-    end: u64,
-    near: u64,
-) -> u64
-    ensures { MetOne pieces.old pieces.new blocks.old blocks.new tick first end result }
+// Records what the lowest piece in the cells has there, and gives its link, if it lies in there wholly; cuts it at the end, if it reaches on.
+#[tactic(auto, using(crate::proofs::Clearing::meeting))]
+fn meet_one(pieces: &mut [u64], blocks: &mut [u64], cells: Cells) -> Option<u64>
+    ensures { MetOne pieces.old pieces.new blocks.old blocks.new cells.tick cells.first cells.end result }
 {
-    let link = piece_table::seek_near(pieces, first, near);
+    let link = piece_table::seek_near(pieces, cells.first, cells.near);
     if link == 0 {
-        return 0;
+        return None;
     }
-    if !merge_set::starts_below(pieces, link, end) {
-        return 0;
+    if !merge_set::starts_below(pieces, link, cells.end) {
+        return None;
     }
-    record_part(pieces, blocks, link, tick, first, end);
-    let reaches_on = piece_table::ends_after(pieces, link, end);
-    if reaches_on {
-        piece_table::trim_front(pieces, link, end);
-        return 0;
+    record_part(pieces, blocks, link, cells);
+    if piece_table::ends_after(pieces, link, cells.end) {
+        piece_table::trim_front(pieces, link, cells.end);
+        return None;
     }
-    link
+    Some(link)
 }
 
-// Takes the lowest piece in [first, end) out, and records it; or cuts it at the end and stops; stops if there is none. Tells whether to go on.
-fn clear_one(
-    pieces: &mut [u64],
-    blocks: &mut [u64],
-    tick: u64,
-    first: u64,
-    end: u64,
-    near: u64,
-) -> bool
-    ensures { ClearedOne pieces.old pieces.new blocks.old blocks.new tick first end result }
+// Takes the lowest piece in the cells out, and records it; or cuts it at the end and stops; stops if there is none. Tells whether to go on.
+#[tactic(auto, using(crate::proofs::Clearing::clearing))]
+fn clear_one(pieces: &mut [u64], blocks: &mut [u64], cells: Cells) -> bool
+    ensures { ClearedOne pieces.old pieces.new blocks.old blocks.new cells.tick cells.first cells.end result }
 {
-    let link = meet_one(pieces, blocks, tick, first, end, near);
-    if link == 0 {
+    let Some(link) = meet_one(pieces, blocks, cells) else {
         return false;
-    }
+    };
     piece_table::remove_piece(pieces, link);
     true
 }
 
-// Takes out and records all that the pieces have in [first, end), where none reaches over the first cell.
-fn clear(pieces: &mut [u64], blocks: &mut [u64], tick: u64, first: u64, end: u64, near: u64)
-    ensures { Cleared pieces.old pieces.new blocks.old blocks.new tick first end }
+// Takes out and records all that the pieces have in the cells, where none reaches over the first one.
+#[tactic(auto, using(crate::proofs::Clearing::rounds))]
+fn clear(pieces: &mut [u64], blocks: &mut [u64], cells: Cells)
+    ensures { Cleared pieces.old pieces.new blocks.old blocks.new cells.tick cells.first cells.end }
 {
-    let mut left = tables::get(pieces, 0, piece::COUNT);
-    while left > 0 {
-        if !clear_one(pieces, blocks, tick, first, end, near) {
+    let count = tables::get(pieces, 0, piece::COUNT);
+    for _round in 0..count {
+        if !clear_one(pieces, blocks, cells) {
             return;
         }
-        left -= 1;
     }
 }
 
 // Takes out and records all that the pieces behind a link's have below `end`.
+#[tactic(auto, using(crate::proofs::Placing::clearing_after))]
 fn clear_after(pieces: &mut [u64], blocks: &mut [u64], tick: u64, link: u64, end: u64)
     ensures { ClearedAfter pieces.old pieces.new blocks.old blocks.new tick link end }
 {
-    let first = tables::get(pieces, link, piece::FIRST);
-    let next = tables::plus(first, tables::get(pieces, link, piece::LENGTH));
-    if end <= next {
+    let first = piece_table::read(pieces, link).end();
+    if end <= first {
         return;
     }
-    clear(pieces, blocks, tick, next, end, link);
+    let cells = Cells {
+        tick,
+        first,
+        end,
+        near: link,
+    };
+    clear(pieces, blocks, cells);
 }
 
-// Cuts what lies in [first, end) off a piece that reaches over the first cell, and records it. Tells whether there may be more in there.
-fn cut_first(
-    pieces: &mut [u64],
-    blocks: &mut [u64],
-    tick: u64,
-    first: u64,
-    end: u64,
-    near: u64,
-) -> bool
-    ensures { CutFirst pieces.old pieces.new blocks.old blocks.new tick first end result }
+// Cuts what lies in the cells off a piece that reaches over the first one, and records it. Tells whether there may be more in there.
+#[tactic(auto, using(crate::proofs::Updating::cutting))]
+fn cut_first(pieces: &mut [u64], blocks: &mut [u64], cells: Cells) -> bool
+    ensures { CutFirst pieces.old pieces.new blocks.old blocks.new cells.tick cells.first cells.end result }
 {
-    let link = piece_table::seek_near(pieces, first, near);
+    let link = piece_table::seek_near(pieces, cells.first, cells.near);
     if link == 0 {
         return false;
     }
-    if !merge_set::starts_below(pieces, link, first) {
+    if !merge_set::starts_below(pieces, link, cells.first) {
         return true;
     }
-    record_part(pieces, blocks, link, tick, first, end);
-    if piece_table::ends_after(pieces, link, end) {
-        split(pieces, link, first, end);
+    record_part(pieces, blocks, link, cells);
+    if piece_table::ends_after(pieces, link, cells.end) {
+        split(pieces, link, cells.first, cells.end);
         return false;
     }
-    piece_table::trim_back(pieces, link, first);
+    piece_table::trim_back(pieces, link, cells.first);
     true
 }
 
 // Puts the piece of an update where no piece reaches over its first cell. It takes the row of the lowest piece that it covers; all else in its cells
-// is taken out. What is taken out is recorded, ascending, as blocks destroyed at `tick`.
-fn take_place(
-    pieces: &mut [u64],
-    blocks: &mut [u64],
-    tick: u64,
-    first: u64,
-    length: u64,
-    offset: u64,
-    owner: u64,
-    near: u64,
-)
-    requires { first + length < 2 ^ 64 }
-    ensures { TookPlace pieces.old pieces.new blocks.old blocks.new
-        (record { first = first; size = length; written = tick; offset = offset; owner = owner }) }
+// is taken out. What is taken out is recorded, ascending, as blocks destroyed at the tick at which the piece is written. `near` is a guess, as in `Cells`.
+#[tactic(auto, using(crate::proofs::Placing::placing))]
+fn take_place(pieces: &mut [u64], blocks: &mut [u64], piece: Piece, near: u64)
+    requires { piece.first + piece.size < 2 ^ 64 }
+    ensures { TookPlace pieces.old pieces.new blocks.old blocks.new piece }
 {
-    let link = meet_one(pieces, blocks, tick, first, first + length, near);
-    if link == 0 {
-        piece_table::insert_piece(pieces, first, length, tick, offset, owner);
+    let cells = Cells {
+        tick: piece.written,
+        first: piece.first,
+        end: piece.first + piece.size,
+        near,
+    };
+    let Some(link) = meet_one(pieces, blocks, cells) else {
+        piece_table::insert_piece(pieces, piece);
         return;
-    }
+    };
     let was = tables::get(pieces, link, piece::FIRST);
-    clear_after(pieces, blocks, tick, link, first + length);
+    clear_after(pieces, blocks, cells.tick, link, cells.end);
     let row = piece_table::seek_near(pieces, was, link);
-    piece_table::replace_piece(pieces, row, first, length, tick, offset, owner);
+    piece_table::replace_piece(pieces, row, piece);
 }
 
-// What an update at `tick` does to the pieces and the blocks; its bytes stand in the store at `offset`. `near` is a guess for the piece that has the
-// first cell.
-pub fn apply_update(
-    pieces: &mut [u64],
-    blocks: &mut [u64],
-    tick: u64,
-    first: u64,
-    length: u64,
-    offset: u64,
-    owner: u64,
-    near: u64,
-)
-    ensures { AppliedUpdate pieces.old pieces.new blocks.old blocks.new
-        (record { first = first; size = length; written = tick; offset = offset; owner = owner }) }
+// What an update does to the pieces and the blocks: its piece is written at the tick of the operation, and its bytes stand in the store. `near` is a
+// guess for the piece that has the first cell.
+#[tactic(auto, using(crate::proofs::Updating::updating))]
+pub fn apply_update(pieces: &mut [u64], blocks: &mut [u64], piece: Piece, near: u64)
+    ensures { AppliedUpdate pieces.old pieces.new blocks.old blocks.new piece }
 {
-    if u64::MAX - first < length {
+    let Some(end) = piece.first.checked_add(piece.size) else {
+        return;
+    };
+    let cells = Cells {
+        tick: piece.written,
+        first: piece.first,
+        end,
+        near,
+    };
+    if cut_first(pieces, blocks, cells) {
+        take_place(pieces, blocks, piece, near);
         return;
     }
-    if cut_first(pieces, blocks, tick, first, first + length, near) {
-        take_place(pieces, blocks, tick, first, length, offset, owner, near);
-        return;
-    }
-    piece_table::insert_piece(pieces, first, length, tick, offset, owner);
+    piece_table::insert_piece(pieces, piece);
 }
 
 // Records the pieces of the tree at `link`, which is at most `fuel` deep, as blocks destroyed at `end`.
+#[tactic(auto, using(crate::proofs::Extracting::extracting))]
 fn extract(pieces: &[u64], blocks: &mut [u64], link: u64, end: u64, fuel: u64)
     ensures { Extracted pieces.now blocks.old blocks.new link end fuel }
 {
-    if link == 0 {
-        return;
-    }
-    if fuel == 0 {
+    if link == 0 || fuel == 0 {
         return;
     }
     let l = tables::get(pieces, link, piece::LEFT);
     let r = tables::get(pieces, link, piece::RIGHT);
-    let first = tables::get(pieces, link, piece::FIRST);
-    let length = tables::get(pieces, link, piece::LENGTH);
-    let written = tables::get(pieces, link, piece::WRITTEN);
-    let offset = tables::get(pieces, link, piece::OFFSET);
-    let owner = tables::get(pieces, link, piece::OWNER);
     extract(pieces, blocks, l, end, fuel - 1);
-    block_table::append(blocks, first, length, written, end, offset, owner);
+    block_table::append(blocks, block_of(piece_table::read(pieces, link), end));
     extract(pieces, blocks, r, end, fuel - 1);
 }
 
 // Records all pieces, ascending, as blocks destroyed at `end`. The piece table stays as it is.
+#[tactic(auto, using(crate::proofs::Extracting::extracting))]
 pub fn extract_members(pieces: &[u64], blocks: &mut [u64], end: u64)
     ensures { ExtractedMembers pieces.now blocks.old blocks.new end }
 {

@@ -1,7 +1,8 @@
 // A file loaded again and again, damaged at each place of a run: cut there, or with the byte raised. A file that is taken must be written as the bytes read.
-use crate::{alike, counts, input, kept, rows};
-use file_load::Loaded;
-use file_write::Written;
+use crate::alike;
+use crate::counts::Counts;
+use crate::lent::Tables;
+use crate::rows::{self, Call, Code};
 use std::io::Stdout;
 
 const AT: usize = 2;
@@ -17,143 +18,67 @@ const FROM: usize = 6;
 
 const MANY: usize = 7;
 
-// What comes where the tables are not left as they must be, or the file is not written again: no number of an answer.
-const WRONG: u64 = 99;
-
 // Bytes of the longest file.
 pub const FILE: usize = 16384;
 
 // Whether writing the index gives the bytes of a file from a place up to the next.
-fn is_written(
-    pieces: &[u64],
-    blocks: &[u64],
-    store: &[u8],
-    nodes: &[u64],
-    entries: &[u64],
-    file: &[u8],
-    at: usize,
-    next: usize,
-) -> bool {
+fn is_written(t: &Tables<'_>, file: &[u8], at: usize, next: usize) -> bool {
     let mut out = [alike::UNTOUCHED; FILE];
-    let written = spacetime_file::serialize_to(pieces, blocks, store, nodes, entries, &mut out);
-    match written {
-        Written::Bytes(many) => {
-            if tally::skip(file, at, many) != next {
-                return false;
-            }
-            alike::is_filled(&out, tables::part(file, at as u64, many))
+    match spacetime_file::serialize_to(t.pieces, t.blocks, t.store, t.nodes, t.entries, &mut out) {
+        Ok(many) => {
+            tally::skip(file, at, many) == next
+                && alike::is_filled(&out, tables::part(file, at as u64, many))
         }
-        Written::Refused(_) => false,
+        Err(_) => false,
     }
 }
 
-// What came of a file: 0 where it is taken, or the number of the refusal.
-fn judged(
-    pieces: &[u64],
-    blocks: &[u64],
-    store: &[u8],
-    nodes: &[u64],
-    entries: &[u64],
-    file: &[u8],
-    at: usize,
-    before: u64,
-    answer: Loaded,
-) -> u64 {
-    match answer {
-        Loaded::Next(next) => {
-            if is_written(pieces, blocks, store, nodes, entries, file, at, next) {
-                return 0;
-            }
-            WRONG
-        }
-        Loaded::Refused(n) => {
-            if kept::is_left(pieces, blocks, store, nodes, entries, before, n) {
-                return n;
-            }
-            WRONG
+// The number of a file's refusal, 0 where it is taken; none where the tables are not left as they must be, or the file is not written again.
+fn load(t: &mut Tables<'_>, file: &[u8], at: usize) -> Option<u64> {
+    let before = t.sum();
+    match spacetime_file::deserialize(t.pieces, t.blocks, t.store, t.nodes, t.entries, file, at) {
+        Ok(next) => is_written(t, file, at, next).then_some(0),
+        Err(refusal) => {
+            let n = u64::from(refusal);
+            t.are_left(before, n).then_some(n)
         }
     }
 }
 
-fn load(
-    pieces: &mut [u64],
-    blocks: &mut [u64],
-    store: &mut [u8],
-    nodes: &mut [u64],
-    entries: &mut [u64],
-    file: &[u8],
-    at: usize,
-) -> u64 {
-    let before = kept::sum(pieces, blocks, store, nodes, entries);
-    let answer = spacetime_file::deserialize(pieces, blocks, store, nodes, entries, file, at);
-    judged(
-        pieces, blocks, store, nodes, entries, file, at, before, answer,
-    )
-}
-
-fn raised(byte: u8, by: u64) -> u8 {
-    ((input::wide(byte) + by % 256) % 256) as u8
-}
-
-fn raise(file: &mut [u8], place: usize, by: u64) {
-    if place < file.len() {
-        file[place] = raised(file[place], by);
+fn raise(file: &mut [u8; FILE], place: usize, by: u8) {
+    if place < FILE {
+        file[place] = file[place].wrapping_add(by);
     }
 }
 
-// How much of a file is loaded that is damaged at a place: up to there where it is cut, else all.
-fn loaded(length: u64, place: usize, by: u64) -> u64 {
-    if by == 0 {
-        return place as u64;
-    }
-    length
-}
-
-// Damages the file at a place, loads it, and makes it whole again.
+// Damages the file at a place, loads it, up to there where it is cut, and makes it whole again.
 fn load_damaged(
-    pieces: &mut [u64],
-    blocks: &mut [u64],
-    store: &mut [u8],
-    nodes: &mut [u64],
-    entries: &mut [u64],
-    file: &mut [u8],
-    row: &[u64; rows::COLUMNS],
+    t: &mut Tables<'_>,
+    file: &mut [u8; FILE],
+    call: Call<'_>,
     place: usize,
-) -> u64 {
-    let at = rows::get(row, AT) as usize;
-    let by = rows::get(row, BY) % 256;
+) -> Option<u64> {
+    let by = (call.get(BY) % 256) as u8;
+    let loaded = if by == 0 {
+        place as u64
+    } else {
+        call.get(LENGTH)
+    };
     raise(file, place, by);
-    let damaged = tables::part(file, 0, loaded(rows::get(row, LENGTH), place, by));
-    let number = load(pieces, blocks, store, nodes, entries, damaged, at);
-    raise(file, place, 256 - by);
+    let number = load(t, tables::part(file, 0, loaded), call.get(AT) as usize);
+    raise(file, place, by.wrapping_neg());
     number
 }
 
 // Loads the file damaged at each place of the run.
-pub fn play(
-    stdout: &Stdout,
-    counts: &mut [u64; rows::COLUMNS],
-    pieces: &mut [u64],
-    blocks: &mut [u64],
-    store: &mut [u8],
-    nodes: &mut [u64],
-    entries: &mut [u64],
-    row: &[u64; rows::COLUMNS],
-    pool: &[u8],
-) {
+pub fn play(stdout: &Stdout, counts: &mut Counts, t: &mut Tables<'_>, call: Call<'_>) {
     let mut file = [0; FILE];
-    let whole = tables::part(pool, rows::get(row, START), rows::get(row, LENGTH));
+    let whole = call.part(START, LENGTH);
     tables::copy_in(&mut file, 0, whole);
-    let mut place = rows::get(row, FROM) as usize;
-    let end = tally::skip(whole, place, rows::get(row, MANY));
-    while place < end {
-        let number = load_damaged(pieces, blocks, store, nodes, entries, &mut file, row, place);
-        counts::count_answer(
-            stdout,
-            counts,
-            rows::DAMAGED,
-            number == rows::get(row, rows::REFUSAL),
-        );
-        place += 1;
+    let from = call.get(FROM) as usize;
+    for place in from..tally::skip(whole, from, call.get(MANY)) {
+        let number = load_damaged(t, &mut file, call, place);
+        let alike = number == Some(call.get(rows::REFUSAL));
+        counts.count_answer(stdout, Code::Damaged, alike);
     }
 }

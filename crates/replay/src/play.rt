@@ -1,234 +1,125 @@
 // Plays a part of the stored list, row after row, in lent tables.
-use crate::{counts, damage, input, installs, kept, near, read, rows, update};
+use crate::counts::Counts;
+use crate::input::Reader;
+use crate::lent::Tables;
+use crate::rows::{self, Call, Code, NoCode, Row};
+use crate::{damage, installs, near, read, update};
 use std::io::Stdout;
 
 // As many rows as a part can have.
-const ROWS: u64 = 65536;
+const ROWS: usize = 65536;
 
-fn read(
-    pieces: &[u64],
-    blocks: &[u64],
-    store: &[u8],
-    nodes: &[u64],
-    entries: &[u64],
-    row: &[u64; rows::COLUMNS],
-    pool: &[u8],
-    told: &mut [u64; rows::COLUMNS],
-) {
-    let code = rows::get(row, rows::CODE);
-    if code == rows::BLOCK {
-        read::block(pieces, blocks, store, nodes, entries, row, pool, told);
-    } else if code == rows::FIND {
-        read::find(pieces, blocks, store, nodes, entries, row, pool, told);
-    } else if code == rows::CELLS {
-        read::cells(pieces, blocks, store, nodes, entries, row, pool, told);
-    } else if code == rows::WRITE {
-        read::write(pieces, blocks, store, nodes, entries, row, pool, told);
-    } else if code == rows::CLOCK {
-        read::clock(pieces, blocks, store, nodes, entries, row, told);
-    } else {
-        near::read(pieces, blocks, store, nodes, entries, row, pool, told);
+fn tell_read(t: &Tables<'_>, code: Code, call: Call<'_>, told: &mut Row) {
+    match code {
+        Code::Block => read::block(t, call, told),
+        Code::Find => read::find(t, call, told),
+        Code::Cells => read::cells(t, call, told),
+        Code::Write => read::write(t, call, told),
+        Code::Clock => read::clock(t, call, told),
+        Code::Touching => near::touching(t, call, told),
+        Code::Next => near::next(t, call, told),
+        Code::Last => near::last(t, call, told),
+        _ => told.must(false),
     }
 }
 
-// Reads, and counts what came. A row that only lends is no call.
-fn play_read(
-    stdout: &Stdout,
-    counts: &mut [u64; rows::COLUMNS],
-    pieces: &[u64],
-    blocks: &[u64],
-    store: &[u8],
-    nodes: &[u64],
-    entries: &[u64],
-    row: &[u64; rows::COLUMNS],
-    pool: &[u8],
-) {
-    let code = rows::get(row, rows::CODE);
-    if code == rows::LEND {
-        return;
-    }
-    let mut told = [0; rows::COLUMNS];
-    rows::start(&mut told, row);
-    read(pieces, blocks, store, nodes, entries, row, pool, &mut told);
-    counts::count_answer(stdout, counts, code, rows::is_same(&told, row));
+// Reads, and counts what came.
+fn play_read(stdout: &Stdout, counts: &mut Counts, t: &Tables<'_>, code: Code, call: Call<'_>) {
+    let mut told = call.row.taken();
+    tell_read(t, code, call, &mut told);
+    counts.count_answer(stdout, code, told == *call.row);
 }
 
-fn update(
-    pieces: &mut [u64],
-    blocks: &mut [u64],
-    store: &mut [u8],
-    nodes: &mut [u64],
-    entries: &mut [u64],
-    scratch: u64,
-    row: &[u64; rows::COLUMNS],
-    pool: &[u8],
-    told: &mut [u64; rows::COLUMNS],
-) {
-    let code = rows::get(row, rows::CODE);
-    if code == rows::OPEN {
-        update::open(pieces, blocks, store, nodes, entries, row, told);
-    } else if code == rows::RECORD {
-        update::record(
-            pieces, blocks, store, nodes, entries, scratch, row, pool, told,
-        );
-    } else if code == rows::FINISH {
-        update::finish(pieces, blocks, store, nodes, entries, told);
-    } else if code == rows::LOAD {
-        update::load(pieces, blocks, store, nodes, entries, row, pool, told);
-    } else {
-        installs::play(pieces, blocks, store, nodes, entries, row, pool, told);
+fn tell_update(t: &mut Tables<'_>, scratch: u64, code: Code, call: Call<'_>, told: &mut Row) {
+    match code {
+        Code::Open => update::open(t, call, told),
+        Code::Record => update::record(t, scratch, call, told),
+        Code::Finish => update::finish(t, told),
+        Code::Load => update::load(t, call, told),
+        Code::Calendar | Code::Days => installs::play(t, code, call, told),
+        _ => told.must(false),
     }
 }
 
 // Updates, and counts what came. After a refused call the tables must be left as they were, or as zeros.
 fn play_update(
     stdout: &Stdout,
-    counts: &mut [u64; rows::COLUMNS],
-    pieces: &mut [u64],
-    blocks: &mut [u64],
-    store: &mut [u8],
-    nodes: &mut [u64],
-    entries: &mut [u64],
-    row: &[u64; rows::COLUMNS],
-    pool: &[u8],
+    counts: &mut Counts,
+    t: &mut Tables<'_>,
+    code: Code,
+    call: Call<'_>,
 ) {
-    let scratch = tally::get(counts, rows::SCRATCH);
-    let mut told = [0; rows::COLUMNS];
-    rows::start(&mut told, row);
-    let before = kept::sum(pieces, blocks, store, nodes, entries);
-    update(
-        pieces, blocks, store, nodes, entries, scratch, row, pool, &mut told,
-    );
-    let refusal = rows::get(&told, rows::REFUSAL);
-    let left = kept::is_left(pieces, blocks, store, nodes, entries, before, refusal);
-    rows::must(&mut told, left);
-    counts::count_answer(
-        stdout,
-        counts,
-        rows::get(row, rows::CODE),
-        rows::is_same(&told, row),
-    );
+    let mut told = call.row.taken();
+    let before = t.sum();
+    tell_update(t, counts.lent.get(rows::SCRATCH), code, call, &mut told);
+    let left = t.are_left(before, told.get(rows::REFUSAL));
+    told.must(left);
+    counts.count_answer(stdout, code, told == *call.row);
 }
 
-// Whether a call is one that may change an index.
-fn changes(code: u64) -> bool {
-    if code == rows::LOAD {
-        return true;
-    }
-    if rows::CALENDAR <= code {
-        return true;
-    }
-    code < rows::BLOCK
-}
-
-// A row that is no case: a call, a damaged file, or another scratch.
-fn play_lent(
-    stdout: &Stdout,
-    counts: &mut [u64; rows::COLUMNS],
-    pieces: &mut [u64],
-    blocks: &mut [u64],
-    store: &mut [u8],
-    nodes: &mut [u64],
-    entries: &mut [u64],
-    row: &[u64; rows::COLUMNS],
-    pool: &[u8],
-) {
-    let code = rows::get(row, rows::CODE);
-    if code == rows::DAMAGED {
-        damage::play(
-            stdout, counts, pieces, blocks, store, nodes, entries, row, pool,
-        );
-    } else if changes(code) {
-        play_update(
-            stdout, counts, pieces, blocks, store, nodes, entries, row, pool,
-        );
-    } else {
-        play_read(
-            stdout, counts, pieces, blocks, store, nodes, entries, row, pool,
-        );
+// A row that is no case: a call, a damaged file, or another scratch, which is no call.
+fn play_lent(stdout: &Stdout, counts: &mut Counts, t: &mut Tables<'_>, code: Code, call: Call<'_>) {
+    match code {
+        Code::Lend => {}
+        Code::Damaged => damage::play(stdout, counts, t, call),
+        Code::Open | Code::Record | Code::Finish | Code::Load | Code::Calendar | Code::Days => {
+            play_update(stdout, counts, t, code, call);
+        }
+        _ => play_read(stdout, counts, t, code, call),
     }
 }
 
-// The row with the parts of the tables that are lent.
+// The row with the parts of the tables that are lent. The check has no rule yet for parts of several fields behind a reference, so the fields are parameters.
 fn lend(
     stdout: &Stdout,
-    counts: &mut [u64; rows::COLUMNS],
+    counts: &mut Counts,
     pieces: &mut [u64],
     blocks: &mut [u64],
     store: &mut [u8],
     nodes: &mut [u64],
     entries: &mut [u64],
-    row: &[u64; rows::COLUMNS],
-    pool: &[u8],
+    code: Code,
+    call: Call<'_>,
 ) {
-    let of_pieces = rows::at_most(tally::get(counts, rows::PIECES), pieces.len());
-    let of_blocks = rows::at_most(tally::get(counts, rows::BLOCKS), blocks.len());
-    let of_store = rows::at_most(tally::get(counts, rows::STORE), store.len());
-    let of_nodes = rows::at_most(tally::get(counts, rows::NODES), nodes.len());
-    let of_entries = rows::at_most(tally::get(counts, rows::ENTRIES), entries.len());
-    play_lent(
-        stdout,
-        counts,
-        &mut pieces[0..of_pieces],
-        &mut blocks[0..of_blocks],
-        &mut store[0..of_store],
-        &mut nodes[0..of_nodes],
-        &mut entries[0..of_entries],
-        row,
-        pool,
-    );
+    let of_pieces = rows::at_most(counts.lent.get(rows::PIECES), pieces.len());
+    let of_blocks = rows::at_most(counts.lent.get(rows::BLOCKS), blocks.len());
+    let of_store = rows::at_most(counts.lent.get(rows::STORE), store.len());
+    let of_nodes = rows::at_most(counts.lent.get(rows::NODES), nodes.len());
+    let of_entries = rows::at_most(counts.lent.get(rows::ENTRIES), entries.len());
+    let mut lent = Tables {
+        pieces: &mut pieces[..of_pieces],
+        blocks: &mut blocks[..of_blocks],
+        store: &mut store[..of_store],
+        nodes: &mut nodes[..of_nodes],
+        entries: &mut entries[..of_entries],
+    };
+    play_lent(stdout, counts, &mut lent, code, call);
 }
 
 // Plays a row: the start of a case, with garbage in the tables, or a call.
-fn play_row(
-    stdout: &Stdout,
-    counts: &mut [u64; rows::COLUMNS],
-    pieces: &mut [u64; crate::PIECES],
-    blocks: &mut [u64; crate::BLOCKS],
-    store: &mut [u8; crate::STORE],
-    nodes: &mut [u64; crate::NODES],
-    entries: &mut [u64; crate::ENTRIES],
-    row: &[u64; rows::COLUMNS],
-    pool: &[u8],
-) {
-    let code = rows::get(row, rows::CODE);
-    if code <= rows::OWN {
-        kept::spoil_all(pieces, blocks, store, nodes, entries);
-        counts::count_case(counts, code);
+fn play_row(stdout: &Stdout, counts: &mut Counts, t: &mut Tables<'_>, code: Code, call: Call<'_>) {
+    if matches!(code, Code::Case | Code::Own) {
+        t.spoil();
+        counts.count_case(code == Code::Own);
     } else {
-        counts::count_row(counts, row, code);
+        counts.count_row(call.row, code);
         lend(
-            stdout, counts, pieces, blocks, store, nodes, entries, row, pool,
+            stdout, counts, t.pieces, t.blocks, t.store, t.nodes, t.entries, code, call,
         );
     }
 }
 
-// Plays a part: how many bytes its pool has, the pool, the rows.
-pub fn play(
-    stdout: &Stdout,
-    counts: &mut [u64; rows::COLUMNS],
-    pieces: &mut [u64; crate::PIECES],
-    blocks: &mut [u64; crate::BLOCKS],
-    store: &mut [u8; crate::STORE],
-    nodes: &mut [u64; crate::NODES],
-    entries: &mut [u64; crate::ENTRIES],
-    data: &[u8],
-) {
-    let head = input::number_at(data, 0);
-    let many = head.value;
-    let start = head.next;
-    let pool = tables::part(data, start as u64, many);
-    let mut at = tally::skip(data, start, many);
-    let mut row = [0; rows::COLUMNS];
-    let mut left = ROWS;
-    while 0 < left {
-        at = input::read_row(data, at, &mut row);
-        if rows::get(&row, rows::CODE) == rows::END {
-            return;
+// Plays a part: how many bytes its pool has, the pool, the rows. A row that has no code is an answer that differs.
+pub fn play(stdout: &Stdout, counts: &mut Counts, t: &mut Tables<'_>, part: &[u8]) {
+    let mut list = Reader::new(part);
+    let many = list.number();
+    let pool = list.part(many);
+    for _ in 0..ROWS {
+        let row = list.row();
+        match row.code() {
+            Ok(Code::End) => return,
+            Ok(code) => play_row(stdout, counts, t, code, Call { row: &row, pool }),
+            Err(NoCode) => counts.count_answer(stdout, Code::End, false),
         }
-        play_row(
-            stdout, counts, pieces, blocks, store, nodes, entries, &row, pool,
-        );
-        left -= 1;
     }
 }

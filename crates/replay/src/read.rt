@@ -1,10 +1,8 @@
 // The reads of an index: block by number, find, read cells, write; and the clock, which needs none. A slice that is lent for an answer must be as it was
 // where the answer does not reach, and after a refusal everywhere.
-use crate::{alike, damage, rows};
-use cells::Read;
-use clock::Told;
-use file_write::Written;
-use index::{Found, Given};
+use crate::lent::Tables;
+use crate::rows::{self, Call, Row};
+use crate::{alike, damage};
 
 const BLOCK_NUMBER: usize = 2;
 
@@ -32,7 +30,7 @@ pub const FIND_COUNT: usize = 6;
 
 const FIND_VISITED: usize = 7;
 
-const FIND_LISTED: usize = 8;
+pub const FIND_LISTED: usize = 8;
 
 const CELLS_BYTE_ROOM: usize = 5;
 
@@ -57,223 +55,110 @@ pub const ANSWER: usize = 64;
 
 const WINDOW: usize = 64;
 
-fn tell_given(told: &mut [u64; rows::COLUMNS], given: Given) {
-    match given {
-        Given::Block {
-            kind,
-            first,
-            length,
-            created,
-            destroyed,
-            offset: _,
-        } => {
-            rows::tell(told, BLOCK_KIND, kind);
-            rows::tell(told, BLOCK_FIRST, first);
-            rows::tell(told, BLOCK_LENGTH, length);
-            rows::tell(told, BLOCK_CREATED, created);
-            rows::tell(told, BLOCK_DESTROYED, destroyed);
-        }
-        Given::Refused(n) => rows::tell(told, rows::REFUSAL, n),
-    }
-}
-
 // After a refusal the block's bytes are none, and so are those of the row.
-pub fn block(
-    pieces: &[u64],
-    blocks: &[u64],
-    store: &[u8],
-    nodes: &[u64],
-    entries: &[u64],
-    row: &[u64; rows::COLUMNS],
-    pool: &[u8],
-    told: &mut [u64; rows::COLUMNS],
-) {
-    let number = rows::get(row, BLOCK_NUMBER);
-    let given = index::block(pieces, blocks, store, nodes, entries, number);
-    tell_given(told, given);
-    let bytes = index::block_bytes(pieces, blocks, store, nodes, entries, number);
-    let start = rows::get(row, BLOCK_START);
-    let right = tables::part(pool, start, rows::get(row, BLOCK_LENGTH));
-    rows::must(told, bytes == right);
-}
-
-fn tell_found(told: &mut [u64; rows::COLUMNS], found: Found) {
-    match found {
-        Found::Listed { count, visited } => {
-            rows::tell(told, FIND_COUNT, count);
-            rows::tell(told, FIND_VISITED, visited);
+pub fn block(t: &Tables<'_>, call: Call<'_>, told: &mut Row) {
+    let number = call.get(BLOCK_NUMBER);
+    match index::block(t.pieces, t.blocks, t.store, t.nodes, t.entries, number) {
+        Ok(given) => {
+            told.tell(BLOCK_KIND, given.kind);
+            told.tell(BLOCK_FIRST, given.first);
+            told.tell(BLOCK_LENGTH, given.length);
+            told.tell(BLOCK_CREATED, given.created);
+            told.tell(BLOCK_DESTROYED, given.destroyed);
         }
-        Found::Refused(n) => rows::tell(told, rows::REFUSAL, n),
+        Err(refusal) => told.refuse(u64::from(refusal)),
     }
+    let bytes = index::block_bytes(t.pieces, t.blocks, t.store, t.nodes, t.entries, number);
+    told.must(bytes == call.part(BLOCK_START, BLOCK_LENGTH));
 }
 
-pub fn tell_listed(
-    told: &mut [u64; rows::COLUMNS],
-    row: &[u64; rows::COLUMNS],
-    pool: &[u8],
-    answer: &[u64; ANSWER],
-) {
-    let start = rows::get(row, FIND_LISTED);
-    let right = tables::part(pool, start, rows::get(row, FIND_COUNT));
-    rows::must(told, alike::is_listed(answer, right));
-}
-
-pub fn find(
-    pieces: &[u64],
-    blocks: &[u64],
-    store: &[u8],
-    nodes: &[u64],
-    entries: &[u64],
-    row: &[u64; rows::COLUMNS],
-    pool: &[u8],
-    told: &mut [u64; rows::COLUMNS],
-) {
-    let mut answer = [alike::UNTOUCHED as u64; ANSWER];
-    let room = rows::get(row, FIND_ROOM) as usize;
+pub fn find(t: &Tables<'_>, call: Call<'_>, told: &mut Row) {
+    let mut answer = [u64::from(alike::UNTOUCHED); ANSWER];
+    let room = call.get(FIND_ROOM) as usize;
     if ANSWER < room {
-        rows::must(told, false);
+        told.must(false);
         return;
     }
-    let tick = rows::get(row, TICK);
-    let start = rows::get(row, START);
-    let end = rows::get(row, END);
-    let lent = &mut answer[0..room];
-    let found = index::find(
-        pieces, blocks, store, nodes, entries, tick, start, end, lent,
+    let asked = index::find(
+        t.pieces,
+        t.blocks,
+        t.store,
+        t.nodes,
+        t.entries,
+        call.get(TICK),
+        call.get(START),
+        call.get(END),
+        &mut answer[..room],
     );
-    tell_found(told, found);
-    tell_listed(told, row, pool, &answer);
+    match asked {
+        Ok(found) => {
+            told.tell(FIND_COUNT, found.count);
+            told.tell(FIND_VISITED, found.visited);
+        }
+        Err(refusal) => told.refuse(u64::from(refusal)),
+    }
+    told.must(alike::is_filled(&answer, call.part(FIND_LISTED, FIND_COUNT)));
 }
 
 // How many cells must be shown.
-fn shown(row: &[u64; rows::COLUMNS]) -> u64 {
-    let start = rows::get(row, START);
-    let end = rows::get(row, END);
-    if rows::get(row, rows::REFUSAL) != 0 {
+fn shown(row: &Row) -> u64 {
+    if row.get(rows::REFUSAL) != 0 {
         return 0;
     }
-    if end < start {
-        return 0;
-    }
-    end - start
+    row.get(END).saturating_sub(row.get(START))
 }
 
-fn tell_read(told: &mut [u64; rows::COLUMNS], read: Read) {
-    match read {
-        Read::Filled => {}
-        Read::Refused(n) => rows::tell(told, rows::REFUSAL, n),
-    }
-}
-
-fn tell_cells(
-    told: &mut [u64; rows::COLUMNS],
-    row: &[u64; rows::COLUMNS],
-    pool: &[u8],
-    bytes: &[u8; WINDOW],
-    held: &[u8; WINDOW],
-) {
-    let many = shown(row);
-    let right_bytes = tables::part(pool, rows::get(row, CELLS_BYTES), many);
-    let right_held = tables::part(pool, rows::get(row, CELLS_HELD), many);
-    rows::must(told, alike::is_filled(bytes, right_bytes));
-    rows::must(told, alike::is_filled(held, right_held));
-}
-
-pub fn cells(
-    pieces: &[u64],
-    blocks: &[u64],
-    store: &[u8],
-    nodes: &[u64],
-    entries: &[u64],
-    row: &[u64; rows::COLUMNS],
-    pool: &[u8],
-    told: &mut [u64; rows::COLUMNS],
-) {
+pub fn cells(t: &Tables<'_>, call: Call<'_>, told: &mut Row) {
     let mut bytes = [alike::UNTOUCHED; WINDOW];
     let mut held = [alike::UNTOUCHED; WINDOW];
-    let byte_room = rows::get(row, CELLS_BYTE_ROOM) as usize;
-    let held_room = rows::get(row, CELLS_HELD_ROOM) as usize;
-    if WINDOW < byte_room {
-        rows::must(told, false);
-        return;
-    }
-    if WINDOW < held_room {
-        rows::must(told, false);
+    let byte_room = call.get(CELLS_BYTE_ROOM) as usize;
+    let held_room = call.get(CELLS_HELD_ROOM) as usize;
+    if WINDOW < byte_room || WINDOW < held_room {
+        told.must(false);
         return;
     }
     let read = cells::read_cells(
-        pieces,
-        blocks,
-        store,
-        nodes,
-        entries,
-        rows::get(row, TICK),
-        rows::get(row, START),
-        rows::get(row, END),
-        &mut bytes[0..byte_room],
-        &mut held[0..held_room],
+        t.pieces,
+        t.blocks,
+        t.store,
+        t.nodes,
+        t.entries,
+        call.get(TICK),
+        call.get(START),
+        call.get(END),
+        &mut bytes[..byte_room],
+        &mut held[..held_room],
     );
-    tell_read(told, read);
-    tell_cells(told, row, pool, &bytes, &held);
-}
-
-fn tell_written(told: &mut [u64; rows::COLUMNS], written: Written) {
-    match written {
-        Written::Bytes(many) => rows::tell(told, WRITE_LENGTH, many),
-        Written::Refused(n) => rows::tell(told, rows::REFUSAL, n),
+    match read {
+        Ok(()) => {}
+        Err(refusal) => told.refuse(u64::from(refusal)),
     }
+    let many = shown(call.row);
+    let right_bytes = tables::part(call.pool, call.get(CELLS_BYTES), many);
+    let right_held = tables::part(call.pool, call.get(CELLS_HELD), many);
+    told.must(alike::is_filled(&bytes, right_bytes));
+    told.must(alike::is_filled(&held, right_held));
 }
 
-fn tell_file(
-    told: &mut [u64; rows::COLUMNS],
-    row: &[u64; rows::COLUMNS],
-    pool: &[u8],
-    out: &[u8; damage::FILE],
-) {
-    let start = rows::get(row, WRITE_START);
-    let right = tables::part(pool, start, rows::get(row, WRITE_LENGTH));
-    rows::must(told, alike::is_filled(out, right));
-}
-
-pub fn write(
-    pieces: &[u64],
-    blocks: &[u64],
-    store: &[u8],
-    nodes: &[u64],
-    entries: &[u64],
-    row: &[u64; rows::COLUMNS],
-    pool: &[u8],
-    told: &mut [u64; rows::COLUMNS],
-) {
+pub fn write(t: &Tables<'_>, call: Call<'_>, told: &mut Row) {
     let mut out = [alike::UNTOUCHED; damage::FILE];
-    let room = rows::get(row, WRITE_ROOM) as usize;
+    let room = call.get(WRITE_ROOM) as usize;
     if damage::FILE < room {
-        rows::must(told, false);
+        told.must(false);
         return;
     }
-    let lent = &mut out[0..room];
-    let written = spacetime_file::serialize_to(pieces, blocks, store, nodes, entries, lent);
-    tell_written(told, written);
-    tell_file(told, row, pool, &out);
-}
-
-fn tell_label(told: &mut [u64; rows::COLUMNS], label: Told) {
-    match label {
-        Told::Label(number) => rows::tell(told, CLOCK_LABEL, number),
-        Told::Refused(n) => rows::tell(told, rows::REFUSAL, n),
+    let lent = &mut out[..room];
+    match spacetime_file::serialize_to(t.pieces, t.blocks, t.store, t.nodes, t.entries, lent) {
+        Ok(many) => told.tell(WRITE_LENGTH, many),
+        Err(refusal) => told.refuse(u64::from(refusal)),
     }
+    told.must(alike::is_filled(&out, call.part(WRITE_START, WRITE_LENGTH)));
 }
 
-pub fn clock(
-    pieces: &[u64],
-    blocks: &[u64],
-    store: &[u8],
-    nodes: &[u64],
-    entries: &[u64],
-    row: &[u64; rows::COLUMNS],
-    told: &mut [u64; rows::COLUMNS],
-) {
-    let cell = rows::get(row, CLOCK_CELL);
-    let label = clock::clock(pieces, blocks, store, nodes, entries, cell);
-    tell_label(told, label);
+pub fn clock(t: &Tables<'_>, call: Call<'_>, told: &mut Row) {
+    let cell = call.get(CLOCK_CELL);
+    match clock::clock(t.pieces, t.blocks, t.store, t.nodes, t.entries, cell) {
+        Ok(label) => told.tell(CLOCK_LABEL, label),
+        Err(refusal) => told.refuse(u64::from(refusal)),
+    }
 }

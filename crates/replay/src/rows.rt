@@ -24,88 +24,130 @@ pub const NODES: usize = 14;
 pub const ENTRIES: usize = 15;
 
 // The end of the list; a case of the oracle's list, a case of our own; the calls; another scratch; a file damaged at each place of a run.
-pub const END: u64 = 0;
-
-pub const CASE: u64 = 1;
-
-pub const OWN: u64 = 2;
-
-pub const OPEN: u64 = 3;
-
-pub const RECORD: u64 = 4;
-
-pub const FINISH: u64 = 5;
-
-pub const BLOCK: u64 = 6;
-
-pub const FIND: u64 = 7;
-
-pub const CELLS: u64 = 8;
-
-pub const WRITE: u64 = 9;
-
-pub const LOAD: u64 = 10;
-
-pub const CLOCK: u64 = 11;
-
-pub const LEND: u64 = 12;
-
-pub const DAMAGED: u64 = 13;
-
-pub const TOUCHING: u64 = 14;
-
-pub const NEXT: u64 = 15;
-
-pub const LAST: u64 = 16;
-
-pub const CALENDAR: u64 = 17;
-
-pub const DAYS: u64 = 18;
-
-// A column of a row.
-pub fn get(row: &[u64; COLUMNS], col: usize) -> u64 {
-    tables::get(row, 0, col)
+#[derive(Clone, Copy, Debug, PartialEq, Eq)]
+pub enum Code {
+    End,
+    Case,
+    Own,
+    Open,
+    Record,
+    Finish,
+    Block,
+    Find,
+    Cells,
+    Write,
+    Load,
+    Clock,
+    Lend,
+    Damaged,
+    Touching,
+    Next,
+    Last,
+    Calendar,
+    Days,
 }
 
-// Tells what came in a column.
-pub fn tell(told: &mut [u64; COLUMNS], col: usize, value: u64) {
-    tables::put(told, 0, col, value);
-}
+// A number that is no code.
+#[derive(Clone, Copy, Debug, PartialEq, Eq)]
+pub struct NoCode;
 
-// Tells what no column can say: where it is not so, the row is another.
-pub fn must(told: &mut [u64; COLUMNS], so: bool) {
-    if !so {
-        tell(told, CODE, END);
+impl TryFrom<u64> for Code {
+    type Error = NoCode;
+
+    fn try_from(number: u64) -> Result<Code, NoCode> {
+        let code = match number {
+            0 => Code::End,
+            1 => Code::Case,
+            2 => Code::Own,
+            3 => Code::Open,
+            4 => Code::Record,
+            5 => Code::Finish,
+            6 => Code::Block,
+            7 => Code::Find,
+            8 => Code::Cells,
+            9 => Code::Write,
+            10 => Code::Load,
+            11 => Code::Clock,
+            12 => Code::Lend,
+            13 => Code::Damaged,
+            14 => Code::Touching,
+            15 => Code::Next,
+            16 => Code::Last,
+            17 => Code::Calendar,
+            18 => Code::Days,
+            _ => return Err(NoCode),
+        };
+        Ok(code)
     }
 }
 
-// What is told before a call: the row as if the call were taken.
-pub fn start(told: &mut [u64; COLUMNS], row: &[u64; COLUMNS]) {
-    let mut col = 0;
-    while col < COLUMNS {
-        tell(told, col, get(row, col));
-        col += 1;
-    }
-    tell(told, REFUSAL, 0);
+#[derive(Clone, Copy, Debug, PartialEq, Eq)]
+pub struct Row {
+    columns: [u64; COLUMNS],
 }
 
-pub fn is_same(told: &[u64; COLUMNS], row: &[u64; COLUMNS]) -> bool {
-    let mut col = 0;
-    while col < COLUMNS {
-        if get(told, col) != get(row, col) {
-            return false;
+impl Row {
+    pub fn zeros() -> Row {
+        Row {
+            columns: [0; COLUMNS],
         }
-        col += 1;
     }
-    true
+
+    pub fn code(&self) -> Result<Code, NoCode> {
+        Code::try_from(self.get(CODE))
+    }
+
+    pub fn get(&self, col: usize) -> u64 {
+        self.columns.get(col).copied().unwrap_or(0)
+    }
+
+    // What is told before a call: the row as if the call were taken.
+    pub fn taken(&self) -> Row {
+        let mut told = *self;
+        told.tell(REFUSAL, 0);
+        told
+    }
+
+    // Tells what came in a column.
+    pub fn tell(&mut self, col: usize, value: u64) {
+        if col < COLUMNS {
+            self.columns[col] = value;
+        }
+    }
+
+    pub fn refuse(&mut self, number: u64) {
+        self.tell(REFUSAL, number);
+    }
+
+    // Tells what no column can say: where it is not so, the row is another.
+    pub fn must(&mut self, so: bool) {
+        if !so {
+            self.tell(CODE, 0);
+        }
+    }
+}
+
+// A call: its row, and the pool, which has its bytes.
+#[derive(Clone, Copy)]
+pub struct Call<'a> {
+    pub row: &'a Row,
+    pub pool: &'a [u8],
+}
+
+impl<'a> Call<'a> {
+    pub fn get(&self, col: usize) -> u64 {
+        self.row.get(col)
+    }
+
+    // The part of the pool whose start and length stand in two columns.
+    pub fn part(&self, start: usize, length: usize) -> &'a [u8] {
+        tables::part(self.pool, self.get(start), self.get(length))
+    }
 }
 
 // A length that is lent, at most that of what there is.
 pub fn at_most(wanted: u64, most: usize) -> usize
     ensures { result ≤ most }
 {
-    if wanted < most as u64 {
-        return wanted as usize;
-    }
-    most
+    (wanted as usize).min(most)
 }

@@ -1,8 +1,7 @@
 // The calls that change an index: open, record, finish, load.
-use crate::rows;
-use file_load::Loaded;
-use index::{Finished, Index, Opened};
-use index_record::Recorded;
+use crate::lent::Tables;
+use crate::rows::{self, Call, Row};
+use index::Index;
 use tables::{entry, node};
 
 const OPEN_END: usize = 2;
@@ -47,128 +46,68 @@ pub const PIECES: usize = 64;
 
 const SCRATCH: usize = PIECES * tables::ROW + 7;
 
-// The number of a refused opening, 0 of one that is taken.
-fn opened(answer: Opened) -> u64 {
-    match answer {
-        Opened::Opened => 0,
-        Opened::Refused(n) => n,
+pub fn open(t: &mut Tables<'_>, call: Call<'_>, told: &mut Row) {
+    let kind = (call.get(OPEN_KIND) % 256) as u8;
+    let end = call.get(OPEN_END);
+    let store = &mut *t.store;
+    match Index::open(t.pieces, t.blocks, store, t.nodes, t.entries, end, kind) {
+        Ok(()) => {}
+        Err(refusal) => told.refuse(u64::from(refusal)),
     }
 }
 
-pub fn open(
-    pieces: &mut [u64],
-    blocks: &mut [u64],
-    store: &[u8],
-    nodes: &mut [u64],
-    entries: &mut [u64],
-    row: &[u64; rows::COLUMNS],
-    told: &mut [u64; rows::COLUMNS],
-) {
-    let kind = rows::get(row, OPEN_KIND) % 256;
-    let end_tick = rows::get(row, OPEN_END);
-    let answer = Index::open(pieces, blocks, store, nodes, entries, end_tick, kind as u8);
-    rows::tell(told, rows::REFUSAL, opened(answer));
-}
-
-fn tell_recorded(told: &mut [u64; rows::COLUMNS], answer: Recorded) {
-    match answer {
-        Recorded::Read => {
-            rows::tell(told, RECORD_UPDATED, 0);
-            rows::tell(told, RECORD_CELL, 0);
-        }
-        Recorded::Update(cell) => {
-            rows::tell(told, RECORD_UPDATED, 1);
-            rows::tell(told, RECORD_CELL, cell);
-        }
-        Recorded::Refused(n) => rows::tell(told, rows::REFUSAL, n),
-    }
-}
-
-pub fn record(
-    pieces: &mut [u64],
-    blocks: &mut [u64],
-    store: &mut [u8],
-    nodes: &[u64],
-    entries: &[u64],
-    lent: u64,
-    row: &[u64; rows::COLUMNS],
-    pool: &[u8],
-    told: &mut [u64; rows::COLUMNS],
-) {
-    let start = rows::get(row, RECORD_START);
-    let bytes = tables::part(pool, start, rows::get(row, RECORD_LENGTH));
+pub fn record(t: &mut Tables<'_>, lent: u64, call: Call<'_>, told: &mut Row) {
     let scratch = [0; SCRATCH];
-    let room = rows::at_most(lent, SCRATCH);
+    let nodes = &mut *t.nodes;
+    let entries = &mut *t.entries;
     let answer = index::record_op(
-        pieces,
-        blocks,
-        store,
+        t.pieces,
+        t.blocks,
+        t.store,
         nodes,
         entries,
-        &scratch[0..room],
-        rows::get(row, RECORD_TICK),
-        rows::get(row, RECORD_FIRST),
-        bytes,
+        &scratch[..rows::at_most(lent, SCRATCH)],
+        call.get(RECORD_TICK),
+        call.get(RECORD_FIRST),
+        call.part(RECORD_START, RECORD_LENGTH),
     );
-    tell_recorded(told, answer);
+    match answer {
+        Ok(None) => {
+            told.tell(RECORD_UPDATED, 0);
+            told.tell(RECORD_CELL, 0);
+        }
+        Ok(Some(cell)) => {
+            told.tell(RECORD_UPDATED, 1);
+            told.tell(RECORD_CELL, cell);
+        }
+        Err(refusal) => told.refuse(u64::from(refusal)),
+    }
 }
 
 // How many blocks, nodes and entries a closed index has.
-fn tell_finished(
-    told: &mut [u64; rows::COLUMNS],
-    blocks: &[u64],
-    nodes: &[u64],
-    entries: &[u64],
-    answer: Finished,
-) {
-    match answer {
-        Finished::Finished => {
-            rows::tell(told, FINISH_BLOCKS, block_table::count(blocks));
-            rows::tell(told, FINISH_NODES, tables::get(nodes, 0, node::COUNT));
-            rows::tell(told, FINISH_ENTRIES, tables::get(entries, 0, entry::COUNT));
+pub fn finish(t: &mut Tables<'_>, told: &mut Row) {
+    let store = &mut *t.store;
+    match index::finalize(t.pieces, t.blocks, store, t.nodes, t.entries) {
+        Ok(()) => {
+            told.tell(FINISH_BLOCKS, block_table::count(t.blocks));
+            told.tell(FINISH_NODES, tables::get(t.nodes, 0, node::COUNT));
+            told.tell(FINISH_ENTRIES, tables::get(t.entries, 0, entry::COUNT));
         }
-        Finished::Refused(n) => rows::tell(told, rows::REFUSAL, n),
+        Err(refusal) => told.refuse(u64::from(refusal)),
     }
-}
-
-pub fn finish(
-    pieces: &mut [u64],
-    blocks: &mut [u64],
-    store: &[u8],
-    nodes: &mut [u64],
-    entries: &mut [u64],
-    told: &mut [u64; rows::COLUMNS],
-) {
-    let answer = index::finalize(pieces, blocks, store, nodes, entries);
-    tell_finished(told, blocks, nodes, entries, answer);
 }
 
 // Where a load ended, and what the index has.
-fn tell_loaded(told: &mut [u64; rows::COLUMNS], blocks: &[u64], answer: Loaded) {
-    match answer {
-        Loaded::Next(next) => {
-            rows::tell(told, LOAD_NEXT, next as u64);
-            rows::tell(told, LOAD_END, block_table::end(blocks));
-            rows::tell(told, LOAD_KIND, block_table::kind(blocks));
-            rows::tell(told, LOAD_BLOCKS, block_table::count(blocks));
+pub fn load(t: &mut Tables<'_>, call: Call<'_>, told: &mut Row) {
+    let file = call.part(LOAD_START, LOAD_LENGTH);
+    let at = call.get(LOAD_AT) as usize;
+    match spacetime_file::deserialize(t.pieces, t.blocks, t.store, t.nodes, t.entries, file, at) {
+        Ok(next) => {
+            told.tell(LOAD_NEXT, next as u64);
+            told.tell(LOAD_END, block_table::end(t.blocks));
+            told.tell(LOAD_KIND, block_table::kind(t.blocks));
+            told.tell(LOAD_BLOCKS, block_table::count(t.blocks));
         }
-        Loaded::Refused(n) => rows::tell(told, rows::REFUSAL, n),
+        Err(refusal) => told.refuse(u64::from(refusal)),
     }
-}
-
-pub fn load(
-    pieces: &mut [u64],
-    blocks: &mut [u64],
-    store: &mut [u8],
-    nodes: &mut [u64],
-    entries: &mut [u64],
-    row: &[u64; rows::COLUMNS],
-    pool: &[u8],
-    told: &mut [u64; rows::COLUMNS],
-) {
-    let start = rows::get(row, LOAD_START);
-    let file = tables::part(pool, start, rows::get(row, LOAD_LENGTH));
-    let at = rows::get(row, LOAD_AT) as usize;
-    let answer = spacetime_file::deserialize(pieces, blocks, store, nodes, entries, file, at);
-    tell_loaded(told, blocks, answer);
 }

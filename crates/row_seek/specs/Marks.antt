@@ -1,12 +1,17 @@
 -- Where a search along rows may start. Definitions alone.
-use Rattle.std.specs.Prelude.{◌≡◌, List, ℕ, ◌+◌, ◌≤◌, ◌<◌, get_or}
+use Rattle.std.specs.Prelude.{◌≡◌, List, ℕ, ◌≤◌, ◌<◌, slice_index_or}
 use Rattle.block_table.specs.Blocks.{destroyed_at}
+use Rattle.row_seek.specs.declared.Mark.{Mark}
 
--- mark i is one of the rows up to n, and 64 places behind it stands the tick at which that row is destroyed
-pub record Mark (blocks : List ℕ) (n : ℕ) (marks : List ℕ) (i : ℕ) : Type 0 where
-  pub row : get_or marks i 0 ≤ n
-  pub tick : get_or marks (64 + i) 0 ≡ destroyed_at blocks (get_or marks i 0)
+-- a mark is one of the rows up to n, with the tick at which that row is destroyed
+pub record MarksRow (blocks : List ℕ) (n : ℕ) (mark : Mark) : Type 0 where
+  pub row : mark.row ≤ n
+  pub tick : mark.tick ≡ destroyed_at blocks mark.row
 
--- so are all below m, but for mark 0, which is the head's row and has no tick
-pub record Marked (blocks : List ℕ) (n : ℕ) (marks : List ℕ) (m : ℕ) : Type 0 where
-  pub mark : (i : ℕ) → 0 < i → i < m → Mark blocks n marks i
+-- the head's row, which has no tick
+abbrev pub no_mark : Mark
+no_mark = record { row = 0; tick = 0 }
+
+-- so are all of the 64 but the first, which is the head's row
+pub record Marked (blocks : List ℕ) (n : ℕ) (marks : List Mark) : Type 0 where
+  pub each : (i : ℕ) → 0 < i → i < 64 → MarksRow blocks n (slice_index_or marks i no_mark)

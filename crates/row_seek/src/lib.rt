@@ -2,135 +2,119 @@
 // a wrong place only leaves rule 24 to be decided in another way. So the functions promise no more than that they stay among the rows, that a search
 // goes on from where it starts, and that marks are what stands in the table.
 //
-//   specs/Marks     what is marked
-//   proofs/Marking  one step for each turn and the return of the loop
+//   specs/Marks   what is marked
 
 #![tactic(auto)]
 
-ghost use Rattle.std.specs.Prelude.{◌≤◌, ◌<◌, max, length};
+ghost use Rattle.std.specs.Prelude.{◌≤◌, ◌<◌, max};
 ghost use Rattle.row_seek.specs.Marks.{Marked};
 
 use block_table::Row;
 
 // How many rows are marked.
-const MARKS: usize = 64;
+pub const MARKS: usize = 64;
 
 // How often a place is guessed by the tick before ranges are halved.
 const GUESSES: u64 = 8;
 
-// About so many of `width` as `part` is of `whole`.
-fn share(part: u64, whole: u64, width: u64) -> u64
-    requires { (0 < whole) × (0 < width) }
-{
-    if part < 1 << 32 {
-        if width < 1 << 32 {
-            return part * width / whole;
-        }
-    }
-    part / tables::plus(whole / width, 1)
+// A place along the rows, and a destroyed tick that stands there.
+#[derive(Clone, Copy)]
+pub struct Mark {
+    pub row: u64,
+    pub tick: u64,
 }
 
-// The next place in [lo, hi) to look at for a tick, where ticks go from `low` to `high`: a guess, or the middle.
-fn between(lo: u64, hi: u64, low: u64, high: u64, tick: u64, guesses: u64) -> u64
-    requires { lo < hi }
-    ensures { (lo ≤ result) × (result < hi) }
+// About so many of `width` as `part` is of `whole`.
+fn share(part: u64, whole: u64, width: u64) -> u64
+    requires whole { 0 < whole }
+    requires width { 0 < width }
 {
+    match part.checked_mul(width) {
+        Some(product) => product / whole,
+        None => part / (whole / width).saturating_add(1),
+    }
+}
+
+// The next place from `lo` on and before `hi` to look at for a tick: a guess by the ticks there, or the middle.
+fn between(lo: Mark, hi: Mark, tick: u64, guesses: u64) -> u64
+    requires { lo.row < hi.row }
+    ensures from { lo.row ≤ result }
+    ensures before { result < hi.row }
+{
+    let width = hi.row - lo.row;
     if guesses == 0 {
-        return lo + (hi - lo) / 2;
+        return lo.row + width / 2;
     }
-    if tick <= low {
-        return lo;
+    if tick <= lo.tick {
+        return lo.row;
     }
-    if high <= tick {
-        return hi - 1;
+    if hi.tick <= tick {
+        return hi.row - 1;
     }
-    let step = share(tick - low, high - low, hi - lo);
-    if step < hi - lo {
-        return lo + step;
-    }
-    hi - 1
+    let step = share(tick - lo.tick, hi.tick - lo.tick, width);
+    lo.row + step.min(width - 1)
 }
 
 // Whether the row is destroyed before the tick, or at it and ends at the cell or before.
 fn comes_before(row: Row, tick: u64, cell: u64) -> bool {
-    if row.destroyed < tick {
-        return true;
-    }
-    if tick < row.destroyed {
-        return false;
-    }
-    tables::plus(row.first, row.length) <= cell
+    row.destroyed < tick || row.destroyed == tick && row.first.saturating_add(row.length) <= cell
 }
 
-// How many rows come before the tick and the cell, of those above `from` up to `to`, and `from` besides; `low` is the tick of row `from`.
-pub fn search(blocks: &[u64], from: u64, to: u64, low: u64, tick: u64, cell: u64, tries: u64) -> u64
-    ensures { (from ≤ result) × (result ≤ max from to) }
+// How many rows come before the tick and the cell, of those above `from` up to `to`, and those up to `from` besides.
+pub fn search(blocks: &[u64], from: Mark, to: u64, tick: u64, cell: u64, tries: u64) -> u64
+    ensures onward { from.row ≤ result }
+    ensures within { result ≤ max from.row to }
 {
-    let last = block_table::read(blocks, to);
     let mut lo = from;
-    let mut hi = to;
-    let mut under = low;
-    let mut over = last.destroyed;
+    let mut hi = Mark {
+        row: to,
+        tick: block_table::read(blocks, to).destroyed,
+    };
     let mut guesses = tries;
-    while lo < hi {
-        let mid = between(lo, hi, under, over, tick, guesses);
+    while lo.row < hi.row {
+        let mid = between(lo, hi, tick, guesses);
         let row = block_table::read(blocks, mid + 1);
-        guesses = tables::minus(guesses, 1);
+        guesses = guesses.saturating_sub(1);
         if comes_before(row, tick, cell) {
-            lo = mid + 1;
-            under = row.destroyed;
+            lo = Mark {
+                row: mid + 1,
+                tick: row.destroyed,
+            };
         } else {
-            hi = mid;
-            over = row.destroyed;
+            hi = Mark {
+                row: mid,
+                tick: row.destroyed,
+            };
         }
     }
-    lo
+    lo.row
 }
 
-// Notes rows at equal distances, and behind them their destroyed ticks: a search that starts from these looks at few rows. Of marks that are too short
-// nothing is made.
-pub fn mark(blocks: &[u64], n: u64, marks: &mut [u64])
-    ensures { 128 ≤ length marks.old → Marked blocks.now n marks.new 64 }
+// Rows at equal distances, with their destroyed ticks: a search that starts from these looks at few rows. The first one is the head's row, with no tick.
+pub fn mark_rows(blocks: &[u64], n: u64) -> [Mark; MARKS]
+    ensures { Marked blocks.now n result }
 {
-    if marks.len() < 2 * MARKS {
-        return;
+    let mut marks = [Mark { row: 0, tick: 0 }; MARKS];
+    let mut row: u64 = 0;
+    for i in 1..MARKS {
+        row = n.min(row.saturating_add(n / 64 + 1));
+        marks[i] = Mark {
+            row,
+            tick: block_table::read(blocks, row).destroyed,
+        };
     }
-    let mut place = 0;
-    let mut i = 1;
-    while i < MARKS {
-        place = tables::smaller(tables::plus(place, n / 64 + 1), n);
-        let row = block_table::read(blocks, place);
-        marks[i] = place;
-        marks[MARKS + i] = row.destroyed;
-        i += 1;
-    }
-}
-
-// The row of a mark, at most n, and n behind the last one.
-fn row_of(marks: &[u64; 128], mark: usize, n: u64) -> u64
-    ensures { result ≤ n }
-{
-    if mark < MARKS {
-        return tables::smaller(marks[mark], n);
-    }
-    n
+    marks
 }
 
 // The row before the first one that is destroyed at the tick.
-pub fn seek(blocks: &[u64], n: u64, marks: &[u64; 128], tick: u64) -> u64
+pub fn seek(blocks: &[u64], n: u64, marks: &[Mark; MARKS], tick: u64) -> u64
     ensures { result ≤ n }
 {
-    let mut a = 0;
-    let mut b = MARKS;
-    while a + 1 < b {
-        let mid = (a + b) / 2;
-        if marks[MARKS + mid] < tick {
-            a = mid;
-        } else {
-            b = mid;
-        }
-    }
-    let to = row_of(marks, b, n);
-    let from = tables::smaller(marks[a], to);
-    search(blocks, from, to, marks[MARKS + a], tick, 0, GUESSES)
+    let before = marks[1..].partition_point(|mark| mark.tick < tick);
+    let to = marks.get(before + 1).map_or(n, |mark| n.min(mark.row));
+    let from = Mark {
+        row: to.min(marks[before].row),
+        tick: marks[before].tick,
+    };
+    search(blocks, from, to, tick, 0, GUESSES)
 }

@@ -1,4 +1,5 @@
 -- The blocks that are live at a tick of a closed index, from its tables. Assumes nothing.
+use Rattle.std.specs.Prelude.{Option}
 use mathlib.Core.Path.{◌≡◌, refl, ap, sym, ◌∙◌}
 use mathlib.Core.Bool.{Bool, true, false, cond}
 use mathlib.Core.List.{List}
@@ -66,7 +67,7 @@ pub record Living (blocks store nodes entries : List ℕ) (kind tick : ℕ) (bs 
   pub lives : (k : ℕ) → Mem k list → live tick (block_at bs k) ≡ true
   pub apart : Apart bs
   pub filled : All (λ (b : Block). 0 < size b.stretch) bs
-  pub near : (side : Side) (place : ℕ) {r : Neighbour}
+  pub near : (side : Side) (place : ℕ) {r : Option Neighbour}
       → NearestLive nodes entries kind (block_column blocks 0 head_end) tick side place r → Neighbours side (key_in bs) place list r
   pub row : (k : ℕ) → k < length bs → Row blocks store bs k
 

@@ -8,10 +8,10 @@
 
 #![tactic(auto)]
 
-ghost use Rattle.std.specs.Prelude.{◌≡◌, min};
+ghost use Rattle.std.specs.Prelude.{◌≡◌};
 ghost use Rattle.runs.specs.Runs.{PartOf, FirstRun, NextRun};
 
-use segment_near::Neighbour;
+use segment_near::Side;
 use tables::block;
 
 // From the place asked for on, the cells below `until` are free; those from there to below `past` have the store's bytes from place `from` on.
@@ -20,15 +20,6 @@ pub struct Run {
     pub until: u64,
     pub past: u64,
     pub from: usize,
-}
-
-fn fewer(a: u64, b: u64) -> u64
-    ensures { result ≡ min a b }
-{
-    if a < b {
-        return a;
-    }
-    b
 }
 
 // Free cells up to `until`, and none of a block behind them.
@@ -54,25 +45,18 @@ fn part(blocks: &[u64], store: &[u8], number: u64, place: u64, end: u64) -> Run
     let length = block::get(blocks, link, block::LENGTH);
     let offset = block::get(blocks, link, block::OFFSET);
     let room = store.len() as u64;
-    if room < length {
-        return free(place);
-    }
-    if room - length < offset {
-        return free(place);
-    }
-    if place < first {
-        return free(place);
-    }
-    if length <= place - first {
-        return free(place);
-    }
-    if end <= place {
+    if room < length
+        || room - length < offset
+        || place < first
+        || length <= place - first
+        || end <= place
+    {
         return free(place);
     }
     let skip = place - first;
     Run {
         until: place,
-        past: place + fewer(length - skip, end - place),
+        past: place + (length - skip).min(end - place),
         from: (offset + skip) as usize,
     }
 }
@@ -91,10 +75,10 @@ pub fn first_run(
     ensures { FirstRun blocks.now store.now nodes.now entries.now kind tick start end result }
 {
     let last = block_table::end(blocks);
-    let before = segment_near::last_before(nodes, entries, kind, last, tick, start);
+    let before = segment_near::nearest_live(nodes, entries, kind, last, tick, Side::Before, start);
     match before {
-        Neighbour::Block { number, first: _ } => part(blocks, store, number, start, end),
-        Neighbour::Nothing => free(start),
+        Some(block) => part(blocks, store, block.number, start, end),
+        None => free(start),
     }
 }
 
@@ -112,17 +96,14 @@ pub fn next_run(
     ensures { NextRun blocks.now store.now nodes.now entries.now kind tick place end result }
 {
     let last = block_table::end(blocks);
-    let next = segment_near::first_from(nodes, entries, kind, last, tick, place);
-    let Neighbour::Block { number, first } = next else {
+    let next = segment_near::nearest_live(nodes, entries, kind, last, tick, Side::From, place);
+    let Some(block) = next else {
         return free(end);
     };
-    if end <= first {
+    if end <= block.first || block.first < place {
         return free(end);
     }
-    if first < place {
-        return free(end);
-    }
-    let run = part(blocks, store, number, first, end);
+    let run = part(blocks, store, block.number, block.first, end);
     if run.past <= place {
         return free(end);
     }

@@ -1,13 +1,16 @@
 -- All blocks: the tree decides rule 24, and so does the whole test. Assumes nothing.
 use mathlib.Core.Path.{◌≡◌, refl, sym, ap, ◌∙◌}
 use mathlib.Core.Logic.{⊎_elim}
-use mathlib.Core.Bool.{Bool, true, false, cond, not}
+use mathlib.Core.Bool.{Bool, true, false, cond}
 use mathlib.Core.List.{List}
-use Prim.Native.Nat.{ℕ, zero, suc, ◌+◌, ◌≤◌, ◌<◌, max}
+use Prim.Native.Nat.{ℕ, zero, suc, ◌≤◌, ◌<◌, max}
 use native.Mathlib.Omega.{arith}
-use lib.ListN.{length}
+use lib.ListN.{length, get_or}
 use lib.Dec.{leb, ltb}
-use borrow.Author.Tests.{leb-true, ltb-true, not-true, not-false}
+use borrow.Author.Tests.{leb-true, ltb-true}
+use Rattle.std.specs.Bool.{MatchBool}
+use Rattle.std.specs.List.{AllWithin, HoldsAt, range_with_len}
+use Rattle.std.proofs.lemmas.List.FromFn.{length-range_with_len, get_or-range_with_len}
 use Rattle.lists.specs.Lists.{All, Mem, count}
 use Rattle.lists.proofs.Numbers.{confirm, refute, lt_or_le, and_left, and_right}
 use Rattle.lists.proofs.Lists.{all_map, all_mem, all_of_at}
@@ -25,7 +28,6 @@ use Rattle.segment_test.specs.Test.{lent, created_in, destroyed_in, BlockRows, C
 use Rattle.segment_walk.specs.Walking.{Rooted}
 use Rattle.segment_walk.proofs.Agreeing.{sorted_agree}
 use Rattle.segment_clear.specs.Clear.{end_in, Reached, Clears}
-use Rattle.segment_handed.specs.Handed.{SoundRows, HandedOn}
 use Rattle.segment_apart.specs.Birth.{BirthClear}
 use Rattle.segment_apart.specs.Apart.{AllBounded, ClosedApart}
 use Rattle.segment_apart.proofs.Creation.{Alive, Born, born_apart}
@@ -150,42 +152,25 @@ module _ (t : Tables) (kind e n : ℕ) (bs : List Block) (rows : BlockRows t.blo
           (record { known = omega arith; from = clash.other.born; to = clash.other.alive }) (λ q. ne (ap suc q))
           (record { one = omega (arith, clash.one.from, clash.other.below); other = omega (arith, clash.other.from, clash.one.below) })
 
--- ── the returns and turns of `all_clear` ──
+-- ── what `all_clear` says ──
 
-module _ {blocks nodes entries : List ℕ} {kind e : ℕ} where
-  pub pass_none : Passed blocks nodes entries kind e 0
-  pass_none = record { each = λ j h. absurd (omega arith) }
+range_at : (n k : ℕ) → k < n → get_or (range_with_len 0 n) k 0 ≡ k
+range_at n k h = omega (arith, get_or-range_with_len 0 n k 0 h)
 
-  pub pass_more : {k : ℕ} {r : Bool} → Passed blocks nodes entries kind e k → BirthClear blocks nodes entries kind e k r → not r ≡ false
-      → Passed blocks nodes entries kind e (k + 1)
-  pass_more {k} {r} p b h = record {
-    each = λ j l.
-        ⊎_elim (λ (a : j < k). p.each j a) (λ (a : k ≤ j). let same : j ≡ k = omega arith in rw same (rw (not-false r h) at b)) (lt_or_le j k);
-  }
+-- of block k r is said
+abbrev pub Told : (blocks nodes entries : List ℕ) (kind end : ℕ) → Bool → ℕ → Type 0
+Told blocks nodes entries kind end r k = BirthClear blocks nodes entries kind end k r
 
-  pub clear_not : {n k : ℕ} {r : Bool} → k < n → BirthClear blocks nodes entries kind e k r → not r ≡ true → ClosedApart (lent blocks nodes entries) kind e n false
-  clear_not {n} {k} {r} l b h = record {
-    decides = λ bs rows index bounded. refute (shared (lent blocks nodes entries) kind e n bs rows index bounded k l (rw (not-true r h) at b));
-  }
-
-  pub clear_all : {n k : ℕ} → k ≤ n → n ≤ k → Passed blocks nodes entries kind e k → ClosedApart (lent blocks nodes entries) kind e n true
-  clear_all {n} {k} l h p =
-      let same : k ≡ n = omega arith in
-      record { decides = λ bs rows index bounded. confirm (unshared (lent blocks nodes entries) kind e n bs rows index bounded (rw same at p)) }
-
-pub ruleset passing = (pass_none, pass_more, clear_not, clear_all, arith)
-
--- ── the returns of `apart` ──
-
-pub apart-handed : {blocks nodes entries : List ℕ} {kind e n : ℕ} {r : Bool} → HandedOn (lent blocks nodes entries) kind e r → r ≡ true
-    → ClosedApart (lent blocks nodes entries) kind e n true
-apart-handed {blocks} {e = e} {n} handed y = record { decides = λ bs rows index bounded. confirm (handed.shown y n bs rows index (sound bounded)) }
-  where
-    sound : AllBounded blocks e n → SoundRows blocks e n
-    sound bounded = record {
-      filled = record { filled = λ link p q. (bounded.rows link p q).some_cell };
-      fits = record { each = λ k h. (bounded.rows (suc k) (omega arith) (omega arith)).no_wrap };
-      by_end = λ k h. (bounded.rows (suc k) (omega arith) (omega arith)).by_end;
-    }
-
-pub ruleset testing = (apart-handed)
+pub clear_told : {blocks nodes entries : List ℕ} {kind e n : ℕ} {r : Bool}
+    → MatchBool r (AllWithin (Told blocks nodes entries kind e true) (range_with_len 0 n) 0 (length (range_with_len 0 n)))
+    ((k : ℕ) × (k < length (range_with_len 0 n)) × HoldsAt (Told blocks nodes entries kind e false) (range_with_len 0 n) k)
+    → ClosedApart (lent blocks nodes entries) kind e n r
+clear_told {blocks} {nodes} {entries} {kind} {e} {n} {r = true} all = record {
+  decides = λ bs rows index bounded. confirm (unshared (lent blocks nodes entries) kind e n bs rows index bounded
+      (record { each = λ k h. rw (range_at n k h) at (all k 0 (omega arith) (omega (arith, length-range_with_len 0 n))) }));
+}
+clear_told {blocks} {nodes} {entries} {kind} {e} {n} {r = false} (k, h, one) = record {
+  decides = λ bs rows index bounded.
+      let low : k < n = omega (arith, length-range_with_len 0 n) in
+      refute (shared (lent blocks nodes entries) kind e n bs rows index bounded k low (rw (range_at n k low) at (one 0)));
+}

@@ -1,4 +1,3 @@
 pub mod Creation
-pub mod Bearing
 pub mod Deciding
 pub mod Agreeing

@@ -1,8 +1,8 @@
 -- Rule 24 of a closed index: what is decided, by its tree and by the whole test. Definitions alone.
-use Rattle.std.specs.Prelude.{◌≡◌, Bool, true, List, ℕ, ◌+◌, ◌-◌, ◌^◌, ◌≤◌, ◌<◌}
+use Rattle.std.specs.Prelude.{Bool, List, ℕ, ◌+◌, ◌-◌, ◌^◌, ◌≤◌, ◌<◌}
 use Rattle.lists.specs.Tests.{Decides}
 use Rattle.history.specs.Words.{Block}
-use Rattle.block_table.specs.Blocks.{first_cell_at, length_at, destroyed_at, Filled}
+use Rattle.block_table.specs.Blocks.{first_cell_at, length_at, destroyed_at}
 use Rattle.ordering.specs.Apart.{Unshared}
 use Rattle.segment_table.specs.Closed.{Tables}
 use Rattle.segment_test.specs.Test.{BlockRows, ClosedTree}

@@ -4,19 +4,19 @@ ghost use Rattle.segment_test.specs.Test.{lent};
 ghost use Rattle.segment_apart.specs.Birth.{BirthClear};
 ghost use Rattle.segment_apart.specs.Apart.{ClosedApart};
 
+use segment_clear::{Lent, Own};
 use segment_walk::walk;
 
 // Whether block k is clear of those that are live when it is created.
-fn birth_clear(blocks: &[u64], nodes: &[u64], entries: &[u64], kind: u64, end: u64, k: u64) -> bool
-    ensures { BirthClear blocks.now nodes.now entries.now kind end k result }
+fn birth_clear(lent: &Lent<'_>, kind: u64, end: u64, k: u64) -> bool
+    ensures { BirthClear lent.now.blocks.now lent.now.nodes.now lent.now.entries.now kind end k result }
 {
-    let row = segment_clear::row_of(blocks, k);
+    let row = lent.row(k);
     if row.destroyed <= row.created {
         return true;
     }
-    let root = walk::root(nodes, kind, end);
-    let own = segment_clear::own_of(k, row);
-    segment_clear::way_clear(blocks, nodes, entries, root, row.created, own)
+    let root = walk::root(lent.nodes, kind, end);
+    lent.way_clear(root, row.created, Own::new(k, row))
 }
 
 // Whether each of the n blocks is clear of those that are live when it is created: then no two share a cell at any tick. For each block at most 64
@@ -31,12 +31,10 @@ pub fn all_clear(
 ) -> bool
     ensures { ClosedApart (lent blocks.now nodes.now entries.now) kind end n result }
 {
-    let mut k = 0;
-    while k < n {
-        if !birth_clear(blocks, nodes, entries, kind, end, k) {
-            return false;
-        }
-        k += 1;
-    }
-    true
+    let lent = Lent {
+        blocks,
+        nodes,
+        entries,
+    };
+    (0..n).all(|k| birth_clear(&lent, kind, end, k))
 }

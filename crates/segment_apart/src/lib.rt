@@ -1,7 +1,7 @@
 // Rule 24 of a closed index: no two live blocks share a cell. What any list of calls leaves is seen to be so by one walk over the tree (segment_handed). For the
 // rest the tree answers: if two blocks share a cell, they do when the later one of them is created.
 //
-//   birth   specs/Birth  proofs/Bearing    a block against those live at its created tick
+//   birth   specs/Birth      a block against those live at its created tick
 //           proofs/Creation  blocks that are parted whenever one is created share nothing
 //           proofs/Deciding  all blocks
 //   specs/Apart  proofs/Agreeing         what is decided; for callers, in the words of history
@@ -18,8 +18,6 @@ pub mod birth;
 pub fn apart(blocks: &[u64], nodes: &[u64], entries: &[u64], kind: u64, end: u64, n: u64) -> bool
     ensures { ClosedApart (lent blocks.now nodes.now entries.now) kind end n result }
 {
-    if segment_handed::handed_on(blocks, nodes, entries, kind, end) {
-        return true;
-    }
-    birth::all_clear(blocks, nodes, entries, kind, end, n)
+    segment_handed::handed_on(blocks, nodes, entries, kind, end)
+        || birth::all_clear(blocks, nodes, entries, kind, end, n)
 }

@@ -3,20 +3,17 @@ use mathlib.Core.Path.{◌≡◌, refl, sym, ap, ◌∙◌}
 use mathlib.Core.Logic.{⊎_elim}
 use mathlib.Core.Bool.{Bool, true, false, not, true≢false, false≢true}
 use mathlib.Core.List.{List, ◌++◌}
-use Prim.Native.Nat.{ℕ, suc, ◌+◌, ◌-◌, ◌*◌, ◌^◌, ◌≤◌, ◌<◌}
+use Prim.Native.Nat.{ℕ, suc, ◌+◌, ◌-◌, ◌^◌, ◌≤◌, ◌<◌}
 use native.Mathlib.Omega.{arith}
 use lib.ListN.{length, get_or}
-use lib.Dec.{leb}
-use borrow.Author.Tests.{leb-true, leb-false, not-true, not-false}
+use borrow.Author.Tests.{not-true, not-false}
 use Rattle.lists.specs.Lists.{All, all_nil, Ascending}
 use Rattle.lists.specs.Tests.{Decides}
-use Rattle.lists.proofs.Numbers.{le_or_lt, refute}
+use Rattle.lists.proofs.Numbers.{le_or_lt}
 use Rattle.lists.proofs.Lists.{all_append, all_map, mem_left, mem_right, pairs_at}
-use Rattle.history.specs.Lent.{row_width, block_head}
 use Rattle.history.specs.Tree.{Tree, hole, node}
 use Rattle.history.specs.Find.{path}
 use Rattle.history.proofs.RulesLaws.{ascends_decides, sorted_here}
-use Rattle.tables.specs.Columns.{column, block_column, block_base, block_length}
 use Rattle.block_table.specs.declared.Row.{Row}
 use Rattle.block_table.specs.RowRead.{Reads}
 use Rattle.segment_table.specs.Closed.{TreeAt, run, block_in, first_cell_in}
@@ -32,13 +29,6 @@ use Rattle.segment_clear.specs.Clear.{end_in, EndsBy, Owned, Owns, Parted, Reach
 
 -- ── blocks ──
 
-pub column_of : (t : List ℕ) (k c : ℕ) {r : ℕ} → r ≡ column t k (block_head + c) → r ≡ block_column t (suc k) c
-column_of t k c {r} e = let p : row_width * k + (block_head + c) ≡ row_width * suc k + (block_base + c) = omega arith in rw (← p) e
-
--- the link of block k
-pub row_behind : {t : List ℕ} (k : ℕ) {row : Row} → Reads t (k + 1) row → Reads t (suc k) row
-row_behind k reads = let e : k + 1 ≡ suc k = omega arith in rw e at reads
-
 -- what the row of block k says is what is owned
 pub owned_owns : {t : List ℕ} {k : ℕ} {row : Row} {own : Own} → Reads t (suc k) row → Owned k row own → Owns t k own
 owned_owns reads is = record {
@@ -47,18 +37,6 @@ owned_owns reads is = record {
   end = λ fits. let e = is.end (rw (reads.first, reads.length) fits) in e ∙ rw (reads.first, reads.length) refl;
   forward = is.forward;
 }
-
-module _ {t : List ℕ} {k : ℕ} {row : Row} (reads : Reads t (suc k) row) where
-  pub ends_late : {place : ℕ} → row.first ≤ place → Decides (leb row.length (place - row.first)) (EndsBy t k place)
-  ends_late {place} h = record {
-    yes = λ e. record { is = omega (arith, reads.first, reads.length, leb-true row.length (place - row.first) e) };
-    not = λ e b. omega (arith, reads.first, reads.length, leb-false row.length (place - row.first) e, b.is);
-  }
-
-  pub ends-early : {place : ℕ} → place < row.first → Decides false (EndsBy t k place)
-  ends-early h = refute (λ b. omega (arith, reads.first, b.is))
-
-pub ruleset ending = (ends-early, ends_late)
 
 -- ── a run ──
 
@@ -122,8 +100,8 @@ module _ {t entries : List ℕ} {rows : Rows} {own : Own} {row : ℕ} (l : Lower
   parts_at : (k : ℕ) (xs : List ℕ) → Owns t k own → end_in t k ≤ 2 ^ 64 - 1 → RunOf t entries rows xs → Parts entries rows (end_in t k) row
   parts_at k xs is fits run = rw (← is.end fits) (l.parts run.room run.ordered)
 
-  pub run-empty : row ≤ rows.from → RunClear t entries rows own true
-  run-empty h = record {
+  pub run_none : row ≤ rows.from → RunClear t entries rows own true
+  run_none h = record {
     of_run = λ k xs is fits run up.
         let at = l.inside run.order in
         none_before k run (parts_at k xs is fits run) at.0 at.1 (λ i a b. absurd (omega arith));
@@ -158,8 +136,6 @@ module _ {t entries : List ℕ} {rows : Rows} {own : Own} {row : ℕ} (l : Lower
           (rw (eo, is.first) at d);
     }
 
-pub ruleset running = (run-empty, run_last, run_own, run_other)
-
 -- ── lists joined ──
 
 module _ {t : List ℕ} {k : ℕ} (xs ys : List ℕ) where
@@ -190,9 +166,6 @@ pub record Leads (t nodes entries : List ℕ) (root n : Node) (tick : ℕ) (own 
   pub back : (r : Bool) → WayClear t nodes entries n tick own r → WayClear t nodes entries root tick own r
 
 module _ {t nodes entries : List ℕ} {root : Node} {tick : ℕ} {own : Own} where
-  pub way_starts : Leads t nodes entries root root tick own
-  way_starts = record { back = λ r w. w }
-
   pub way_ends : {n : Node} {q : Bool} → Leads t nodes entries root n tick own → Decides q (Absent n) → not q ≡ false → WayClear t nodes entries root tick own true
   unfolding path
   way_ends {n} {q} lead d e =
@@ -231,4 +204,4 @@ module _ {t nodes entries : List ℕ} {root : Node} {tick : ℕ} {own : Own} whe
             (run.of_run k xs is fits (rw er (run_of t nodes entries kind n xs l r s)) ((ascends_decides (first_cell_in t) xs).yes (sorted_here (first_cell_in t) xs l r s.ascend))))
             (below.of_way k kind w.below is fits w.stands))
 
-pub ruleset going = (way_starts, way_ends, way_reached, way_goes)
+pub ruleset going = (way_ends, way_reached, way_goes)

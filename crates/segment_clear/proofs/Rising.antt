@@ -1,23 +1,23 @@
 -- A block against the nodes above one: one step for each return and turn of `above_clear`. Assumes nothing.
 use mathlib.Core.Path.{◌≡◌, refl, sym, ap, ◌∙◌}
-use mathlib.Core.Bool.{Bool, true, false, not, false≢true}
+use mathlib.Core.Bool.{Bool, true, false, not}
 use mathlib.Core.Logic.{inl, inr}
-use mathlib.Core.List.{List, [], ◌++◌}
+use mathlib.Core.List.{List}
 use Prim.Native.Nat.{ℕ, ◌≤◌, ◌<◌, ◌-◌, ◌^◌}
 use native.Mathlib.Omega.{arith}
 use lib.ListN.{length, get_or}
 use borrow.Author.Tests.{not-false}
-use Rattle.lists.specs.Lists.{All, all_nil, Mem, Ascending, Pairs}
+use Rattle.lists.specs.Lists.{All, all_nil, Mem, Ascending}
 use Rattle.lists.specs.Tests.{Decides}
 use Rattle.lists.proofs.Numbers.{le_or_lt, lt_or_le, eq_or_ne}
 use Rattle.lists.proofs.Lists.{all_append, all_mem, all_of_mem, mem_place, pairs_at}
 use Rattle.segment_table.specs.Closed.{first_cell_in}
 use Rattle.segment_walk.specs.declared.walk.Node.{Node}
 use Rattle.segment_walk.specs.declared.rows.Rows.{Rows}
-use Rattle.segment_walk.specs.Walking.{Absent, no_row_lem, no_tick, half_at}
+use Rattle.segment_walk.specs.Walking.{Absent, half_at}
 use Rattle.segment_walk.specs.Rowing.{rows_at}
 use Rattle.segment_clear.specs.declared.Own.{Own}
-use Rattle.segment_clear.specs.Clear.{end_in, Owns, Parted, Clears, RunClear}
+use Rattle.segment_clear.specs.Clear.{end_in, Owns, Clears, RunClear}
 use Rattle.segment_clear.specs.Above.{Chained, Aside, before, behind, Above, above-none, above_next, AboveClear}
 
 -- ── one run ──
@@ -57,12 +57,6 @@ pub record Rises (t nodes entries : List ℕ) (top from : Node) (min tick : ℕ)
       → ((rest : List ℕ) → Above t nodes entries tick at from rest → All (λ j. (j ≡ k → ⊥) → Aside t k j) rest) → All (λ j. (j ≡ k → ⊥) → Aside t k j) list
 
 module _ {t nodes entries : List ℕ} {top : Node} {min tick : ℕ} {own : Own} where
-  pub rises_start : Rises t nodes entries top top min tick own
-  rises_start = record { back = λ k at list is fits e above f. f list above }
-
-  pub rises-not : AboveClear t nodes entries top min tick own false
-  rises-not = record { of_above = λ y. absurd (false≢true y) }
-
   pub rises_end : {from : Node} → min ≤ from.min → Rises t nodes entries top from min tick own → AboveClear t nodes entries top min tick own true
   rises_end {from} h rises = record { of_above = λ y k at list is fits e above. rises.back k at list is fits e above (λ rest a. none at rest e a) }
     where
@@ -83,4 +77,4 @@ module _ {t nodes entries : List ℕ} {top : Node} {min tick : ℕ} {own : Own} 
       go k at rest is fits em f (above_next {es = es} {rest = more} below some wide runs up chained a) =
           all_append (run_aside k es chained up (rw (not-false c y) at (run.of_run k es is fits (rw er runs) up))) (f more (rw en a))
 
-pub ruleset rising = (rises_start, rises-not, rises_end, rises_next)
+pub ruleset rising = (rises_end, rises_next)

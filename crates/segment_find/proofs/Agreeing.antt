@@ -1,5 +1,6 @@
 -- For callers: what find's contract says of a closed index whose blocks are known, by the keys of the model. Assumes nothing.
 use mathlib.Core.Path.{◌≡◌}
+use Rattle.std.specs.Prelude.{Option}
 use mathlib.Core.Bool.{true}
 use mathlib.Core.List.{List}
 use Prim.Native.Nat.{ℕ, ◌<◌}
@@ -19,7 +20,7 @@ use Rattle.segment_find.specs.Listing.{Fills, Finds}
 module _ (t : Tables) (kind e : ℕ) (bs : List words.Block) (tree : Tree) (closed : Closed t kind e tree) (some : 0 < e)
     (order : sorted (key_in bs) tree ≡ true) (keys : All (λ k. key_in bs k ≡ first_cell_in t.blocks k) (entries_in tree)) where
   -- find lists and visits what the model of find does
-  pub find_model : (tick start stop : ℕ) {answer answer' : List ℕ} {r : Found} → Finds t.nodes t.entries kind e tick start stop answer answer' r
+  pub find_model : (tick start stop : ℕ) {answer answer' : List ℕ} {r : Option Found} → Finds t.nodes t.entries kind e tick start stop answer answer' r
       → Fills (find e bs tree tick start stop) (visited tick 0 e tree) answer answer' r
   unfolding find
   find_model tick start stop f =

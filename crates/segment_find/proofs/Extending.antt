@@ -9,7 +9,7 @@ use Rattle.lists.proofs.Stores.{sets-append}
 use Rattle.segment_table.specs.Closed.{run, block_in}
 use Rattle.segment_table.proofs.Closed.{run_length, run-append}
 use Rattle.segment_walk.specs.Rowing.{blocks_in}
-use Rattle.segment_find.specs.Notes.{rows_in, noted, Fitting, Room, Written}
+use Rattle.segment_find.specs.Notes.{rows_in, noted, Fitting, Room}
 use Rattle.segment_find.proofs.Noting.{noted_next, noted-count, noted_grows}
 
 -- ── the rows of a node ──
@@ -32,10 +32,6 @@ extended_more {entries} {before} {at} {from} {answer} {i} s =
       written =
           rw (s.written, run-append entries from i 1, sets-append before at (run entries from i) (block_in entries (from + i) ∷ []), run_length entries from i);
     }
-
-pub extended_all : {entries before : List ℕ} {at from count : ℕ} {answer : List ℕ} {i : ℕ} → Extended entries before at from answer i → i ≤ count → count ≤ i
-    → answer ≡ sets before at (run entries from count)
-extended_all {count = count} {i = i} s h k = let e : i ≡ count = omega arith in rw e at s.written
 
 -- ── all rows noted ──
 
@@ -69,8 +65,3 @@ module _ {entries notes before : List ℕ} {count : ℕ} {answer : List ℕ} {k 
               rw (e, s.left, s.many, noted_next entries notes k)
               (sym (rw z at (sets-append before 0 (noted entries notes k) (blocks_in entries (rows_in notes k)))));
         }
-
-  pub writing_all : count ≤ k → Written entries notes count before answer place
-  writing_all h = let e : k ≡ count = omega (arith, s.inside) in record { many = rw e at s.many; left = rw e at s.left }
-
-pub ruleset writing = (writing_none, writing_room, writing_more, writing_all)

@@ -1,10 +1,10 @@
 -- The whole of find: the way from the root, its rows, and what is written of them. Assumes nothing.
-use mathlib.Core.Path.{◌≡◌, refl, ◌∙◌}
+use Rattle.std.specs.Prelude.{Option, Some, None}
+use mathlib.Core.Path.{◌≡◌}
 use mathlib.Core.List.{List}
 use Prim.Native.Nat.{ℕ, ◌+◌, ◌≤◌, ◌<◌}
 use native.Mathlib.Omega.{arith}
 use lib.ListN.{length}
-use lib.Seq.{length-sets}
 use borrow.Author.Tests.{le-leb, lt-leb}
 use Rattle.lists.proofs.Stores.{get_d_sets_in}
 use Rattle.history.specs.Tree.{Tree}
@@ -12,10 +12,7 @@ use Rattle.history.specs.Find.{path, visited, window}
 use Rattle.segment_table.specs.Closed.{first_cell_in}
 use Rattle.segment_walk.specs.declared.walk.Node.{Node}
 use Rattle.segment_walk.specs.Walking.{Stands, Rooted, root_at}
-use Rattle.segment_find.specs.declared.Found.TheVariants.{Listed, TooSmall}
-use Rattle.segment_find.specs.declared.Noted.{Noted}
-use Rattle.segment_find.specs.declared.Noted.TheVariants as noted-variants
-use Rattle.segment_find.specs.Notes.{most, Deep, Searched, noted, Fitting, Places, Links, Windowed, Written}
+use Rattle.segment_find.specs.Notes.{most, Deep, Searched, noted, Fitting, Links, Windowed, Written}
 use Rattle.segment_find.specs.Listing.{Fills, Finds}
 use Rattle.segment_find.proofs.Searching.{deep_root}
 
@@ -30,16 +27,16 @@ links {notes = notes} all down =
           rw down.written (rw z at (get_d_sets_in down.way notes 0 i (omega (arith, down.count, down.room)) (omega (arith, down.count))));
     }
 
-module _ {nodes entries answer notes notes₁ notes₂ : List ℕ} {kind end tick start stop v : ℕ} {root : Node} {found : Noted}
+module _ {nodes entries answer notes notes₁ notes₂ : List ℕ} {kind end tick start stop v : ℕ} {root : Node} {found : Option ℕ}
     (at_root : root ≡ root_at nodes kind end) (all : length notes ≡ most + most)
     (down : Searched nodes root.link root.min root.max tick notes 0 notes₁ v)
     (rows : Windowed nodes entries notes₁ v start stop (length answer) notes₂ found) where
-  pub find-listed : {answer' : List ℕ} {count listed : ℕ} → found ≡ noted-variants.Runs count → Written entries notes₂ count answer answer' listed
-      → Finds nodes entries kind end tick start stop answer answer' (Listed listed v)
+  pub find-listed : {answer' : List ℕ} {count listed : ℕ} → found ≡ Some count → Written entries notes₂ count answer answer' listed
+      → Finds nodes entries kind end tick start stop answer answer' (Some (record { count = listed; visited = v }))
   find-listed {answer'} {count} {listed} e put = record { lists = go }
     where
       go : (blocks : List ℕ) (tree : Tree) → Rooted blocks nodes entries kind end tree
-          → Fills (window (first_cell_in blocks) start stop (path tick 0 end tree)) (visited tick 0 end tree) answer answer' (Listed listed v)
+          → Fills (window (first_cell_in blocks) start stop (path tick 0 end tree)) (visited tick 0 end tree) answer answer' (Some (record { count = listed; visited = v }))
       go blocks tree r =
           let list : List ℕ = window (first_cell_in blocks) start stop (path tick 0 end tree) in
           let s : Stands blocks nodes entries kind root tree = rw at_root r in
@@ -50,11 +47,11 @@ module _ {nodes entries answer notes notes₁ notes₂ : List ℕ} {kind end tic
           let steps : v ≡ visited tick 0 end tree = omega (arith, down.count, on.1) in
           record { result = rw (le-leb (length list) (length answer) fits, many, steps); left = rw (le-leb (length list) (length answer) fits) (rw whole at put.left) }
 
-  pub find_small : found ≡ noted-variants.TooSmall → Finds nodes entries kind end tick start stop answer answer TooSmall
+  pub find_small : found ≡ None → Finds nodes entries kind end tick start stop answer answer None
   find_small e = record { lists = go }
     where
       go : (blocks : List ℕ) (tree : Tree) → Rooted blocks nodes entries kind end tree
-          → Fills (window (first_cell_in blocks) start stop (path tick 0 end tree)) (visited tick 0 end tree) answer answer TooSmall
+          → Fills (window (first_cell_in blocks) start stop (path tick 0 end tree)) (visited tick 0 end tree) answer answer None
       go blocks tree r =
           let list : List ℕ = window (first_cell_in blocks) start stop (path tick 0 end tree) in
           let s : Stands blocks nodes entries kind root tree = rw at_root r in
@@ -68,12 +65,6 @@ pub find_deep : {link end : ℕ} {root : Node} → root ≡ record { link = link
     → Deep root.min root.max 0
 find_deep e h = rw e (deep_root h)
 
-pub find_places : {nodes notes notes₁ : List ℕ} {link min max tick v : ℕ} → length notes ≡ most + most → Searched nodes link min max tick notes 0 notes₁ v
-    → Places notes₁ v
-find_places {notes = notes} all down = record { few = down.room; all = rw down.written (length-sets notes 0 down.way ∙ all) }
-
-pub find_fitting : {nodes entries notes notes₁ : List ℕ} {depth start stop places count : ℕ} {found : Noted}
-    → Windowed nodes entries notes depth start stop places notes₁ found → found ≡ noted-variants.Runs count → Fitting entries notes₁ count places
+pub find_fitting : {nodes entries notes notes₁ : List ℕ} {depth start stop places count : ℕ} {found : Option ℕ}
+    → Windowed nodes entries notes depth start stop places notes₁ found → found ≡ Some count → Fitting entries notes₁ count places
 find_fitting rows e = rows.fitting _ e
-
-pub ruleset finding = (refl, find-listed, find_small, find_places, find_fitting)

@@ -13,7 +13,7 @@ use Rattle.segment_table.specs.Closed.{run, first_cell_in}
 use Rattle.segment_table.proofs.Closed.{run_length}
 use Rattle.segment_walk.specs.declared.rows.Rows.{Rows}
 use Rattle.segment_walk.specs.Rowing.{blocks_in, InWindow}
-use Rattle.segment_find.specs.declared.Noted.TheVariants.{Runs, TooSmall}
+use Rattle.std.specs.Prelude.{Some, None}
 use Rattle.segment_find.specs.Notes.{most, OnWay, way_end, way_on, rows_in, noted, InTable, Places, Links, Windowed}
 use Rattle.segment_find.proofs.Noting.{noted_next, noted-count, noted_agree, stored, stored_same, stored_other, stored_before}
 
@@ -144,7 +144,7 @@ module _ {nodes entries before : List ℕ} {depth start stop places : ℕ} {note
           rest = λ blocks way listed l on. rw now (more blocks way listed l on);
         }
 
-    pub windows_over : room < rows.to - rows.from → Windowed nodes entries before depth start stop places notes TooSmall
+    pub windows_over : room < rows.to - rows.from → Windowed nodes entries before depth start stop places notes None
     windows_over h =
         record {
           fitting = λ count e. let z : ◌≡◌ {A = ℕ} 0 1 = cc in absurd (omega arith);
@@ -158,7 +158,7 @@ module _ {nodes entries before : List ℕ} {depth start stop places : ℕ} {note
               omega (arith, s.used, long);
         }
 
-  pub windows_all : Places before depth → depth ≤ k → Windowed nodes entries before depth start stop places notes (Runs count)
+  pub windows_all : Places before depth → depth ≤ k → Windowed nodes entries before depth start stop places notes (Some count)
   unfolding window
   windows_all p end =
       record {

@@ -1,5 +1,5 @@
 -- What find notes on its way: first the links of the nodes met, then in their place the rows of these nodes that are listed. Definitions alone.
-use Rattle.std.specs.Prelude.{◌≡◌, List, [], ◌∷◌, ◌++◌, ℕ, zero, suc, ◌+◌, ◌-◌, ◌*◌, ◌≤◌, ◌<◌, length, get_or}
+use Rattle.std.specs.Prelude.{◌≡◌, Option, Some, None, List, [], ◌∷◌, ◌++◌, ℕ, zero, suc, ◌+◌, ◌-◌, ◌*◌, ◌≤◌, ◌<◌, length, get_or}
 use Rattle.std.proofs.lemmas.List.Edits.{sets}
 use Rattle.history.specs.Tree.{Tree}
 use Rattle.history.specs.Find.{path, visited, window}
@@ -7,8 +7,6 @@ use Rattle.segment_table.specs.Closed.{first_cell_in}
 use Rattle.segment_walk.specs.declared.rows.Rows.{Rows}
 use Rattle.segment_walk.specs.Walking.{Stands}
 use Rattle.segment_walk.specs.Rowing.{table_rows, rows_at, blocks_in, RunOf}
-use Rattle.segment_find.specs.declared.Noted.{Noted}
-use Rattle.segment_find.specs.declared.Noted.TheVariants.{Runs, TooSmall}
 
 -- ── places ──
 
@@ -77,12 +75,12 @@ pub record Links (notes : List ℕ) (depth : ℕ) (way : List ℕ) : Type 0 wher
   pub same : (i : ℕ) → i < depth → get_or notes i 0 ≡ get_or way i 0
 
 -- `windows` notes the rows in [start, stop) of the first `depth` nodes noted, if so many places hold their block numbers
-pub record Windowed (nodes entries notes : List ℕ) (depth start stop places : ℕ) (notes' : List ℕ) (r : Noted) : Type 0 where
-  pub fitting : (count : ℕ) → r ≡ Runs count → Fitting entries notes' count places
+pub record Windowed (nodes entries notes : List ℕ) (depth start stop places : ℕ) (notes' : List ℕ) (r : Option ℕ) : Type 0 where
+  pub fitting : (count : ℕ) → r ≡ Some count → Fitting entries notes' count places
   pub whole : (blocks way listed : List ℕ) → Links notes depth way → OnWay blocks nodes entries way listed
-      → (count : ℕ) → r ≡ Runs count → noted entries notes' count ≡ window (first_cell_in blocks) start stop listed
+      → (count : ℕ) → r ≡ Some count → noted entries notes' count ≡ window (first_cell_in blocks) start stop listed
   pub over : (blocks way listed : List ℕ) → Links notes depth way → OnWay blocks nodes entries way listed
-      → r ≡ TooSmall → places < length (window (first_cell_in blocks) start stop listed)
+      → r ≡ None → places < length (window (first_cell_in blocks) start stop listed)
 
 -- ── rows written ──
 

@@ -19,18 +19,11 @@ use segment_walk::rows::Rows;
 use segment_walk::walk::Node;
 use segment_walk::{rows, walk};
 
-// How many blocks are listed, and how many nodes were visited; or that the lent answer does not hold them.
+// How many blocks are listed, and how many nodes were visited.
 #[derive(Clone, Copy)]
-pub enum Found {
-    Listed { count: usize, visited: usize },
-    TooSmall,
-}
-
-// How many nodes have rows to list; or that the answer does not hold them.
-#[derive(Clone, Copy)]
-enum Noted {
-    Runs { count: usize },
-    TooSmall,
+pub struct Found {
+    pub count: usize,
+    pub visited: usize,
 }
 
 // More nodes than these are on no way down.
@@ -41,6 +34,7 @@ const PLACES: usize = 132;
 
 // Goes down to the tick from a node and notes the links of the nodes met, from place `depth` on; gives the place after the last one. It calls itself at
 // its end, with the node as three numbers, and leaves the rows to loops, so that a call is short. The node's width falls at each call.
+#[tactic(auto, using(crate::proofs::Searching::searching))]
 fn search(
     nodes: &[u64],
     link: u64,
@@ -70,8 +64,8 @@ fn search(
     )
 }
 
-// Notes the rows in [start, stop) of the first `depth` nodes noted, of each that has any, over the links that it has read. It stops where so many
-// places do not hold them.
+// Notes the rows in [start, stop) of the first `depth` nodes noted, of each that has any, over the links that it has read: how many nodes have some.
+// None where so many places do not hold the rows.
 fn windows(
     nodes: &[u64],
     entries: &[u64],
@@ -80,30 +74,27 @@ fn windows(
     start: u64,
     stop: u64,
     places: usize,
-) -> Noted
+) -> Option<usize>
     requires { Places notes.old depth }
     ensures { Windowed nodes.now entries.now notes.old depth start stop places notes.new result }
 {
-    let mut k = 0;
     let mut count = 0;
     let mut room = places;
-    while k < depth {
+    for k in 0..depth {
         let rows = rows::in_small_window(nodes, entries, notes[k], start, stop);
         let many = rows.to - rows.from;
         if room < many {
-            return Noted::TooSmall;
+            return None;
         }
         if many == 0 {
-            k += 1;
-        } else {
-            notes[count] = rows.from as u64;
-            notes[MOST + count] = rows.to as u64;
-            count += 1;
-            room -= many;
-            k += 1;
+            continue;
         }
+        notes[count] = rows.from as u64;
+        notes[MOST + count] = rows.to as u64;
+        count += 1;
+        room -= many;
     }
-    Noted::Runs { count }
+    Some(count)
 }
 
 // Writes the block numbers of the rows to the answer, from place `at` on.
@@ -112,12 +103,9 @@ fn extend_from_self(entries: &[u64], rows: Rows, answer: &mut [u64], at: usize)
     ensures { answer.new ≡ sets answer.old at (blocks_in entries.now rows) }
 {
     let from = rows.from;
-    let count = rows.to - from;
-    let mut i = 0;
-    while i < count {
+    for i in 0..rows.to - from {
         answer[at + i] = entries[tables::entry::HEAD
             + (tables::entry::WIDTH * (from + i) + tables::entry::BLOCK)];
-        i += 1;
     }
 }
 
@@ -126,20 +114,18 @@ fn write(entries: &[u64], notes: &[u64; PLACES], count: usize, answer: &mut [u64
     requires { Fitting entries.now notes.now count (length answer.old) }
     ensures { Written entries.now notes.now count answer.old answer.new result }
 {
-    let mut k = 0;
     let mut at = 0;
-    while k < count {
+    for k in 0..count {
         let from = notes[k] as usize;
         let to = notes[MOST + k] as usize;
         extend_from_self(entries, Rows { from, to }, answer, at);
         at += to - from;
-        k += 1;
     }
     at
 }
 
 // Lists the blocks of a kind that are live at the tick and have their first cell in [start, stop): root first, ascending in each node.
-// An answer too small for them is left as it is.
+// None where the answer is too small for them: it is left as it is.
 pub fn find(
     nodes: &[u64],
     entries: &[u64],
@@ -149,13 +135,13 @@ pub fn find(
     start: u64,
     stop: u64,
     answer: &mut [u64],
-) -> Found
+) -> Option<Found>
     ensures { Finds nodes.now entries.now kind end tick start stop answer.old answer.new result }
 {
     let root = walk::root(nodes, kind, end);
     let mut notes: [u64; PLACES] = [0; PLACES];
     let visited = search(nodes, root.link, root.min, root.max, tick, &mut notes, 0);
-    let noted = windows(
+    let runs = windows(
         nodes,
         entries,
         &mut notes,
@@ -163,15 +149,7 @@ pub fn find(
         start,
         stop,
         answer.len(),
-    );
-    match noted {
-        Noted::Runs { count } => {
-            let listed = write(entries, &notes, count, answer);
-            Found::Listed {
-                count: listed,
-                visited,
-            }
-        }
-        Noted::TooSmall => Found::TooSmall,
-    }
+    )?;
+    let count = write(entries, &notes, runs, answer);
+    Some(Found { count, visited })
 }

@@ -1,12 +1,12 @@
 -- A node and its halves: a step for each return of `hold_tree`. Assumes nothing.
-use mathlib.Core.Path.{◌≡◌, refl, sym, subst, ◌∙◌}
-use mathlib.Core.Bool.{Bool, true, false, not, false≢true}
+use mathlib.Core.Path.{◌≡◌, refl, subst, ◌∙◌}
+use mathlib.Core.Bool.{Bool, true, false}
 use mathlib.Core.Logic.{inl, inr}
 use mathlib.Core.List.{List, [], ◌∷◌, ◌++◌, append-nil, append_assoc}
 use Prim.Native.Nat.{ℕ, ◌+◌, ◌-◌, ◌≤◌, ◌<◌}
 use native.Mathlib.Omega.{arith}
 use lib.Dec.{leb}
-use borrow.Author.Tests.{leb-true, le-leb, lt-ltb, le-ltb, not-true, not-false}
+use borrow.Author.Tests.{leb-true, le-leb, lt-ltb, le-ltb}
 use Rattle.lists.specs.Tests.{Decides}
 use Rattle.lists.proofs.Numbers.{and_right}
 use Rattle.lists.specs.Lists.{All, Mem, here, there, pairs_nil, pairs_cons, Ascending}
@@ -20,7 +20,6 @@ use Rattle.slots.specs.declared.Slots.{Slots}
 use Rattle.slots.specs.Steps.{slots_of, Unused}
 use Rattle.segment_table.specs.Closed.{Tables, TreeAt, left_at, right_at, first_at, count_at, first_cell_in, block_in, run}
 use Rattle.segment_walk.specs.declared.walk.Node.{Node}
-use Rattle.segment_walk.specs.declared.rows.Rows.{Rows}
 use Rattle.segment_walk.specs.Walking.{Absent, no_row_lem, no_tick, left_half, right_half, half_at}
 use Rattle.segment_walk.specs.Rowing.{table_rows, rows_at, blocks_in, RunOf}
 use Rattle.segment_walk.proofs.Halving.{present}
@@ -29,7 +28,7 @@ use Rattle.segment_table.proofs.Closed.{run_all}
 use Rattle.segment_clear.specs.Above.{Chained, behind, Above, above-none, above_next}
 use Rattle.segment_test.specs.Test.{lent, created_in, destroyed_in}
 use Rattle.segment_test.specs.Parts.{NodeStands, TreeStands}
-use Rattle.segment_handed.specs.declared.Seen.{Seen}
+use Rattle.std.specs.Prelude.{Option, Some}
 use Rattle.segment_handed.specs.Rows.{row_blocks}
 use Rattle.segment_handed.specs.Tree.{Standing, Place, Entered, Below, OpenAt, RunHeld, TreeHeld}
 use Rattle.segment_handed.proofs.Owing.{aside_disjoint}
@@ -132,32 +131,29 @@ chained_apart blocks n (x ∷ xs) known (pairs_cons a r) =
 -- ── the returns of `hold_tree` ──
 
 module _ {blocks nodes entries : List ℕ} {root top at : Node} {after born : Slots} where
-  pub tree_absent : {q : Bool} → Decides q (Absent at) → q ≡ true → TreeHeld blocks nodes entries root top at after born (record { all = true; slots = born })
-  tree_absent d e = record { shown = λ _ n kind whole tree above w s b. rw (absent_none (d.yes e) b) right_hole }
+  pub tree_absent : {q : Bool} → Decides q (Absent at) → q ≡ true → TreeHeld blocks nodes entries root top at after born (Some born)
+  tree_absent d e = record { shown = λ s z n kind whole tree above w st b. let same : born ≡ s = cc in rw (← same, absent_none (d.yes e) b) right_hole }
 
-  pub tree_not : {seen : Seen} → not seen.all ≡ true → TreeHeld blocks nodes entries root top at after born seen
-  tree_not {seen} h = record { shown = λ e. absurd (false≢true (sym (not-true seen.all h) ∙ e)) }
-
-  module _ {q : Bool} {rows : Rows} {own : Seen} (d : Decides q (Absent at)) (e : q ≡ false) (er : rows ≡ rows_at nodes entries at.link)
-      (held : RunHeld blocks nodes entries root top rows at.min at.max after born own) where
+  module _ {q : Bool} {run_seen : Option Slots} {own : Slots} (d : Decides q (Absent at)) (e : q ≡ false)
+      (held : RunHeld blocks nodes entries root top (rows_at nodes entries at.link) at.min at.max after born run_seen) (y : run_seen ≡ Some own) where
     abbrev Held : (n : ℕ) (whole tree : Tree) (above : List ℕ) (slots : Slots) → Type 0
     Held n whole tree above slots =
         RightFirst (row_blocks blocks n) root.max (OpenAt blocks n root whole) at.min at.max tree above (slots_of after) (slots_of born) (slots_of slots)
 
-    module _ (n kind : ℕ) (whole : Tree) (above xs : List ℕ) (from to : ℕ) (y : own.all ≡ true) (w : Place blocks nodes entries n kind root top at whole above)
+    module _ (n kind : ℕ) (whole : Tree) (above xs : List ℕ) (from to : ℕ) (w : Place blocks nodes entries n kind root top at whole above)
         (listed : run entries (first_at nodes at.link) (count_at nodes at.link) ≡ xs) (s : NodeStands (lent blocks nodes entries) n kind at.link at.min at.max from to) where
-      entered : Entered blocks entries n rows at.min
-      entered = rw er (rows_entered (present d e).wide s)
+      entered : Entered blocks entries n (rows_at nodes entries at.link) at.min
+      entered = rows_entered (present d e).wide s
 
-      blocks_are : blocks_in entries rows ≡ xs
-      blocks_are = rw er (rows_blocks (present d e).wide s ∙ listed)
+      blocks_are : blocks_in entries (rows_at nodes entries at.link) ≡ xs
+      blocks_are = rows_blocks (present d e).wide s ∙ listed
 
       -- the node's own entries are held
-      own_held : HeldAll (row_blocks blocks n) root.max (OpenAt blocks n root whole) at.min at.max above (slots_of after) xs (slots_of born) (slots_of own.slots)
-      own_held = rw blocks_are at (held.shown y n kind at whole above refl refl w (present d e).wide entered)
+      own_held : HeldAll (row_blocks blocks n) root.max (OpenAt blocks n root whole) at.min at.max above (slots_of after) xs (slots_of born) (slots_of own)
+      own_held = rw blocks_are at (held.shown own y n kind at whole above refl refl w (present d e).wide entered)
 
       own_chained : Chained blocks xs
-      own_chained = rw blocks_are at (held.chained y n w.all.fits entered)
+      own_chained = rw blocks_are at (held.chained own y n w.all.fits entered)
 
       own_known : (j : ℕ) → Mem j xs → j < n
       own_known j m =
@@ -170,40 +166,40 @@ module _ {blocks nodes entries : List ℕ} {root top at : Node} {after born : Sl
       own_apart : RunApart (row_blocks blocks n) xs
       own_apart = chained_apart blocks n xs own_known own_chained
 
-    pub tree_narrow : at.max - at.min ≤ 1 → TreeHeld blocks nodes entries root top at after born own
+    pub tree_narrow : at.max - at.min ≤ 1 → TreeHeld blocks nodes entries root top at after born (Some own)
     unfolding TreeStands
-    tree_narrow h = record { shown = go }
+    tree_narrow h = record { shown = λ slots z n kind whole tree above w st b. let same : own ≡ slots = cc in rw (← same) (go n kind whole tree above w st b) }
       where
-        go : own.all ≡ true → (n kind : ℕ) (whole tree : Tree) (above : List ℕ) → Place blocks nodes entries n kind root top at whole above
-            → Standing blocks nodes entries n kind at tree → Below blocks nodes entries n kind at tree → Held n whole tree above own.slots
-        go y n kind whole hole above w st b = absurd ((present d e).row b.stood)
-        go y n kind whole (node xs l r) above w st b =
+        go : (n kind : ℕ) (whole tree : Tree) (above : List ℕ) → Place blocks nodes entries n kind root top at whole above
+            → Standing blocks nodes entries n kind at tree → Below blocks nodes entries n kind at tree → Held n whole tree above own
+        go n kind whole hole above w st b = absurd ((present d e).row b.stood)
+        go n kind whole (node xs l r) above w st b =
             let s = b.stood.1 in
             let none = s.row.narrow (omega arith) in
             rw (
               none_there (lent blocks nodes entries) n kind (left_at nodes at.link) at.min (mid at.min at.max) at.min at.max l none.0 b.stood.2,
               none_there (lent blocks nodes entries) n kind (right_at nodes at.link) (mid at.min at.max) at.max at.min at.max r none.1 b.stood.3,
             )
-            (right_narrow {lo = at.min} {hi = at.max} (omega arith) (own_apart n kind whole above xs b.from b.to y w b.stood.0 s)
-            (own_held n kind whole above xs b.from b.to y w b.stood.0 s))
+            (right_narrow {lo = at.min} {hi = at.max} (omega arith) (own_apart n kind whole above xs b.from b.to w b.stood.0 s)
+            (own_held n kind whole above xs b.from b.to w b.stood.0 s))
 
     -- both halves, and the slots for mid between them
-    tree_both : {fresh : Slots} {above under : Seen} → 1 < at.max - at.min → own.all ≡ true → Unused fresh
-        → TreeHeld blocks nodes entries root top (right_half nodes at) after fresh above → above.all ≡ true
-        → TreeHeld blocks nodes entries root (left_half nodes at) (left_half nodes at) above.slots own.slots under → TreeHeld blocks nodes entries root top at after born under
+    tree_both : {fresh mids : Slots} {right under : Option Slots} → 1 < at.max - at.min → Unused fresh
+        → TreeHeld blocks nodes entries root top (right_half nodes at) after fresh right → right ≡ Some mids
+        → TreeHeld blocks nodes entries root (left_half nodes at) (left_half nodes at) mids own under → TreeHeld blocks nodes entries root top at after born under
     unfolding TreeStands
-    tree_both {fresh} {above} {under} h y unused right z left = record { shown = go }
+    tree_both {fresh} {mids} {right} {under} h unused higher z left = record { shown = go }
       where
-        go : under.all ≡ true → (n kind : ℕ) (whole tree : Tree) (above : List ℕ) → Place blocks nodes entries n kind root top at whole above
-            → Standing blocks nodes entries n kind at tree → Below blocks nodes entries n kind at tree → Held n whole tree above under.slots
-        go x n kind whole hole above w st b = absurd ((present d e).row b.stood)
-        go x n kind whole (node xs l r) above w st b =
+        go : (slots : Slots) → under ≡ Some slots → (n kind : ℕ) (whole tree : Tree) (above : List ℕ) → Place blocks nodes entries n kind root top at whole above
+            → Standing blocks nodes entries n kind at tree → Below blocks nodes entries n kind at tree → Held n whole tree above slots
+        go slots x n kind whole hole above w st b = absurd ((present d e).row b.stood)
+        go slots x n kind whole (node xs l r) above w st b =
             let s = b.stood.1 in
-            let chained = own_chained n kind whole above xs b.from b.to y w b.stood.0 s in
-            let known = own_known n kind whole above xs b.from b.to y w b.stood.0 s in
-            right_wide {lo = at.min} {hi = at.max} (omega arith) (own_apart n kind whole above xs b.from b.to y w b.stood.0 s)
-            (own_held n kind whole above xs b.from b.to y w b.stood.0 s) unused.all
-            (right.shown z n kind whole r (above ++ xs)
+            let chained = own_chained n kind whole above xs b.from b.to w b.stood.0 s in
+            let known = own_known n kind whole above xs b.from b.to w b.stood.0 s in
+            right_wide {lo = at.min} {hi = at.max} (omega arith) (own_apart n kind whole above xs b.from b.to w b.stood.0 s)
+            (own_held n kind whole above xs b.from b.to w b.stood.0 s) unused.all
+            (higher.shown mids z n kind whole r (above ++ xs)
             (record {
               all = w.all;
               inside = omega (arith, w.inside);
@@ -212,14 +208,11 @@ module _ {blocks nodes entries : List ℕ} {root top at : Node} {after born : Sl
               known = λ j m. elim (mem_split above xs m) [ inl o ↦ w.known j o | inr o ↦ known j o ];
             })
             (right_stands h st) (record { from = at.min; to = at.max; stood = b.stood.3; wide = λ _. omega arith }))
-            (left.shown x n kind whole l []
+            (left.shown slots x n kind whole l []
             (record { all = w.all; inside = w.inside; nodes_above = above-none; known = λ j m. absurd (not_mem_nil m) }) (left_stands h st)
             (record { from = at.min; to = at.max; stood = b.stood.2; wide = λ _. omega arith }))
 
-    pub tree_wide : {right left : Node} {fresh : Slots} {above under : Seen} → not own.all ≡ false → 1 < at.max - at.min → right ≡ half_at nodes at.max at
-        → Unused fresh → TreeHeld blocks nodes entries root top right after fresh above → not above.all ≡ false → left ≡ half_at nodes at.min at
-        → TreeHeld blocks nodes entries root left left above.slots own.slots under → TreeHeld blocks nodes entries root top at after born under
-    tree_wide {above = above} y h er unused upper z el lower =
-        tree_both h (not-false own.all y) unused (rw (er ∙ to_right nodes at h) at upper) (not-false above.all z) (rw (el ∙ to_left nodes at h) at lower)
-
-pub ruleset halves = (tree_absent, tree_narrow, tree_not)
+    pub tree_wide : {right left : Node} {fresh mids : Slots} {above under : Option Slots} → 1 < at.max - at.min → right ≡ half_at nodes at.max at
+        → left ≡ half_at nodes at.min at → Unused fresh → TreeHeld blocks nodes entries root top right after fresh above → above ≡ Some mids
+        → TreeHeld blocks nodes entries root left left mids own under → TreeHeld blocks nodes entries root top at after born under
+    tree_wide h er el unused upper z lower = tree_both h unused (rw (er ∙ to_right nodes at h) at upper) z (rw (el ∙ to_left nodes at h) at lower)

@@ -1,11 +1,10 @@
 -- A node's run: a step for each return and turn of `hold_run`. Assumes nothing.
-use mathlib.Core.Path.{◌≡◌, sym, ap, ◌∙◌}
-use mathlib.Core.Bool.{Bool, true, false, not, false≢true}
+use mathlib.Core.Path.{◌≡◌, sym, ◌∙◌}
+use mathlib.Core.Bool.{Bool, true, false, not}
 use mathlib.Core.List.{List, [], ◌∷◌, ◌++◌}
 use Prim.Native.Nat.{ℕ, suc, ◌+◌, ◌-◌, ◌≤◌, ◌<◌}
 use native.Mathlib.Omega.{arith}
-use lib.Dec.{eqb}
-use borrow.Author.Tests.{eq-eqb, not-true, not-false}
+use borrow.Author.Tests.{not-false}
 use Rattle.lists.specs.Lists.{All, all_nil, all_cons, pairs_nil, pairs_cons}
 use Rattle.lists.proofs.Lists.{all_append, all_map, all_of_mem, pairs-append}
 use Rattle.history.specs.Tree.{Tree}
@@ -26,9 +25,9 @@ use Rattle.segment_clear.specs.declared.Own.{Own}
 use Rattle.segment_clear.specs.Clear.{end_in, Owned}
 use Rattle.segment_clear.specs.Above.{Chained}
 use Rattle.segment_clear.proofs.Clearing.{owned_owns}
-use Rattle.segment_handed.specs.declared.Seen.{Seen}
+use Rattle.std.specs.Prelude.{Option, Some}
 use Rattle.segment_handed.specs.Rows.{row_blocks, Fits}
-use Rattle.segment_handed.specs.Tree.{Place, Entered, OpenAt, Owed, Passes, BlockHeld, RunHeld}
+use Rattle.segment_handed.specs.Tree.{Place, Entered, OpenAt, Owed, BlockHeld}
 use Rattle.segment_handed.proofs.Rows.{row_reads, own_reads}
 
 -- the blocks of the rows before `row` are held
@@ -51,21 +50,17 @@ run_last entries from row h =
 
 -- ── one block ──
 
-pub passes_not : {row : Row} {lo hi : ℕ} → Passes row lo hi false
-passes_not = record { shown = λ e. absurd (false≢true e) }
-
-pub passes_rest : {row : Row} {lo hi : ℕ} → (row.created ≡ lo → ⊥) → Passes row lo hi (not (eqb row.destroyed hi))
-passes_rest {row} {lo} {hi} ne = record { shown = λ e. (ne, λ d. absurd (false≢true (sym (ap not (eq-eqb row.destroyed hi d)) ∙ e))) }
-
 pub block_held : {blocks nodes entries : List ℕ} {root top : Node} {lo hi k : ℕ} {row : Row} {after born slots : Slots} {own : Own} {q : Bool} → Owned k row own
     → Owed blocks nodes entries root top lo hi row.destroyed own after q → Counts born lo row.created own.first own.end slots
-    → BlockHeld blocks nodes entries root top lo hi k row after born (record { all = q; slots = slots })
-block_held {blocks} {k = k} {row = row} is owed counts = record {
-  shown = λ e n kind at whole above el eh w wide known read alive.
+    → not q ≡ false → BlockHeld blocks nodes entries root top lo hi k row after born (Some slots)
+block_held {blocks} {k = k} {row = row} {slots = slots} {q = q} is owed counts y = record {
+  shown = λ s z n kind at whole above el eh w wide known read alive.
+      let e : q ≡ true = not-false q y in
+      let same : slots ≡ s = cc in
       let owns = owned_owns read is in
       let reads = own_reads blocks n k known w.all.fits read.created read.destroyed owns in
       record {
-        slots = counts.slots (row_blocks blocks n) k row.destroyed reads (rw read.destroyed alive);
+        slots = rw (← same) (counts.slots (row_blocks blocks n) k row.destroyed reads (rw read.destroyed alive));
         clear = λ dies. (owed.shown e n kind k at whole above el eh w wide known owns read.destroyed (sym reads.gone ∙ dies)).clear;
         owes = λ dies. (owed.shown e n kind k at whole above el eh w wide known owns read.destroyed (sym reads.gone ∙ dies)).owes;
       };
@@ -85,24 +80,6 @@ module _ {blocks nodes entries : List ℕ} {root top : Node} {rows : Rows} {lo h
         chained = λ n fits entered. rw e pairs_nil;
         ends = λ n fits entered. rw e all_nil;
       }
-
-  -- so far all are held, or one is not
-  pub run-not : {seen : Seen} → not seen.all ≡ true → RunHeld blocks nodes entries root top rows lo hi after born seen
-  run-not {seen} h =
-      let never : seen.all ≡ true → ⊥ = λ e. false≢true (sym (not-true seen.all h) ∙ e) in
-      record { shown = λ e. absurd (never e); chained = λ e. absurd (never e) }
-
-  pub run_broken : {slots : Slots} → RunHeld blocks nodes entries root top rows lo hi after born (record { all = false; slots = slots })
-  run_broken = record { shown = λ e. absurd (false≢true e); chained = λ e. absurd (false≢true e) }
-
-  pub run_done : {row place : ℕ} {seen : Seen} → rows.to ≤ row → HeldTo blocks nodes entries root top rows lo hi after born row place seen.slots
-      → RunHeld blocks nodes entries root top rows lo hi after born seen
-  run_done {row} h held = record {
-    shown = λ _ n kind at whole above el eh w wide entered.
-        let e : row ≡ rows.to = omega (arith, held.high entered.order) in
-        rw e at (held.held n kind at whole above el eh w wide entered);
-    chained = λ _ n fits entered. let e : row ≡ rows.to = omega (arith, held.high entered.order) in rw e at (held.chained n fits entered);
-  }
 
   module _ {row place place' k : ℕ} {read : Row} {slots : Slots} (h : row < rows.to) (held : HeldTo blocks nodes entries root top rows lo hi after born row place slots)
       (ek : k ≡ block_in entries row) (is : Reads blocks (suc k) read) (behind : place ≤ read.first) (ep : place' ≡ plus_up_to read.first read.length) where
@@ -137,21 +114,17 @@ module _ {blocks nodes entries : List ℕ} {root top : Node} {rows : Rows} {lo h
         ended n fits entered = omega (arith, ep, is.first, is.length, fits.each k (known n entered))
 
     -- one that only passes through changes nothing
-    pub run_passes : {q : Bool} → Passes read lo hi q → q ≡ true → HeldTo blocks nodes entries root top rows lo hi after born (row + 1) place' slots
-    run_passes passes y =
+    pub run_passes : (read.created ≡ lo → ⊥) → (read.destroyed ≡ hi → ⊥) → HeldTo blocks nodes entries root top rows lo hi after born (row + 1) place' slots
+    run_passes old lives =
         run_next
         (λ n kind at whole above el eh w wide known alive.
         let reads = row_reads blocks n k known in
         record {
           slots = all_of_mem (slots_of slots) (λ s m. kept (listed m));
-          clear = λ dies. absurd ((passes.shown y).1 (is.destroyed ∙ sym reads.gone ∙ dies));
-          owes = λ dies. absurd ((passes.shown y).1 (is.destroyed ∙ sym reads.gone ∙ dies));
+          clear = λ dies. absurd (lives (is.destroyed ∙ sym reads.gone ∙ dies));
+          owes = λ dies. absurd (lives (is.destroyed ∙ sym reads.gone ∙ dies));
         })
 
-    pub run_holds : {seen : Seen} → BlockHeld blocks nodes entries root top lo hi k read after slots seen → not seen.all ≡ false
-        → HeldTo blocks nodes entries root top rows lo hi after born (row + 1) place' seen.slots
-    run_holds {seen} one y = run_next (λ n kind at whole above el eh w wide known alive. one.shown (not-false seen.all y) n kind at whole above el eh w wide known is alive)
-
-pub ruleset passing = (passes_not, passes_rest)
-
-pub ruleset holding = (run_starts, run_done, run-not, run_broken)
+    pub run_holds : {seen : Option Slots} {slots' : Slots} → BlockHeld blocks nodes entries root top lo hi k read after slots seen → seen ≡ Some slots'
+        → HeldTo blocks nodes entries root top rows lo hi after born (row + 1) place' slots'
+    run_holds {slots' = slots'} one y = run_next (λ n kind at whole above el eh w wide known alive. one.shown slots' y n kind at whole above el eh w wide known is alive)

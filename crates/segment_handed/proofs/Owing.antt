@@ -1,7 +1,7 @@
 -- One block: a step for each return of `owes_none`. Assumes nothing.
 use mathlib.Core.Path.{◌≡◌, refl, subst}
 use mathlib.Core.Logic.{inl, inr}
-use mathlib.Core.Bool.{Bool, true, false, not, false≢true}
+use mathlib.Core.Bool.{Bool, true, false, not}
 use mathlib.Core.List.{List}
 use Prim.Native.Nat.{ℕ, ◌-◌, ◌≤◌, ◌<◌}
 use native.Mathlib.Omega.{arith}
@@ -67,12 +67,6 @@ above_disjoint {blocks} {nodes} {entries} {n = n} {k = k} {top = top} {at = at} 
     all_of_mem above (λ j m ne. aside_disjoint blocks n k j low (w.known j m) (all_mem aside m ne))
 
 module _ {blocks nodes entries : List ℕ} {root top : Node} {min max destroyed : ℕ} {own : Own} {after : Slots} where
-  pub owed_other : (destroyed ≡ max → ⊥) → Owed blocks nodes entries root top min max destroyed own after true
-  owed_other ne = record { shown = λ e n kind k at whole above el eh w wide low is ed dies. absurd (ne dies) }
-
-  pub owed_not : Owed blocks nodes entries root top min max destroyed own after false
-  owed_not = record { shown = λ e. absurd (false≢true e) }
-
   -- clear of the nodes above
   module _ {q : Bool} (clear : AboveClear blocks nodes entries top min (max - 1) own q) (y : not q ≡ false) where
     pub owed_end : root.max ≤ max → Owed blocks nodes entries root top min max destroyed own after true
@@ -96,4 +90,4 @@ module _ {blocks nodes entries : List ℕ} {root top : Node} {min max destroyed 
       };
     }
 
-pub ruleset owing = (owed_other, owed_not, owed_end, owed_slots, owed_way, arith)
+pub ruleset owing = (owed_end, owed_slots, owed_way)

@@ -12,7 +12,7 @@ use Rattle.block_table.specs.Blocks.{first_cell_at, length_at, offset_at, block_
 use Rattle.block_table.proofs.Blocks.{bytes_length, blocks_length, blocks_at}
 use Rattle.slots.specs.Steps.{Reads}
 use Rattle.segment_table.specs.Closed.{first_cell_in}
-use Rattle.segment_test.specs.Test.{created_in, destroyed_in, BlockRows}
+use Rattle.segment_test.specs.Test.{created_in, destroyed_in}
 use Rattle.segment_clear.specs.declared.Own.{Own}
 use Rattle.segment_clear.specs.Clear.{end_in, Owns}
 use Rattle.segment_handed.specs.Rows.{reach, zeros, row_blocks, Fits}
@@ -53,14 +53,6 @@ module _ (blocks : List ℕ) (n : ℕ) where
               (bytes_length (zeros blocks n) blocks (suc k) ((zeros_stored blocks n).inside (suc k) (omega arith) (omega arith)));
         };
       }
-
-  pub rows_known : BlockRows blocks n (row_blocks blocks n)
-  rows_known = record {
-    many = rows-many;
-    first = λ k h. (row_reads k h).spans.from;
-    created = λ k h. (row_reads k h).born;
-    destroyed = λ k h. (row_reads k h).gone;
-  }
 
   -- and what was read of it
   pub own_reads : (k : ℕ) {created destroyed : ℕ} {own : Own} → k < n → Fits blocks n → created ≡ created_in blocks k → destroyed ≡ destroyed_in blocks k → Owns blocks k own

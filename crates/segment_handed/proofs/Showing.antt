@@ -1,7 +1,7 @@
 -- The walk shows rule 24: the tables of a closed index as the laws have them, and the returns of `handed_on`. Assumes nothing.
 use mathlib.Core.Path.{◌≡◌, refl, sym, ◌∙◌}
 use mathlib.Core.Logic.{⊎_elim}
-use mathlib.Core.Bool.{true, false}
+use mathlib.Core.Bool.{true, false, false≢true}
 use mathlib.Core.List.{List, []}
 use Prim.Native.Nat.{ℕ, suc, ◌-◌, ◌≤◌, ◌<◌}
 use native.Mathlib.Omega.{arith}
@@ -34,7 +34,8 @@ use Rattle.segment_test.specs.Parts.{TreeStands}
 use Rattle.segment_test.proofs.Ruling.{ruled_stands}
 use Rattle.segment_test.proofs.Testing.{tables_closed, closed_tables}
 use Rattle.segment_clear.specs.Above.{above-none}
-use Rattle.segment_handed.specs.declared.Seen.{Seen}
+use Rattle.std.specs.Prelude.{Option, Some, None}
+use Rattle.std.specs.Option.{is_some}
 use Rattle.segment_handed.specs.Rows.{zeros, row_blocks}
 use Rattle.segment_handed.specs.Tree.{Standing, TreeHeld}
 use Rattle.segment_handed.specs.Handed.{SoundRows, HandedOn}
@@ -111,13 +112,13 @@ module _ (blocks nodes entries : List ℕ) (kind e n : ℕ) (bs : List Block) (r
     known = λ tick k from below m. met_known tick k below m;
   }
 
-  module _ {born : Slots} {seen : Seen} (held : TreeHeld blocks nodes entries (root_at nodes kind e) (root_at nodes kind e) (root_at nodes kind e) born born seen)
-      (all : seen.all ≡ true) where
+  module _ {born slots : Slots} {seen : Option Slots} (held : TreeHeld blocks nodes entries (root_at nodes kind e) (root_at nodes kind e) (root_at nodes kind e) born born seen)
+      (all : seen ≡ Some slots) where
     own_apart : 0 < e → Apart own
     own_apart some =
         right_law.apart e own tree (record { rule_21 = own_index.rule_21; rule_23 = own_index.rule_23; by_end = by_end }) none-empty
-        (slots_of born) (slots_of born) (slots_of seen.slots)
-        (held.shown all n kind tree tree [] (record { all = whole some; inside = omega arith; nodes_above = above-none; known = λ j m. absurd (not_mem_nil m) }) (whole some)
+        (slots_of born) (slots_of born) (slots_of slots)
+        (held.shown slots all n kind tree tree [] (record { all = whole some; inside = omega arith; nodes_above = above-none; known = λ j m. absurd (not_mem_nil m) }) (whole some)
         (record { from = 0; to = 0; stood = stood; wide = λ _. some }))
 
     own_unshared : 0 < e → Unshared blocks n
@@ -135,10 +136,12 @@ module _ (blocks nodes entries : List ℕ) (kind e n : ℕ) (bs : List Block) (r
 
 -- ── the return of `handed_on` ──
 
-pub handed-told : {blocks nodes entries : List ℕ} {kind e : ℕ} {root : Node} {born : Slots} {seen : Seen} → root ≡ root_at nodes kind e
-    → TreeHeld blocks nodes entries root root root born born seen → HandedOn (lent blocks nodes entries) kind e seen.all
-handed-told {blocks} {nodes} {entries} {kind} {e} is held = record {
-  shown = λ z n bs rows index sound. rows_unshared blocks nodes entries kind e n bs rows index sound (rw is at held) z;
-}
+some_there : (seen : Option Slots) → is_some seen ≡ true → (slots : Slots) × (seen ≡ Some slots)
+some_there None e = absurd (false≢true e)
+some_there (Some s) e = (s, refl)
 
-pub ruleset handing = (handed-told)
+pub handed_told : {blocks nodes entries : List ℕ} {kind e : ℕ} {root : Node} {born : Slots} {seen : Option Slots} → root ≡ root_at nodes kind e
+    → TreeHeld blocks nodes entries root root root born born seen → HandedOn (lent blocks nodes entries) kind e (is_some seen)
+handed_told {blocks} {nodes} {entries} {kind} {e} {seen = seen} is held = record {
+  shown = λ z n bs rows index sound. rows_unshared blocks nodes entries kind e n bs rows index sound (rw is at held) (some_there seen z).1;
+}

@@ -1,6 +1,6 @@
 -- A walk over the tables of a closed index that takes the right half first: what it says of a block, of a node's run and of a tree. Definitions alone: laws
 -- stand in proofs/.
-use Rattle.std.specs.Prelude.{◌≡◌, ◌⊎◌, Bool, true, List, ℕ, suc, ◌-◌, ◌≤◌, ◌<◌}
+use Rattle.std.specs.Prelude.{◌≡◌, ◌⊎◌, Bool, true, Option, Some, List, ℕ, suc, ◌-◌, ◌≤◌, ◌<◌}
 use Rattle.lists.specs.Lists.{All, Mem}
 use Rattle.history.specs.Tree.{Tree}
 use Rattle.history.specs.Find.{path}
@@ -22,7 +22,6 @@ use Rattle.segment_test.specs.Parts.{TreeStands}
 use Rattle.segment_clear.specs.declared.Own.{Own}
 use Rattle.segment_clear.specs.Clear.{Owns}
 use Rattle.segment_clear.specs.Above.{Chained, Above}
-use Rattle.segment_handed.specs.declared.Seen.{Seen}
 use Rattle.segment_handed.specs.Rows.{row_blocks, Fits}
 
 -- ── what is walked over ──
@@ -70,25 +69,21 @@ pub record Owed (blocks nodes entries : List ℕ) (root top : Node) (min max des
       → Place blocks nodes entries n kind root top at whole above → at.min < at.max → k < n → Owns blocks k own → destroyed ≡ destroyed_in blocks k → destroyed ≡ max
       → Paid blocks n root whole above max after k
 
--- yes is said of a block that is neither created at lo nor destroyed at hi
-pub record Passes (row : Row) (lo hi : ℕ) (r : Bool) : Type 0 where
-  pub shown : r ≡ true → ((row.created ≡ lo → ⊥) × (row.destroyed ≡ hi → ⊥))
-
 -- the block is held, with the slots for min that go on from those before
-pub record BlockHeld (blocks nodes entries : List ℕ) (root top : Node) (lo hi k : ℕ) (row : Row) (after born : Slots) (seen : Seen) : Type 0 where
-  pub shown : seen.all ≡ true → (n kind : ℕ) (at : Node) (whole : Tree) (above : List ℕ) → at.min ≡ lo → at.max ≡ hi
+pub record BlockHeld (blocks nodes entries : List ℕ) (root top : Node) (lo hi k : ℕ) (row : Row) (after born : Slots) (seen : Option Slots) : Type 0 where
+  pub shown : (slots : Slots) → seen ≡ Some slots → (n kind : ℕ) (at : Node) (whole : Tree) (above : List ℕ) → at.min ≡ lo → at.max ≡ hi
       → Place blocks nodes entries n kind root top at whole above → at.min < at.max → k < n → Reads blocks (suc k) row → lo < destroyed_in blocks k
-      → Held (row_blocks blocks n) root.max (OpenAt blocks n root whole) lo hi above (slots_of after) k (slots_of born) (slots_of seen.slots)
+      → Held (row_blocks blocks n) root.max (OpenAt blocks n root whole) lo hi above (slots_of after) k (slots_of born) (slots_of slots)
 
 -- and only where every block of the rows is held so, and they follow one another
-pub record RunHeld (blocks nodes entries : List ℕ) (root top : Node) (rows : Rows) (lo hi : ℕ) (after born : Slots) (seen : Seen) : Type 0 where
-  pub shown : seen.all ≡ true → (n kind : ℕ) (at : Node) (whole : Tree) (above : List ℕ) → at.min ≡ lo → at.max ≡ hi
+pub record RunHeld (blocks nodes entries : List ℕ) (root top : Node) (rows : Rows) (lo hi : ℕ) (after born : Slots) (seen : Option Slots) : Type 0 where
+  pub shown : (slots : Slots) → seen ≡ Some slots → (n kind : ℕ) (at : Node) (whole : Tree) (above : List ℕ) → at.min ≡ lo → at.max ≡ hi
       → Place blocks nodes entries n kind root top at whole above → at.min < at.max → Entered blocks entries n rows lo
-      → HeldAll (row_blocks blocks n) root.max (OpenAt blocks n root whole) lo hi above (slots_of after) (blocks_in entries rows) (slots_of born) (slots_of seen.slots)
-  pub chained : seen.all ≡ true → (n : ℕ) → Fits blocks n → Entered blocks entries n rows lo → Chained blocks (blocks_in entries rows)
+      → HeldAll (row_blocks blocks n) root.max (OpenAt blocks n root whole) lo hi above (slots_of after) (blocks_in entries rows) (slots_of born) (slots_of slots)
+  pub chained : (slots : Slots) → seen ≡ Some slots → (n : ℕ) → Fits blocks n → Entered blocks entries n rows lo → Chained blocks (blocks_in entries rows)
 
 -- and so is every block of the tree at a node
-pub record TreeHeld (blocks nodes entries : List ℕ) (root top at : Node) (after born : Slots) (seen : Seen) : Type 0 where
-  pub shown : seen.all ≡ true → (n kind : ℕ) (whole tree : Tree) (above : List ℕ) → Place blocks nodes entries n kind root top at whole above
+pub record TreeHeld (blocks nodes entries : List ℕ) (root top at : Node) (after born : Slots) (seen : Option Slots) : Type 0 where
+  pub shown : (slots : Slots) → seen ≡ Some slots → (n kind : ℕ) (whole tree : Tree) (above : List ℕ) → Place blocks nodes entries n kind root top at whole above
       → Standing blocks nodes entries n kind at tree → Below blocks nodes entries n kind at tree
-      → RightFirst (row_blocks blocks n) root.max (OpenAt blocks n root whole) at.min at.max tree above (slots_of after) (slots_of born) (slots_of seen.slots)
+      → RightFirst (row_blocks blocks n) root.max (OpenAt blocks n root whole) at.min at.max tree above (slots_of after) (slots_of born) (slots_of slots)

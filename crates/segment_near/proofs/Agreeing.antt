@@ -1,6 +1,7 @@
 -- For callers: what the contracts say of a closed index whose blocks are known, by the keys of the model; and that a neighbour is the only one.
 -- Assumes nothing.
-use mathlib.Core.Path.{◌≡◌, refl, sym, ◌∙◌}
+use Rattle.std.specs.Prelude.{Option, Some, None}
+use mathlib.Core.Path.{◌≡◌, refl, sym, ◌∙◌, ap, ap₂}
 use mathlib.Core.Bool.{true}
 use mathlib.Core.List.{List}
 use Prim.Native.Nat.{ℕ, ◌<◌}
@@ -17,7 +18,6 @@ use Rattle.segment_walk.proofs.Agreeing.{closed_rooted}
 use Rattle.segment_near.specs.declared.Side.{Side}
 use Rattle.segment_near.specs.declared.Side.TheVariants.{From, Before}
 use Rattle.segment_near.specs.declared.Neighbour.{Neighbour}
-use Rattle.segment_near.specs.declared.Neighbour.TheVariants.{Block, Nothing}
 use Rattle.segment_near.specs.Neighbours.{Beside, AsNear, Neighbours, NearestLive}
 
 -- ── two keys that agree on the entries ──
@@ -35,18 +35,18 @@ module _ (key key' : ℕ → ℕ) where
   near_agree From k j e f h = omega arith
   near_agree Before k j e f h = omega arith
 
-  pub neighbours_agree : (side : Side) (place : ℕ) {list : List ℕ} {r : Neighbour} → All (λ k. key k ≡ key' k) list → Neighbours side key place list r
+  pub neighbours_agree : (side : Side) (place : ℕ) {list : List ℕ} {r : Option Neighbour} → All (λ k. key k ≡ key' k) list → Neighbours side key place list r
       → Neighbours side key' place list r
   neighbours_agree side place same n =
       record {
-        block = λ k first e.
-            let m = n.block k first e in
-            let here : key k ≡ key' k = all_mem same m.listed in
+        block = λ b e.
+            let m = n.block b e in
+            let here : key b.number ≡ key' b.number = all_mem same m.listed in
             record {
               listed = m.listed;
               starts = m.starts ∙ here;
-              beside = beside_agree side place k here m.beside;
-              nearest = all_both (λ j there near beside. near_agree side k j here there (near (beside_back side place j there beside))) same m.nearest;
+              beside = beside_agree side place b.number here m.beside;
+              nearest = all_both (λ j there near beside. near_agree side b.number j here there (near (beside_back side place j there beside))) same m.nearest;
             };
         nothing = λ e. all_both (λ j there none beside. none (beside_back side place j there beside)) same (n.nothing e);
       }
@@ -59,7 +59,7 @@ module _ (t : Tables) (kind e : ℕ) (bs : List words.Block) (tree : Tree) (clos
   back h = all_map (λ k p. sym p) h
 
   -- the neighbour is that of the blocks on the model's way down
-  pub nearest_model : (tick : ℕ) (side : Side) (place : ℕ) {r : Neighbour} → NearestLive t.nodes t.entries kind e tick side place r
+  pub nearest_model : (tick : ℕ) (side : Side) (place : ℕ) {r : Option Neighbour} → NearestLive t.nodes t.entries kind e tick side place r
       → Neighbours side (key_in bs) place (path tick 0 e tree) r
   nearest_model tick side place n =
       neighbours_agree (first_cell_in t.blocks) (key_in bs) side place (back (path_all tick 0 e tree keys)) (n.of_tree t.blocks tree (closed_rooted t kind e bs tree closed some order keys))
@@ -71,19 +71,20 @@ as_near_both From key j k p q = omega arith
 as_near_both Before key j k p q = omega arith
 
 -- where no two blocks of the list start at one place, as live blocks of sound tables do not, the answer is the only one
-pub neighbours_one : (side : Side) (key : ℕ → ℕ) (place : ℕ) (list : List ℕ) (r r' : Neighbour)
+pub neighbours_one : (side : Side) (key : ℕ → ℕ) (place : ℕ) (list : List ℕ) (r r' : Option Neighbour)
     → ((j k : ℕ) → Mem j list → Mem k list → key j ≡ key k → j ≡ k) → Neighbours side key place list r → Neighbours side key place list r' → r ≡ r'
-neighbours_one side key place list Nothing Nothing apart a b = refl
-neighbours_one side key place list Nothing (Block k first) apart a b =
-    let n = b.block k first refl in
-    absurd (all_mem (a.nothing refl) n.listed n.beside)
-neighbours_one side key place list (Block k first) Nothing apart a b =
-    let n = a.block k first refl in
-    absurd (all_mem (b.nothing refl) n.listed n.beside)
-neighbours_one side key place list (Block j p) (Block k q) apart a b =
-    let n = a.block j p refl in
-    let m = b.block k q refl in
-    let same : j ≡ k =
-    apart j k n.listed m.listed
-    (as_near_both side key j k (all_mem n.nearest m.listed m.beside) (all_mem m.nearest n.listed n.beside)) in
-    rw (n.starts, m.starts, same)
+neighbours_one side key place list None None apart a b = refl
+neighbours_one side key place list None (Some n) apart a b =
+    let m = b.block n refl in
+    absurd (all_mem (a.nothing refl) m.listed m.beside)
+neighbours_one side key place list (Some n) None apart a b =
+    let m = a.block n refl in
+    absurd (all_mem (b.nothing refl) m.listed m.beside)
+neighbours_one side key place list (Some x) (Some y) apart a b =
+    let n = a.block x refl in
+    let m = b.block y refl in
+    let same : x.number ≡ y.number =
+    apart x.number y.number n.listed m.listed
+    (as_near_both side key x.number y.number (all_mem n.nearest m.listed m.beside) (all_mem m.nearest n.listed n.beside)) in
+    let first : x.first ≡ y.first = n.starts ∙ ap key same ∙ sym m.starts in
+    ap₂ (λ (j p : ℕ). Some (record { number = j; first = p })) same first

@@ -1,9 +1,10 @@
 -- Neighbours of a place: in a run, in two lists, on the way down. One step for each return. Assumes nothing.
+use Rattle.std.specs.Prelude.{Option, Some, None}
 use mathlib.Core.Path.{◌≡◌, refl}
 use mathlib.Core.Logic.{⊎_elim}
 use mathlib.Core.Bool.{Bool, true}
 use mathlib.Core.List.{List, ◌++◌}
-use Prim.Native.Nat.{ℕ, ◌+◌, ◌-◌, ◌≤◌, ◌<◌}
+use Prim.Native.Nat.{ℕ, ◌-◌, ◌≤◌, ◌<◌}
 use native.Mathlib.Omega.{arith}
 use Rattle.lists.specs.Lists.{All, all_nil}
 use Rattle.lists.proofs.Lists.{all_append, all_map, mem_left, mem_right}
@@ -11,37 +12,36 @@ use Rattle.lists.specs.Tests.{Decides}
 use Rattle.lists.proofs.Numbers.{le_or_lt}
 use Rattle.history.specs.Tree.{Tree, hole, node}
 use Rattle.history.specs.Find.{path}
-use Rattle.segment_table.specs.Closed.{TreeAt, run, block_in, first_cell_in}
+use Rattle.segment_table.specs.Closed.{TreeAt, block_in, first_cell_in}
 use Rattle.segment_table.proofs.Closed.{run_all, run_mem}
 use Rattle.segment_walk.specs.declared.walk.Node.{Node}
 use Rattle.segment_walk.specs.declared.rows.Rows.{Rows}
 use Rattle.segment_near.specs.declared.Side.{Side}
 use Rattle.segment_near.specs.declared.Side.TheVariants.{From, Before}
 use Rattle.segment_near.specs.declared.Neighbour.{Neighbour}
-use Rattle.segment_near.specs.declared.Neighbour.TheVariants.{Block, Nothing}
 use Rattle.segment_walk.specs.Walking.{Stands, root_at, Absent, half_at}
 use Rattle.segment_walk.specs.Rowing.{rows_at, key_at, RunOf, Lower}
 use Rattle.segment_near.specs.Neighbours.{Beside, AsNear, Nearest, Neighbours, OwnNeighbour, Nearer, NearestBelow, NearestLive}
-use Rattle.segment_walk.proofs.Halving.{Present, present, absent_hole, Down, down}
+use Rattle.segment_walk.proofs.Halving.{Present, absent_hole, Down, down}
 use Rattle.segment_walk.proofs.Rowing.{run_of}
 
 -- ── answers ──
 
 module _ {side : Side} {key : ℕ → ℕ} {place : ℕ} {list : List ℕ} where
-  some_block : {k first : ℕ} {r : Neighbour} → r ≡ Block k first → Nearest side key place list k first → Neighbours side key place list r
-  some_block {k} {first} {r} e n =
+  some_block : {b : Neighbour} {r : Option Neighbour} → r ≡ Some b → Nearest side key place list b.number b.first → Neighbours side key place list r
+  some_block {b} {r} e n =
       record {
-        block = λ k' first' e'. let a : k ≡ k' = cc in let b : first ≡ first' = cc in rw (← a, ← b) n;
+        block = λ b' e'. let same : b ≡ b' = cc in rw (← same) n;
         nothing = λ z. let no : ◌≡◌ {A = ℕ} 0 1 = cc in absurd (omega arith);
       }
 
-  no_block_lem : All (λ j. Beside side key place j → ⊥) list → Neighbours side key place list Nothing
-  no_block_lem none = record { block = λ k first e. let no : ◌≡◌ {A = ℕ} 0 1 = cc in absurd (omega arith); nothing = λ _. none }
+  no_block_lem : All (λ j. Beside side key place j → ⊥) list → Neighbours side key place list None
+  no_block_lem none = record { block = λ b e. let no : ◌≡◌ {A = ℕ} 0 1 = cc in absurd (omega arith); nothing = λ _. none }
 
 -- ── the returns of `own_neighbour` ──
 
 module _ {entries : List ℕ} {rows : Rows} {place row : ℕ} (l : Lower entries rows place row) where
-  own_from : {r : Neighbour} → row < rows.to → r ≡ Block (block_in entries row) (key_at entries row) → OwnNeighbour entries rows From place r
+  own_from : {r : Option Neighbour} → row < rows.to → r ≡ Some (record { number = block_in entries row; first = key_at entries row }) → OwnNeighbour entries rows From place r
   own_from {r} inside e = record { of_run = go }
     where
       go : (blocks xs : List ℕ) → RunOf blocks entries rows xs → Neighbours From (first_cell_in blocks) place xs r
@@ -62,7 +62,7 @@ module _ {entries : List ℕ} {rows : Rows} {place row : ℕ} (l : Lower entries
                 (le_or_lt row i));
           }))
 
-  own_from_none : rows.to ≤ row → OwnNeighbour entries rows From place Nothing
+  own_from_none : rows.to ≤ row → OwnNeighbour entries rows From place None
   own_from_none past =
       record {
         of_run = λ blocks xs own.
@@ -71,7 +71,7 @@ module _ {entries : List ℕ} {rows : Rows} {place row : ℕ} (l : Lower entries
             (no_block_lem (run_all entries rows.from (rows.to - rows.from) (λ i a b from. omega (arith, own.keyed i a (omega arith), p.below i a (omega arith)))));
       }
 
-  own_before : {r : Neighbour} → rows.from < row → r ≡ Block (block_in entries (row - 1)) (key_at entries (row - 1)) → OwnNeighbour entries rows Before place r
+  own_before : {r : Option Neighbour} → rows.from < row → r ≡ Some (record { number = block_in entries (row - 1); first = key_at entries (row - 1) }) → OwnNeighbour entries rows Before place r
   own_before {r} inside e = record { of_run = go }
     where
       go : (blocks xs : List ℕ) → RunOf blocks entries rows xs → Neighbours Before (first_cell_in blocks) place xs r
@@ -92,7 +92,7 @@ module _ {entries : List ℕ} {rows : Rows} {place row : ℕ} (l : Lower entries
                 (le_or_lt row i));
           }))
 
-  own_before_none : row ≤ rows.from → OwnNeighbour entries rows Before place Nothing
+  own_before_none : row ≤ rows.from → OwnNeighbour entries rows Before place None
   own_before_none first =
       record {
         of_run = λ blocks xs own.
@@ -102,18 +102,18 @@ module _ {entries : List ℕ} {rows : Rows} {place row : ℕ} (l : Lower entries
             (run_all entries rows.from (rows.to - rows.from) (λ i a b before. omega (arith, own.keyed i a (omega arith), p.above i (omega arith) (omega arith)))));
       }
 
-  pub own_is_from : {side : Side} {r : Neighbour} → side ≡ From → row < rows.to → r ≡ Block (block_in entries row) (key_at entries row)
+  pub own_is_from : {side : Side} {r : Option Neighbour} → side ≡ From → row < rows.to → r ≡ Some (record { number = block_in entries row; first = key_at entries row })
       → OwnNeighbour entries rows side place r
   own_is_from s h e = rw s (own_from h e)
 
-  pub own_none_from : {side : Side} → side ≡ From → rows.to ≤ row → OwnNeighbour entries rows side place Nothing
+  pub own_none_from : {side : Side} → side ≡ From → rows.to ≤ row → OwnNeighbour entries rows side place None
   own_none_from s h = rw s (own_from_none h)
 
-  pub own_is_before : {side : Side} {r : Neighbour} → side ≡ Before → rows.from < row → r ≡ Block (block_in entries (row - 1)) (key_at entries (row - 1))
+  pub own_is_before : {side : Side} {r : Option Neighbour} → side ≡ Before → rows.from < row → r ≡ Some (record { number = block_in entries (row - 1); first = key_at entries (row - 1) })
       → OwnNeighbour entries rows side place r
   own_is_before s h e = rw s (own_before h e)
 
-  pub own_none_before : {side : Side} → side ≡ Before → row ≤ rows.from → OwnNeighbour entries rows side place Nothing
+  pub own_none_before : {side : Side} → side ≡ Before → row ≤ rows.from → OwnNeighbour entries rows side place None
   own_none_before s h = rw s (own_before_none h)
 
 pub ruleset owning = (own_is_from, own_none_from, own_is_before, own_none_before)
@@ -132,56 +132,59 @@ module _ {side : Side} {key : ℕ → ℕ} {place : ℕ} (xs ys : List ℕ) {k f
   keep_right : Nearest side key place ys k first → All (λ j. Beside side key place j → AsNear side key k j) xs → Nearest side key place (xs ++ ys) k first
   keep_right n others = record { listed = mem_right xs ys n.listed; starts = n.starts; beside = n.beside; nearest = all_append others n.nearest }
 
-module _ {side : Side} {own below : Neighbour} where
-  pub nearer_below : own ≡ Nothing → Nearer side own below below
+module _ {side : Side} {own below : Option Neighbour} where
+  pub nearer_below : own ≡ None → Nearer side own below below
   nearer_below e =
       record {
         of_both = λ key place xs ys a b.
             let none = a.nothing e in
             record {
-              block = λ k first z. keep_right xs ys (b.block k first z) (all_map (λ j no beside. absurd (no beside)) none);
+              block = λ n z. keep_right xs ys (b.block n z) (all_map (λ j no beside. absurd (no beside)) none);
               nothing = λ z. all_append none (b.nothing z);
             };
       }
 
-  pub nearer_own : {k first : ℕ} → own ≡ Block k first → below ≡ Nothing → Nearer side own below (Block k first)
-  nearer_own {k} {first} e z =
+  pub nearer_own : {n : Neighbour} → own ≡ Some n → below ≡ None → Nearer side own below (Some n)
+  nearer_own {n} e z =
       record {
         of_both = λ key place xs ys a b.
-            some_block refl (keep_left xs ys (a.block k first e) (all_map (λ j no beside. absurd (no beside)) (b.nothing z)));
+            some_block refl (keep_left xs ys (a.block n e) (all_map (λ j no beside. absurd (no beside)) (b.nothing z)));
       }
 
-  module _ {k k' first first' : ℕ} (e : own ≡ Block k first) (e' : below ≡ Block k' first') where
-    closer_own : ((key : ℕ → ℕ) → first ≡ key k → first' ≡ key k' → AsNear side key k k') → Nearer side own below (Block k first)
+  module _ {here there : Neighbour} (e : own ≡ Some here) (e' : below ≡ Some there) where
+    closer_own : ((key : ℕ → ℕ) → here.first ≡ key here.number → there.first ≡ key there.number → AsNear side key here.number there.number) → Nearer side own below (Some here)
     closer_own near =
         record {
           of_both = λ key place xs ys a b.
-              let n = a.block k first e in
-              let m = b.block k' first' e' in
+              let n = a.block here e in
+              let m = b.block there e' in
               some_block refl
-              (keep_left xs ys n (all_map (λ j far beside. as_near_trans side key k k' j (near key n.starts m.starts) (far beside)) m.nearest));
+              (keep_left xs ys n
+              (all_map (λ j far beside. as_near_trans side key here.number there.number j (near key n.starts m.starts) (far beside)) m.nearest));
         }
 
-    closer_below : ((key : ℕ → ℕ) → first ≡ key k → first' ≡ key k' → AsNear side key k' k) → Nearer side own below (Block k' first')
+    closer_below : ((key : ℕ → ℕ) → here.first ≡ key here.number → there.first ≡ key there.number → AsNear side key there.number here.number)
+        → Nearer side own below (Some there)
     closer_below near =
         record {
           of_both = λ key place xs ys a b.
-              let n = a.block k first e in
-              let m = b.block k' first' e' in
+              let n = a.block here e in
+              let m = b.block there e' in
               some_block refl
-              (keep_right xs ys m (all_map (λ j far beside. as_near_trans side key k' k j (near key n.starts m.starts) (far beside)) n.nearest));
+              (keep_right xs ys m
+              (all_map (λ j far beside. as_near_trans side key there.number here.number j (near key n.starts m.starts) (far beside)) n.nearest));
         }
 
-    pub nearer_from_below : side ≡ From → first' < first → Nearer side own below (Block k' first')
+    pub nearer_from_below : side ≡ From → there.first < here.first → Nearer side own below (Some there)
     nearer_from_below s h = closer_below (λ key p q. rw s (omega arith))
 
-    pub nearer_from_own : side ≡ From → first ≤ first' → Nearer side own below (Block k first)
+    pub nearer_from_own : side ≡ From → here.first ≤ there.first → Nearer side own below (Some here)
     nearer_from_own s h = closer_own (λ key p q. rw s (omega arith))
 
-    pub nearer_before_below : side ≡ Before → first < first' → Nearer side own below (Block k' first')
+    pub nearer_before_below : side ≡ Before → here.first < there.first → Nearer side own below (Some there)
     nearer_before_below s h = closer_below (λ key p q. rw s (omega arith))
 
-    pub nearer_before_own : side ≡ Before → first' ≤ first → Nearer side own below (Block k first)
+    pub nearer_before_own : side ≡ Before → there.first ≤ here.first → Nearer side own below (Some here)
     nearer_before_own s h = closer_own (λ key p q. rw s (omega arith))
 
 pub ruleset nearing = (nearer_below, nearer_own, nearer_from_below, nearer_from_own, nearer_before_below, nearer_before_own)
@@ -189,12 +192,12 @@ pub ruleset nearing = (nearer_below, nearer_own, nearer_from_below, nearer_from_
 -- ── the returns of `nearest` ──
 
 module _ {nodes entries : List ℕ} {n : Node} {tick : ℕ} {side : Side} {place : ℕ} where
-  pub nearest_none : {t : Bool} → Decides t (Absent n) → t ≡ true → NearestBelow nodes entries n tick side place Nothing
+  pub nearest_none : {t : Bool} → Decides t (Absent n) → t ≡ true → NearestBelow nodes entries n tick side place None
   unfolding path
   nearest_none d e = record { of_way = λ blocks kind tree s. rw (absent_hole (d.yes e) s) (no_block_lem all_nil) }
 
   -- the nearer of a node's own neighbour and that of its half
-  pub nearest_both : {rows : Rows} {h : Node} {own below r : Neighbour} → Present n → rows ≡ rows_at nodes entries n.link → OwnNeighbour entries rows side place own
+  pub nearest_both : {rows : Rows} {h : Node} {own below r : Option Neighbour} → Present n → rows ≡ rows_at nodes entries n.link → OwnNeighbour entries rows side place own
       → h ≡ half_at nodes tick n → NearestBelow nodes entries h tick side place below → Nearer side own below r → NearestBelow nodes entries n tick side place r
   unfolding TreeAt
   nearest_both {rows} {h} {own} {below} {r} at e here half there both = record { of_way = go }
@@ -209,11 +212,9 @@ module _ {nodes entries : List ℕ} {n : Node} {tick : ℕ} {side : Side} {place
           (both.of_both (first_cell_in blocks) place xs (path tick h.min h.max d.below) (here.of_run blocks xs run)
           (there.of_way blocks kind d.below d.stands))
 
-pub ruleset approaching = (present, nearest_none, nearest_both)
-
 -- ── the whole tree ──
 
-pub nearest_live : {nodes entries : List ℕ} {kind end tick : ℕ} {side : Side} {place : ℕ} {root : Node} {r : Neighbour} → root ≡ root_at nodes kind end
+pub nearest_live : {nodes entries : List ℕ} {kind end tick : ℕ} {side : Side} {place : ℕ} {root : Node} {r : Option Neighbour} → root ≡ root_at nodes kind end
     → NearestBelow nodes entries root tick side place r → NearestLive nodes entries kind end tick side place r
 nearest_live {nodes} {entries} {kind} {end} {tick} {side} {place} {root} {r} e below =
     record {

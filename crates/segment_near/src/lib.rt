@@ -22,70 +22,49 @@ pub enum Side {
     Before,
 }
 
-// A block next to a place, with its first cell; or none.
+// A block next to a place, with its first cell.
 #[derive(Clone, Copy)]
-pub enum Neighbour {
-    Block { number: u64, first: u64 },
-    Nothing,
+pub struct Neighbour {
+    pub number: u64,
+    pub first: u64,
 }
 
 // The block of a row.
 fn block_in(entries: &[u64], row: usize) -> Neighbour
-    ensures { result ≡ Neighbour.Block (block_in entries.now row) (key_at entries.now row) }
+    ensures { result ≡ record { number = block_in entries.now row; first = key_at entries.now row } }
 {
-    let number = tables::entry::get(entries, row as u64, tables::entry::BLOCK);
-    let first = tables::entry::get(entries, row as u64, tables::entry::KEY);
-    Neighbour::Block { number, first }
+    Neighbour {
+        number: tables::entry::get(entries, row as u64, tables::entry::BLOCK),
+        first: tables::entry::get(entries, row as u64, tables::entry::KEY),
+    }
 }
 
 // The neighbour of a place among the rows of one node.
-fn own_neighbour(entries: &[u64], rows: Rows, side: Side, place: u64) -> Neighbour
+fn own_neighbour(entries: &[u64], rows: Rows, side: Side, place: u64) -> Option<Neighbour>
     ensures { OwnNeighbour entries.now rows side place result }
 {
     let row = rows::lower(entries, rows, place);
     match side {
-        Side::From => {
-            if row < rows.to {
-                return block_in(entries, row);
-            }
-            Neighbour::Nothing
-        }
-        Side::Before => {
-            if rows.from < row {
-                return block_in(entries, row - 1);
-            }
-            Neighbour::Nothing
-        }
+        Side::From if row < rows.to => Some(block_in(entries, row)),
+        Side::Before if rows.from < row => Some(block_in(entries, row - 1)),
+        _ => None,
     }
 }
 
 // The nearer one of two.
-fn nearer(side: Side, own: Neighbour, below: Neighbour) -> Neighbour
+fn nearer(side: Side, own: Option<Neighbour>, below: Option<Neighbour>) -> Option<Neighbour>
     ensures { Nearer side own below result }
 {
-    let Neighbour::Block { number: _, first } = own else {
+    let Some(here) = own else {
         return below;
     };
-    let Neighbour::Block {
-        number: _,
-        first: other,
-    } = below
-    else {
+    let Some(there) = below else {
         return own;
     };
     match side {
-        Side::From => {
-            if other < first {
-                return below;
-            }
-            own
-        }
-        Side::Before => {
-            if first < other {
-                return below;
-            }
-            own
-        }
+        Side::From if there.first < here.first => below,
+        Side::Before if here.first < there.first => below,
+        _ => own,
     }
 }
 
@@ -97,11 +76,11 @@ fn nearest(
     tick: u64,
     side: Side,
     place: u64,
-) -> Neighbour
+) -> Option<Neighbour>
     ensures { NearestBelow nodes.now entries.now node tick side place result }
 {
     if walk::absent(node) {
-        return Neighbour::Nothing;
+        return None;
     }
     let rows = rows::rows_of(nodes, entries, node.link);
     let own = own_neighbour(entries, rows, side, place);
@@ -110,32 +89,18 @@ fn nearest(
     nearer(side, own, below)
 }
 
-// The first block of a kind that is live at the tick and starts at the place or after it.
-pub fn first_from(
+// The block of a kind that is live at the tick and next to the place on one side: the first that starts at it or after it, or the last that starts before it.
+pub fn nearest_live(
     nodes: &[u64],
     entries: &[u64],
     kind: u64,
     end: u64,
     tick: u64,
+    side: Side,
     place: u64,
-) -> Neighbour
-    ensures { NearestLive nodes.now entries.now kind end tick Side.From place result }
+) -> Option<Neighbour>
+    ensures { NearestLive nodes.now entries.now kind end tick side place result }
 {
     let root = walk::root(nodes, kind, end);
-    nearest(nodes, entries, root, tick, Side::From, place)
-}
-
-// The last block of a kind that is live at the tick and starts before the place.
-pub fn last_before(
-    nodes: &[u64],
-    entries: &[u64],
-    kind: u64,
-    end: u64,
-    tick: u64,
-    place: u64,
-) -> Neighbour
-    ensures { NearestLive nodes.now entries.now kind end tick Side.Before place result }
-{
-    let root = walk::root(nodes, kind, end);
-    nearest(nodes, entries, root, tick, Side::Before, place)
+    nearest(nodes, entries, root, tick, side, place)
 }

@@ -5,6 +5,5 @@ pub mod Totalling
 pub mod Ruling
 pub mod Links
 pub mod Widths
-pub mod Heading
 pub mod Testing
 pub mod ClosedTree

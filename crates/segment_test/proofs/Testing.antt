@@ -1,11 +1,12 @@
 -- What the tests of the tables say together is that they hold the tree of a closed index, both ways; a step for each return of `test_tree`. Assumes nothing.
 use mathlib.Core.Path.{◌≡◌, refl, sym, ◌∙◌}
-use mathlib.Core.Bool.{Bool, true, false, not, true≢false, false≢true}
+use mathlib.Core.Bool.{Bool, true, false, true≢false, false≢true}
 use mathlib.Core.List.{List, [], ◌∷◌}
 use Prim.Native.Nat.{ℕ, zero, suc, ◌+◌, ◌<◌}
 use native.Mathlib.Omega.{arith}
 use lib.ListN.{length}
-use borrow.Author.Tests.{not-true, not-false}
+use lib.Dec.{eqb}
+use borrow.Author.Tests.{eqb-true, eqb-false}
 use Rattle.lists.specs.Tests.{Decides}
 use Rattle.lists.proofs.Numbers.{refute, decides_iff, decided}
 use Rattle.history.specs.Words.{Block, life}
@@ -15,7 +16,7 @@ use Rattle.history.specs.Sound.{is_empty}
 use Rattle.history.proofs.RulesLaws.{halved_node, Rule23, rule23_decides}
 use Rattle.tables.specs.Columns.{column}
 use Rattle.segment_table.specs.Closed.{Tables, nodes_used, left_at, right_at, first_at, count_at, TreeAt, Consecutive}
-use Rattle.segment_test.specs.Total.{sum_to, entries_of_row, widths_of_row, life_in, Same}
+use Rattle.segment_test.specs.Total.{sum_to, entries_of_row, widths_of_row, life_in}
 use Rattle.segment_test.specs.Test.{lent, BlockRows, ClosedTree}
 use Rattle.segment_test.specs.Parts.{Rooted, Heads, AllRows, Tiled, TreeTables}
 use Rattle.segment_test.proofs.Sums.{sum_same}
@@ -142,21 +143,19 @@ tested {t} {n} {kind} {e} {r} d bs known =
 -- ── test_tree ──
 
 module _ {blocks nodes entries : List ℕ} {n kind e : ℕ} where
-  pub tree_heads : {r : Bool} → Decides r (Heads (lent blocks nodes entries) n kind) → not r ≡ true → Decides false (TreeTables (lent blocks nodes entries) n kind e)
-  tree_heads {r} d f = refute (λ s. d.not (not-true r f) s.heads)
+  pub tree_heads : {r : Bool} → Decides r (Heads (lent blocks nodes entries) n kind) → r ≡ false → Decides false (TreeTables (lent blocks nodes entries) n kind e)
+  tree_heads d f = refute (λ s. d.not f s.heads)
 
-  pub tree_untiled : {r : Bool} → Decides r (Tiled nodes entries) → not r ≡ true → Decides false (TreeTables (lent blocks nodes entries) n kind e)
-  tree_untiled {r} d f = refute (λ s. d.not (not-true r f) s.tiled)
+  pub tree_untiled : {r : Bool} → Decides r (Tiled nodes entries) → r ≡ false → Decides false (TreeTables (lent blocks nodes entries) n kind e)
+  tree_untiled d f = refute (λ s. d.not f s.tiled)
 
-  pub tree_wrong : {r : Bool} → Decides r (AllRows (lent blocks nodes entries) n kind e) → not r ≡ true → Decides false (TreeTables (lent blocks nodes entries) n kind e)
-  tree_wrong {r} d f = refute (λ s. d.not (not-true r f) s.rows)
+  pub tree_wrong : {r : Bool} → Decides r (AllRows (lent blocks nodes entries) n kind e) → r ≡ false → Decides r (TreeTables (lent blocks nodes entries) n kind e)
+  tree_wrong d f = rw f (refute (λ s. d.not f s.rows))
 
-  pub tree_rest : {a b c r : Bool} {x y : ℕ} → Decides a (Heads (lent blocks nodes entries) n kind) → not a ≡ false → Decides b (Tiled nodes entries) → not b ≡ false
-      → Decides c (AllRows (lent blocks nodes entries) n kind e) → not c ≡ false
-      → x ≡ sum_to (widths_of_row nodes) (nodes_used nodes) → y ≡ sum_to (life_in blocks) n → Decides r (Same x y) → Decides r (TreeTables (lent blocks nodes entries) n kind e)
-  tree_rest {a} {b} {c} da ea db eb dc ec wide lives same = record {
-    yes = λ t. record { heads = da.yes (not-false a ea); tiled = db.yes (not-false b eb); rows = dc.yes (not-false c ec); summed = sym wide ∙ (same.yes t).equal ∙ lives };
-    not = λ t s. same.not t (record { equal = wide ∙ s.summed ∙ sym lives });
+  pub tree_rest : {a b c : Bool} {x y : ℕ} → Decides a (Heads (lent blocks nodes entries) n kind) → a ≡ true → Decides b (Tiled nodes entries) → b ≡ true
+      → Decides c (AllRows (lent blocks nodes entries) n kind e) → c ≡ true
+      → x ≡ sum_to (widths_of_row nodes) (nodes_used nodes) → y ≡ sum_to (life_in blocks) n → Decides (eqb x y) (TreeTables (lent blocks nodes entries) n kind e)
+  tree_rest {x = x} {y = y} da ea db eb dc ec wide lives = record {
+    yes = λ t. record { heads = da.yes ea; tiled = db.yes eb; rows = dc.yes ec; summed = sym wide ∙ eqb-true x y t ∙ lives };
+    not = λ t s. eqb-false x y t (wide ∙ s.summed ∙ sym lives);
   }
-
-pub ruleset testing_tree = (tree_heads, tree_untiled, tree_wrong, tree_rest)

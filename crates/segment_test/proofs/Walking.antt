@@ -1,5 +1,5 @@
--- The walk over all nodes: one tree at most stands at a link; a step for each return of the tests of `walk`. Assumes nothing.
-use mathlib.Core.Path.{◌≡◌, refl, sym, ◌∙◌}
+-- The walk over all nodes: one tree at most stands at a link; a step for each return of `walk`. Assumes nothing.
+use mathlib.Core.Path.{◌≡◌, refl}
 use mathlib.Core.Bool.{Bool, true, false}
 use mathlib.Core.List.{List}
 use Prim.Native.Nat.{ℕ, ◌+◌, ◌-◌, ◌/◌, ◌≤◌, ◌<◌}
@@ -8,97 +8,13 @@ use lib.Dec.{eqb}
 use borrow.Author.Tests.{eqb-true, eqb-false}
 use Rattle.lists.specs.Tests.{Decides}
 use mathlib.Core.Logic.{inl, inr}
-use Rattle.lists.proofs.Numbers.{eq_or_ne, confirm, refute}
+use Rattle.lists.proofs.Numbers.{eq_or_ne}
 use Rattle.history.specs.Tree.{Tree, hole, node, mid, node_count}
-use Rattle.tables.specs.Columns.{column, node_min, node_max, node_kind, nodes_count}
-use Rattle.segment_table.specs.Closed.{Tables, left_at, right_at, first_at, count_at, TreeAt, nodes_used}
+use Rattle.tables.specs.Columns.{column, nodes_count}
+use Rattle.segment_table.specs.Closed.{Tables, left_at, right_at, TreeAt, nodes_used}
 use Rattle.segment_table.proofs.Closed.{tree_one}
 use Rattle.segment_test.specs.Test.{lent}
-use Rattle.segment_test.specs.Parts.{RunRows, Inside, Bare, RowStands, NodeStands, TreeStands, Walked, AllRows}
-
--- ── bare ──
-
-pub bare_left : {nodes : List ℕ} {link x : ℕ} → x ≡ left_at nodes link → (x ≡ 0 → ⊥) → Decides false (Bare nodes link)
-bare_left e h = refute (λ b. h (e ∙ b.left))
-
-pub bare_rest : {nodes : List ℕ} {link x y : ℕ} → x ≡ left_at nodes link → x ≡ 0 → y ≡ right_at nodes link → Decides (eqb y 0) (Bare nodes link)
-bare_rest {nodes} {link} {x} {y} e h g = record {
-  yes = λ t. record { left = sym e ∙ h; right = sym g ∙ eqb-true y 0 t };
-  not = λ t b. eqb-false y 0 t (g ∙ b.right);
-}
-
-pub ruleset testing_bare = (bare_left, bare_rest)
-
--- ── test_row ──
-
-module _ {nodes : List ℕ} {kind link lo hi : ℕ} where
-  pub row_none : link ≡ 0 → Decides false (RowStands nodes kind link lo hi)
-  row_none z = refute (λ r. omega (arith, r.some))
-
-  pub row_unused : {used : ℕ} → used ≡ column nodes 0 nodes_count → used < link → Decides false (RowStands nodes kind link lo hi)
-  row_unused e h = refute (λ r. omega (arith, r.used))
-
-  pub row_min : {x : ℕ} → x ≡ column nodes link node_min → (x ≡ lo → ⊥) → Decides false (RowStands nodes kind link lo hi)
-  row_min e h = refute (λ r. h (e ∙ r.low))
-
-  pub row_max : {x : ℕ} → x ≡ column nodes link node_max → (x ≡ hi → ⊥) → Decides false (RowStands nodes kind link lo hi)
-  row_max e h = refute (λ r. h (e ∙ r.high))
-
-  pub row_kind : {x : ℕ} → x ≡ column nodes link node_kind → (x ≡ kind → ⊥) → Decides false (RowStands nodes kind link lo hi)
-  row_kind e h = refute (λ r. h (e ∙ r.own_kind))
-
-  module _ {used x y z : ℕ} (some : link ≡ 0 → ⊥) (count : used ≡ column nodes 0 nodes_count) (within : link ≤ used)
-      (low : x ≡ column nodes link node_min) (min : x ≡ lo) (high : y ≡ column nodes link node_max) (max : y ≡ hi)
-      (own : z ≡ column nodes link node_kind) (kinds : z ≡ kind) where
-    pub row_narrow : {r : Bool} → hi - lo ≤ 1 → Decides r (Bare nodes link) → Decides r (RowStands nodes kind link lo hi)
-    row_narrow {r} w d = record {
-      yes = λ t. (let b = d.yes t in record { some = omega arith; used = omega arith; low = sym low ∙ min; high = sym high ∙ max; own_kind = sym own ∙ kinds; narrow = λ _. (b.left, b.right) });
-      not = λ t s. (let b = s.narrow (omega arith) in d.not t (record { left = b.0; right = b.1 }));
-    }
-
-    pub row_wide : 1 < hi - lo → Decides true (RowStands nodes kind link lo hi)
-    row_wide w = confirm (record { some = omega arith; used = omega arith; low = sym low ∙ min; high = sym high ∙ max; own_kind = sym own ∙ kinds; narrow = λ h. absurd (omega arith) })
-
-pub ruleset testing_row = (row_none, row_unused, row_min, row_max, row_kind, row_narrow, row_wide)
-
--- ── test_node ──
-
-module _ {blocks nodes entries : List ℕ} {n kind link lo hi from to : ℕ} where
-  pub node_row : {r : Bool} → Decides r (RowStands nodes kind link lo hi) → r ≡ false → Decides false (NodeStands (lent blocks nodes entries) n kind link lo hi from to)
-  node_row d e =
-      refute (λ s. let r = s.row in d.not e (record { some = r.some; used = r.used; low = r.low; high = r.high; own_kind = r.own_kind; narrow = r.narrow }))
-
-  module _ {first many : ℕ} (begins : first ≡ first_at nodes link) (counted : many ≡ count_at nodes link) where
-    pub node_outside : {r : Bool} → Decides r (Inside entries first many) → r ≡ false → Decides false (NodeStands (lent blocks nodes entries) n kind link lo hi from to)
-    node_outside d e = refute (λ s. d.not e (rw (begins, counted) (record { fits = s.row.inside })))
-
-    pub node_rest : {r q s : Bool} → Decides r (RowStands nodes kind link lo hi) → r ≡ true → Decides q (Inside entries first many) → q ≡ true
-        → Decides s (RunRows blocks entries n first many lo hi from to) → Decides s (NodeStands (lent blocks nodes entries) n kind link lo hi from to)
-    node_rest {r} {q} {s} d e i f rows = record {
-      yes = λ t. record {
-        row = record {
-          some = row.some;
-          used = row.used;
-          low = row.low;
-          high = row.high;
-          own_kind = row.own_kind;
-          narrow = row.narrow;
-          inside = (rw (begins, counted) at (i.yes f)).fits;
-          listed = refl;
-          keyed = record { key = λ j h. ((run_of t).each j h).keyed };
-        };
-        rows = run_of t;
-      };
-      not = λ t stands. rows.not t (rw (begins, counted) stands.rows);
-    }
-      where
-        row : RowStands nodes kind link lo hi
-        row = d.yes e
-
-        run_of : s ≡ true → RunRows blocks entries n (first_at nodes link) (count_at nodes link) lo hi from to
-        run_of t = rw (begins, counted) at (rows.yes t)
-
-pub ruleset testing_node = (node_row, node_outside, node_rest)
+use Rattle.segment_test.specs.Parts.{NodeStands, TreeStands, Walked, AllRows}
 
 -- ── walk ──
 

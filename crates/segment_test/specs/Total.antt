@@ -1,5 +1,5 @@
--- Sums: of numbers up to a bound, of a tree's widths, and in two words. Definitions alone: their laws stand in proofs/.
-use Rattle.std.specs.Prelude.{◌≡◌, ℕ, zero, suc, ◌+◌, ◌-◌, ◌*◌, ◌^◌, length, List}
+-- Sums: of numbers up to a bound, and of a tree's widths. Definitions alone: their laws stand in proofs/.
+use Rattle.std.specs.Prelude.{ℕ, zero, suc, ◌+◌, ◌-◌, ◌*◌, length, List}
 use Rattle.history.specs.Tree.{Tree, hole, node, mid}
 use Rattle.tables.specs.Columns.{column, block_column, node_min, node_max, block_created, block_destroyed}
 use Rattle.segment_table.specs.Closed.{count_at}
@@ -8,14 +8,6 @@ use Rattle.segment_table.specs.Closed.{count_at}
 unfoldable pub sum_to : (f : ℕ → ℕ) (n : ℕ) → ℕ
 sum_to f zero = 0
 sum_to f (suc n) = sum_to f n + f n
-
--- The number that two words stand for. Callers bound the high word alone.
-unfoldable pub two_words : (high low : ℕ) → ℕ
-two_words high low = high * 2 ^ 64 + low
-
--- two sums are the same number
-pub record Same (a b : ℕ) : Type 0 where
-  pub equal : a ≡ b
 
 -- ── of the tables ──
 

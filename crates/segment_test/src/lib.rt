@@ -5,7 +5,8 @@
 //   specs/Parts        the parts that inner tests decide
 //   specs/Total        sums
 //   head               counts inside the tables, roots
-//   read               numbers of rows that are known to lie in the tables
+//   read               the tables under test, and numbers of rows that are known to lie in them
+//   place              a node and the node above, and the lives that cover them
 //   run                one node's entries
 //   walk               every node, by halves
 //   total              runs one after the other; rule 23's sum, one total over all entries
@@ -18,10 +19,13 @@ ghost use Rattle.history.specs.Words.{Block};
 ghost use Rattle.segment_test.specs.Test.{lent, BlockRows, ClosedTree};
 
 mod head;
+mod place;
 mod read;
 mod run;
 mod total;
 mod walk;
+
+use read::Tested;
 
 // Whether the tables hold the tree of a closed index of the kind with the end tick `end`, whose blocks are the first n rows of the block table.
 // Linear in the rows of the three tables, of malformed ones too: counts are tested to lie inside, and runs to follow one another, before any row is
@@ -39,13 +43,15 @@ pub fn test_tree(
     if !head::test_heads(blocks, nodes, entries, kind, n) {
         return false;
     }
-    if !total::test_runs(nodes, entries) {
+    let t = Tested {
+        blocks,
+        nodes,
+        entries,
+        n,
+        kind,
+    };
+    if !total::test_runs(&t) {
         return false;
     }
-    if !walk::test_nodes(blocks, nodes, entries, kind, end, n) {
-        return false;
-    }
-    let widths = total::entry_widths(nodes);
-    let lives = total::lives(blocks, n);
-    total::same(widths, lives)
+    walk::test_nodes(&t, end) && total::entry_widths(&t) == total::lives(&t)
 }

@@ -1,28 +1,52 @@
-// Numbers of rows that are known to lie in the tables: reads without a test.
-ghost use Rattle.std.specs.Prelude.{◌≡◌, ◌+◌, ◌*◌, ◌<◌, length};
-ghost use Rattle.history.specs.Lent.{row_width, entry_width, block_head, entry_head};
+// The tables under test, and numbers of rows that are known to lie in them: reads without a test.
+ghost use Rattle.std.specs.Prelude.{◌≡◌, ◌+◌, ◌*◌, ◌<◌, ◌≤◌, length};
+ghost use Rattle.history.specs.Lent.{row_width, entry_width, block_head, node_head, entry_head};
 ghost use Rattle.tables.specs.Columns.{column, block_column, entry_column};
+ghost use Rattle.segment_table.specs.Closed.{nodes_used};
 
-// Column `col` of block k, whose link is k + 1.
-pub fn block(blocks: &[u64], k: u64, col: usize) -> u64
-    requires { block_head + (row_width * k + col) < length blocks.now }
-    ensures { result ≡ block_column blocks.now (k + 1) col }
-{
-    blocks[tables::block::HEAD + (tables::ROW * (k as usize) + col)]
+// The lent tables, of n blocks and of a kind, when their heads are tested: all counts lie inside.
+#[derive(Clone, Copy)]
+pub struct Tested<'a> {
+    pub blocks: &'a [u64],
+    pub nodes: &'a [u64],
+    pub entries: &'a [u64],
+    pub n: u64,
+    pub kind: u64,
+    ghost block_room: { block_head + row_width * n ≤ length blocks.now },
+    ghost node_room: { node_head + row_width * nodes_used nodes.now ≤ length nodes.now },
 }
 
-// Column `col` of the row of a node.
-pub fn node(nodes: &[u64], link: u64, col: usize) -> u64
-    requires { row_width * link + col < length nodes.now }
-    ensures { result ≡ column nodes.now link col }
-{
-    nodes[tables::ROW * (link as usize) + col]
-}
+impl Tested<'_> {
+    // Column `col` of block k, whose link is k + 1.
+    pub fn block(&self, k: u64, col: usize) -> u64
+        requires known { k < self.now.n }
+        requires in_row { col < row_width }
+        ensures { result ≡ block_column self.now.blocks.now (k + 1) col }
+    {
+        self.blocks[tables::block::HEAD + (tables::ROW * (k as usize) + col)]
+    }
 
-// Column `col` of an entry row.
-pub fn entry(entries: &[u64], row: u64, col: usize) -> u64
-    requires { entry_head + (entry_width * row + col) < length entries.now }
-    ensures { result ≡ entry_column entries.now row col }
-{
-    entries[tables::entry::HEAD + (tables::entry::WIDTH * (row as usize) + col)]
+    // Column `col` of the row of a node.
+    pub fn node(&self, link: u64, col: usize) -> u64
+        requires used { link ≤ nodes_used self.now.nodes.now }
+        requires in_row { col < row_width }
+        ensures { result ≡ column self.now.nodes.now link col }
+    {
+        self.nodes[tables::ROW * (link as usize) + col]
+    }
+
+    // How many nodes there are.
+    pub fn used(&self) -> u64
+        ensures { result ≡ nodes_used self.now.nodes.now }
+    {
+        self.node(0, tables::node::COUNT)
+    }
+
+    // Column `col` of an entry row.
+    pub fn entry(&self, row: u64, col: usize) -> u64
+        requires { entry_head + (entry_width * row + col) < length self.now.entries.now }
+        ensures { result ≡ entry_column self.now.entries.now row col }
+    {
+        self.entries[tables::entry::HEAD + (tables::entry::WIDTH * (row as usize) + col)]
+    }
 }

@@ -1,4 +1,5 @@
 -- For callers: what the contract of `starting` says of a closed index whose blocks are known, by the keys of the model. Assumes nothing.
+use Rattle.std.specs.Prelude.{Option}
 use mathlib.Core.Path.{◌≡◌, ◌∙◌, ap}
 use mathlib.Core.Bool.{true}
 use mathlib.Core.List.{List, [], ◌∷◌}
@@ -12,7 +13,6 @@ use Rattle.history.proofs.FileAlike.{path_all}
 use Rattle.history.proofs.FindOrder.{window_at_lem}
 use Rattle.segment_table.specs.Closed.{Tables, Closed, first_cell_in}
 use Rattle.segment_walk.proofs.Agreeing.{closed_rooted, window_agree}
-use Rattle.segment_touch.specs.declared.Listing.{Listing}
 use Rattle.segment_touch.specs.Sorting.{sort_by}
 use Rattle.segment_touch.specs.Placing.{Placed, Starts}
 use Rattle.segment_touch.proofs.Sorting.{sort_agree}
@@ -29,7 +29,7 @@ started_agree key key' start stop ks same =
 module _ (t : Tables) (kind e : ℕ) (bs : List words.Block) (tree : Tree) (closed : Closed t kind e tree) (some : 0 < e)
     (order : sorted (key_in bs) tree ≡ true) (keys : All (λ k. key_in bs k ≡ first_cell_in t.blocks k) (entries_in tree)) where
   -- the list is that of the model's way down, by first cell
-  pub starting_model : (tick start stop : ℕ) {answer : List ℕ} {at : ℕ} {answer' : List ℕ} {r : Listing}
+  pub starting_model : (tick start stop : ℕ) {answer : List ℕ} {at : ℕ} {answer' : List ℕ} {r : Option ℕ}
       → Starts t.nodes t.entries kind e tick start stop answer at answer' r
       → Placed (sort_by (key_in bs) (window (key_in bs) start stop (path tick 0 e tree))) answer at answer' r
   starting_model tick start stop s =

@@ -1,16 +1,14 @@
 -- Adding a life at a node, by where it begins and ends there: the model's add_location, or the rows are spent. Assumes nothing.
 use mathlib.Core.Path.{◌≡◌, refl, sym, ◌∙◌}
-use mathlib.Core.Logic.{inl, inr}
 use mathlib.Core.Bool.{Bool, true, false, true≢false, false≢true, cond, not}
 use mathlib.Core.List.{List, []}
 use Prim.Native.Nat.{ℕ, zero, suc, ◌+◌, ◌-◌, ◌*◌, ◌/◌, ◌^◌, ◌≤◌, ◌<◌}
 use native.Mathlib.Omega.{arith}
 use lib.ListN.{length, set}
 use lib.Dec.{ltb}
-use Rattle.lists.proofs.Numbers.{le_or_lt}
-use borrow.Author.Tests.{lt-ltb, le-ltb, ltb-true, ltb-false, not-true, not-false}
+use borrow.Author.Tests.{lt-ltb, le-ltb, not-true, not-false}
 use Rattle.history.specs.Lent.{row_width}
-use Rattle.history.specs.Tree.{Tree, hole, node, mid, halves, covers, entries_of, left_of, right_of, insert, add_location, node_count}
+use Rattle.history.specs.Tree.{Tree, hole, node, mid, covers, entries_of, left_of, right_of, insert, add_location, node_count}
 use Rattle.history.proofs.TreeAdding.{made, listed, half_left, half_right, add_here, add_below, add_narrow, Half, went, kept, add_by}
 use Rattle.history.proofs.TreeInserting.{insert-length}
 use Rattle.history.proofs.TreeCounts.{node_count_add}

@@ -59,9 +59,6 @@ pub record Onward (start t : List ℕ) (kind e : ℕ) (life : ℕ → Life) (n j
   pub rest : (t' : List ℕ) (room : Bool) → AddedRows t t' kind e (map life (count_from (j + 1) (n - j))) room → AddedRows start t' kind e (map life (count_from 1 n)) room
 
 module _ {start : List ℕ} {kind e : ℕ} {life : ℕ → Life} {n : ℕ} where
-  pub onward_start : Onward start start kind e life n 0
-  onward_start = record { rest = λ t' room a. let z : n - 0 ≡ n = omega arith in rw z at a }
-
   module _ {t : List ℕ} {j : ℕ} (o : Onward start t kind e life n j) where
     -- the row that is next
     next_row : j < n → count_from (j + 1) (n - j) ≡ (j + 1) ∷ count_from (j + 1 + 1) (n - (j + 1))

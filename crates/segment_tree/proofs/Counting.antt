@@ -3,7 +3,7 @@ use mathlib.Core.Path.{◌≡◌, refl, ap, sym, ◌∙◌}
 use mathlib.Core.Logic.{inl, inr}
 use mathlib.Core.Bool.{Bool, true, false, not}
 use mathlib.Core.List.{List, [], ◌∷◌, ◌++◌, map}
-use Prim.Native.Nat.{ℕ, suc, ◌+◌, ◌-◌, ◌*◌, ◌^◌, ◌≤◌, ◌<◌}
+use Prim.Native.Nat.{ℕ, suc, ◌+◌, ◌*◌, ◌^◌, ◌≤◌, ◌<◌}
 use native.Mathlib.Omega.{arith}
 use lib.ListN.{length, get_or, replicate, get_or-replicate, length-replicate, get_or-eq_default}
 use borrow.Author.Tests.{lt-ltb, le-ltb, not-true, not-false}
@@ -17,6 +17,8 @@ use Rattle.history.specs.Tree.{Tree, hole, tree_of, node_count, entry_count}
 use Rattle.tables.specs.Columns.{column, nodes_count}
 use Rattle.tables.specs.Sums.{most}
 use Rattle.segment_table.specs.Closed.{nodes_used, first_at}
+use Rattle.std.specs.Prelude.{Ok, Err}
+use Rattle.refusals.specs.declared.Refusal.TheVariants.{NodesFull, EntriesFull}
 use Rattle.segment_tree.specs.Count.{rows_in, fullest, entries_to, all_entries, CountAt, Life, Standing, Grown}
 use Rattle.segment_tree.specs.Runs.{up_to, with_runs, AssignedRuns}
 use Rattle.segment_tree.specs.Lives.{life_of, block_life, piece_life, shape, add_life, add_lives, root_spot, AddedRows, entry_rows_in, room_for, rows_to_count, Countable, CountedAs, CountedTree}
@@ -103,18 +105,18 @@ module _ (t blocks pieces : List ℕ) (n m e kind : ℕ) (bs ps : List Block) (l
   whole_entries : entry_count (add_lives e piece_lives recorded) ≡ entry_count whole
   whole_entries = ap entry_count counts_whole ∙ shape_entry_count whole
 
-  answer_nodes : (entries : List ℕ) → rows_in t < node_count whole → 12 ≡ room_for (rows_in t) (entry_rows_in entries) whole
+  answer_nodes : (entries : List ℕ) → rows_in t < node_count whole → Err NodesFull ≡ room_for (rows_in t) (entry_rows_in entries) whole
   answer_nodes entries h = rw (lt-ltb (rows_in t) (node_count whole) h)
 
   -- ── the blocks ──
 
   module _ (t₁ : List ℕ) (q : Bool) (a : AddedRows t t₁ kind e (map (block_life blocks) (count_from 1 n)) q) (long : length t₁ ≡ length t) where
-    spent_blocks : (t₂ entries : List ℕ) → not q ≡ true → t₂ ≡ replicate (length t₁) 0 → CountedAs t entries t₂ kind e (tree_of e (bs ++ ps)) 12
+    spent_blocks : (t₂ entries : List ℕ) → not q ≡ true → t₂ ≡ replicate (length t₁) 0 → CountedAs t entries t₂ kind e (tree_of e (bs ++ ps)) (Err NodesFull)
     unfolding recorded whole block_lives node_count fullest
     spent_blocks t₂ entries z wrote = record {
       answer = answer_nodes entries
           (omega (arith, (a.done hole g.small (omega (arith, few_blocks, g.few)) zero_stands).spent (not-true q z), zero_at nodes_count, nodes_lives e piece_lives recorded, whole_nodes));
-      counted = λ e. absurd (omega arith);
+      counted = λ e. absurd (cc);
       refused = λ _. zeroed t₁ t₂ long wrote;
     }
 
@@ -126,14 +128,14 @@ module _ (t blocks pieces : List ℕ) (n m e kind : ℕ) (bs ps : List Block) (l
       -- ── the pieces ──
 
       module _ (t₂ : List ℕ) (p : Bool) (b : AddedRows t₁ t₂ kind e (map (piece_life pieces e) (count_from 1 m)) p) (long₂ : length t₂ ≡ length t₁) where
-        spent_pieces : (t₃ entries : List ℕ) → not p ≡ true → t₃ ≡ replicate (length t₂) 0 → CountedAs t entries t₃ kind e (tree_of e (bs ++ ps)) 12
+        spent_pieces : (t₃ entries : List ℕ) → not p ≡ true → t₃ ≡ replicate (length t₂) 0 → CountedAs t entries t₃ kind e (tree_of e (bs ++ ps)) (Err NodesFull)
         unfolding whole piece_lives node_count
         spent_pieces t₃ entries z wrote =
             let s₁ : Standing t₁ (root_spot kind e) recorded = standing_grown t (root_spot kind e) hole zero_stands t₁ recorded grown_blocks in
             record {
               answer = answer_nodes entries
                   (omega (arith, (b.done recorded g.small fullest-recorded s₁).spent (not-true p z), grown_blocks.rows, zero_at nodes_count, whole_nodes, long));
-              counted = λ e. absurd (omega arith);
+              counted = λ e. absurd (cc);
               refused = λ _. zeroed t₂ t₃ (long₂ ∙ long) wrote;
             }
 
@@ -166,11 +168,11 @@ module _ (t blocks pieces : List ℕ) (n m e kind : ℕ) (bs ps : List Block) (l
             total_is : total ≡ up_to (entry_count whole)
             total_is = runs.sum ∙ ap up_to (ap (entries_to t₂) read ∙ entries_all)
 
-            spent_entries : (t₄ : List ℕ) (rows : ℕ) → rows ≡ entry_rows_in entries → rows < total → t₄ ≡ replicate (length t₃) 0 → CountedAs t entries t₄ kind e (tree_of e (bs ++ ps)) 13
+            spent_entries : (t₄ : List ℕ) (rows : ℕ) → rows ≡ entry_rows_in entries → rows < total → t₄ ≡ replicate (length t₃) 0 → CountedAs t entries t₄ kind e (tree_of e (bs ++ ps)) (Err EntriesFull)
             unfolding whole
             spent_entries t₄ rows have short wrote = record {
               answer = rw (le-ltb (rows_in t) (node_count whole) room_all, lt-ltb (entry_rows_in entries) (entry_count whole) (omega (arith, total_is)));
-              counted = λ e. absurd (omega arith);
+              counted = λ e. absurd (cc);
               refused = λ _. zeroed t₃ t₄ (ap length runs.runs ∙ runs_length t₂ used ∙ long₂ ∙ long) wrote;
             }
 
@@ -212,7 +214,7 @@ module _ (t blocks pieces : List ℕ) (n m e kind : ℕ) (bs ps : List Block) (l
                   rw runs.runs (runs_first t₂ used k (omega (arith, same_used, read)) (omega (arith, same_used, grown_all.inside))) in
                   first ∙ omega (arith, same_entries k, entries_most t₂ k (nodes_used t₂) (omega (arith, same_used)), entries_all, few_entries)
 
-              all_counted : CountedAs t entries t₃ kind e (tree_of e (bs ++ ps)) 0
+              all_counted : CountedAs t entries t₃ kind e (tree_of e (bs ++ ps)) (Ok tt)
               unfolding whole
               all_counted = record {
                 answer = rw (le-ltb (rows_in t) (node_count whole) room_all, le-ltb (entry_rows_in entries) (entry_count whole) (omega (arith, total_is)));
@@ -233,21 +235,21 @@ module _ (t blocks pieces : List ℕ) (n m e kind : ℕ) (bs ps : List Block) (l
 -- ── the returns ──
 
 module _ {t t₁ entries blocks pieces : List ℕ} {n m e kind : ℕ} {q : Bool} (a : AddedRows t t₁ kind e (map (block_life blocks) (count_from 1 n)) q) (long : length t₁ ≡ length t) where
-  pub count_spent_blocks : {t₂ : List ℕ} → not q ≡ true → t₂ ≡ replicate (length t₁) 0 → CountedTree (rows_to_count blocks n pieces m e kind) t entries t₂ 12
+  pub count_spent_blocks : {t₂ : List ℕ} → not q ≡ true → t₂ ≡ replicate (length t₁) 0 → CountedTree (rows_to_count blocks n pieces m e kind) t entries t₂ (Err NodesFull)
   count_spent_blocks {t₂} z wrote = record { done = λ bs ps links g. spent_blocks t blocks pieces n m e kind bs ps links g t₁ q a long t₂ entries z wrote }
 
   module _ (y : not q ≡ false) {t₂ : List ℕ} {p : Bool} (b : AddedRows t₁ t₂ kind e (map (piece_life pieces e) (count_from 1 m)) p) (long₂ : length t₂ ≡ length t₁) where
-    pub count_spent_pieces : {t₃ : List ℕ} → not p ≡ true → t₃ ≡ replicate (length t₂) 0 → CountedTree (rows_to_count blocks n pieces m e kind) t entries t₃ 12
+    pub count_spent_pieces : {t₃ : List ℕ} → not p ≡ true → t₃ ≡ replicate (length t₂) 0 → CountedTree (rows_to_count blocks n pieces m e kind) t entries t₃ (Err NodesFull)
     count_spent_pieces {t₃} z wrote = record { done = λ bs ps links g. spent_pieces t blocks pieces n m e kind bs ps links g t₁ q a long y t₂ p b long₂ t₃ entries z wrote }
 
     module _ (z : not p ≡ false) {used total rows : ℕ} {t₃ : List ℕ} (read : used ≡ nodes_used t₂) (runs : AssignedRuns t₂ t₃ used total) (lent : entry_rows_in entries < most)
         (have : rows ≡ entry_rows_in entries) where
-      pub count_spent_entries : {t₄ : List ℕ} → rows < total → t₄ ≡ replicate (length t₃) 0 → CountedTree (rows_to_count blocks n pieces m e kind) t entries t₄ 13
+      pub count_spent_entries : {t₄ : List ℕ} → rows < total → t₄ ≡ replicate (length t₃) 0 → CountedTree (rows_to_count blocks n pieces m e kind) t entries t₄ (Err EntriesFull)
       count_spent_entries {t₄} short wrote = record {
         done = λ bs ps links g. spent_entries t blocks pieces n m e kind bs ps links g t₁ q a long y t₂ p b long₂ z used total t₃ entries read runs lent t₄ rows have short wrote;
       }
 
-      pub count_all : total ≤ rows → CountedTree (rows_to_count blocks n pieces m e kind) t entries t₃ 0
+      pub count_all : total ≤ rows → CountedTree (rows_to_count blocks n pieces m e kind) t entries t₃ (Ok tt)
       count_all fits = record {
         done = λ bs ps links g. all_counted t blocks pieces n m e kind bs ps links g t₁ q a long y t₂ p b long₂ z used total t₃ entries read runs lent rows have fits;
       }

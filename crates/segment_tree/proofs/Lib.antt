@@ -1,6 +1,5 @@
 pub mod NodeRows
 pub mod Growing
-pub mod Reaching
 pub mod Adding
 pub mod Ways
 pub mod AddingRows

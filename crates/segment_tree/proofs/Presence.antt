@@ -3,15 +3,14 @@ use mathlib.Core.Path.{◌≡◌, refl, ap, sym, ◌∙◌}
 use mathlib.Core.Logic.{inl, inr}
 use mathlib.Core.Bool.{Bool, true, false, true≢false, cond, ◌&&◌}
 use mathlib.Core.List.{List, [], ◌∷◌}
-use Prim.Native.Nat.{ℕ, zero, suc, ◌+◌, ◌-◌, ◌≤◌, ◌<◌}
+use Prim.Native.Nat.{ℕ, zero, suc, ◌+◌, ◌<◌}
 use native.Mathlib.Omega.{arith}
 use lib.Dec.{ltb}
-use Rattle.lists.specs.Lists.{All, all_nil, all_cons, Pairs, pairs_cons}
+use Rattle.lists.specs.Lists.{All, all_nil, all_cons}
 use Rattle.lists.proofs.Numbers.{bool_cases}
 use Rattle.lists.proofs.Lists.{all_map}
 use Rattle.history.specs.Words.{Block}
-use Rattle.history.specs.Tree.{Tree, hole, node, mid, halves, covers, entries_of, left_of, right_of, insert, add_location, node_count}
-use Rattle.history.proofs.TreeInserting.{insert_nil, insert-on, insert_all}
+use Rattle.history.specs.Tree.{Tree, hole, node, mid, halves, covers, entries_of, left_of, right_of, add_location, node_count}
 use Rattle.history.proofs.TreeAdding.{add_here, add_last, add_below, add_block}
 use Rattle.history.proofs.TreeOrder.{add_each}
 use Rattle.history.proofs.TreeCounts.{is_new, new_nodes, node_count_add}

@@ -2,7 +2,7 @@
 use mathlib.Core.Path.{◌≡◌, refl, ◌∙◌}
 use mathlib.Core.Logic.{◌⊎◌, inl, inr}
 use mathlib.Core.List.{List}
-use Prim.Native.Nat.{ℕ, zero, suc, ◌+◌, ◌-◌, ◌*◌, ◌≤◌, ◌<◌}
+use Prim.Native.Nat.{ℕ, zero, suc, ◌+◌, ◌*◌, ◌≤◌, ◌<◌}
 use native.Mathlib.Omega.{arith}
 use native.Mathlib.Numerals.{add-one}
 use lib.ListN.{length, set, length-set}
@@ -12,7 +12,7 @@ use Rattle.tables.specs.Columns.{column, node_first, node_entries}
 use Rattle.tables.specs.Sums.{plus_up_to}
 use Rattle.segment_table.specs.Closed.{first_at, count_at}
 use Rattle.segment_tree.specs.Count.{rows_in, entries_to}
-use Rattle.segment_tree.specs.Runs.{up_to, with_runs, LikeButRuns, AssignedRuns}
+use Rattle.segment_tree.specs.Runs.{up_to, with_runs, LikeButRuns}
 use Rattle.segment_tree.proofs.NodeRows.{column_same, column_other, row_inside, entries_same}
 
 module _ (t : List ℕ) where
@@ -58,9 +58,6 @@ module _ (t : List ℕ) where
   pub runs_none : (t ≡ with_runs t 0) × (0 ≡ up_to (entries_to t 0))
   unfolding with_runs entries_to
   runs_none = (refl, refl)
-
-  pub runs_done : (n j at : ℕ) (t₁ : List ℕ) → j ≡ n → t₁ ≡ with_runs t j → at ≡ up_to (entries_to t j) → AssignedRuns t t₁ n at
-  runs_done n j at t₁ e runs sum = record { runs = rw e at runs; sum = rw e at sum }
 
   module _ (j at : ℕ) (t₁ : List ℕ) (so_far : t₁ ≡ with_runs t j) (is : at ≡ up_to (entries_to t j)) where
     pub runs_more : {t' : List ℕ} → t' ≡ set t₁ (row_width * (j + 1) + node_first) at → t' ≡ with_runs t (j + 1)

@@ -10,13 +10,13 @@ use lib.ListN.{length}
 use lib.Dec.{ltb}
 use Rattle.lists.specs.Lists.{All, all_nil, all_cons, Pairs, pairs_nil, pairs_cons, count_from}
 use Rattle.lists.proofs.Numbers.{bool_cases, lt_or_le}
-use Rattle.lists.proofs.Lists.{all_map, all_both, all_append, pairs-append}
+use Rattle.lists.proofs.Lists.{all_map, all_append, pairs-append}
 use Rattle.history.specs.Words.{Block}
 use Rattle.history.specs.Tree.{Tree, hole, node, mid, halves, covers, entries_of, left_of, right_of, insert, add_location}
 use Rattle.history.proofs.TreeInserting.{insert_nil, insert_front, insert-on, insert-length, insert_all}
 use Rattle.history.proofs.TreeAdding.{add_here, add_last, add_below, add_block}
 use Rattle.history.proofs.TreeOrder.{add_each}
-use Rattle.entry_sort.specs.Rows.{Row, a_row, Less, by_key, by_block, Le, le_key, le_block, insert_row, sort_rows}
+use Rattle.entry_sort.specs.Rows.{Row, a_row, Less, by_key, by_block, le_key, insert_row, sort_rows}
 use Rattle.entry_sort.proofs.Order as rows
 use Rattle.segment_tree.proofs.Presence.{bare}
 

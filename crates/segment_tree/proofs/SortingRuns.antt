@@ -1,10 +1,10 @@
 -- Steps of `close::close_runs`, and what sorting the runs makes of the tree that they hold. Assumes nothing.
 use mathlib.Core.Path.{◌≡◌, refl, ap, sym, ◌∙◌}
-use mathlib.Core.Logic.{◌⊎◌, inl, inr}
+use mathlib.Core.Logic.{inl, inr}
 use mathlib.Core.List.{List, [], ◌∷◌, map}
 use Prim.Native.Nat.{ℕ, zero, suc, ◌+◌, ◌-◌, ◌*◌, ◌^◌, ◌≤◌, ◌<◌}
 use native.Mathlib.Omega.{arith}
-use lib.ListN.{length, get_or}
+use lib.ListN.{length}
 use Rattle.lists.specs.Lists.{All, all_cons, Pairs}
 use Rattle.lists.proofs.Numbers.{eq_or_ne}
 use Rattle.lists.proofs.Lists.{all_map}
@@ -14,12 +14,12 @@ use Rattle.tables.specs.Columns.{entry_column, entry_block, entry_key}
 use Rattle.segment_table.specs.Closed.{nodes_used, left_at, right_at, count_at, first_cell_in, block_in, run, Keyed}
 use Rattle.entry_sort.specs.Rows.{Row, a_row, sort_rows}
 use Rattle.entry_sort.specs.Sorts.{entry_rows, SortedRows, SortsRows}
-use Rattle.segment_tree.specs.Count.{entries_to, CountRow, CountAt}
-use Rattle.segment_tree.specs.Runs.{up_to, AssignedRuns}
-use Rattle.segment_tree.specs.Fill.{start_at, FillRow, FillAt, RunsSorted, ClosedRuns}
-use Rattle.segment_tree.proofs.NodeRows.{entries_more, entries_most}
+use Rattle.segment_tree.specs.Count.{entries_to, CountAt}
+use Rattle.segment_tree.specs.Runs.{up_to}
+use Rattle.segment_tree.specs.Fill.{start_at, FillRow, FillAt, RunsSorted}
+use Rattle.segment_tree.proofs.NodeRows.{entries_most}
 use Rattle.segment_tree.proofs.Writing.{run_ends}
-use Rattle.segment_tree.proofs.Sorted.{sorted_by, sorted-length, sorted_all, sorted-rows, row_of, sort_tree, Rising, no_node, a_node}
+use Rattle.segment_tree.proofs.Sorted.{sorted_by, sorted-length, sorted_all, sorted-rows, row_of, sort_tree, Rising, a_node}
 
 -- ── rows that stay ──
 
@@ -81,9 +81,6 @@ module _ (s es : List ℕ) (n : ℕ) where
         let was : RunsSorted s es es₁ j = o.so_far space in
         rw e (one_more es₁ es₂ j was ((rw (first, last) at r).inside below (omega (arith, was.long))));
   }
-
-  pub runs_closed : {nodes' es' : List ℕ} {total j : ℕ} → AssignedRuns s nodes' n total → length es' ≡ length es → j ≡ n → OrderTo s es es' n j → ClosedRuns s es nodes' es' n total
-  runs_closed runs long e o = record { assigned = runs; entries_long = long; in_order = λ space. rw e at (o.so_far space) }
 
 -- another table with the same counts has the same runs
 pub runs_like_sorted : (s t es es' : List ℕ) (n : ℕ) → ((k : ℕ) → entries_to t k ≡ entries_to s k) → ((k : ℕ) → count_at t k ≡ count_at s k) → RunsSorted t es es' n → RunsSorted s es es' n

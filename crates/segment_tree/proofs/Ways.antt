@@ -6,7 +6,7 @@ use mathlib.Core.Bool.{Bool, true, false, not}
 use mathlib.Core.List.{List}
 use Prim.Native.Nat.{ℕ, ◌+◌, ◌*◌, ◌≤◌, ◌<◌}
 use native.Mathlib.Omega.{arith}
-use lib.ListN.{length, set}
+use lib.ListN.{set}
 use borrow.Author.Tests.{ltb-true, ltb-false, not-true, not-false}
 use Rattle.history.specs.Lent.{row_width}
 use Rattle.history.specs.Tree.{halves, covers}
@@ -14,8 +14,7 @@ use Rattle.history.proofs.TreeAdding.{covers_yes, covering, all, part}
 use Rattle.tables.specs.Columns.{node_left, node_right, node_entries}
 use Rattle.tables.specs.Sums.{plus_up_to}
 use Rattle.segment_table.specs.Closed.{count_at}
-use Rattle.segment_tree.specs.Count.{Life, Spot, spot, Added, AddedAt, AddedFor, AddedWhole, Whole, Suffix, Prefix, Splits, Reached}
-use Rattle.segment_tree.specs.Lives.{root_spot}
+use Rattle.segment_tree.specs.Count.{Life, Spot, spot, Added, AddedAt, AddedFor, AddedWhole, Suffix, Prefix, Splits, Reached}
 use Rattle.segment_tree.proofs.Adding.{middle, Parted, add_spent, add_covered, add_narrowest, add_neither, add_left, add_right, add_left_spent, add_left_right, add_right_spent, add_right_left}
 
 -- ── lives and nodes ──
@@ -34,18 +33,6 @@ wide_of {h} lo hi asked split = ltb-true (lo + 1) hi (sym asked ∙ not-false h 
 
 pub narrow_of : {h : Bool} (lo hi : ℕ) → h ≡ halves lo hi → not h ≡ true → hi ≤ lo + 1
 narrow_of {h} lo hi asked none = ltb-false (lo + 1) hi (sym asked ∙ not-true h none)
-
--- what the tests have told at the node where the life meets both halves
-pub splits_of : {link lo hi : ℕ} {life : Life} {q h : Bool} → (link ≡ 0 → ⊥) → q ≡ covers life.created life.destroyed lo hi → q ≡ false → h ≡ halves lo hi → not h ≡ false
-    → life.created < middle lo hi → middle lo hi < life.destroyed → Splits link lo (middle lo hi) hi life
-splits_of {lo} {hi} some asked misses split wide x y = record {
-  some = some;
-  uncovered = sym asked ∙ misses;
-  wide = wide_of lo hi split wide;
-  middle = refl;
-  begins = x;
-  ends = y;
-}
 
 -- ── the node that is reached ──
 
@@ -115,9 +102,6 @@ pub ruleset whole_node = (whole_spent, whole_more)
 pub record Down (t₀ t : List ℕ) (kind top lo₀ hi₀ link lo hi : ℕ) (life : Life) : Type 0 where
   pub rest : (t' : List ℕ) (room : Bool) → AddedAt t t' kind link lo hi life room → AddedAt t₀ t' kind top lo₀ hi₀ life room
 
-pub down_start : {t : List ℕ} {kind top lo hi : ℕ} {life : Life} → Down t t kind top lo hi top lo hi life
-down_start = record { rest = λ t' room a. a }
-
 module _ {t₀ t : List ℕ} {kind top lo₀ hi₀ link lo hi : ℕ} {life : Life} (u : Down t₀ t kind top lo₀ hi₀ link lo hi life) where
   pub down_end : {t' : List ℕ} {room : Bool} → AddedAt t t' kind link lo hi life room → AddedAt t₀ t' kind top lo₀ hi₀ life room
   down_end {t'} {room} a = u.rest t' room a
@@ -142,9 +126,6 @@ pub record OnSuffix (t₀ t : List ℕ) (kind top lo₀ hi₀ c link lo hi : ℕ
   pub begins : c < hi
   pub inside : hi ≤ hi₀
   pub way : (life : Life) → Suffix c hi₀ life → Down t₀ t kind top lo₀ hi₀ link lo hi life
-
-pub suffix_start : {t : List ℕ} {kind top lo hi c : ℕ} → c < hi → OnSuffix t t kind top lo hi c top lo hi
-suffix_start h = record { begins = h; inside = omega arith; way = λ life o. down_start }
 
 module _ {t₀ t : List ℕ} {kind top lo₀ hi₀ c link lo hi : ℕ} (u : OnSuffix t₀ t kind top lo₀ hi₀ c link lo hi) where
   pub suffix_spent : link ≡ 0 → AddedFor t₀ t kind top lo₀ hi₀ false (Suffix c hi₀)
@@ -206,9 +187,6 @@ pub record OnPrefix (t₀ t : List ℕ) (kind top lo₀ hi₀ d link lo hi : ℕ
   pub inside : lo₀ ≤ lo
   pub within : hi ≤ hi₀
   pub way : (life : Life) → Prefix lo₀ d life → Down t₀ t kind top lo₀ hi₀ link lo hi life
-
-pub prefix_start : {t : List ℕ} {kind top lo hi d : ℕ} → lo < d → OnPrefix t t kind top lo hi d top lo hi
-prefix_start h = record { ends = h; inside = omega arith; within = omega arith; way = λ life o. down_start }
 
 module _ {t₀ t : List ℕ} {kind top lo₀ hi₀ d link lo hi : ℕ} (u : OnPrefix t₀ t kind top lo₀ hi₀ d link lo hi) where
   pub prefix_spent : link ≡ 0 → AddedFor t₀ t kind top lo₀ hi₀ false (Prefix lo₀ d)
@@ -281,7 +259,3 @@ module _ {t t₁ t₂ : List ℕ} {kind link lo m hi left : ℕ} {life : Life} {
       (rw p.middle at (b.each life (record { from = omega (arith, p.begins); to = refl })))
 
 pub ruleset both_halves = (both_spent, both_done)
-
-pub root_added : {t t₁ t₂ : List ℕ} {kind root e : ℕ} {life : Life} {r : Bool} → Reached t t₁ (root_spot kind e) root → AddedAt t₁ t₂ kind root 0 e life r
-    → Added t t₂ (root_spot kind e) life r
-root_added {t} {kind} reached a = a.from t 0 kind reached

@@ -10,7 +10,6 @@ use lib.Seq.{get_or-set_same, get_or-set_other}
 use Rattle.lists.proofs.Numbers.{eq_or_ne, le_or_lt, lt_or_le}
 use Rattle.history.specs.Lent.{entry_width, entry_head}
 use Rattle.history.specs.Tree.{Tree, hole, node, mid, insert}
-use Rattle.history.proofs.TreeAdding.{listed}
 use Rattle.tables.specs.Columns.{entry_column, node_first, entry_block, entry_key}
 use Rattle.tables.specs.Sums.{plus_up_to}
 use Rattle.segment_table.specs.Closed.{nodes_used, left_at, right_at, first_at, count_at, first_cell_in, block_in, run}

@@ -5,7 +5,6 @@ use mathlib.Core.Bool.{Bool, true, false, cond, ◌&&◌}
 use mathlib.Core.List.{List, [], ◌∷◌}
 use Prim.Native.Nat.{ℕ, zero, suc, ◌+◌, ◌-◌, ◌^◌, ◌≤◌, ◌<◌}
 use native.Mathlib.Omega.{arith}
-use lib.ListN.{length}
 use lib.Dec.{ltb}
 use Rattle.lists.specs.Lists.{All, all_cons, count_from}
 use Rattle.lists.proofs.Numbers.{bool_cases}
@@ -107,9 +106,6 @@ pub record OnwardFrom (blocks start first-entries t es : List ℕ) (root e n j :
   pub rest : (t' es' : List ℕ) → WrittenAll blocks t es t' es' root e j (n - j) → WrittenAll blocks start first-entries t' es' root e 0 n
 
 module _ {blocks start entries : List ℕ} {root e n : ℕ} where
-  pub onward_start : OnwardFrom blocks start entries start entries root e n 0
-  onward_start = record { rest = λ t' es' a. let z : n - 0 ≡ n = omega arith in rw z at a }
-
   module _ {t es : List ℕ} {j : ℕ} (o : OnwardFrom blocks start entries t es root e n j) where
     pub onward_spent : n ≤ j → WrittenAll blocks start entries t es root e 0 n
     onward_spent h = o.rest t es (let z : n - j ≡ 0 = omega arith in rw z written_none)

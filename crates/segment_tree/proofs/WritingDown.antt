@@ -1,34 +1,26 @@
 -- Writing a block at a node, by where its life begins and ends there: the way of add_location through nodes that are all there. Assumes nothing.
-use mathlib.Core.Path.{◌≡◌, refl, sym, ◌∙◌}
+use mathlib.Core.Path.{◌≡◌, refl, ◌∙◌}
 use mathlib.Core.Logic.{inr}
-use mathlib.Core.Bool.{Bool, true, false, not, ◌&&◌}
+use mathlib.Core.Bool.{true, false, ◌&&◌}
 use mathlib.Core.List.{List}
-use Prim.Native.Nat.{ℕ, ◌+◌, ◌-◌, ◌*◌, ◌^◌, ◌≤◌, ◌<◌}
+use Prim.Native.Nat.{ℕ, ◌+◌, ◌-◌, ◌^◌, ◌≤◌, ◌<◌}
 use native.Mathlib.Omega.{arith}
-use lib.ListN.{length, set}
+use lib.ListN.{length}
 use lib.Dec.{ltb}
-use borrow.Author.Tests.{lt-ltb, le-ltb, ltb-false, not-true}
+use borrow.Author.Tests.{lt-ltb, le-ltb}
 use Rattle.lists.proofs.Numbers.{and_both}
-use Rattle.history.specs.Lent.{row_width, entry_width, entry_head}
 use Rattle.history.specs.Tree.{Tree, hole, node, mid, halves, covers, insert, add_location}
 use Rattle.history.proofs.TreeInserting.{insert-length}
 use Rattle.history.proofs.TreeAdding.{add_here, add_narrow}
 use Rattle.history.proofs.TreeCounts.{new_nodes}
-use Rattle.tables.specs.Columns.{node_left, node_right, node_first, entry_block, entry_key}
-use Rattle.tables.specs.Sums.{plus_up_to}
-use Rattle.segment_table.specs.Closed.{left_at, right_at, first_at, first_cell_in}
+use Rattle.tables.specs.Columns.{node_left, node_right}
+use Rattle.segment_table.specs.Closed.{left_at, right_at, first_cell_in}
 use Rattle.segment_tree.specs.Count.{Life, spot, Outside}
 use Rattle.segment_tree.specs.Runs.{LikeButRuns}
 use Rattle.segment_tree.specs.Fill.{Fillable, FillAt, Roomy, FindsNodes, Filled, Written, WroteEntry}
 use Rattle.segment_tree.proofs.Adding.{middle, Deeper, deeper_of}
 use Rattle.segment_tree.proofs.Presence.{new_hole, none_new, new_none-count, Below, new_below}
 use Rattle.segment_tree.proofs.Writing.{untouched_all, beyond_all, like_self, like_trans, fillable_like, wrote_like, wrote_long, filled_entry, filled_left, filled_right, filled_trans}
-
--- ── one entry ──
-
-pub wrote_entry : {t t' es es₁ es₂ : List ℕ} {link b cell row next : ℕ} → row ≡ first_at t link → es₁ ≡ set es (entry_head + (entry_width * row + entry_block)) b
-    → es₂ ≡ set es₁ (entry_head + (entry_width * row + entry_key)) cell → next ≡ plus_up_to row 1 → t' ≡ set t (row_width * link + node_first) next → WroteEntry t es t' es₂ link b cell
-wrote_entry read block key sum wrote = record { nodes_are = rw (← read, ← sum) wrote; entries_are = rw (← read) (key ∙ rw block) }
 
 -- ── by the tree: there is a node, for the block finds it ──
 

@@ -1,15 +1,15 @@
 -- Steps of the loops of `close`: a block's way down the tree. What writing at the node that is reached leaves, writing at the first one leaves. Assumes
 -- nothing.
-use mathlib.Core.Path.{◌≡◌, refl, sym, ◌∙◌}
+use mathlib.Core.Path.{◌≡◌, refl}
 use mathlib.Core.Logic.{inl, inr}
-use mathlib.Core.Bool.{Bool, true, false}
+use mathlib.Core.Bool.{true, false}
 use mathlib.Core.List.{List}
 use Prim.Native.Nat.{ℕ, ◌+◌, ◌≤◌, ◌<◌}
 use native.Mathlib.Omega.{arith}
 use Rattle.history.specs.Tree.{covers}
 use Rattle.history.proofs.TreeAdding.{covers_yes}
 use Rattle.segment_table.specs.Closed.{left_at, right_at}
-use Rattle.segment_tree.specs.Count.{Life, Whole, Suffix, Prefix, Splits}
+use Rattle.segment_tree.specs.Count.{Life, Suffix, Prefix, Splits}
 use Rattle.segment_tree.specs.Fill.{Written, WrittenFor, WrittenWhole, WroteEntry}
 use Rattle.segment_tree.proofs.Adding.{middle}
 use Rattle.segment_tree.proofs.Ways.{uncovered}
@@ -18,9 +18,6 @@ use Rattle.segment_tree.proofs.WritingDown.{Split, write_none, write_covered, wr
 -- From the node [lo₀, hi₀) of `top` the way led to the node [lo, hi) of `link`.
 pub record Onto (t₀ es₀ t es : List ℕ) (top lo₀ hi₀ link lo hi : ℕ) (life : Life) (b cell : ℕ) : Type 0 where
   pub rest : (t' es' : List ℕ) → Written t es t' es' link lo hi life b cell → Written t₀ es₀ t' es' top lo₀ hi₀ life b cell
-
-pub onto_start : {t es : List ℕ} {top lo hi b cell : ℕ} {life : Life} → Onto t es t es top lo hi top lo hi life b cell
-onto_start = record { rest = λ t' es' a. a }
 
 module _ {t₀ es₀ t es : List ℕ} {top lo₀ hi₀ link lo hi b cell : ℕ} {life : Life} (o : Onto t₀ es₀ t es top lo₀ hi₀ link lo hi life b cell) where
   pub onto-none : link ≡ 0 → Written t₀ es₀ t es top lo₀ hi₀ life b cell
@@ -78,9 +75,6 @@ pub record OntoSuffix (t₀ es₀ t es : List ℕ) (top lo₀ hi₀ c link lo hi
   pub inside : hi ≤ hi₀
   pub way : (life : Life) → Suffix c hi₀ life → Onto t₀ es₀ t es top lo₀ hi₀ link lo hi life b cell
 
-pub onto_suffix_start : {t es : List ℕ} {top lo hi c b cell : ℕ} → c < hi → OntoSuffix t es t es top lo hi c top lo hi b cell
-onto_suffix_start h = record { begins = h; inside = omega arith; way = λ life o. onto_start }
-
 module _ {t₀ es₀ t es : List ℕ} {top lo₀ hi₀ c link lo hi b cell : ℕ} (u : OntoSuffix t₀ es₀ t es top lo₀ hi₀ c link lo hi b cell) where
   pub onto_suffix_none : link ≡ 0 → WrittenFor t₀ es₀ t es top lo₀ hi₀ b cell (Suffix c hi₀)
   onto_suffix_none z = record { each = λ life o. onto-none (u.way life o) z }
@@ -122,9 +116,6 @@ pub record OntoPrefix (t₀ es₀ t es : List ℕ) (top lo₀ hi₀ d link lo hi
   pub inside : lo₀ ≤ lo
   pub within : hi ≤ hi₀
   pub way : (life : Life) → Prefix lo₀ d life → Onto t₀ es₀ t es top lo₀ hi₀ link lo hi life b cell
-
-pub onto_prefix_start : {t es : List ℕ} {top lo hi d b cell : ℕ} → lo < d → OntoPrefix t es t es top lo hi d top lo hi b cell
-onto_prefix_start h = record { ends = h; inside = omega arith; within = omega arith; way = λ life o. onto_start }
 
 module _ {t₀ es₀ t es : List ℕ} {top lo₀ hi₀ d link lo hi b cell : ℕ} (u : OntoPrefix t₀ es₀ t es top lo₀ hi₀ d link lo hi b cell) where
   pub onto_prefix_none : link ≡ 0 → WrittenFor t₀ es₀ t es top lo₀ hi₀ b cell (Prefix lo₀ d)

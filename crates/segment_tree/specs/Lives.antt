@@ -1,5 +1,5 @@
 -- The lives in the block and piece tables, the counts that they make, and what counting them leaves. Definitions alone.
-use Rattle.std.specs.Prelude.{◌≡◌, Bool, cond, List, [], ◌∷◌, ◌++◌, map, ℕ, suc, ◌+◌, ◌-◌, ◌/◌, ◌^◌, ◌≤◌, ◌<◌, length, replicate, ltb}
+use Rattle.std.specs.Prelude.{◌≡◌, Bool, cond, List, [], ◌∷◌, ◌++◌, map, ℕ, suc, ◌+◌, ◌-◌, ◌/◌, ◌^◌, ◌≤◌, ◌<◌, length, replicate, ltb, Result, Ok, Err}
 use Rattle.lists.specs.Lists.{count, count_from}
 use Rattle.history.specs.Lent.{row_width, entry_width, entry_head}
 use Rattle.history.specs.Words.{Block}
@@ -7,6 +7,8 @@ use Rattle.history.specs.Tree.{Tree, hole, node, add_location, node_count, entry
 use Rattle.tables.specs.Columns.{column, block_column, block_created, block_destroyed, piece_written, node_kind, nodes_count}
 use Rattle.tables.specs.Sums.{most}
 use Rattle.segment_table.specs.Closed.{nodes_used, first_at}
+use Rattle.refusals.specs.declared.Refusal.{Refusal}
+use Rattle.refusals.specs.declared.Refusal.TheVariants.{NodesFull, EntriesFull}
 use Rattle.segment_tree.specs.Count.{rows_in, fullest, entries_to, all_entries, Life, a_life, Spot, spot, Standing, Outcome}
 
 -- ── lives ──
@@ -62,9 +64,9 @@ pub record Counted (nodes : List ℕ) (kind e : ℕ) (T : Tree) : Type 0 where
   pub free : (k j : ℕ) → node_kind < j → j < row_width → column nodes k j ≡ 0
   pub head_free : (j : ℕ) → nodes_count < j → j < row_width → column nodes 0 j ≡ 0
 
--- Refusals 12 and 13 go by the tree of all blocks: more nodes are needed than there are rows, or more entries; 0 if neither.
-abbrev pub room_for : (node_rows entry_rows : ℕ) (T : Tree) → ℕ
-room_for node_rows entry_rows T = cond (ltb node_rows (node_count T)) 12 (cond (ltb entry_rows (entry_count T)) 13 0)
+-- Refusals 12 and 13 go by the tree of all blocks: more nodes are needed than there are rows, or more entries.
+abbrev pub room_for : (node_rows entry_rows : ℕ) (T : Tree) → Result Unit Refusal
+room_for node_rows entry_rows T = cond (ltb node_rows (node_count T)) (Err NodesFull) (cond (ltb entry_rows (entry_count T)) (Err EntriesFull) (Ok tt))
 
 -- What finish counts: the rows 1 to n of the blocks, and the rows 1 to m of the pieces, which live up to the end.
 pub record RowsToCount : Type 0 where
@@ -91,10 +93,10 @@ pub record Countable (w : RowsToCount) (nodes : List ℕ) (bs ps : List Block) (
   pub all_pieces : (k : ℕ) → count k links ≡ count k (count_from 1 w.m)
 
 -- the refusal is the tree's; the tree is counted, or the table is as it was
-pub record CountedAs (nodes entries nodes' : List ℕ) (kind e : ℕ) (T : Tree) (r : ℕ) : Type 0 where
+pub record CountedAs (nodes entries nodes' : List ℕ) (kind e : ℕ) (T : Tree) (r : Result Unit Refusal) : Type 0 where
   pub answer : r ≡ room_for (rows_in nodes) (entry_rows_in entries) T
-  pub counted : r ≡ 0 → Counted nodes' kind e T
-  pub refused : (r ≡ 0 → ⊥) → nodes' ≡ nodes
+  pub counted : r ≡ Ok tt → Counted nodes' kind e T
+  pub refused : (r ≡ Ok tt → ⊥) → nodes' ≡ nodes
 
-pub record CountedTree (w : RowsToCount) (nodes entries nodes' : List ℕ) (r : ℕ) : Type 0 where
+pub record CountedTree (w : RowsToCount) (nodes entries nodes' : List ℕ) (r : Result Unit Refusal) : Type 0 where
   pub done : (bs ps : List Block) (links : List ℕ) → Countable w nodes bs ps links → CountedAs nodes entries nodes' w.kind w.end (tree_of w.end (bs ++ ps)) r

@@ -8,21 +8,15 @@ ghost use Rattle.segment_table.specs.Closed.{count_at};
 ghost use Rattle.segment_tree.specs.Count.{spot, a_life, Reached, Added, AddedAt, AddedFor, AddedWhole, Suffix, Prefix, Splits};
 ghost use Rattle.segment_tree.specs.Lives.{block_life, piece_life, root_spot, AddedRows, rows_to_count, CountedTree};
 
+use refusals::Refusal;
 use tables::{block, entry, node, piece};
-
-// What is refused where room is too little: more nodes are needed than there are rows, or more entries.
-pub const NODES_SPENT: u64 = 12;
-
-pub const ENTRIES_SPENT: u64 = 13;
-
-pub const ENOUGH: u64 = 0;
 
 // One entry more in the node of `link`.
 fn bump(nodes: &mut [u64], link: u64)
     ensures { nodes.new ≡ set nodes.old (row_width * link + node_entries) (plus_up_to (count_at nodes.old link) 1) }
 {
     let count = tables::get(nodes, link, node::ENTRIES);
-    tables::put(nodes, link, node::ENTRIES, tables::plus(count, 1));
+    tables::put(nodes, link, node::ENTRIES, count.saturating_add(1));
 }
 
 // The node [min, max) in column `col` of the row of `parent`, made where there is none; 0 if the rows are spent.
@@ -183,15 +177,13 @@ fn add_location(nodes: &mut [u64], end: u64, created: u64, destroyed: u64, kind:
 fn add_blocks(nodes: &mut [u64], blocks: &[u64], n: u64, end: u64, kind: u64) -> bool
     ensures { AddedRows nodes.old nodes.new kind end (map (block_life blocks.now) (count_from 1 n)) result }
 {
-    let mut j = 0;
-    while j < n {
+    for j in 0..n {
         let link = j + 1;
         let created = block::get(blocks, link, block::CREATED);
         let destroyed = block::get(blocks, link, block::DESTROYED);
         if !add_location(nodes, end, created, destroyed, kind) {
             return false;
         }
-        j += 1;
     }
     true
 }
@@ -200,13 +192,11 @@ fn add_blocks(nodes: &mut [u64], blocks: &[u64], n: u64, end: u64, kind: u64) ->
 fn add_pieces(nodes: &mut [u64], pieces: &[u64], n: u64, end: u64, kind: u64) -> bool
     ensures { AddedRows nodes.old nodes.new kind end (map (piece_life pieces.now end) (count_from 1 n)) result }
 {
-    let mut j = 0;
-    while j < n {
+    for j in 0..n {
         let created = tables::get(pieces, j + 1, piece::WRITTEN);
         if !add_location(nodes, end, created, end, kind) {
             return false;
         }
-        j += 1;
     }
     true
 }
@@ -222,22 +212,22 @@ pub fn count_tree(
     m: u64,
     end: u64,
     kind: u64,
-) -> u64
+) -> Result<(), Refusal>
     ensures { CountedTree (rows_to_count blocks.now n pieces.now m end kind) nodes.old entries.now nodes.new result }
 {
     if !add_blocks(nodes, blocks, n, end, kind) {
         tables::zero(nodes);
-        return NODES_SPENT;
+        return Err(Refusal::NodesFull);
     }
     if !add_pieces(nodes, pieces, m, end, kind) {
         tables::zero(nodes);
-        return NODES_SPENT;
+        return Err(Refusal::NodesFull);
     }
     let used = tables::get(nodes, 0, node::COUNT);
     let total = crate::close::assign_runs(nodes, used);
     if entry::rows(entries) < total {
         tables::zero(nodes);
-        return ENTRIES_SPENT;
+        return Err(Refusal::EntriesFull);
     }
-    ENOUGH
+    Ok(())
 }

@@ -11,14 +11,12 @@ use tables::{block, entry, node};
 pub(crate) fn assign_runs(nodes: &mut [u64], n: u64) -> u64
     ensures { AssignedRuns nodes.old nodes.new n result }
 {
-    let mut at = 0;
-    let mut j = 0;
-    while j < n {
+    let mut at: u64 = 0;
+    for j in 0..n {
         let link = j + 1;
         let count = tables::get(nodes, link, node::ENTRIES);
         tables::put(nodes, link, node::FIRST, at);
-        at = tables::plus(at, count);
-        j += 1;
+        at = at.saturating_add(count);
     }
     at
 }
@@ -30,7 +28,7 @@ fn write_entry(nodes: &mut [u64], entries: &mut [u64], link: u64, b: u64, cell: 
     let row = tables::get(nodes, link, node::FIRST);
     entry::put(entries, row, entry::BLOCK, b);
     entry::put(entries, row, entry::KEY, cell);
-    tables::put(nodes, link, node::FIRST, tables::plus(row, 1));
+    tables::put(nodes, link, node::FIRST, row.saturating_add(1));
 }
 
 // Block b in the node of `link`, if there is one.
@@ -184,14 +182,12 @@ fn write_location(
 fn write_blocks(nodes: &mut [u64], entries: &mut [u64], blocks: &[u64], n: u64, root: u64, end: u64)
     ensures { WrittenAll blocks.now nodes.old entries.old nodes.new entries.new root end 0 n }
 {
-    let mut j = 0;
-    while j < n {
+    for j in 0..n {
         let link = j + 1;
         let cell = block::get(blocks, link, block::FIRST);
         let created = block::get(blocks, link, block::CREATED);
         let destroyed = block::get(blocks, link, block::DESTROYED);
         write_location(nodes, entries, root, end, created, destroyed, j, cell);
-        j += 1;
     }
 }
 
@@ -199,16 +195,14 @@ fn write_blocks(nodes: &mut [u64], entries: &mut [u64], blocks: &[u64], n: u64, 
 fn close_runs(nodes: &mut [u64], entries: &mut [u64], n: u64) -> u64
     ensures { ClosedRuns nodes.old entries.old nodes.new entries.new n result }
 {
-    let mut at = 0;
-    let mut j = 0;
-    while j < n {
+    let mut at: u64 = 0;
+    for j in 0..n {
         let link = j + 1;
         let count = tables::get(nodes, link, node::ENTRIES);
         tables::put(nodes, link, node::FIRST, at);
-        let to = tables::plus(at, count);
+        let to = at.saturating_add(count);
         entry_sort::sort_rows(entries, at, to);
         at = to;
-        j += 1;
     }
     at
 }

@@ -23,16 +23,12 @@ pub mod close;
 fn covers_node(created: u64, destroyed: u64, min: u64, max: u64) -> bool
     ensures { result ≡ covers created destroyed min max }
 {
-    if created <= min {
-        max <= destroyed
-    } else {
-        false
-    }
+    created <= min && max <= destroyed
 }
 
 // A node [min, max) has halves.
 fn has_halves(min: u64, max: u64) -> bool
     ensures { result ≡ halves min max }
 {
-    if min < max { 1 < max - min } else { false }
+    min < max && 1 < max - min
 }

@@ -1,39 +1,22 @@
--- The way down by halves: one step for each return of `half`, and what a half is to the tree of its node. Assumes nothing.
-use mathlib.Core.Path.{◌≡◌, refl, sym}
-use mathlib.Core.Logic.{◌⊎◌, ⊎_elim}
-use mathlib.Core.Bool.{Bool, true, false}
+-- The way down by halves: what a half is to its node and to the tree of its node. Assumes nothing.
+use mathlib.Core.Path.{◌≡◌, refl}
+use mathlib.Core.Logic.{⊎_elim}
+use mathlib.Core.Bool.{Bool, false}
 use mathlib.Core.List.{List, ◌++◌}
-use Prim.Native.Nat.{ℕ, suc, ◌+◌, ◌-◌, ◌*◌, ◌/◌, ◌≤◌, ◌<◌}
+use Prim.Native.Nat.{ℕ, suc, ◌+◌, ◌-◌, ◌*◌, ◌≤◌, ◌<◌}
 use native.Mathlib.Omega.{arith}
-use lib.Dec.{leb}
-use borrow.Author.Tests.{lt-ltb, le-ltb, leb-true, leb-false}
+use borrow.Author.Tests.{lt-ltb, le-ltb}
 use Rattle.lists.specs.Tests.{Decides}
-use Rattle.lists.proofs.Numbers.{le_or_lt, lt_or_le, confirm}
+use Rattle.lists.proofs.Numbers.{le_or_lt, lt_or_le}
 use Rattle.history.specs.Tree.{Tree, hole, node, mid}
 use Rattle.history.specs.Find.{path, visited}
 use Rattle.history.specs.Rules.{sorted}
 use Rattle.history.proofs.RulesLaws.{sorted_left, sorted_right}
-use Rattle.tables.specs.Columns.{column}
-use Rattle.segment_table.specs.Closed.{TreeAt, left_at, right_at, first_cell_in}
+use Rattle.segment_table.specs.Closed.{TreeAt, first_cell_in}
 use Rattle.segment_walk.specs.declared.walk.Node.{Node}
-use Rattle.segment_walk.specs.Walking.{Stands, root_at, Absent, no_row_lem, no_tick, no_node, left_half, right_half, half_at}
+use Rattle.segment_walk.specs.Walking.{Stands, Absent, no_row_lem, no_tick, no_node, left_half, right_half, half_at}
 
-pub root_at_lem : (nodes : List ℕ) (kind end link : ℕ) → link ≡ column nodes 0 kind → record { link = link; min = 0; max = end } ≡ root_at nodes kind end
-root_at_lem nodes kind end link e = rw e
-
--- ── the returns of `absent` ──
-
-pub absent_row : {n : Node} → n.link ≡ 0 → Decides true (Absent n)
-absent_row e = confirm (no_row_lem e)
-
-pub absent_tick : {n : Node} → (n.link ≡ 0 → ⊥) → Decides (leb n.max n.min) (Absent n)
-absent_tick {n} some = record { yes = λ e. no_tick (leb-true n.max n.min e); not = λ e a. go e a }
-  where
-    go : leb n.max n.min ≡ false → Absent n → ⊥
-    go e (no_row_lem z) = some z
-    go e (no_tick h) = omega (arith, leb-false n.max n.min e)
-
-pub ruleset absence = (absent_row, absent_tick)
+-- ── a node ──
 
 -- a node that is there
 pub record Present (n : Node) : Type 0 where
@@ -69,26 +52,6 @@ module _ (nodes : List ℕ) (t : ℕ) (n : Node) where
   unfolding half_at
   goes_right w h = rw (lt-ltb (n.min + 1) n.max w, le-ltb t (mid n.min n.max) h)
 
-  -- ── the returns of `half` ──
-
-  pub half_empty : n.max ≤ n.min → no_node ≡ half_at nodes t n
-  half_empty h = sym (narrow (omega arith))
-
-  pub half_narrow : n.max - n.min ≤ 1 → no_node ≡ half_at nodes t n
-  half_narrow h = sym (narrow (omega arith))
-
-  -- mid, as it is computed where the sum of the bounds could wrap
-  middle : n.min < n.max → n.min + (n.max - n.min) / 2 ≡ mid n.min n.max
-  middle h = omega arith
-
-  pub half_left : (link : ℕ) → n.min < n.max → 1 < n.max - n.min → t < n.min + (n.max - n.min) / 2 → link ≡ left_at nodes n.link
-      → record { link = link; min = n.min; max = n.min + (n.max - n.min) / 2 } ≡ half_at nodes t n
-  half_left link h w below e = rw (e, middle h) (sym (goes_left (omega arith) (rw (middle h) at below)))
-
-  pub half_right : (link : ℕ) → n.min < n.max → 1 < n.max - n.min → n.min + (n.max - n.min) / 2 ≤ t → link ≡ right_at nodes n.link
-      → record { link = link; min = n.min + (n.max - n.min) / 2; max = n.max } ≡ half_at nodes t n
-  half_right link h w above e = rw (e, middle h) (sym (goes_right (omega arith) (rw (middle h) at above)))
-
   -- ── the width falls ──
 
   pub half_falls : (h : Node) → Present n → h ≡ half_at nodes t n → h.max - h.min < n.max - n.min
@@ -110,8 +73,6 @@ module _ (nodes : List ℕ) (t : ℕ) (n : Node) where
       (λ (r : mid n.min n.max ≤ t). rw (e, goes_right s r) (omega arith))
       (lt_or_le t (mid n.min n.max)))
       (le_or_lt n.max (n.min + 1))
-
-pub ruleset halving = (half_empty, half_narrow, half_left, half_right)
 
 -- ── the half's tree ──
 

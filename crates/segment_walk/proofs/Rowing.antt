@@ -1,4 +1,4 @@
--- A node's rows: one step for each return of `rows_of`, and that the rows of a node that stands in the tables are its entries. Assumes nothing.
+-- A node's rows: they stand in the table, and those of a node that stands in the tables are its entries. Assumes nothing.
 use mathlib.Core.Path.{◌≡◌, sym, ◌∙◌, ap}
 use mathlib.Core.Logic.{⊎_elim}
 use mathlib.Core.Bool.{true}
@@ -36,20 +36,6 @@ module _ (nodes entries : List ℕ) (link : ℕ) where
       ⊎_elim (λ (h : first_at nodes link + count_at nodes link ≤ table_rows entries). rw (rows_whole h) (omega arith, h))
       (λ (h : table_rows entries < first_at nodes link + count_at nodes link). rw (rows_none h) (omega arith, omega arith))
       (le_or_lt (first_at nodes link + count_at nodes link) (table_rows entries))
-
-  -- ── the returns of `rows_of` ──
-
-  module _ (from count room : ℕ) (ef : from ≡ first_at nodes link) (ec : count ≡ count_at nodes link) (er : room ≡ table_rows entries) where
-    pub rows_stand : count ≤ room → from ≤ room - count → record { from = from; to = from + count } ≡ rows_at nodes entries link
-    rows_stand h k = rw (ef, ec) (sym (rows_whole (omega arith)))
-
-    pub rows_far : count ≤ room → room - count < from → record { from = 0; to = 0 } ≡ rows_at nodes entries link
-    rows_far h k = sym (rows_none (omega arith))
-
-    pub rows-many : room < count → record { from = 0; to = 0 } ≡ rows_at nodes entries link
-    rows-many h = sym (rows_none (omega arith))
-
-pub ruleset rowing = (rows_stand, rows_far, rows-many)
 
 -- ── a node's rows are its entries ──
 

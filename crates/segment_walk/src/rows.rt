@@ -12,25 +12,25 @@ pub struct Rows {
 }
 
 // The rows of a node's run. Of a run that does not stand in the table, which no closed index has, none.
+#[tactic(auto, unfolding(crate::specs::Rowing::rows_at))]
 pub fn rows_of(nodes: &[u64], entries: &[u64], link: u64) -> Rows
     ensures { result ≡ rows_at nodes.now entries.now link }
 {
     let from = walk::in_row(nodes, link, tables::node::FIRST) as usize;
     let count = walk::in_row(nodes, link, tables::node::ENTRIES) as usize;
     let room = tables::entry::rows(entries) as usize;
-    if count <= room {
-        if from <= room - count {
-            return Rows {
-                from,
-                to: from + count,
-            };
+    if count <= room && from <= room - count {
+        Rows {
+            from,
+            to: from + count,
         }
+    } else {
+        Rows { from: 0, to: 0 }
     }
-    Rows { from: 0, to: 0 }
 }
 
 // The first of the rows whose key is not below `key`, or their end: a binary search. Rows past the table's end, which `rows_of` does not give, are
-// not searched.
+// not searched. It is written out, as `partition_point` goes over a slice of keys, and here every other number is one.
 pub fn lower(entries: &[u64], rows: Rows, key: u64) -> usize
     ensures { Lower entries.now rows key result }
 {
@@ -57,42 +57,43 @@ const STEPS: usize = 8;
 fn lower_near(entries: &[u64], rows: Rows, key: u64) -> usize
     ensures { Lower entries.now rows key result }
 {
-    let from = rows.from;
-    let to = rows.to;
+    let Rows { from, to } = rows;
     if tables::entry::rows(entries) < to as u64 {
         return from;
     }
-    let mut row = from;
-    while row < to && row - from < STEPS {
+    let near = from.saturating_add(STEPS).min(to);
+    for row in from..near {
         if key <= entries[tables::entry::HEAD + (tables::entry::WIDTH * row + tables::entry::KEY)] {
             return row;
         }
-        row += 1;
     }
-    lower(entries, Rows { from: row, to }, key)
+    lower(entries, Rows { from: near, to }, key)
 }
 
 // The rows of a node whose key is in [start, stop). The second search begins where the first one ended.
+#[tactic(auto, using(crate::proofs::Windows::in_window))]
 pub fn in_window(nodes: &[u64], entries: &[u64], link: u64, start: u64, stop: u64) -> Rows
     ensures { InWindow nodes.now entries.now link start stop result }
 {
     let rows = rows_of(nodes, entries, link);
-    let to = rows.to;
     let from = lower(entries, rows, start);
-    let past = lower(entries, Rows { from, to }, stop);
-    Rows { from, to: past }
+    let to = lower(entries, Rows { from, to: rows.to }, stop);
+    Rows { from, to }
 }
 
-// The same for find, where few rows are in a window. It is long: with one caller alone the compiler still puts it in line.
+// The same for find, where few rows are in a window. A function of its own: with one caller alone the compiler puts it in line, long as it is.
+#[tactic(auto, using(crate::proofs::Windows::in_window))]
 pub fn in_small_window(nodes: &[u64], entries: &[u64], link: u64, start: u64, stop: u64) -> Rows
     ensures { InWindow nodes.now entries.now link start stop result }
 {
     let rows = rows_of(nodes, entries, link);
-    let to = rows.to;
     let first = lower(entries, rows, start);
-    let past = lower_near(entries, Rows { from: first, to }, stop);
+    let left = Rows {
+        from: first,
+        to: rows.to,
+    };
     Rows {
         from: first,
-        to: past,
+        to: lower_near(entries, left, stop),
     }
 }

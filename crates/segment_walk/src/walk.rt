@@ -37,9 +37,8 @@ pub fn in_row(nodes: &[u64], link: u64, col: usize) -> u64
 pub fn root(nodes: &[u64], kind: u64, end: u64) -> Node
     ensures { result ≡ root_at nodes.now kind end }
 {
-    let link = tables::get(nodes, 0, kind as usize);
     Node {
-        link,
+        link: tables::get(nodes, 0, kind as usize),
         min: 0,
         max: end,
     }
@@ -49,40 +48,34 @@ pub fn root(nodes: &[u64], kind: u64, end: u64) -> Node
 pub fn absent(node: Node) -> bool
     ensures { Decides result (Absent node) }
 {
-    if node.link == 0 {
-        return true;
-    }
-    node.max <= node.min
+    node.link == 0 || node.max <= node.min
 }
 
 // The half that has the tick: left if it is below mid. A node of width 1 has none.
+#[tactic(auto, unfolding(crate::specs::Walking::half_at))]
 pub fn half(nodes: &[u64], node: Node, tick: u64) -> Node
     ensures { result ≡ half_at nodes.now tick node }
 {
-    let min = node.min;
-    let max = node.max;
-    if min < max {
-        if 1 < max - min {
-            let mid = min + (max - min) / 2;
-            if tick < mid {
-                let left = in_row(nodes, node.link, tables::node::LEFT);
-                return Node {
-                    link: left,
-                    min,
-                    max: mid,
-                };
-            }
-            let right = in_row(nodes, node.link, tables::node::RIGHT);
-            return Node {
-                link: right,
-                min: mid,
-                max,
-            };
-        }
+    let Node { link, min, max } = node;
+    if max <= min || max - min <= 1 {
+        return Node {
+            link: 0,
+            min: 0,
+            max: 0,
+        };
     }
-    Node {
-        link: 0,
-        min: 0,
-        max: 0,
+    let mid = min + (max - min) / 2;
+    if tick < mid {
+        Node {
+            link: in_row(nodes, link, tables::node::LEFT),
+            min,
+            max: mid,
+        }
+    } else {
+        Node {
+            link: in_row(nodes, link, tables::node::RIGHT),
+            min: mid,
+            max,
+        }
     }
 }

@@ -1,3 +1,1 @@
-pub mod Positive
-pub mod PositiveLoad
 pub mod Answering

@@ -4,8 +4,7 @@
 //
 // `servercape_record_all` and `servercape_find_all` alone return no refusal: they return how many calls they made, each with its answer in a slice.
 //
-//   specs/Numbers   proofs/Answering                what the numbers mean; an answer as its number
-//                   proofs/Positive, PositiveLoad   no refusal is 0
+//   specs/Numbers   proofs/Answering   what the numbers mean; a result as its number
 
 #![tactic(auto)]
 
@@ -21,14 +20,7 @@ ghost use Rattle.find_all.specs.Many.{FoundAll};
 ghost use Rattle.lengths.specs.Lengths.{length_for};
 ghost use Rattle.servercape.specs.Numbers.{ByNumber, ToldAs, changes, changes_of, counts, near, fields};
 
-use cells::Read;
-use clock::Told;
-use file_load::Loaded;
-use file_write::Written;
-use index::{Finished, Found, Given, Index, Opened};
-use index_record::Recorded;
-use install::Installed;
-use touching::{Nearest, Touching};
+use index::Index;
 
 // How many numbers (of the store: bytes) to lend for so many rows: table 0 pieces, 1 blocks, 2 store, 3 nodes, 4 entries, 5 scratch. 0 where that is no
 // 64-bit number, and for any other table.
@@ -52,10 +44,9 @@ pub fn servercape_open(
         (tables pieces.old blocks.old store.now nodes.old entries.old)
         (tables pieces.new blocks.new store.now nodes.new entries.new)) result tt tt }
 {
-    let opened = Index::open(pieces, blocks, store, nodes, entries, end_tick, kind);
-    match opened {
-        Opened::Opened => 0,
-        Opened::Refused(number) => number,
+    match Index::open(pieces, blocks, store, nodes, entries, end_tick, kind) {
+        Ok(()) => 0,
+        Err(refusal) => u64::from(refusal),
     }
 }
 
@@ -82,17 +73,17 @@ pub fn servercape_record(
         pieces, blocks, store, nodes, entries, scratch, tick, first, bytes,
     );
     match recorded {
-        Recorded::Read => {
+        Ok(None) => {
             *updated = 0;
             *cell = 0;
             0
         }
-        Recorded::Update(changed) => {
+        Ok(Some(changed)) => {
             *updated = 1;
             *cell = changed;
             0
         }
-        Recorded::Refused(number) => number,
+        Err(refusal) => u64::from(refusal),
     }
 }
 
@@ -132,10 +123,9 @@ pub fn servercape_finish(
         (tables pieces.old blocks.old store.now nodes.old entries.old)
         (tables pieces.new blocks.new store.now nodes.new entries.new)) result done done }
 {
-    let finished = index::finalize(pieces, blocks, store, nodes, entries);
-    match finished {
-        Finished::Finished => 0,
-        Finished::Refused(number) => number,
+    match index::finalize(pieces, blocks, store, nodes, entries) {
+        Ok(()) => 0,
+        Err(refusal) => u64::from(refusal),
     }
 }
 
@@ -152,10 +142,9 @@ pub fn servercape_install_calendar(
         (tables pieces.now blocks.old store.now nodes.now entries.now)
         (tables pieces.now blocks.new store.now nodes.now entries.now)) result done done }
 {
-    let installed = install::install_calendar(pieces, blocks, store, nodes, entries, calendar);
-    match installed {
-        Installed::Done => 0,
-        Installed::Refused(number) => number,
+    match install::install_calendar(pieces, blocks, store, nodes, entries, calendar) {
+        Ok(()) => 0,
+        Err(refusal) => u64::from(refusal),
     }
 }
 
@@ -172,10 +161,9 @@ pub fn servercape_install_days(
         (tables pieces.now blocks.old store.now nodes.now entries.now)
         (tables pieces.now blocks.new store.now nodes.now entries.now)) result done done }
 {
-    let installed = install::install_days(pieces, blocks, store, nodes, entries, days);
-    match installed {
-        Installed::Done => 0,
-        Installed::Refused(number) => number,
+    match install::install_days(pieces, blocks, store, nodes, entries, days) {
+        Ok(()) => 0,
+        Err(refusal) => u64::from(refusal),
     }
 }
 
@@ -199,25 +187,17 @@ pub fn servercape_block(
         (fields kind.old first.old length.old created.old destroyed.old offset.old)
         (fields kind.new first.new length.new created.new destroyed.new offset.new) }
 {
-    let given = index::block(pieces, blocks, store, nodes, entries, number);
-    match given {
-        Given::Block {
-            kind: its_kind,
-            first: its_first,
-            length: its_length,
-            created: its_created,
-            destroyed: its_destroyed,
-            offset: its_offset,
-        } => {
-            *kind = its_kind;
-            *first = its_first;
-            *length = its_length;
-            *created = its_created;
-            *destroyed = its_destroyed;
-            *offset = its_offset;
+    match index::block(pieces, blocks, store, nodes, entries, number) {
+        Ok(given) => {
+            *kind = given.kind;
+            *first = given.first;
+            *length = given.length;
+            *created = given.created;
+            *destroyed = given.destroyed;
+            *offset = given.offset;
             0
         }
-        Given::Refused(refusal) => refusal,
+        Err(refusal) => u64::from(refusal),
     }
 }
 
@@ -240,19 +220,16 @@ pub fn servercape_find(
         answer.old answer.new) result
         (counts count.old visited.old) (counts count.new visited.new) }
 {
-    let found = index::find(
+    let asked = index::find(
         pieces, blocks, store, nodes, entries, tick, start, end, answer,
     );
-    match found {
-        Found::Listed {
-            count: listed,
-            visited: met,
-        } => {
-            *count = listed;
-            *visited = met;
+    match asked {
+        Ok(found) => {
+            *count = found.count;
+            *visited = found.visited;
             0
         }
-        Found::Refused(number) => number,
+        Err(refusal) => u64::from(refusal),
     }
 }
 
@@ -297,11 +274,11 @@ pub fn servercape_touching(
         pieces, blocks, store, nodes, entries, tick, start, end, answer,
     );
     match touched {
-        Touching::Listed(listed) => {
+        Ok(listed) => {
             *count = listed;
             0
         }
-        Touching::Refused(number) => number,
+        Err(refusal) => u64::from(refusal),
     }
 }
 
@@ -321,19 +298,18 @@ pub fn servercape_next(
         (tables pieces.now blocks.now store.now nodes.now entries.now) tick cell) result
         (near found.old number.old) (near found.new number.new) }
 {
-    let nearest = touching::next(pieces, blocks, store, nodes, entries, tick, cell);
-    match nearest {
-        Nearest::Block(block) => {
+    match touching::next(pieces, blocks, store, nodes, entries, tick, cell) {
+        Ok(Some(block)) => {
             *found = 1;
             *number = block;
             0
         }
-        Nearest::Missing => {
+        Ok(None) => {
             *found = 0;
             *number = 0;
             0
         }
-        Nearest::Refused(refusal) => refusal,
+        Err(refusal) => u64::from(refusal),
     }
 }
 
@@ -353,19 +329,18 @@ pub fn servercape_last(
         (tables pieces.now blocks.now store.now nodes.now entries.now) tick cell) result
         (near found.old number.old) (near found.new number.new) }
 {
-    let nearest = touching::last(pieces, blocks, store, nodes, entries, tick, cell);
-    match nearest {
-        Nearest::Block(block) => {
+    match touching::last(pieces, blocks, store, nodes, entries, tick, cell) {
+        Ok(Some(block)) => {
             *found = 1;
             *number = block;
             0
         }
-        Nearest::Missing => {
+        Ok(None) => {
             *found = 0;
             *number = 0;
             0
         }
-        Nearest::Refused(refusal) => refusal,
+        Err(refusal) => u64::from(refusal),
     }
 }
 
@@ -390,8 +365,8 @@ pub fn servercape_read_cells(
         pieces, blocks, store, nodes, entries, tick, start, end, bytes, held,
     );
     match read {
-        Read::Filled => 0,
-        Read::Refused(number) => number,
+        Ok(()) => 0,
+        Err(refusal) => u64::from(refusal),
     }
 }
 
@@ -409,13 +384,12 @@ pub fn servercape_write(
         (tables pieces.now blocks.now store.now nodes.now entries.now)
         out.old out.new) result written.old written.new }
 {
-    let wrote = spacetime_file::serialize_to(pieces, blocks, store, nodes, entries, out);
-    match wrote {
-        Written::Bytes(count) => {
+    match spacetime_file::serialize_to(pieces, blocks, store, nodes, entries, out) {
+        Ok(count) => {
             *written = count;
             0
         }
-        Written::Refused(number) => number,
+        Err(refusal) => u64::from(refusal),
     }
 }
 
@@ -435,21 +409,12 @@ pub fn servercape_load(
         (tables pieces.new blocks.new store.new nodes.new entries.new)) result
         next.old next.new }
 {
-    let loaded = spacetime_file::deserialize(
-        pieces,
-        blocks,
-        store,
-        nodes,
-        entries,
-        file,
-        at as usize,
-    );
-    match loaded {
-        Loaded::Next(position) => {
+    match spacetime_file::deserialize(pieces, blocks, store, nodes, entries, file, at as usize) {
+        Ok(position) => {
             *next = position as u64;
             0
         }
-        Loaded::Refused(number) => number,
+        Err(refusal) => u64::from(refusal),
     }
 }
 
@@ -467,12 +432,11 @@ pub fn servercape_clock(
         (tables pieces.now blocks.now store.now nodes.now entries.now) cell) result
         label.old label.new }
 {
-    let told = clock::clock(pieces, blocks, store, nodes, entries, cell);
-    match told {
-        Told::Label(shown) => {
+    match clock::clock(pieces, blocks, store, nodes, entries, cell) {
+        Ok(shown) => {
             *label = shown;
             0
         }
-        Told::Refused(number) => number,
+        Err(refusal) => u64::from(refusal),
     }
 }

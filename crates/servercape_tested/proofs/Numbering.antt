@@ -12,27 +12,21 @@ use Rattle.layout.specs.Reads.{values_of}
 use Rattle.index_test.specs.Board.{Outcome}
 use Rattle.index_test.specs.declared.State.{State}
 use Rattle.index_test.specs.declared.State.TheVariants.{Bad, Open, Closed}
-use Rattle.index_record.specs.Calls.{recorded_of}
-use Rattle.index_record.specs.declared.Recorded.{Recorded}
-use Rattle.index_read.specs.Answers.{found_of, given_of}
-use Rattle.index_read.specs.declared.Given.{Given}
+use Rattle.index_record.specs.Calls.{recorded}
+use Rattle.index_read.specs.Answers.{counts_given, fields_given}
+use Rattle.index_read.specs.declared.Block.{Block}
 use Rattle.index_read.specs.declared.Found.{Found}
-use Rattle.touching_read.specs.Answers.{touching_of, neighbour_of}
-use Rattle.touching_read.specs.declared.Touching.{Touching}
-use Rattle.touching_read.specs.declared.Nearest.{Nearest}
-use Rattle.cells_read.specs.Answers.{read_of}
-use Rattle.cells_read.specs.declared.Read.{Read}
-use Rattle.file_write.specs.Answers.{written_of}
-use Rattle.file_write.specs.declared.Written.{Written}
-use Rattle.clock.specs.Answers.{told_of}
-use Rattle.clock.specs.declared.Told.{Told}
+use Rattle.std.specs.Prelude.{Option}
+use Rattle.touching_read.specs.Answers.{near_told}
+use Rattle.std.specs.Prelude.{Result, Ok, Err}
+use Rattle.refusals.specs.declared.Refusal.{Refusal}
+use Rattle.refusals.specs.Numbers.{number_of, answer_by}
 use Rattle.index_tested.specs.Kept.{Kept}
 use Rattle.index_tested.specs.Tested.{RecordedTested, FoundTested, BlockTested}
 use Rattle.index_tested.proofs.Keeping.{test_keeps}
 use Rattle.reads_tested.specs.Tested.{TouchedTested, NextTested, LastTested, CellsTested, WrittenTested, ClockTested}
-use Rattle.servercape.specs.Numbers.{Changes, changes_of}
-use Rattle.servercape.proofs.Answering.{answer_0, answer_n, told_as}
-use Rattle.servercape.proofs.Positive.{changes-positive, block_positive, find-positive, touching_positive, next_positive, last_positive, cells_positive, write_positive, clock_positive}
+use Rattle.servercape.specs.Numbers.{Changes}
+use Rattle.servercape.proofs.Answering.{result_0, result_n, handed, changed_0, changed_n}
 use Rattle.servercape_tested.specs.States.{state_numbered, StateTold, RecordedAs, FoundAs, BlockAs, TouchedAs, NextAs, LastAs, CellsAs, WrittenAs, ClockAs}
 
 -- ── the state ──
@@ -76,78 +70,73 @@ out_of {t = t} is = subst (λ (x : State). Kept x t) is
 
 -- ── record ──
 
-abbrev pub handed : Recorded → Answer Changes
-handed r = values_of changes_of (recorded_of r)
+module _ {n : ℕ} {s : State} {p b st p' b' st' : List ℕ} {scratch : ℕ} {o : Operation} {x : Result (Option ℕ) Refusal} (at : s ≡ state_numbered n)
+    (told : RecordedTested s p b st p' b' st' scratch o (answer_by recorded x)) where
+  pub record_0 : {before : Changes} {cell shown : Option ℕ} → x ≡ Ok cell → cell ≡ shown → RecordedAs n p b st p' b' st' scratch o 0 before (handed shown)
+  record_0 is same = record { done = λ no e k. let d = told.done no e (into at k) in (changed_0 d.0 is same, out_of at d.1) }
 
-module _ {n : ℕ} {s : State} {p b st p' b' st' : List ℕ} {scratch : ℕ} {o : Operation} {x y : Recorded} (at : s ≡ state_numbered n)
-    (told : RecordedTested s p b st p' b' st' scratch o (recorded_of x)) (is : x ≡ y) where
-  pub record_0 : {before after : Changes} → handed y ≡ accepted after → RecordedAs n p b st p' b' st' scratch o 0 before after
-  record_0 v = record { done = λ no e k. let d = told.done no e (into at k) in (answer_0 handed (told_as d.0) is v, out_of at d.1) }
-
-  pub record_n : {before : Changes} {m : ℕ} → handed y ≡ refused m → RecordedAs n p b st p' b' st' scratch o m before before
-  record_n v = record { done = λ no e k. let d = told.done no e (into at k) in (answer_n handed (told_as d.0) is v changes-positive, out_of at d.1) }
+  pub record_n : {before : Changes} {m : ℕ} {e : Refusal} → x ≡ Err e → m ≡ number_of e → RecordedAs n p b st p' b' st' scratch o m before before
+  record_n is m = record { done = λ no e k. let d = told.done no e (into at k) in (changed_n d.0 is m, out_of at d.1) }
 
 -- ── the reads ──
 
-module _ {n : ℕ} {s : State} {b st : List ℕ} {k : ℕ} {x y : Given} (at : s ≡ state_numbered n) (told : BlockTested s b st k (given_of x)) (is : x ≡ y) where
-  pub block_0 : {before after : Fields} → given_of y ≡ accepted after → BlockAs n b st k 0 before after
-  block_0 v = record { done = λ p no e h. answer_0 given_of (told.done p no e (into at h)) is v }
+module _ {n : ℕ} {s : State} {b st : List ℕ} {k : ℕ} {x : Result Block Refusal} (at : s ≡ state_numbered n) (told : BlockTested s b st k (answer_by fields_given x)) where
+  pub block_0 : {before : Fields} {given : Block} → x ≡ Ok given → BlockAs n b st k 0 before (fields_given given)
+  block_0 is = record { done = λ p no e h. result_0 fields_given (told.done p no e (into at h)) is }
 
-  pub block_n : {before : Fields} {m : ℕ} → given_of y ≡ refused m → BlockAs n b st k m before before
-  block_n v = record { done = λ p no e h. answer_n given_of (told.done p no e (into at h)) is v block_positive }
+  pub block_n : {before : Fields} {m : ℕ} {r : Refusal} → x ≡ Err r → m ≡ number_of r → BlockAs n b st k m before before
+  block_n is m = record { done = λ p no e h. result_n fields_given (told.done p no e (into at h)) is m }
 
-module _ {n : ℕ} {s : State} {b no e : List ℕ} {tick start stop : ℕ} {out out' : List ℕ} {x y : Found} (at : s ≡ state_numbered n)
-    (told : FoundTested s b no e tick start stop out out' (found_of x)) (is : x ≡ y) where
-  pub find_0 : {before after : Counts} → found_of y ≡ accepted after → FoundAs n b no e tick start stop out out' 0 before after
-  find_0 v = record { done = λ p st h. answer_0 found_of (told.done p st (into at h)) is v }
+module _ {n : ℕ} {s : State} {b no e : List ℕ} {tick start stop : ℕ} {out out' : List ℕ} {x : Result Found Refusal} (at : s ≡ state_numbered n)
+    (told : FoundTested s b no e tick start stop out out' (answer_by counts_given x)) where
+  pub find_0 : {before : Counts} {found : Found} → x ≡ Ok found → FoundAs n b no e tick start stop out out' 0 before (counts_given found)
+  find_0 is = record { done = λ p st h. result_0 counts_given (told.done p st (into at h)) is }
 
-  pub find_n : {before : Counts} {m : ℕ} → found_of y ≡ refused m → FoundAs n b no e tick start stop out out' m before before
-  find_n v = record { done = λ p st h. answer_n found_of (told.done p st (into at h)) is v find-positive }
+  pub find_n : {before : Counts} {m : ℕ} {r : Refusal} → x ≡ Err r → m ≡ number_of r → FoundAs n b no e tick start stop out out' m before before
+  find_n is m = record { done = λ p st h. result_n counts_given (told.done p st (into at h)) is m }
 
-module _ {n : ℕ} {s : State} {b no e : List ℕ} {tick start stop : ℕ} {out out' : List ℕ} {x y : Touching} (at : s ≡ state_numbered n)
-    (told : TouchedTested s b no e tick start stop out out' (touching_of x)) (is : x ≡ y) where
-  pub touching_0 : {before after : ℕ} → touching_of y ≡ accepted after → TouchedAs n b no e tick start stop out out' 0 before after
-  touching_0 v = record { done = λ p st h. answer_0 touching_of (told.done p st (into at h)) is v }
+module _ {n : ℕ} {s : State} {b no e : List ℕ} {tick start stop : ℕ} {out out' : List ℕ} {x : Result ℕ Refusal} (at : s ≡ state_numbered n)
+    (told : TouchedTested s b no e tick start stop out out' (answer_by (λ m. m) x)) where
+  pub touching_0 : {before listed : ℕ} → x ≡ Ok listed → TouchedAs n b no e tick start stop out out' 0 before listed
+  touching_0 is = record { done = λ p st h. result_0 (λ m. m) (told.done p st (into at h)) is }
 
-  pub touching_n : {before m : ℕ} → touching_of y ≡ refused m → TouchedAs n b no e tick start stop out out' m before before
-  touching_n v = record { done = λ p st h. answer_n touching_of (told.done p st (into at h)) is v touching_positive }
+  pub touching_n : {before m : ℕ} {r : Refusal} → x ≡ Err r → m ≡ number_of r → TouchedAs n b no e tick start stop out out' m before before
+  touching_n is m = record { done = λ p st h. result_n (λ k. k) (told.done p st (into at h)) is m }
 
-module _ {n : ℕ} {s : State} {b no e : List ℕ} {tick cell : ℕ} {x y : Nearest} (at : s ≡ state_numbered n) (is : x ≡ y) where
-  pub next_0 : {before after : Near} → NextTested s b no e tick cell (neighbour_of x) → neighbour_of y ≡ accepted after → NextAs n b no e tick cell 0 before after
-  next_0 told v = record { done = λ p st h. answer_0 neighbour_of (told.done p st (into at h)) is v }
+module _ {n : ℕ} {s : State} {b no e : List ℕ} {tick cell : ℕ} {x : Result (Option ℕ) Refusal} (at : s ≡ state_numbered n) where
+  pub next_0 : {before : Near} {found : Option ℕ} → NextTested s b no e tick cell (answer_by near_told x) → x ≡ Ok found → NextAs n b no e tick cell 0 before (near_told found)
+  next_0 told is = record { done = λ p st h. result_0 near_told (told.done p st (into at h)) is }
 
-  pub next_n : {before : Near} {m : ℕ} → NextTested s b no e tick cell (neighbour_of x) → neighbour_of y ≡ refused m → NextAs n b no e tick cell m before before
-  next_n told v = record { done = λ p st h. answer_n neighbour_of (told.done p st (into at h)) is v next_positive }
+  pub next_n : {before : Near} {m : ℕ} {r : Refusal} → NextTested s b no e tick cell (answer_by near_told x) → x ≡ Err r → m ≡ number_of r
+      → NextAs n b no e tick cell m before before
+  next_n told is m = record { done = λ p st h. result_n near_told (told.done p st (into at h)) is m }
 
-  pub last_0 : {before after : Near} → LastTested s b no e tick cell (neighbour_of x) → neighbour_of y ≡ accepted after → LastAs n b no e tick cell 0 before after
-  last_0 told v = record { done = λ p st h. answer_0 neighbour_of (told.done p st (into at h)) is v }
+  pub last_0 : {before : Near} {found : Option ℕ} → LastTested s b no e tick cell (answer_by near_told x) → x ≡ Ok found → LastAs n b no e tick cell 0 before (near_told found)
+  last_0 told is = record { done = λ p st h. result_0 near_told (told.done p st (into at h)) is }
 
-  pub last_n : {before : Near} {m : ℕ} → LastTested s b no e tick cell (neighbour_of x) → neighbour_of y ≡ refused m → LastAs n b no e tick cell m before before
-  last_n told v = record { done = λ p st h. answer_n neighbour_of (told.done p st (into at h)) is v last_positive }
+  pub last_n : {before : Near} {m : ℕ} {r : Refusal} → LastTested s b no e tick cell (answer_by near_told x) → x ≡ Err r → m ≡ number_of r
+      → LastAs n b no e tick cell m before before
+  last_n told is m = record { done = λ p st h. result_n near_told (told.done p st (into at h)) is m }
 
-module _ {n : ℕ} {s : State} {b st no e : List ℕ} {tick start stop : ℕ} {bytes bytes' held held' : List ℕ} {x y : Read} (at : s ≡ state_numbered n)
-    (told : CellsTested s b st no e tick start stop bytes bytes' held held' (read_of x)) (is : x ≡ y) where
-  pub cells_0 : read_of y ≡ accepted tt → CellsAs n b st no e tick start stop bytes bytes' held held' 0
-  cells_0 v = record { done = λ p h. answer_0 read_of (told.done p (into at h)) is v }
+module _ {n : ℕ} {s : State} {b st no e : List ℕ} {tick start stop : ℕ} {bytes bytes' held held' : List ℕ} {x : Result Unit Refusal} (at : s ≡ state_numbered n)
+    (told : CellsTested s b st no e tick start stop bytes bytes' held held' (answer_by (λ _. tt) x)) where
+  pub cells_0 : {u : Unit} → x ≡ Ok u → CellsAs n b st no e tick start stop bytes bytes' held held' 0
+  cells_0 is = record { done = λ p h. result_0 (λ _. tt) (told.done p (into at h)) is }
 
-  pub cells_n : {m : ℕ} → read_of y ≡ refused m → CellsAs n b st no e tick start stop bytes bytes' held held' m
-  cells_n v = record { done = λ p h. answer_n read_of (told.done p (into at h)) is v cells_positive }
+  pub cells_n : {m : ℕ} {r : Refusal} → x ≡ Err r → m ≡ number_of r → CellsAs n b st no e tick start stop bytes bytes' held held' m
+  cells_n is m = record { done = λ p h. result_n (λ _. tt) (told.done p (into at h)) is m }
 
-module _ {n : ℕ} {s : State} {b st no e out out' : List ℕ} {x y : Written} (at : s ≡ state_numbered n)
-    (told : WrittenTested s b st no e out out' (written_of x)) (is : x ≡ y) where
-  pub write_0 : {before after : ℕ} → written_of y ≡ accepted after → WrittenAs n b st no e out out' 0 before after
-  write_0 v = record { done = λ p h. answer_0 written_of (told.done p (into at h)) is v }
+module _ {n : ℕ} {s : State} {b st no e out out' : List ℕ} {x : Result ℕ Refusal} (at : s ≡ state_numbered n)
+    (told : WrittenTested s b st no e out out' (answer_by (λ m. m) x)) where
+  pub write_0 : {before many : ℕ} → x ≡ Ok many → WrittenAs n b st no e out out' 0 before many
+  write_0 is = record { done = λ p h. result_0 (λ m. m) (told.done p (into at h)) is }
 
-  pub write_n : {before m : ℕ} → written_of y ≡ refused m → WrittenAs n b st no e out out' m before before
-  write_n v = record { done = λ p h. answer_n written_of (told.done p (into at h)) is v write_positive }
+  pub write_n : {before m : ℕ} {e' : Refusal} → x ≡ Err e' → m ≡ number_of e' → WrittenAs n b st no e out out' m before before
+  write_n is m = record { done = λ p h. result_n (λ k. k) (told.done p (into at h)) is m }
 
-module _ {n : ℕ} {s : State} {b : List ℕ} {cell : ℕ} {x y : Told} (at : s ≡ state_numbered n) (told : ClockTested s b cell (told_of x)) (is : x ≡ y) where
-  pub clock_0 : {before after : ℕ} → told_of y ≡ accepted after → ClockAs n b cell 0 before after
-  clock_0 v = record { done = λ p st no e h. answer_0 told_of (told.done p st no e (into at h)) is v }
+module _ {n : ℕ} {s : State} {b : List ℕ} {cell : ℕ} {x : Result ℕ Refusal} (at : s ≡ state_numbered n) (told : ClockTested s b cell (answer_by (λ m. m) x)) where
+  pub clock_0 : {before shown : ℕ} → x ≡ Ok shown → ClockAs n b cell 0 before shown
+  clock_0 is = record { done = λ p st no e h. result_0 (λ m. m) (told.done p st no e (into at h)) is }
 
-  pub clock_n : {before m : ℕ} → told_of y ≡ refused m → ClockAs n b cell m before before
-  clock_n v = record { done = λ p st no e h. answer_n told_of (told.done p st no e (into at h)) is v clock_positive }
-
--- one step for each return; what is left to find is what y means
-pub ruleset numbering =
-    (refl, record_0, record_n, block_0, block_n, find_0, find_n, touching_0, touching_n, next_0, next_n, last_0, last_n, cells_0, cells_n, write_0, write_n, clock_0, clock_n)
+  pub clock_n : {before m : ℕ} {e : Refusal} → x ≡ Err e → m ≡ number_of e → ClockAs n b cell m before before
+  clock_n is m = record { done = λ p st no e h. result_n (λ k. k) (told.done p st no e (into at h)) is m }

@@ -13,13 +13,7 @@ ghost use Rattle.index_record.specs.Calls.{operation};
 ghost use Rattle.servercape.specs.Numbers.{changes, counts, near, fields};
 ghost use Rattle.servercape_tested.specs.States.{state_numbered, StateTold, RecordedAs, FoundAs, BlockAs, TouchedAs, NextAs, LastAs, CellsAs, WrittenAs, ClockAs};
 
-use cells_read::Read;
-use clock::Told;
-use file_write::Written;
-use index::{Found, Given};
-use index_record::Recorded;
 use index_test::State;
-use touching_read::{Nearest, Touching};
 
 // The state that a number stands for: 1 open, 2 closed, any other not well formed.
 fn numbered(state: u64) -> State
@@ -80,17 +74,17 @@ pub fn servercape_record_tested(
         bytes,
     );
     match recorded {
-        Recorded::Read => {
+        Ok(None) => {
             *updated = 0;
             *cell = 0;
             0
         }
-        Recorded::Update(changed) => {
+        Ok(Some(changed)) => {
             *updated = 1;
             *cell = changed;
             0
         }
-        Recorded::Refused(number) => number,
+        Err(refusal) => u64::from(refusal),
     }
 }
 
@@ -111,25 +105,17 @@ pub fn servercape_block_tested(
         (fields kind.old first.old length.old created.old destroyed.old offset.old)
         (fields kind.new first.new length.new created.new destroyed.new offset.new) }
 {
-    let given = index_tested::block_tested(numbered(state), blocks, store, number);
-    match given {
-        Given::Block {
-            kind: its_kind,
-            first: its_first,
-            length: its_length,
-            created: its_created,
-            destroyed: its_destroyed,
-            offset: its_offset,
-        } => {
-            *kind = its_kind;
-            *first = its_first;
-            *length = its_length;
-            *created = its_created;
-            *destroyed = its_destroyed;
-            *offset = its_offset;
+    match index_tested::block_tested(numbered(state), blocks, store, number) {
+        Ok(given) => {
+            *kind = given.kind;
+            *first = given.first;
+            *length = given.length;
+            *created = given.created;
+            *destroyed = given.destroyed;
+            *offset = given.offset;
             0
         }
-        Given::Refused(refusal) => refusal,
+        Err(refusal) => u64::from(refusal),
     }
 }
 
@@ -149,7 +135,7 @@ pub fn servercape_find_tested(
     ensures { FoundAs state blocks.now nodes.now entries.now tick start end answer.old answer.new result
         (counts count.old visited.old) (counts count.new visited.new) }
 {
-    let found = index_tested::find_tested(
+    let asked = index_tested::find_tested(
         numbered(state),
         blocks,
         nodes,
@@ -159,16 +145,13 @@ pub fn servercape_find_tested(
         end,
         answer,
     );
-    match found {
-        Found::Listed {
-            count: listed,
-            visited: met,
-        } => {
-            *count = listed;
-            *visited = met;
+    match asked {
+        Ok(found) => {
+            *count = found.count;
+            *visited = found.visited;
             0
         }
-        Found::Refused(number) => number,
+        Err(refusal) => u64::from(refusal),
     }
 }
 
@@ -198,11 +181,11 @@ pub fn servercape_touching_tested(
         answer,
     );
     match touched {
-        Touching::Listed(listed) => {
+        Ok(listed) => {
             *count = listed;
             0
         }
-        Touching::Refused(number) => number,
+        Err(refusal) => u64::from(refusal),
     }
 }
 
@@ -220,19 +203,18 @@ pub fn servercape_next_tested(
     ensures { NextAs state blocks.now nodes.now entries.now tick cell result
         (near found.old number.old) (near found.new number.new) }
 {
-    let nearest = reads_tested::next_tested(numbered(state), blocks, nodes, entries, tick, cell);
-    match nearest {
-        Nearest::Block(block) => {
+    match reads_tested::next_tested(numbered(state), blocks, nodes, entries, tick, cell) {
+        Ok(Some(block)) => {
             *found = 1;
             *number = block;
             0
         }
-        Nearest::Missing => {
+        Ok(None) => {
             *found = 0;
             *number = 0;
             0
         }
-        Nearest::Refused(refusal) => refusal,
+        Err(refusal) => u64::from(refusal),
     }
 }
 
@@ -250,19 +232,18 @@ pub fn servercape_last_tested(
     ensures { LastAs state blocks.now nodes.now entries.now tick cell result
         (near found.old number.old) (near found.new number.new) }
 {
-    let nearest = reads_tested::last_tested(numbered(state), blocks, nodes, entries, tick, cell);
-    match nearest {
-        Nearest::Block(block) => {
+    match reads_tested::last_tested(numbered(state), blocks, nodes, entries, tick, cell) {
+        Ok(Some(block)) => {
             *found = 1;
             *number = block;
             0
         }
-        Nearest::Missing => {
+        Ok(None) => {
             *found = 0;
             *number = 0;
             0
         }
-        Nearest::Refused(refusal) => refusal,
+        Err(refusal) => u64::from(refusal),
     }
 }
 
@@ -295,8 +276,8 @@ pub fn servercape_read_cells_tested(
         held,
     );
     match read {
-        Read::Filled => 0,
-        Read::Refused(number) => number,
+        Ok(()) => 0,
+        Err(refusal) => u64::from(refusal),
     }
 }
 
@@ -313,13 +294,12 @@ pub fn servercape_write_tested(
     ensures { WrittenAs state blocks.now store.now nodes.now entries.now out.old out.new result
         written.old written.new }
 {
-    let wrote = reads_tested::write_tested(numbered(state), blocks, store, nodes, entries, out);
-    match wrote {
-        Written::Bytes(count) => {
+    match reads_tested::write_tested(numbered(state), blocks, store, nodes, entries, out) {
+        Ok(count) => {
             *written = count;
             0
         }
-        Written::Refused(number) => number,
+        Err(refusal) => u64::from(refusal),
     }
 }
 
@@ -327,12 +307,11 @@ pub fn servercape_write_tested(
 pub fn servercape_clock_tested(state: u64, blocks: &[u64], cell: u64, label: &mut u64) -> u64
     ensures { ClockAs state blocks.now cell result label.old label.new }
 {
-    let told = reads_tested::clock_tested(numbered(state), blocks, cell);
-    match told {
-        Told::Label(shown) => {
+    match reads_tested::clock_tested(numbered(state), blocks, cell) {
+        Ok(shown) => {
             *label = shown;
             0
         }
-        Told::Refused(number) => number,
+        Err(refusal) => u64::from(refusal),
     }
 }

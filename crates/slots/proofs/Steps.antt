@@ -1,25 +1,23 @@
--- One step for each return. Assumes nothing.
-use mathlib.Core.Path.{◌≡◌, refl}
-use mathlib.Core.Bool.{Bool, true, false, false≢true}
+-- One step for each function. Assumes nothing.
+use mathlib.Core.Path.{◌≡◌}
+use mathlib.Core.Logic.{inl, inr}
+use mathlib.Core.Bool.{Bool, true}
 use mathlib.Core.List.{List}
-use Prim.Native.Nat.{ℕ, ◌-◌, ◌≤◌, ◌<◌}
+use Prim.Native.Nat.{ℕ, ◌<◌}
 use native.Mathlib.Omega.{arith}
-use lib.Dec.{leb}
-use borrow.Author.Tests.{leb-true}
-use Rattle.lists.specs.Lists.{all_nil, all_cons, Mem, here, there}
-use Rattle.lists.proofs.Lists.{all_of_mem}
+use lib.ListN.{length, get_or, set}
+use Rattle.std.proofs.lemmas.List.{get_or-set_same, get_or-set_other}
+use Rattle.std.proofs.Math.ListN.{length-set}
+use Rattle.std.specs.List.{Any}
+use Rattle.lists.specs.Lists.{Mem}
+use Rattle.lists.proofs.Numbers.{eq_or_ne}
+use Rattle.lists.proofs.Lists.{all_of_mem, all_of_at, all_of_map, mem_at, mem_map}
 use Rattle.history.specs.Words.{Stretch, Block}
-use Rattle.apart_laws.specs.Slots as laws
-use Rattle.apart_laws.specs.Slots.{stretch_at, Born, TakesIn, ComesFrom, listed, kept, taken, Refilled}
+use Rattle.apart_laws.specs.Slots.{stretch_at, Born, TakesIn, ComesFrom, listed, kept, taken}
 use Rattle.apart_laws.proofs.Slots.{cut-whole}
 use Rattle.slots.specs.declared.Slot.{Slot}
 use Rattle.slots.specs.declared.Slots.{Slots}
-use Rattle.slots.specs.Steps.{slot_of, slots_of, Spans, Unused, TookIn, Takes, Restores, Holds, Reads, Counts}
-
--- ── unused ──
-
-pub unused_all : (s : Slot) → s.sum ≡ 0 → Unused (record { a = s; b = s; c = s; d = s })
-unused_all s e = record { all = all_cons e (all_cons e (all_cons e (all_cons e all_nil))) }
+use Rattle.slots.specs.Steps.{slot_of, slots_of, Spans, TookIn, Takes, Restores, Holds, Counts}
 
 -- ── take ──
 
@@ -31,83 +29,42 @@ took_takes {s} {s'} {first} {end} {r} span took = record {
       (omega (arith, took.adds, span.from, span.to));
 }
 
-module _ {ss : Slots} {s : Slot} {first end : ℕ} where
-  pub take_a : TookIn ss.a first end s → Takes ss first end (record { a = s; b = ss.b; c = ss.c; d = ss.d })
-  take_a took = record {
-    slots = λ bs t k span born.
-        all_cons (taken (listed (here refl)) born (took_takes span took)) (all_cons (kept (listed (there (here refl))))
-        (all_cons (kept (listed (there (there (here refl))))) (all_cons (kept (listed (there (there (there (here refl)))))) all_nil)));
-  }
+-- one of the slots took the block in, the others are as they were
+pub take_at : {ss : Slots} {first end i : ℕ} {s' : Slot} (d : Slot) → TookIn (get_or ss.each i d) first end s' → i < length ss.each
+    → Takes ss first end (record { each = set ss.each i s' })
+take_at {ss} {first} {end} {i} {s'} d took low = record {
+  slots = λ bs t k span born. all_of_map slot_of (all_of_at d (set ss.each i s') (λ j h. one bs t k span born j (omega (arith, length-set ss.each i s'))));
+}
+  where
+    among : (j : ℕ) → j < length ss.each → Mem (slot_of (get_or ss.each j d)) (slots_of ss)
+    among j h = mem_map slot_of (mem_at d ss.each j h)
 
-  pub take_b : TookIn ss.b first end s → Takes ss first end (record { a = ss.a; b = s; c = ss.c; d = ss.d })
-  take_b took = record {
-    slots = λ bs t k span born.
-        all_cons (kept (listed (here refl))) (all_cons (taken (listed (there (here refl))) born (took_takes span took))
-        (all_cons (kept (listed (there (there (here refl))))) (all_cons (kept (listed (there (there (there (here refl)))))) all_nil)));
-  }
-
-  pub take_c : TookIn ss.c first end s → Takes ss first end (record { a = ss.a; b = ss.b; c = s; d = ss.d })
-  take_c took = record {
-    slots = λ bs t k span born.
-        all_cons (kept (listed (here refl))) (all_cons (kept (listed (there (here refl))))
-        (all_cons (taken (listed (there (there (here refl)))) born (took_takes span took)) (all_cons (kept (listed (there (there (there (here refl)))))) all_nil)));
-  }
-
-  pub take_d : TookIn ss.d first end s → Takes ss first end (record { a = ss.a; b = ss.b; c = ss.c; d = s })
-  take_d took = record {
-    slots = λ bs t k span born.
-        all_cons (kept (listed (here refl))) (all_cons (kept (listed (there (here refl))))
-        (all_cons (kept (listed (there (there (here refl))))) (all_cons (taken (listed (there (there (there (here refl))))) born (took_takes span took)) all_nil)));
-  }
-
--- ── restores ──
-
-pub restores_no : {s : Slot} {first end : ℕ} → Restores s first end false
-restores_no = record { shown = λ e. absurd (false≢true e) }
-
-pub restores_rest : {s : Slot} {first end : ℕ} → s.lo ≤ first → end ≤ s.hi → Restores s first end (leb (s.hi - s.lo) s.sum)
-restores_rest {s} p q = record { shown = λ e. (leb-true (s.hi - s.lo) s.sum e, p, q) }
+    one : (bs : List Block) (t k : ℕ) → Spans (stretch_at bs k) first end → Born bs t k → (j : ℕ) → j < length ss.each
+        → ComesFrom bs t k (slots_of ss) (slot_of (get_or (set ss.each i s') j d))
+    one bs t k span born j h =
+        elim (eq_or_ne j i) [
+          | inl same ↦ rw (same, get_or-set_same ss.each i s' d low) (taken (listed (among i low)) born (took_takes span took))
+          | inr other ↦ rw (get_or-set_other ss.each i j s' d other) (kept (listed (among j h)))
+        ]
 
 -- ── hold ──
 
--- what a slot of the four shows
-held : (ss : Slots) (s : Slot) {first end : ℕ} {q p : Bool} → Mem (slot_of s) (slots_of ss) → Restores s first end q → (p ≡ true → q ≡ true) → Holds ss first end p
-held ss s m shows f = record {
+pub held : {ss : Slots} {first end : ℕ} {q : Bool} → (q ≡ true → Any (λ s. Restores s first end) ss.each) → Holds ss first end q
+held {ss} shows = record {
   refilled = λ e r span.
-      let z = shows.shown (f e) in
-      record { slot = slot_of s; among = m; full = record { is = z.0 }; from = omega (arith, z.1, span.from); to = omega (arith, z.2, span.to) };
+      let z = shows e in
+      let s : Slot = z.1 in
+      let shown = z.4 in
+      record {
+        slot = slot_of s;
+        among = rw z.3 at (mem_map slot_of (mem_at s ss.each z.0 z.2));
+        full = record { is = shown.full };
+        from = omega (arith, shown.from, span.from);
+        to = omega (arith, shown.to, span.to);
+      };
 }
 
-module _ {ss : Slots} {first end : ℕ} {q : Bool} where
-  pub hold_a : Restores ss.a first end q → q ≡ true → Holds ss first end true
-  hold_a shows e = held ss ss.a (here refl) shows (λ _. e)
-
-  pub hold_b : Restores ss.b first end q → q ≡ true → Holds ss first end true
-  hold_b shows e = held ss ss.b (there (here refl)) shows (λ _. e)
-
-  pub hold_c : Restores ss.c first end q → q ≡ true → Holds ss first end true
-  hold_c shows e = held ss ss.c (there (there (here refl))) shows (λ _. e)
-
-  pub hold_d : Restores ss.d first end q → Holds ss first end q
-  hold_d shows = held ss ss.d (there (there (there (here refl)))) shows (λ e. e)
-
--- ── one entry of a node ──
+-- ── count ──
 
 pub count_other : {ss : Slots} {min created first end : ℕ} → (created ≡ min → ⊥) → Counts ss min created first end ss
 count_other {ss} ne = record { slots = λ bs k d reads alive. all_of_mem (slots_of ss) (λ s m. kept (listed m)) }
-
-pub count_here : {ss ss' : Slots} {min created first end : ℕ} → created ≡ min → Takes ss first end ss' → Counts ss min created first end ss'
-count_here {min = min} e takes = record {
-  slots = λ bs k d reads alive.
-      takes.slots bs min k reads.spans (record { created = omega (arith, reads.born); alive = omega (arith, reads.gone) });
-}
-
--- ── the steps of each function ──
-
-pub ruleset restoring = (restores_no, restores_rest)
-
-pub ruleset taking = (take_a, take_b, take_c, take_d)
-
-pub ruleset holding = (hold_a, hold_b, hold_c, hold_d)
-
-pub ruleset counting = (count_other, count_here)

@@ -1,5 +1,5 @@
 -- Slots in code as the laws have them, and what each function does. Definitions alone: laws stand in proofs/.
-use Rattle.std.specs.Prelude.{◌≡◌, Bool, true, List, [], ◌∷◌, ℕ, ◌+◌, ◌-◌, ◌≤◌, ◌<◌}
+use Rattle.std.specs.Prelude.{◌≡◌, Bool, true, List, map, ℕ, ◌+◌, ◌-◌, ◌≤◌, ◌<◌}
 use Rattle.lists.specs.Lists.{All}
 use Rattle.history.specs.Words.{Stretch, Block, ends}
 use Rattle.history.specs.Tree.{block_at}
@@ -14,7 +14,7 @@ abbrev pub slot_of : Slot → laws.Slot
 slot_of s = record { lo = s.lo; hi = s.hi; sum = s.sum }
 
 abbrev pub slots_of : Slots → List laws.Slot
-slots_of ss = slot_of ss.a ∷ slot_of ss.b ∷ slot_of ss.c ∷ slot_of ss.d ∷ []
+slots_of ss = map slot_of ss.each
 
 -- the stretch is [first, end)
 pub record Spans (r : Stretch) (first end : ℕ) : Type 0 where
@@ -38,11 +38,13 @@ pub record TookIn (s : Slot) (first end : ℕ) (s' : Slot) : Type 0 where
 pub record Takes (ss : Slots) (first end : ℕ) (ss' : Slots) : Type 0 where
   pub slots : (bs : List Block) (t k : ℕ) → Spans (stretch_at bs k) first end → Born bs t k → All (ComesFrom bs t k (slots_of ss)) (slots_of ss')
 
--- yes is said only where the slot is full and has [first, end)
-pub record Restores (s : Slot) (first end : ℕ) (q : Bool) : Type 0 where
-  pub shown : q ≡ true → (s.hi - s.lo ≤ s.sum) × (s.lo ≤ first) × (end ≤ s.hi)
+-- the slot is full and has [first, end)
+pub record Restores (s : Slot) (first end : ℕ) : Type 0 where
+  pub full : s.hi - s.lo ≤ s.sum
+  pub from : s.lo ≤ first
+  pub to : end ≤ s.hi
 
--- and only where one of the slots is and has
+-- yes is said only where one of the slots is full and has [first, end)
 pub record Holds (ss : Slots) (first end : ℕ) (q : Bool) : Type 0 where
   pub refilled : q ≡ true → (r : Stretch) → Spans r first end → Refilled (slots_of ss) r
 

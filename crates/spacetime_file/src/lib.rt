@@ -11,13 +11,10 @@
 
 ghost use Rattle.layout.specs.Tables.{tables};
 ghost use Rattle.layout.specs.Files.{WrittenBy, LoadedBy};
-ghost use Rattle.file_write.specs.Answers.{written_of};
-ghost use Rattle.file_load.specs.Load.{loaded_of};
+ghost use Rattle.refusals.specs.Numbers.{answer_by};
 ghost use Rattle.spacetime_file.specs.Law.{SavedAndLoaded, LoadedAndWritten, TakenAndNotRefused, EmptyFiles};
 
-use file_load::Loaded;
-use file_write::Written;
-use index_test::State;
+use refusals::Refusal;
 
 // Writes the file of a finished or loaded index from the slice's start on.
 pub fn serialize_to(
@@ -27,16 +24,12 @@ pub fn serialize_to(
     nodes: &[u64],
     entries: &[u64],
     out: &mut [u8],
-) -> Written
+) -> Result<u64, Refusal>
     ensures { WrittenBy (tables pieces.now blocks.now store.now nodes.now entries.now)
-        out.old out.new (written_of result) }
+        out.old out.new (answer_by (λ n. n) result) }
 {
-    let state = index_test::test(pieces, blocks, store, nodes, entries);
-    match state {
-        State::Bad => Written::Refused(2),
-        State::Open => Written::Refused(4),
-        State::Closed => file_write::write_closed(blocks, store, nodes, entries, out),
-    }
+    index_test::test(pieces, blocks, store, nodes, entries).closed()?;
+    file_write::write_closed(blocks, store, nodes, entries, out)
 }
 
 // Loads the index whose file starts at a position, and gives the next one.
@@ -48,9 +41,9 @@ pub fn deserialize(
     entries: &mut [u64],
     file: &[u8],
     at: usize,
-) -> Loaded
+) -> Result<usize, Refusal>
     ensures { LoadedBy file.now at (tables pieces.old blocks.old store.old nodes.old entries.old)
-        (tables pieces.new blocks.new store.new nodes.new entries.new) (loaded_of result) }
+        (tables pieces.new blocks.new store.new nodes.new entries.new) (answer_by (λ n. n) result) }
 {
     file_load::load(pieces, blocks, store, nodes, entries, file, at)
 }

@@ -15,6 +15,7 @@ use Rattle.history.specs.Ledger.{first_change}
 use Rattle.history.proofs.Value.{byte_cell}
 use Rattle.history.proofs.Comparing.{Agrees, Other, agrees_byte, Comparison, alike, apart, compared}
 use Rattle.tables.specs.Columns.{column, piece_offset}
+use Rattle.tables.specs.Sums.{plus_up_to}
 use Rattle.merge_set.specs.Table.{first_at}
 use Rattle.piece_table.specs.Piece.{PieceRow, piece_at, Filled, Follow}
 use Rattle.piece_table.specs.Rep.{Linked}
@@ -24,13 +25,11 @@ use Rattle.piece_table.proofs.Order.{follow_from, follow_right}
 use Rattle.piece_table.proofs.Parts.{Left}
 use Rattle.piece_table.proofs.Showing.{shown-size}
 use Rattle.piece_table.proofs.Cells.{Misses, byte_some}
-use Rattle.comparison.specs.Comparison.{difference_of, Compared}
-use Rattle.comparison.specs.declared.Difference.{Difference}
-use Rattle.comparison.specs.declared.Difference.TheVariants.{Cell, Nothing}
-use Rattle.survey.specs.Survey.{Matched, Lowest, HeldPart, HeldBytes}
+use Rattle.comparison.specs.Comparison.{Compared}
+use Rattle.std.specs.Prelude.{Some, None}
+use Rattle.survey.specs.Survey.{Matched, Lowest, HeldBytes}
 use Rattle.survey.proofs.Holding.{held_none, held_one}
 use Rattle.survey.proofs.Changing.{has-none, has_same, has_other, change_here, change_run, matched_moved}
-use Rattle.survey.proofs.Weighing.{past}
 
 -- the pieces around a link
 module _ {t : List ℕ} (link : ℕ) (xs ys : List ℕ) (r : Linked t (xs ++ link ∷ ys)) where
@@ -123,58 +122,68 @@ module _ (t store bytes : List ℕ) (link first place next same : ℕ) (at : fir
           stops = elim (lt_or_le (next - first) (length bytes)) [ inl h ↦ inl (omega (arith, low.past, low.ends)) | inr h ↦ inr (inl (omega arith)) ];
         }
 
-module _ {t store bytes : List ℕ} {link first place next same was : ℕ} (ew : was ≡ first_at t link) where
-  pub held-part_ahead : place < was → HeldPart t store bytes link first place next same same
-  held-part_ahead h = record {
-    says = λ at.
-        record {
-          says = λ xs ys low m.
-              record {
-                small = m.small;
-                rest = m.rest;
-                stops = inr (inr (change_here (board t store bytes link first place next same at xs ys low) first bytes same (omega (arith, low.within)) (has-none (get_or bytes same 0) (ahead t store bytes link first place next same at xs ys low (omega arith)))));
-              };
-        };
-  }
+-- ── `held_bytes` ──
 
-  pub held-part_cell : {d : Difference} {cell out : ℕ} → was ≤ place → Compared t store link first bytes d → d ≡ Cell cell → out ≡ cell - first → HeldPart t store bytes link first place next same out
-  held-part_cell {d} {cell} {out} le cmp is-cell e = record { says = λ at. record { says = go at } }
-    where
-      go : first + same ≡ place → (xs ys : List ℕ) → Lowest t store bytes link first place next xs ys → Matched (map (shown store) (map (piece_at t) (xs ++ link ∷ ys))) first bytes place same
-          → Matched (map (shown store) (map (piece_at t) (xs ++ link ∷ ys))) first bytes next out
-      go at xs ys low m =
-          let st : Stored store (piece_at t link) = has_bytes t store bytes link first place next same at xs ys low in
-          let told : some cell ≡ differs_from (shown store (piece_at t link)).stretch first bytes = sym (ap difference_of is-cell) ∙ cmp.is (whole link xs ys low.linked) st low.near in
-          view told (compared (shown store (piece_at t link)).stretch first bytes)
+at_place : (first place same : ℕ) → first ≤ place → place - first ≡ same → first + same ≡ place
+at_place first place same from is = omega arith
+
+module _ {store bytes : List ℕ} {p : PieceRow} {first place same : ℕ} where
+  pub held_bytes_before : place < first → HeldBytes store bytes p first place same same
+  held_bytes_before h = record { says = λ t link next xs ys ep low m. matched_moved m (λ e. omega arith) }
+
+  pub held_bytes_found : (place - first ≡ same → ⊥) → HeldBytes store bytes p first place same same
+  held_bytes_found h = record { says = λ t link next xs ys ep low m. matched_moved m (λ e. h (omega arith)) }
+
+  module _ (from : first ≤ place) (told-at : place - first ≡ same) where
+    pub held_bytes_ahead : place < p.first → HeldBytes store bytes p first place same same
+    held_bytes_ahead h = record {
+      says = λ t link next xs ys ep low m.
+          let h' : place < first_at t link = rw ep at h in
+          record {
+            small = m.small;
+            rest = m.rest;
+            stops = inr (inr (change_here (board t store bytes link first place next same (at_place first place same from told-at) xs ys low) first bytes same (omega (arith, low.within)) (has-none (get_or bytes same 0) (ahead t store bytes link first place next same (at_place first place same from told-at) xs ys low h'))));
+          };
+    }
+
+    module _ (le : p.first ≤ place) where
+      pub held_bytes_cell : {cell : ℕ} → Compared store p first bytes (Some cell) → HeldBytes store bytes p first place same (cell - first)
+      held_bytes_cell {cell} cmp = record { says = go }
         where
-          view : some cell ≡ differs_from (shown store (piece_at t link)).stretch first bytes → Comparison (shown store (piece_at t link)).stretch first bytes
-              → Matched (map (shown store) (map (piece_at t) (xs ++ link ∷ ys))) first bytes next out
-          view told (alike none_there f) = absurd (none-ne-some cell (sym none_there ∙ sym told))
-          view told (apart n is h f o) =
-              let c : cell ≡ first + n = let z = told ∙ is in cc in
-              let n_out : n ≡ out = omega arith in
-              rw n_out at (held-apart t store bytes link first place next same at xs ys low (omega arith) m n h f o)
+          go : (t : List ℕ) (link next : ℕ) (xs ys : List ℕ) → p ≡ piece_at t link → Lowest t store bytes link first place next xs ys
+              → Matched (map (shown store) (map (piece_at t) (xs ++ link ∷ ys))) first bytes place same → Matched (map (shown store) (map (piece_at t) (xs ++ link ∷ ys))) first bytes next (cell - first)
+          go t link next xs ys ep low m =
+              let le' : first_at t link ≤ place = rw ep at le in
+              let cmp' : Compared store (piece_at t link) first bytes (Some cell) = rw ep at cmp in
+              let st : Stored store (piece_at t link) = has_bytes t store bytes link first place next same (at_place first place same from told-at) xs ys low in
+              view le' (cmp'.is (whole link xs ys low.linked) st low.near) (compared (shown store (piece_at t link)).stretch first bytes)
+            where
+              view : first_at t link ≤ place → some cell ≡ differs_from (shown store (piece_at t link)).stretch first bytes → Comparison (shown store (piece_at t link)).stretch first bytes
+                  → Matched (map (shown store) (map (piece_at t) (xs ++ link ∷ ys))) first bytes next (cell - first)
+              view le' told (alike none_there f) = absurd (none-ne-some cell (sym none_there ∙ sym told))
+              view le' told (apart n is h f o) =
+                  let c : cell ≡ first + n = let z = told ∙ is in cc in
+                  let n_out : n ≡ cell - first = omega arith in
+                  rw n_out at (held-apart t store bytes link first place next same (at_place first place same from told-at) xs ys low le' m n h f o)
 
-  pub held-part_nothing : {d : Difference} {rest out : ℕ} → was ≤ place → Compared t store link first bytes d → d ≡ Nothing → rest ≡ next - first → out ≡ min rest (length bytes) → HeldPart t store bytes link first place next same out
-  held-part_nothing {d} {rest} {out} le cmp is-nothing er e = record { says = λ at. record { says = go at } }
-    where
-      go : first + same ≡ place → (xs ys : List ℕ) → Lowest t store bytes link first place next xs ys → Matched (map (shown store) (map (piece_at t) (xs ++ link ∷ ys))) first bytes place same
-          → Matched (map (shown store) (map (piece_at t) (xs ++ link ∷ ys))) first bytes next out
-      go at xs ys low m =
-          let st : Stored store (piece_at t link) = has_bytes t store bytes link first place next same at xs ys low in
-          view (sym (ap difference_of is-nothing) ∙ cmp.is (whole link xs ys low.linked) st low.near) (compared (shown store (piece_at t link)).stretch first bytes)
+      pub held_bytes_nothing : {e : ℕ} → Compared store p first bytes None → e ≡ plus_up_to p.first p.size → HeldBytes store bytes p first place same (min (e - first) (length bytes))
+      held_bytes_nothing {e} cmp ee = record { says = go }
         where
-          view : none ≡ differs_from (shown store (piece_at t link)).stretch first bytes → Comparison (shown store (piece_at t link)).stretch first bytes
-              → Matched (map (shown store) (map (piece_at t) (xs ++ link ∷ ys))) first bytes next out
-          view told (alike none_there f) = held_all t store bytes link first place next same at xs ys low (omega arith) m out (rw er at e) f
-          view told (apart n is h f o) = absurd (none-ne-some (first + n) (told ∙ is))
+          go : (t : List ℕ) (link next : ℕ) (xs ys : List ℕ) → p ≡ piece_at t link → Lowest t store bytes link first place next xs ys
+              → Matched (map (shown store) (map (piece_at t) (xs ++ link ∷ ys))) first bytes place same → Matched (map (shown store) (map (piece_at t) (xs ++ link ∷ ys))) first bytes next (min (e - first) (length bytes))
+          go t link next xs ys ep low m =
+              let le' : first_at t link ≤ place = rw ep at le in
+              let cmp' : Compared store (piece_at t link) first bytes None = rw ep at cmp in
+              let ee' : e ≡ plus_up_to (first_at t link) (piece_at t link).size = rw ep at ee in
+              let w : Filled (piece_at t link) = whole link xs ys low.linked in
+              let st : Stored store (piece_at t link) = has_bytes t store bytes link first place next same (at_place first place same from told-at) xs ys low in
+              let z : e ≡ next = omega (arith, ee', w.near, low.ends) in
+              view le' z (cmp'.is w st low.near) (compared (shown store (piece_at t link)).stretch first bytes)
+            where
+              view : first_at t link ≤ place → e ≡ next → none ≡ differs_from (shown store (piece_at t link)).stretch first bytes → Comparison (shown store (piece_at t link)).stretch first bytes
+                  → Matched (map (shown store) (map (piece_at t) (xs ++ link ∷ ys))) first bytes next (min (e - first) (length bytes))
+              view le' z told (alike none_there f) = held_all t store bytes link first place next same (at_place first place same from told-at) xs ys low le' m (min (e - first) (length bytes)) (ap (λ (k : ℕ). min (k - first) (length bytes)) z) f
+              view le' z told (apart n is h f o) = absurd (none-ne-some (first + n) (told ∙ is))
 
-module _ {t store bytes : List ℕ} {link first place next same : ℕ} where
-  pub held_bytes_before : place < first → HeldBytes t store bytes link first place next same same
-  held_bytes_before h = record { says = λ xs ys low m. matched_moved m (λ e. omega arith) }
-
-  pub held_bytes_found : first ≤ place → (place - first ≡ same → ⊥) → HeldBytes t store bytes link first place next same same
-  held_bytes_found k h = record { says = λ xs ys low m. matched_moved m (λ e. h (omega arith)) }
-
-  pub held_bytes_part : {out : ℕ} → first ≤ place → place - first ≡ same → HeldPart t store bytes link first place next same out → HeldBytes t store bytes link first place next same out
-  held_bytes_part k h p = p.says (omega arith)
+-- the steps, one for each return
+pub ruleset holding = (held_bytes_before, held_bytes_found, held_bytes_ahead, held_bytes_cell, held_bytes_nothing)

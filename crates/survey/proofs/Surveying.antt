@@ -1,12 +1,12 @@
 -- `rests_of`, `made` and `survey`: one step for each return. Assumes nothing.
 use mathlib.Core.Path.{◌≡◌, refl, sym, ap, ap₂, ◌∙◌}
 use mathlib.Core.Logic.{◌⊎◌, inl, inr, ⊎_elim}
-use mathlib.Core.Bool.{Bool, true, false}
-use mathlib.Core.Option.{some}
+use mathlib.Core.Bool.{Bool, true, false, cond}
+use lib.Dec.{ltb}
 use mathlib.Core.List.{List, ◌∷◌, ◌++◌, map}
-use Prim.Native.Nat.{ℕ, ◌+◌, ◌-◌, ◌*◌, ◌≤◌, ◌<◌, ◌^◌}
+use Prim.Native.Nat.{ℕ, ◌+◌, ◌*◌, ◌≤◌, ◌<◌, ◌^◌}
 use native.Mathlib.Omega.{arith}
-use borrow.Author.Tests.{ltb-true, ltb-false, not-true, not-false}
+use borrow.Author.Tests.{ltb-true, ltb-false}
 use lib.ListN.{length, get_or}
 use Rattle.lists.specs.Lists.{All, all_cons}
 use Rattle.lists.proofs.Lists.{all_right, all_map, all_append, all_any, all_head}
@@ -27,7 +27,6 @@ use Rattle.survey.specs.declared.Report.{Report}
 use Rattle.survey.proofs.Holding.{held_none}
 use Rattle.survey.proofs.Changing.{has-none, change_here, matched_start, matched_tells}
 use Rattle.survey.proofs.Weighing.{weigh, past, past_left, past_turn, past_zero, past_start, weigh-one, weigh-two, crosses_yes, crosses_before, crosses-after, met, rests, met-one, rests-two, met_left, met_right, met_here, rests_left, rests_right, inside-count, parts_count}
-use Rattle.survey.proofs.Matching.{held-part_ahead, held-part_cell, held-part_nothing, held_bytes_before, held_bytes_found, held_bytes_part}
 
 -- ── sums ──
 
@@ -38,29 +37,17 @@ pub record Plus (a b out : ℕ) : Type 0 where
 pub plus_told : {a b out : ℕ} → out ≡ plus_up_to a b → Plus a b out
 plus_told e = record { is = λ h. omega arith }
 
--- ── `rests_of`, `made` ──
+-- ── `rests_of`, `report` ──
 
-module _ {was next first end : ℕ} where
-  pub rests_of_both : was < first → end < next → RestsOf was next first end 2
-  rests_of_both h k = record { is = λ l m. omega (arith, crosses_yes was next first h l, crosses_yes was next end m k) }
-
-  pub rests_of_left : was < first → next ≤ end → RestsOf was next first end 1
-  rests_of_left h k = record { is = λ l m. omega (arith, crosses_yes was next first h l, crosses-after was next end k) }
-
-  pub rests_of_right : first ≤ was → end < next → RestsOf was next first end 1
-  rests_of_right h k = record { is = λ l m. omega (arith, crosses_before was next first h, crosses_yes was next end m k) }
-
-  pub rests_of_none : first ≤ was → next ≤ end → RestsOf was next first end 0
-  rests_of_none h k = record { is = λ l m. omega (arith, crosses_before was next first h, crosses-after was next end k) }
-
-pub made_few : {count met rests same near : ℕ} → count < met → Made count met rests same (record { same = same; pieces = 0; blocks = met; near = near })
-made_few h = record { is_same = refl; is_blocks = refl; is_pieces = λ k l. absurd (omega arith) }
-
-pub made_all : {count met rests same near a b : ℕ} → met ≤ count → Plus (count - met) rests a → Plus a 1 b → Made count met rests same (record { same = same; pieces = b; blocks = met; near = near })
-made_all {count} {met} {rests} {same} {near} {a} {b} h p q = record { is_same = refl; is_blocks = refl; is_pieces = go }
+-- a rest on either side where the piece reaches over
+pub rests_told : {was next first end out : ℕ} → out ≡ cond (ltb was first) 1 0 + cond (ltb end next) 1 0 → RestsOf was next first end out
+rests_told {was} {next} {first} {end} {out} e = record { is = go (ltb was first) refl (ltb end next) refl }
   where
-    go : met ≤ count → count + rests + 1 < 2 ^ 64 → b + met ≡ count + rests + 1
-    go k l = let e : a ≡ count - met + rests = p.is (omega arith) in omega (arith, q.is (omega arith))
+    go : (q : Bool) → ltb was first ≡ q → (r : Bool) → ltb end next ≡ r → first < next → was < end → out ≡ rests_of was next first end
+    go true h true k l m = omega (arith, rw (h, k) at e, crosses_yes was next first (ltb-true was first h) l, crosses_yes was next end m (ltb-true end next k))
+    go true h false k l m = omega (arith, rw (h, k) at e, crosses_yes was next first (ltb-true was first h) l, crosses-after was next end (ltb-false end next k))
+    go false h true k l m = omega (arith, rw (h, k) at e, crosses_before was next first (ltb-false was first h), crosses_yes was next end m (ltb-true end next k))
+    go false h false k l m = omega (arith, rw (h, k) at e, crosses_before was next first (ltb-false was first h), crosses-after was next end (ltb-false end next k))
 
 -- ── `survey` ──
 
@@ -125,17 +112,23 @@ next_past {t} {ps} {place} {link} sought nz ew es en rep =
     let v : Seen t place link ps = seen-some sought rep nz in
     omega (arith, en.is (omega (arith, v.whole.near)), v.past)
 
-module _ {t store bytes : List ℕ} {first count place m r same end : ℕ} {s : Report} (ec : count ≡ column t 0 pieces_count) (ee : Plus first (length bytes) end) (turn : Turning t store first bytes place m r same) where
+abbrev end_of : (first : ℕ) (bytes : List ℕ) → ℕ
+end_of first bytes = plus_up_to first (length bytes)
+
+end_told : (first : ℕ) (bytes : List ℕ) → Plus first (length bytes) (end_of first bytes)
+end_told first bytes = plus_told refl
+
+module _ {t store bytes : List ℕ} {first count place m r same : ℕ} {s : Report} (ec : count ≡ column t 0 pieces_count) (turn : Turning t store first bytes place m r same) where
   pub survey_none : {link : ℕ} → Sought t place link → link ≡ 0 → Made count m r same s → Surveyed t store first bytes s
   survey_none {link} sought z made =
       survey_tells ec turn made (λ ps rep st big near k.
       let l : Left place ps = seen_none sought rep z in
       (past_left (met first (first + length bytes)) place l, past_left (rests first (first + length bytes)) place l, λ h. all_map (λ p k. inl k) l))
 
-  pub survey_end : end ≤ place → Made count m r same s → Surveyed t store first bytes s
+  pub survey_end : end_of first bytes ≤ place → Made count m r same s → Surveyed t store first bytes s
   survey_end h made =
       survey_tells ec turn made (λ ps rep st big near k.
-      let e : end ≡ first + length bytes = ee.is near in (
+      let e : end_of first bytes ≡ first + length bytes = (end_told first bytes).is near in (
         past_zero (met first (first + length bytes)) place (zero ps (met first (first + length bytes)) (λ p q. met_right first (first + length bytes) (omega arith) p q) (omega arith) k.clean),
         past_zero (rests first (first + length bytes)) place (zero ps (rests first (first + length bytes)) (λ p q. rests_right first (first + length bytes) (omega arith) p q) (omega arith) k.clean),
         λ lt. absurd (omega arith),
@@ -146,11 +139,11 @@ module _ {t store bytes : List ℕ} {first count place m r same end : ℕ} {s : 
       zero ps w f b (inl z) = absurd (omega arith)
       zero ps w f b (inr c) = all_map (λ p d k. ⊎_elim (λ x. absurd (omega arith)) (λ x. f p (omega arith)) d) c
 
-  module _ {link was size next : ℕ} (sought : Sought t place link) (nz : link ≡ 0 → ⊥) (ew : was ≡ first_at t link) (es : size ≡ column t link piece_length) (en : Plus was size next) where
-    beyond : end ≤ first_at t link → Made count m r same s → Surveyed t store first bytes s
+  module _ {link : ℕ} (sought : Sought t place link) (nz : link ≡ 0 → ⊥) where
+    beyond : end_of first bytes ≤ first_at t link → Made count m r same s → Surveyed t store first bytes s
     beyond h made =
         survey_tells ec turn made (λ ps rep st big near k.
-        let e : end ≡ first + length bytes = ee.is near in
+        let e : end_of first bytes ≡ first + length bytes = (end_told first bytes).is near in
         let v : Seen t place link ps = seen-some sought rep nz in (
           past_zero (met first (first + length bytes)) place (zero v (met first (first + length bytes)) (λ p q. met_right first (first + length bytes) (omega arith) p q) (omega arith)),
           past_zero (rests first (first + length bytes)) place (zero v (rests first (first + length bytes)) (λ p q. rests_right first (first + length bytes) (omega arith) p q) (omega arith)),
@@ -164,43 +157,64 @@ module _ {t store bytes : List ℕ} {first count place m r same end : ℕ} {s : 
             (all_append (all_map (λ p q lt. absurd (omega arith)) v.left)
             (all_cons {x = piece_at t link} (λ lt. f (piece_at t link) b) (all_map (λ p q lt. f p (omega arith)) (follow_right (row_end (piece_at t link)) (row_end (piece_at t link)) (map (piece_at t) v.ys) (omega arith) v.after))))
 
-    pub survey_right : {starts : Bool} → StartsBelow t link end starts → starts ≡ false → Made count m r same s → Surveyed t store first bytes s
-    survey_right tested h = beyond (ltb-false (first_at t link) end (sym tested.is ∙ h))
+    pub survey_right : {starts : Bool} → StartsBelow t link (end_of first bytes) starts → starts ≡ false → Made count m r same s → Surveyed t store first bytes s
+    survey_right tested h = beyond (ltb-false (first_at t link) (end_of first bytes) (sym tested.is ∙ h))
 
-    pub survey_stuck : next ≤ place → Made count m r same s → Surveyed t store first bytes s
-    survey_stuck h made = record { says = λ ps rep st big near. absurd (omega (arith, next_past sought nz ew es en rep)) }
+    pub survey_stuck : {p : PieceRow} {next : ℕ} → p ≡ piece_at t link → next ≡ plus_up_to p.first p.size → next ≤ place → Surveyed t store first bytes s
+    survey_stuck {p} {next} ep en h = record {
+      says = λ ps rep st big near. absurd (omega (arith, next_past sought nz (ap (λ (q : PieceRow). q.first) ep) (ap (λ (q : PieceRow). q.size) ep) (plus_told en) rep));
+    }
 
-pub survey_turn : {t store bytes : List ℕ} {first place m r same end link was size next out more m' r' : ℕ} {starts : Bool} → Plus first (length bytes) end → Turning t store first bytes place m r same → Sought t place link → (link ≡ 0 → ⊥)
-    → was ≡ first_at t link → size ≡ column t link piece_length → Plus was size next → StartsBelow t link end starts → starts ≡ true → place < end → place < next → HeldBytes t store bytes link first place next same out
-    → RestsOf was next first end more → Plus r more r' → Plus m 1 m' → Turning t store first bytes next m' r' out
-survey_turn {t} {store} {bytes} {first} {place} {m} {r} {same} {end} {link} {was} {size} {next} {out} {more} {m'} {r'} ee turn sought nz ew es en tested low before on held ro er em = record { low = omega (arith, turn.low); says = go }
+pub survey_turn : {t store bytes : List ℕ} {first place m r same end link next out more m' r' : ℕ} {p : PieceRow} {starts : Bool} → end ≡ plus_up_to first (length bytes) → Turning t store first bytes place m r same → Sought t place link → (link ≡ 0 → ⊥)
+    → p ≡ piece_at t link → next ≡ plus_up_to p.first p.size → StartsBelow t link end starts → starts ≡ true → place < end → place < next
+    → HeldBytes store bytes p first place same out → RestsOf p.first next first end more → m' ≡ plus_up_to m 1 → r' ≡ plus_up_to r more → Turning t store first bytes next m' r' out
+survey_turn {t} {store} {bytes} {first} {place} {m} {r} {same} {end} {link} {next} {out} {more} {m'} {r'} {p} ee' turn sought nz ep en' tested low before on held ro em' er' = record { low = omega (arith, turn.low); says = go }
   where
+    ee : Plus first (length bytes) end
+    ee = plus_told ee'
+
+    en : Plus p.first p.size next
+    en = plus_told en'
+
+    er : Plus r more r'
+    er = plus_told er'
+
+    em : Plus m 1 m'
+    em = plus_told em'
+
+    ew : p.first ≡ first_at t link
+    ew = ap (λ (q : PieceRow). q.first) ep
+
+    es : p.size ≡ column t link piece_length
+    es = ap (λ (q : PieceRow). q.size) ep
+
     go : (ps : List PieceRow) → Rep t ps → All (Stored store) ps → 0 < length bytes → first + length bytes < 2 ^ 64 → Counted store first bytes next m' r' out ps
     go ps rep st big near =
         let e : ℕ = first + length bytes in
-        let lt : was < end = rw ew (ltb-true (first_at t link) end (sym tested.is ∙ low)) in
+        let low-enough : first_at t link < end = ltb-true (first_at t link) end (sym tested.is ∙ low) in
+        let lt : p.first < end = rw ew low-enough in
         let ends : end ≡ first + length bytes = ee.is near in
         let k : Counted store first bytes place m r same ps = turn.says ps rep st big near in
         let v : Seen t place link ps = seen-some sought rep nz in
-        let p : PieceRow = piece_at t link in
+        let q : PieceRow = piece_at t link in
         let A : List PieceRow = map (piece_at t) v.xs in
         let B : List PieceRow = map (piece_at t) v.ys in
-        let n : next ≡ end_at t link = en.is (omega (arith, v.whole.near)) ∙ ap₂ ◌+◌ ew es in
-        let turned : (w : PieceRow → ℕ) → weigh (past place w) ps ≡ w p + weigh (past next w) ps
-        = λ w. rw (v.is, n) (past_turn w place A p B v.left v.past v.after) in
-        let one : met first e p ≡ 1 = met_here first e (omega arith) p v.whole.some (omega arith) (omega (arith, v.past, turn.low)) in
-        let two : more ≡ rests first e p = ro.is (omega (arith, v.past, turn.low)) lt ∙ same_rests n ends in
+        let n : next ≡ end_at t link = en.is (omega (arith, ew, es, v.whole.near)) ∙ ap₂ ◌+◌ ew es in
+        let turned : (w : PieceRow → ℕ) → weigh (past place w) ps ≡ w q + weigh (past next w) ps
+        = λ w. rw (v.is, n) (past_turn w place A q B v.left v.past v.after) in
+        let one : met first e q ≡ 1 = met_here first e (omega arith) q v.whole.some (omega (arith, low-enough, ends)) (omega (arith, v.past, turn.low)) in
+        let two : more ≡ rests first e q = ro.is (omega (arith, v.past, turn.low)) lt ∙ same_rests n ends in
         let most_m : weigh (met first e) ps ≤ length ps = weigh-one (met first e) (met-one first e) ps in
         let most_r : weigh (rests first e) ps ≤ 2 * length ps = weigh-two (rests first e) (rests-two first e) ps in
-        let tm : weigh (past place (met first e)) ps ≡ met first e p + weigh (past next (met first e)) ps = turned (met first e) in
-        let tr : weigh (past place (rests first e)) ps ≡ rests first e p + weigh (past next (rests first e)) ps = turned (rests first e) in
+        let tm : weigh (past place (met first e)) ps ≡ met first e q + weigh (past next (met first e)) ps = turned (met first e) in
+        let tr : weigh (past place (rests first e)) ps ≡ rests first e q + weigh (past next (rests first e)) ps = turned (rests first e) in
         let m₁ : m' ≡ m + 1 = em.is (omega (arith, k.blocks, few rep)) in
         let r₁ : r' ≡ r + more = er.is (omega (arith, k.rest, few rep)) in
         let i : map (piece_at t) (v.xs ++ link ∷ v.ys) ≡ ps = map-append (piece_at t) v.xs (link ∷ v.ys) ∙ sym v.is in
         record {
           blocks = omega (arith, k.blocks);
           rest = omega (arith, k.rest);
-          matched = rw (← i) (held.says v.xs v.ys (record {
+          matched = rw (← i) (held.says t link next v.xs v.ys ep (record {
             linked = v.linked;
             left = v.left;
             past = v.past;
@@ -210,7 +224,7 @@ survey_turn {t} {store} {bytes} {first} {place} {m} {r} {same} {end} {link} {was
             within = omega arith;
             near = near;
           }) (rw i k.matched));
-          clean = inr (rw v.is (all_append (all_map (λ q h. inl (omega (arith, v.past, n))) v.left) (all_cons {x = p} (inl (omega arith)) (all_map (λ q h. inr (omega arith)) (follow_right (row_end p) (row_end p) B (omega arith) v.after)))));
+          clean = inr (rw v.is (all_append (all_map (λ (o : PieceRow) (h : row_end o ≤ place). inl (omega (arith, v.past, n, h))) v.left) (all_cons {x = q} (inl (omega arith)) (all_map (λ o h. inr (omega arith)) (follow_right (row_end q) (row_end q) B (omega arith) v.after)))));
         }
       where
         at_link : (v : Seen t place link ps) → (place ≡ first) ⊎ All (λ (p : PieceRow). (row_end p ≤ place) ⊎ (place ≤ p.first)) ps → (place ≡ first) ⊎ (place ≤ first_at t link)
@@ -218,8 +232,5 @@ survey_turn {t} {store} {bytes} {first} {place} {m} {r} {same} {end} {link} {was
         at_link v (inr c) =
             elim (all_head (all_right (map (piece_at t) v.xs) (piece_at t link ∷ map (piece_at t) v.ys) (rw v.is at c))) [ inl z ↦ absurd (omega (arith, v.past)) | inr z ↦ inr z ]
 
-        same_rests : next ≡ end_at t link → end ≡ first + length bytes → rests_of was next first end ≡ rests first (first + length bytes) (piece_at t link)
+        same_rests : next ≡ end_at t link → end ≡ first + length bytes → rests_of p.first next first end ≡ rests first (first + length bytes) (piece_at t link)
         same_rests n e = rw (n, e, ew)
-
--- the steps, for `search` at a return
-pub ruleset surveying = (plus_told, not-true, not-false, rests_of_both, rests_of_left, rests_of_right, rests_of_none, made_few, made_all, held-part_ahead, held-part_cell, held-part_nothing, held_bytes_before, held_bytes_found, held_bytes_part, survey_start, survey_none, survey_end, survey_right, survey_stuck, survey_turn)

@@ -36,14 +36,11 @@ pub record Lowest (t store : List ℕ) (bytes : List ℕ) (link first place next
   pub within : place < first + length bytes
   pub near : first + length bytes < 2 ^ 64
 
--- `held_bytes`: the link's piece is looked at too
-pub record HeldBytes (t store : List ℕ) (bytes : List ℕ) (link first place next same out : ℕ) : Type 0 where
-  pub says : (xs ys : List ℕ) → Lowest t store bytes link first place next xs ys → Matched (map (shown store) (map (piece_at t) (xs ++ link ∷ ys))) first bytes place same
+-- `held_bytes`: the lowest piece is looked at too
+pub record HeldBytes (store bytes : List ℕ) (p : PieceRow) (first place same out : ℕ) : Type 0 where
+  pub says : (t : List ℕ) (link next : ℕ) (xs ys : List ℕ) → p ≡ piece_at t link → Lowest t store bytes link first place next xs ys
+      → Matched (map (shown store) (map (piece_at t) (xs ++ link ∷ ys))) first bytes place same
       → Matched (map (shown store) (map (piece_at t) (xs ++ link ∷ ys))) first bytes next out
-
--- `held_part`: where all cells below the place are held
-pub record HeldPart (t store : List ℕ) (bytes : List ℕ) (link first place next same out : ℕ) : Type 0 where
-  pub says : first + same ≡ place → HeldBytes t store bytes link first place next same out
 
 -- ── counting ──
 
@@ -59,7 +56,7 @@ rests_of was next first end = crosses was next first + crosses was next end
 pub record RestsOf (was next first end out : ℕ) : Type 0 where
   pub is : first < next → was < end → out ≡ rests_of was next first end
 
--- `made`: the numbers of a survey, of how many pieces there are, how many are met, and how many rests they leave
+-- `report`: the numbers of a survey, of how many pieces there are, how many are met, and how many rests they leave
 pub record Made (count met rests same : ℕ) (s : Report) : Type 0 where
   pub is_same : s.same ≡ same
   pub is_blocks : s.blocks ≡ met

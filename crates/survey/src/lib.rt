@@ -10,9 +10,9 @@
 
 #![tactic(auto)]
 
-ghost use Rattle.survey.specs.Survey.{HeldPart, HeldBytes, RestsOf, Made, Surveyed};
+ghost use Rattle.survey.specs.Survey.{HeldBytes, RestsOf, Made, Surveyed};
 
-use comparison::Difference;
+use piece_table::{Found, Piece};
 use tables::piece;
 
 // What an operation meets: how many of its leading cells the pieces hold with its bytes, how many pieces there would be after an update, and how many
@@ -25,130 +25,102 @@ pub struct Report {
     pub near: u64,
 }
 
-// How many leading cells are held with their bytes, where those below `place` are: the piece of `link`, which ends at `next`, is the lowest that ends
-// after it.
-fn held_part(
-    pieces: &[u64],
-    store: &[u8],
-    bytes: &[u8],
-    link: u64,
-    first: u64,
+// How far a survey has come: the cells below `place` are looked at; so many leading cells are held with their bytes, all below `place`, or up to a change;
+// so many pieces are met, `low` is the link of the lowest of them, and they leave so many rests.
+#[derive(Clone, Copy)]
+struct Seen {
     place: u64,
-    next: u64,
     same: u64,
-) -> u64
-    ensures { HeldPart pieces.now store.now bytes.now link first place next same result }
-{
-    if place < tables::get(pieces, link, piece::FIRST) {
-        return same;
-    }
-    match comparison::first_difference(pieces, store, link, first, bytes) {
-        Difference::Cell(cell) => tables::minus(cell, first),
-        Difference::Nothing => tables::smaller(tables::minus(next, first), bytes.len() as u64),
+    met: u64,
+    rests: u64,
+    low: u64,
+}
+
+impl Seen {
+    // The numbers of a survey of so many pieces.
+    fn report(self, count: u64) -> Report
+        ensures { Made count self.met self.rests self.same result }
+    {
+        let pieces = if count < self.met {
+            0
+        } else {
+            (count - self.met)
+                .saturating_add(self.rests)
+                .saturating_add(1)
+        };
+        Report {
+            same: self.same,
+            pieces,
+            blocks: self.met,
+            near: self.low,
+        }
     }
 }
 
-// How many leading cells are held with their bytes, once the piece of `link` is looked at too. Before it were `same`: all below `place`, or up to a change.
-fn held_bytes(
-    pieces: &[u64],
-    store: &[u8],
-    bytes: &[u8],
-    link: u64,
-    first: u64,
-    place: u64,
-    next: u64,
-    same: u64,
-) -> u64
-    ensures { HeldBytes pieces.now store.now bytes.now link first place next same result }
+// How many leading cells are held with their bytes, once the lowest piece that ends after `place` is looked at too.
+#[tactic(auto, using(crate::proofs::Matching::holding))]
+fn held_bytes(store: &[u8], first: u64, bytes: &[u8], piece: Piece, seen: Seen) -> u64
+    ensures { HeldBytes store.now bytes.now piece first seen.place seen.same result }
 {
-    if place < first {
-        return same;
+    if seen.place < first || seen.place - first != seen.same {
+        return seen.same;
     }
-    if place - first != same {
-        return same;
+    if seen.place < piece.first {
+        return seen.same;
     }
-    held_part(pieces, store, bytes, link, first, place, next, same)
+    match comparison::first_difference(store, piece, first, bytes) {
+        Some(cell) => cell.saturating_sub(first),
+        None => piece.end().saturating_sub(first).min(bytes.len() as u64),
+    }
 }
 
 // How many rests a piece [was, next) that meets [first, end) leaves.
+#[tactic(auto, using(crate::proofs::Surveying::rests_told))]
 fn rests_of(was: u64, next: u64, first: u64, end: u64) -> u64
     ensures { RestsOf was next first end result }
 {
-    if was < first {
-        if end < next {
-            return 2;
-        }
-        return 1;
-    }
-    if end < next {
-        return 1;
-    }
-    0
+    u64::from(was < first) + u64::from(end < next)
 }
 
-// The numbers of a survey: `met` of `count` pieces are met, and leave so many rests.
-fn made(count: u64, met: u64, rests: u64, same: u64, near: u64) -> Report
-    ensures { Made count met rests same result }
-{
-    if count < met {
-        return Report {
-            same: same,
-            pieces: 0,
-            blocks: met,
-            near: near,
-        };
-    }
-    Report {
-        same: same,
-        pieces: tables::plus(tables::plus(count - met, rests), 1),
-        blocks: met,
-        near: near,
-    }
-}
-
-// The link of the lowest piece that is met: `link`, where none was met before it.
-fn lowest(met: u64, link: u64, before: u64) -> u64 {
-    if met == 0 {
-        return link;
-    }
-    before
-}
-
-// Surveys an operation. Each turn looks at the lowest piece that ends after `place`, mostly without a way down from the root: the search before it has
+// Surveys an operation. Each turn looks at the lowest piece that ends after the place, mostly without a way down from the root: the search before it has
 // left guesses. The place rises, so that it ends on any table.
+#[tactic(auto, using(crate::proofs::Surveying::survey_start))]
 pub fn survey(pieces: &[u64], store: &[u8], first: u64, bytes: &[u8]) -> Report
     ensures { Surveyed pieces.now store.now first bytes.now result }
 {
     let count = tables::get(pieces, 0, piece::COUNT);
-    let end = tables::plus(first, bytes.len() as u64);
-    let mut place = first;
-    let mut met: u64 = 0;
-    let mut rests: u64 = 0;
-    let mut same: u64 = 0;
-    let mut low: u64 = 0;
-    let mut near: u64 = 0;
-    let mut after: u64 = 0;
-    while place < end {
-        let found = piece_table::search_next(pieces, place, near, after);
+    let end = first.saturating_add(bytes.len() as u64);
+    let mut found = Found { link: 0, after: 0 };
+    let mut seen = Seen {
+        place: first,
+        same: 0,
+        met: 0,
+        rests: 0,
+        low: 0,
+    };
+    while seen.place < end {
+        found = piece_table::search_next(pieces, seen.place, found.link, found.after);
         let link = found.link;
         if link == 0 {
-            return made(count, met, rests, same, low);
+            break;
         }
-        let was = tables::get(pieces, link, piece::FIRST);
-        let next = tables::plus(was, tables::get(pieces, link, piece::LENGTH));
         if !merge_set::starts_below(pieces, link, end) {
-            return made(count, met, rests, same, low);
+            break;
         }
-        if next <= place {
-            return made(count, met, rests, same, low);
+        let piece = piece_table::read(pieces, link);
+        let next = piece.end();
+        if next <= seen.place {
+            break;
         }
-        same = held_bytes(pieces, store, bytes, link, first, place, next, same);
-        rests = tables::plus(rests, rests_of(was, next, first, end));
-        low = lowest(met, link, low);
-        met = tables::plus(met, 1);
-        near = link;
-        after = found.after;
-        place = next;
+        let rests = rests_of(piece.first, next, first, end);
+        let low = if seen.met == 0 { link } else { seen.low };
+        seen = Seen {
+            place: next,
+            same: held_bytes(store, first, bytes, piece, seen),
+            met: seen.met.saturating_add(1),
+            rests: seen.rests.saturating_add(rests),
+            low,
+        };
     }
-    made(count, met, rests, same, low)
+    seen.report(count)
 }

@@ -1,21 +1,15 @@
 -- The returns of `part`, and a part that the bytes have. Assumes nothing.
 use mathlib.Core.Path.{◌≡◌}
 use mathlib.Core.List.{List, []}
-use Prim.Native.Nat.{ℕ, ◌+◌, ◌-◌, ◌≤◌, ◌<◌}
-use native.Mathlib.Omega.{arith}
+use Prim.Native.Nat.{ℕ, ◌+◌, ◌≤◌, ◌<◌}
 use lib.ListN.{length, take, drop}
 use borrow.Author.Tests.{le-leb, lt-leb}
 use Rattle.tables.specs.Parts.{part_of}
 
+-- no place behind the end
 pub part_none : (bytes : List ℕ) (offset n : ℕ) → length bytes < offset + n → [] ≡ part_of bytes offset n
 unfolding part_of
 part_none bytes offset n h = rw (lt-leb (offset + n) (length bytes) h)
-
-pub part-some : (bytes : List ℕ) (offset n to : ℕ) → to ≡ offset + n → to ≤ length bytes → take (to - offset) (drop offset bytes) ≡ part_of bytes offset n
-unfolding part_of
-part-some bytes offset n to e h =
-    let w : to - offset ≡ n = omega arith in
-    rw (le-leb (offset + n) (length bytes) (omega arith), w)
 
 -- a part that the bytes have
 pub part-whole : (bytes : List ℕ) (offset n : ℕ) → offset + n ≤ length bytes → part_of bytes offset n ≡ take n (drop offset bytes)

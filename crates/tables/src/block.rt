@@ -66,17 +66,12 @@ pub const REST: usize = MARKS + 32 * 16;
 pub fn get(blocks: &[u64], link: u64, col: usize) -> u64
     ensures { result ≡ block_column blocks.now link col }
 {
-    if col < blocks.len() {
-        return super::get(blocks, link, BASE + col);
-    }
-    0
+    super::get(blocks, link, BASE.saturating_add(col))
 }
 
 // Sets column `col` of the row of `link`.
 pub fn put(blocks: &mut [u64], link: u64, col: usize, value: u64)
     ensures { blocks.new ≡ set blocks.old (row_width * link + (block_base + col)) value }
 {
-    if col < blocks.len() {
-        super::put(blocks, link, BASE + col, value);
-    }
+    super::put(blocks, link, BASE.saturating_add(col), value);
 }

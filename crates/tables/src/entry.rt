@@ -18,39 +18,19 @@ pub const WIDTH: usize = 2;
 pub fn rows(entries: &[u64]) -> u64
     ensures { result ≡ (length entries.now - entry_head) / entry_width }
 {
-    if entries.len() < HEAD {
-        return 0;
-    }
-    ((entries.len() - HEAD) / WIDTH) as u64
+    (entries.len().saturating_sub(HEAD) / WIDTH) as u64
 }
 
 // Column `col` of an entry row.
 pub fn get(entries: &[u64], row: u64, col: usize) -> u64
     ensures { result ≡ entry_column entries.now row col }
 {
-    let n = row as usize;
-    if HEAD < entries.len() {
-        let rest = entries.len() - HEAD;
-        if col < rest {
-            if n <= (rest - 1 - col) / WIDTH {
-                return entries[HEAD + (WIDTH * n + col)];
-            }
-        }
-    }
-    0
+    super::cell::<WIDTH>(entries, row, HEAD.saturating_add(col))
 }
 
 // Sets column `col` of an entry row.
 pub fn put(entries: &mut [u64], row: u64, col: usize, value: u64)
     ensures { entries.new ≡ set entries.old (entry_head + (entry_width * row + col)) value }
 {
-    let n = row as usize;
-    if HEAD < entries.len() {
-        let rest = entries.len() - HEAD;
-        if col < rest {
-            if n <= (rest - 1 - col) / WIDTH {
-                entries[HEAD + (WIDTH * n + col)] = value;
-            }
-        }
-    }
+    super::set_cell::<WIDTH>(entries, row, HEAD.saturating_add(col), value);
 }

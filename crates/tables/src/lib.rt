@@ -8,12 +8,11 @@
 
 #![tactic(auto)]
 
-ghost use Rattle.std.specs.Prelude.{◌≡◌, ℕ, ◌+◌, ◌-◌, ◌*◌, ◌/◌, min, max, length, get_or, set, replicate};
+ghost use Rattle.std.specs.Prelude.{◌≡◌, ℕ, ◌+◌, ◌-◌, ◌*◌, ◌/◌, ◌^◌, ◌≤◌, length, get_or, set, replicate, MatchOption};
 ghost use Rattle.std.proofs.lemmas.List.Edits.{sets};
 ghost use Rattle.lists.specs.Tests.{Decides};
 ghost use Rattle.history.specs.Lent.{row_width, entry_width, entry_head};
 ghost use Rattle.tables.specs.Columns.{column, block_column, block_base, entry_column};
-ghost use Rattle.tables.specs.Sums.{plus_up_to};
 ghost use Rattle.tables.specs.Parts.{part_of};
 
 pub mod block;
@@ -24,102 +23,68 @@ pub mod piece;
 // Numbers in a row of pieces, blocks or nodes.
 pub const ROW: usize = 8;
 
+// Where a place of a row stands, in a table of rows of `WIDTH` numbers; none where that is no 64-bit number, which no table reaches.
+fn index<const WIDTH: usize>(row: u64, place: usize) -> Option<usize>
+    ensures { MatchOption result (2 ^ 64 ≤ WIDTH * row + place) (λ at. at ≡ WIDTH * row + place) }
+{
+    (row as usize).checked_mul(WIDTH)?.checked_add(place)
+}
+
+// The number at a place of a row; 0 past the table's end.
+fn cell<const WIDTH: usize>(table: &[u64], row: u64, place: usize) -> u64
+    ensures { result ≡ get_or table.now (WIDTH * row + place) 0 }
+{
+    let Some(at) = index::<WIDTH>(row, place) else {
+        return 0;
+    };
+    table.get(at).copied().unwrap_or(0)
+}
+
+// Sets the number at a place of a row; past the table's end nothing changes.
+fn set_cell<const WIDTH: usize>(table: &mut [u64], row: u64, place: usize, value: u64)
+    ensures { table.new ≡ set table.old (WIDTH * row + place) value }
+{
+    let Some(at) = index::<WIDTH>(row, place) else {
+        return;
+    };
+    if at < table.len() {
+        table[at] = value;
+    }
+}
+
 // Column `col` of the row of `link`, of a piece or node table.
 pub fn get(table: &[u64], link: u64, col: usize) -> u64
     ensures { result ≡ column table.now link col }
 {
-    let row = link as usize;
-    if col < table.len() {
-        if row <= (table.len() - 1 - col) / ROW {
-            return table[ROW * row + col];
-        }
-    }
-    0
+    cell::<ROW>(table, link, col)
 }
 
 // Sets column `col` of the row of `link`, of a piece or node table.
 pub fn put(table: &mut [u64], link: u64, col: usize, value: u64)
     ensures { table.new ≡ set table.old (row_width * link + col) value }
 {
-    let row = link as usize;
-    if col < table.len() {
-        if row <= (table.len() - 1 - col) / ROW {
-            table[ROW * row + col] = value;
-        }
-    }
+    set_cell::<ROW>(table, link, col, value);
 }
 
 // How many rows of eight numbers a table of so many numbers has behind its head.
 pub fn rows(numbers: usize, head: usize) -> u64
     ensures { result ≡ (numbers - head) / row_width }
 {
-    if numbers < head {
-        return 0;
-    }
-    ((numbers - head) / ROW) as u64
-}
-
-// The sum, or the largest number where that is passed: in tables that nobody has tested numbers may be any.
-pub fn plus(a: u64, b: u64) -> u64
-    ensures { result ≡ plus_up_to a b }
-{
-    if b <= u64::MAX - a {
-        return a + b;
-    }
-    u64::MAX
-}
-
-// The difference, or 0 where there is none.
-pub fn minus(a: u64, b: u64) -> u64
-    ensures { result ≡ a - b }
-{
-    if b < a {
-        return a - b;
-    }
-    0
-}
-
-pub fn smaller(a: u64, b: u64) -> u64
-    ensures { result ≡ min a b }
-{
-    if a < b {
-        return a;
-    }
-    b
-}
-
-pub fn larger(a: u64, b: u64) -> u64
-    ensures { result ≡ max a b }
-{
-    if a < b {
-        return b;
-    }
-    a
+    (numbers.saturating_sub(head) / ROW) as u64
 }
 
 // Every number of the table becomes 0.
 pub fn zero(table: &mut [u64])
     ensures { table.new ≡ replicate (length table.old) 0 }
 {
-    let mut i = 0;
-    while i < table.len() {
-        table[i] = 0;
-        i += 1;
-    }
+    table.fill(0);
 }
 
 // Whether every number of the table is 0.
 pub fn all_zero(table: &[u64]) -> bool
     ensures { Decides result (table.now ≡ replicate (length table.now) 0) }
 {
-    let mut i = 0;
-    while i < table.len() {
-        if table[i] != 0 {
-            return false;
-        }
-        i += 1;
-    }
-    true
+    table.iter().all(|&n| n == 0)
 }
 
 // Copies bytes into the store from place `at` on, as far as the store goes.
@@ -129,28 +94,20 @@ pub fn copy_in(store: &mut [u8], at: usize, bytes: &[u8])
     if store.len() <= at {
         return;
     }
-    let room = store.len() - at;
-    let mut i = 0;
-    while i < bytes.len() {
-        if room <= i {
-            return;
-        }
-        store[at + i] = bytes[i];
-        i += 1;
-    }
+    let many = bytes.len().min(store.len() - at);
+    store[at..at + many].copy_from_slice(&bytes[..many]);
 }
 
 // So many bytes from an offset on; none where there are not so many.
+#[tactic(auto, using(crate::proofs::Parts::part_none), unfolding(crate::specs::Parts::part_of))]
 pub fn part<'a>(bytes: &'a [u8], offset: u64, many: u64) -> &'a [u8]
     ensures { result.now ≡ part_of bytes.now offset many }
 {
-    let from = offset as usize;
-    if bytes.len() < from {
-        return &bytes[0..0];
+    let Some(to) = offset.checked_add(many) else {
+        return &[];
+    };
+    match bytes.get(offset as usize..to as usize) {
+        Some(part) => part,
+        None => &[],
     }
-    if bytes.len() - from < many as usize {
-        return &bytes[0..0];
-    }
-    let to = from + many as usize;
-    &bytes[from..to]
 }

@@ -1,122 +1,91 @@
-// What the programs that try the crates have in common: what they count, in the columns of one slice, the line that they print, and a place in their data.
+// What the programs that try the crates have in common: what they count, the line that they print, and a place in their data.
 //
-//   specs/Counts   what a tally holds after each thing that is counted
-//   specs/Lines    what is printed of it
+//   specs/Counts     what a tally holds after each thing that is counted
+//   specs/Lines      what is printed of it
+//   proofs/Putting   the text of a line, put part after part
 
 #![tactic(auto)]
 
-ghost use Rattle.std.specs.Prelude.{◌≡◌, true, length, get_or};
+ghost use Rattle.std.specs.Prelude.{◌≡◌, ◌≢◌, true, false, length};
 ghost use Rattle.lists.specs.Puts.{Put, behind};
-ghost use Rattle.tally.specs.Counts.{raised, Counted, Compared, Answered};
-ghost use Rattle.tally.specs.Lines.{count_text, tally_line};
+ghost use Rattle.tally.specs.Lines.{count_text};
 
 use std::io::Print;
-
-// Answers compared, those that differ, and calls or tables refused. What else a program counts stands from `OWN` on.
-pub const COMPARED: usize = 0;
-
-pub const DIFFER: usize = 1;
-
-pub const REFUSED: usize = 2;
-
-pub const OWN: usize = 3;
 
 // Bytes lent for a line: none that the programs print is longer.
 pub const LINE: usize = 128;
 
-fn raised(count: u64) -> u64
-    ensures { result ≡ raised count }
-{
-    if count < u64::MAX {
-        return count + 1;
+// Answers compared, those that differ, and calls or tables refused.
+#[derive(Clone, Copy, Debug, Default, PartialEq, Eq)]
+pub struct Tally {
+    pub compared: u64,
+    pub differ: u64,
+    pub refused: u64,
+}
+
+impl Tally {
+    ghost use Rattle.tally.specs.Counts.{with_answer, with_refused, with_refusal};
+    ghost use Rattle.tally.specs.Lines.{tally_line};
+
+    pub fn compare(&mut self, alike: bool)
+        ensures { self.new ≡ with_answer self.old alike }
+    {
+        self.compared = self.compared.saturating_add(1);
+        if !alike {
+            self.differ = self.differ.saturating_add(1);
+        }
     }
-    count
-}
 
-pub fn get(tally: &[u64], column: usize) -> u64
-    ensures { result ≡ get_or tally.now column 0 }
-{
-    tables::get(tally, 0, column)
-}
-
-pub fn count(tally: &mut [u64], column: usize)
-    ensures { Counted tally.old tally.new column true }
-{
-    let more = raised(get(tally, column));
-    tables::put(tally, 0, column, more);
-}
-
-pub fn count_if(tally: &mut [u64], column: usize, yes: bool)
-    ensures { Counted tally.old tally.new column yes }
-{
-    if yes {
-        count(tally, column);
+    pub fn refuse(&mut self)
+        ensures { self.new ≡ with_refused self.old }
+    {
+        self.refused = self.refused.saturating_add(1);
     }
-}
 
-pub fn compare(tally: &mut [u64], alike: bool)
-    ensures { Compared tally.old tally.new alike }
-{
-    count(tally, COMPARED);
-    if !alike {
-        count(tally, DIFFER);
+    // Compares the number of a refusal, which is none where the call is accepted.
+    pub fn compare_answer(&mut self, told: Option<u64>, wanted: Option<u64>)
+        ensures alike { told ≡ wanted → self.new ≡ with_refusal (with_answer self.old true) told }
+        ensures differs { told ≢ wanted → self.new ≡ with_refusal (with_answer self.old false) told }
+    {
+        self.compare(told == wanted);
+        if told.is_some() {
+            self.refuse();
+        }
     }
-}
 
-// Compares the number of an answer, which is 0 where the call is accepted.
-pub fn compare_answer(tally: &mut [u64], told: u64, number: u64)
-    ensures { Answered tally.old tally.new told number }
-{
-    compare(tally, told == number);
-    if told != 0 {
-        count(tally, REFUSED);
+    // Puts how many were compared, how many of them differ, and how many were refused.
+    fn put_line(&self, line: &mut [u8], words: &[u8]) -> usize
+        ensures { Put line.old 0 (tally_line self.now words.now) line.new result }
+    {
+        let compared = put_count(line, 0, self.compared, b" compared, ");
+        let differ = put_count(line, compared, self.differ, b" differ, ");
+        let refused = put_count(line, differ, self.refused, words);
+        board_text::put(line, refused, b'\n')
+    }
+
+    // Prints these counts. No contract can say what is written, so it says what is put into the lent line, of which the part up to the answer is written.
+    pub fn print<W: Print>(&self, out: &W, line: &mut [u8], words: &[u8]) -> usize
+        ensures { Put line.old 0 (tally_line self.now words.now) line.new result }
+    {
+        let many = self.put_line(line, words);
+        let _is_written = out.write_all(&line[..many]).is_ok();
+        many
     }
 }
 
 // Puts a count, then words, into a line from a place on, as far as the line goes, and answers the place behind them.
-fn put_count(line: &mut [u8], at: usize, tally: &[u64], column: usize, words: &[u8]) -> usize
-    ensures { Put line.old at (count_text tally.now column words.now) line.new result }
+fn put_count(line: &mut [u8], at: usize, count: u64, words: &[u8]) -> usize
+    ensures { Put line.old at (count_text count words.now) line.new result }
 {
-    let behind = board_text::decimal(line, at, get(tally, column));
+    let behind = board_text::decimal(line, at, count);
     board_text::text(line, behind, words)
 }
 
-// Puts how many were compared, how many of them differ, and one count more.
-fn put_line(line: &mut [u8], tally: &[u64], column: usize, words: &[u8]) -> usize
-    ensures { Put line.old 0 (tally_line tally.now column words.now) line.new result }
+// Prints a count, then words, in the same way.
+pub fn print_count<W: Print>(out: &W, line: &mut [u8], count: u64, words: &[u8]) -> usize
+    ensures { Put line.old 0 (count_text count words.now) line.new result }
 {
-    let compared = put_count(line, 0, tally, COMPARED, b" compared, ");
-    let differ = put_count(line, compared, tally, DIFFER, b" differ, ");
-    let counted = put_count(line, differ, tally, column, words);
-    board_text::put(line, counted, b'\n')
-}
-
-// Prints a count, then words. No contract can say what is written, so it says what is put into the lent line, of which the part up to the answer is written.
-pub fn print_count<W: Print>(
-    out: &W,
-    line: &mut [u8],
-    tally: &[u64],
-    column: usize,
-    words: &[u8],
-) -> usize
-    ensures { Put line.old 0 (count_text tally.now column words.now) line.new result }
-{
-    let many = put_count(line, 0, tally, column, words);
-    let _is_written = out.write_all(&line[..many]).is_ok();
-    many
-}
-
-// Prints how many were compared, how many of them differ, and one count more, in the same way.
-pub fn print<W: Print>(
-    out: &W,
-    line: &mut [u8],
-    tally: &[u64],
-    column: usize,
-    words: &[u8],
-) -> usize
-    ensures { Put line.old 0 (tally_line tally.now column words.now) line.new result }
-{
-    let many = put_line(line, tally, column, words);
+    let many = put_count(line, 0, count, words);
     let _is_written = out.write_all(&line[..many]).is_ok();
     many
 }
@@ -125,11 +94,5 @@ pub fn print<W: Print>(
 pub fn skip(bytes: &[u8], at: usize, many: u64) -> usize
     ensures { result ≡ behind (length bytes.now) at many }
 {
-    if bytes.len() <= at {
-        return at;
-    }
-    if bytes.len() - at < many as usize {
-        return bytes.len();
-    }
-    at + many as usize
+    at.saturating_add(many as usize).min(bytes.len()).max(at)
 }

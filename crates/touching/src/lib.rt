@@ -9,10 +9,10 @@
 
 ghost use Rattle.layout.specs.Tables.{tables};
 ghost use Rattle.layout.specs.Relations.{TouchedBy, NextGivenBy, LastGivenBy};
-ghost use Rattle.touching_read.specs.Answers.{touching_of, neighbour_of};
+ghost use Rattle.refusals.specs.Numbers.{answer_by};
+ghost use Rattle.touching_read.specs.Answers.{near_told};
 
-use index_test::State;
-pub use touching_read::{Nearest, Touching};
+use refusals::Refusal;
 
 // The live blocks that hold a cell of [start, end) at a tick, ascending by first cell: their numbers go into the lent answer.
 pub fn touching(
@@ -25,18 +25,12 @@ pub fn touching(
     start: u64,
     end: u64,
     answer: &mut [u64],
-) -> Touching
+) -> Result<u64, Refusal>
     ensures { TouchedBy (tables pieces.now blocks.now store.now nodes.now entries.now) tick start end
-        answer.old answer.new (touching_of result) }
+        answer.old answer.new (answer_by (λ n. n) result) }
 {
-    let state = index_test::test(pieces, blocks, store, nodes, entries);
-    match state {
-        State::Bad => Touching::Refused(2),
-        State::Open => Touching::Refused(4),
-        State::Closed => {
-            touching_read::touching_closed(blocks, nodes, entries, tick, start, end, answer)
-        }
-    }
+    index_test::test(pieces, blocks, store, nodes, entries).closed()?;
+    touching_read::touching_closed(blocks, nodes, entries, tick, start, end, answer)
 }
 
 // The first live block that starts at the cell or after it.
@@ -48,15 +42,11 @@ pub fn next(
     entries: &[u64],
     tick: u64,
     cell: u64,
-) -> Nearest
-    ensures { NextGivenBy (tables pieces.now blocks.now store.now nodes.now entries.now) tick cell (neighbour_of result) }
+) -> Result<Option<u64>, Refusal>
+    ensures { NextGivenBy (tables pieces.now blocks.now store.now nodes.now entries.now) tick cell (answer_by near_told result) }
 {
-    let state = index_test::test(pieces, blocks, store, nodes, entries);
-    match state {
-        State::Bad => Nearest::Refused(2),
-        State::Open => Nearest::Refused(4),
-        State::Closed => touching_read::next_closed(blocks, nodes, entries, tick, cell),
-    }
+    index_test::test(pieces, blocks, store, nodes, entries).closed()?;
+    touching_read::next_closed(blocks, nodes, entries, tick, cell)
 }
 
 // The last live block whose cells are all below the cell.
@@ -68,13 +58,9 @@ pub fn last(
     entries: &[u64],
     tick: u64,
     cell: u64,
-) -> Nearest
-    ensures { LastGivenBy (tables pieces.now blocks.now store.now nodes.now entries.now) tick cell (neighbour_of result) }
+) -> Result<Option<u64>, Refusal>
+    ensures { LastGivenBy (tables pieces.now blocks.now store.now nodes.now entries.now) tick cell (answer_by near_told result) }
 {
-    let state = index_test::test(pieces, blocks, store, nodes, entries);
-    match state {
-        State::Bad => Nearest::Refused(2),
-        State::Open => Nearest::Refused(4),
-        State::Closed => touching_read::last_closed(blocks, nodes, entries, tick, cell),
-    }
+    index_test::test(pieces, blocks, store, nodes, entries).closed()?;
+    touching_read::last_closed(blocks, nodes, entries, tick, cell)
 }

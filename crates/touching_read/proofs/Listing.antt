@@ -1,11 +1,14 @@
 -- The returns of `touching_closed`: over a closed index they are the ledger's answers. Assumes nothing.
+use Rattle.std.specs.Prelude.{Option, Some, None}
 use mathlib.Core.Path.{◌≡◌, refl, sym, ap, ◌∙◌}
 use mathlib.Core.Logic.{inl, inr}
-use mathlib.Core.Bool.{true, cond}
+use mathlib.Core.Bool.{Bool, true, cond}
 use mathlib.Core.List.{List, [], ◌∷◌}
 use Prim.Native.Nat.{ℕ, ◌+◌, ◌≤◌, ◌<◌}
 use native.Mathlib.Omega.{arith}
 use lib.Dec.{ltb}
+use mir.Val.{bool_byte}
+use Rattle.std.specs.Option.{is_some}
 use lib.ListN.{length, set}
 use lib.Seq.{sets}
 use borrow.Author.Tests.{le-leb, lt-leb, lt-ltb, le-ltb}
@@ -18,12 +21,9 @@ use Rattle.history.specs.Refusals.{Answer, accepted, refused}
 use Rattle.history.specs.Sound.{Sound}
 use Rattle.tables.specs.Columns.{block_column, head_end, head_kind}
 use Rattle.segment_near.specs.declared.Neighbour.{Neighbour}
-use Rattle.segment_near.specs.declared.Neighbour.TheVariants.{Block as Next, Nothing}
-use Rattle.segment_touch.specs.declared.Listing.{Listing}
-use Rattle.segment_touch.specs.declared.Listing.TheVariants.{Listed, TooSmall}
 use Rattle.segment_touch.specs.Placing.{Placed, Starts}
 use Rattle.segment_touch.proofs.Agreeing.{starting_model}
-use Rattle.layout.specs.Tables.{Tables, tables, tree_tables, head_at}
+use Rattle.layout.specs.Tables.{tables, tree_tables}
 use Rattle.layout.specs.Encodes.{Encodes}
 use Rattle.layout.specs.Reads.{HandedInto}
 use Rattle.layout.proofs.Trees.{tree_known}
@@ -45,31 +45,31 @@ record Short (list answer : List ℕ) (at : ℕ) (answer' : List ℕ) : Type 0 w
   long : length answer < at + length list
   kept : answer' ≡ answer
 
-module _ {list answer : List ℕ} {at : ℕ} {answer' : List ℕ} {r : Listing} (p : Placed list answer at answer' r) where
-  placed-whole : {count : ℕ} → r ≡ Listed count → Whole list answer at answer' count
+module _ {list answer : List ℕ} {at : ℕ} {answer' : List ℕ} {r : Option ℕ} (p : Placed list answer at answer' r) where
+  placed-whole : {count : ℕ} → r ≡ Some count → Whole list answer at answer' count
   placed-whole {count} e =
       elim (le_or_lt (at + length list) (length answer)) [
         | inl h ↦
-            let y : r ≡ Listed (at + length list) = rw (le-leb (at + length list) (length answer) h) at p.result in
+            let y : r ≡ Some (at + length list) = rw (le-leb (at + length list) (length answer) h) at p.result in
             record { fits = h; many = cc; written = rw (le-leb (at + length list) (length answer) h) at p.left }
         | inr h ↦
-            let y : r ≡ TooSmall = rw (lt-leb (at + length list) (length answer) h) at p.result in
+            let y : r ≡ None = rw (lt-leb (at + length list) (length answer) h) at p.result in
             let z : ◌≡◌ {A = ℕ} 0 1 = cc in
             absurd (omega arith)
       ]
 
-  placed_short : r ≡ TooSmall → Short list answer at answer'
+  placed_short : r ≡ None → Short list answer at answer'
   placed_short e =
       elim (le_or_lt (at + length list) (length answer)) [
         | inl h ↦
-            let y : r ≡ Listed (at + length list) = rw (le-leb (at + length list) (length answer) h) at p.result in
+            let y : r ≡ Some (at + length list) = rw (le-leb (at + length list) (length answer) h) at p.result in
             let z : ◌≡◌ {A = ℕ} 0 1 = cc in
             absurd (omega arith)
         | inr h ↦ record { long = h; kept = rw (lt-leb (at + length list) (length answer) h) at p.left }
       ]
 
 -- what it lists of a closed index
-placed_started : {pieces blocks store nodes entries : List ℕ} {tick start stop : ℕ} {l : Ledger} {out : List ℕ} {at : ℕ} {out' : List ℕ} {r : Listing}
+placed_started : {pieces blocks store nodes entries : List ℕ} {tick start stop : ℕ} {l : Ledger} {out : List ℕ} {at : ℕ} {out' : List ℕ} {r : Option ℕ}
     → (e : Encodes (tables pieces blocks store nodes entries) l) (s : Sound l) (done : finished l ≡ true) (before : tick < l.opening.end)
     → Starts nodes entries (block_column blocks 0 head_kind) (block_column blocks 0 head_end) tick start stop out at out' r
     → Placed (started l s done tick before start stop) out at out' r
@@ -120,51 +120,59 @@ module _ {blocks nodes entries : List ℕ} {tick start stop last : ℕ} (e : las
         touching_by_lem (λ pieces store l enc s done before.
         rw (← touched_none l s done tick before start stop (omega arith)) (handed-whole [] out out 0 (omega arith) refl refl))
 
-    module _ {kind : ℕ} {found : Neighbour} {out out₁ : List ℕ} {at : ℕ} {r : Listing} (k : kind ≡ block_column blocks 0 head_kind) (o : OverAt blocks nodes entries tick start found)
+    module _ {kind : ℕ} {found : Option Neighbour} {out out₁ : List ℕ} {at : ℕ} {r : Option ℕ} (k : kind ≡ block_column blocks 0 head_kind) (o : OverAt blocks nodes entries tick start found)
         (f : Starts nodes entries kind last tick start stop out at out₁ r) where
       -- no block reaches over the start
-      module _ (is : found ≡ Nothing) (first : at ≡ 0) where
+      module _ (is : found ≡ None) (first : at ≡ 0) where
         plain : {pieces store : List ℕ} {l : Ledger} → (enc : Encodes (tables pieces blocks store nodes entries) l) (s : Sound l) (done : finished l ≡ true) → tick < l.opening.end
             → Placed (touching_by l tick start stop) out 0 out₁ r
         plain {store = store} {l} enc s done before =
             rw (← touched_started l s done tick before start stop (o.nothing is store l (closed_at enc s done (omega arith))))
             (rw first at (placed_started enc s done before (rw (k, e) at f)))
 
-        pub touching_listed : {count : ℕ} → r ≡ Listed count → TouchingClosed blocks nodes entries tick start stop out out₁ (accepted count)
+        pub touching_listed : {count : ℕ} → r ≡ Some count → TouchingClosed blocks nodes entries tick start stop out out₁ (accepted count)
         touching_listed {count} q =
             touching_by_lem (λ pieces store l enc s done before.
             let w = placed-whole (plain enc s done before) q in
             handed-whole (touching_by l tick start stop) out out₁ count (omega (arith, w.fits)) (omega (arith, w.many)) w.written)
 
-        pub touching_16 : r ≡ TooSmall → TouchingClosed blocks nodes entries tick start stop out out₁ (refused 16)
+        pub touching_16 : r ≡ None → TouchingClosed blocks nodes entries tick start stop out out₁ (refused 16)
         touching_16 q =
             touching_by_lem (λ pieces store l enc s done before.
             let w = placed_short (plain enc s done before) q in
             handed_short (touching_by l tick start stop) out out₁ (omega (arith, w.long)) w.kept)
 
       -- one does, and comes first
-      module _ {number place : ℕ} (is : found ≡ Next number place) (second : at ≡ 1) (some : start ≡ stop → ⊥) where
+      module _ {near : Neighbour} (is : found ≡ Some near) (second : at ≡ 1) (some : start ≡ stop → ⊥) where
         rest : {pieces store : List ℕ} {l : Ledger} → (enc : Encodes (tables pieces blocks store nodes entries) l) (s : Sound l) (done : finished l ≡ true) (before : tick < l.opening.end)
             → Placed (started l s done tick before start stop) out 1 out₁ r
         rest enc s done before = rw second at (placed_started enc s done before (rw (k, e) at f))
 
         whole : {pieces store : List ℕ} {l : Ledger} → (enc : Encodes (tables pieces blocks store nodes entries) l) (s : Sound l) (done : finished l ≡ true) (before : tick < l.opening.end)
-            → number ∷ started l s done tick before start stop ≡ touching_by l tick start stop
+            → near.number ∷ started l s done tick before start stop ≡ touching_by l tick start stop
         whole {store = store} {l} enc s done before =
-            touched-over l s done tick before start stop number (o.block number place is store l (closed_at enc s done (omega arith))) (omega arith)
+            touched-over l s done tick before start stop near.number (o.block near is store l (closed_at enc s done (omega arith))) (omega arith)
 
-        pub touching_over : {count : ℕ} {out' : List ℕ} → r ≡ Listed count → out' ≡ set out₁ 0 number → TouchingClosed blocks nodes entries tick start stop out out' (accepted count)
+        pub touching_over : {count : ℕ} {out' : List ℕ} → r ≡ Some count → out' ≡ set out₁ 0 near.number → TouchingClosed blocks nodes entries tick start stop out out' (accepted count)
         touching_over {count} {out'} q put =
             touching_by_lem (λ pieces store l enc s done before.
             let w = placed-whole (rest enc s done before) q in
             rw (← whole enc s done before)
-            (handed-whole (number ∷ started l s done tick before start stop) out out' count (omega (arith, w.fits)) (omega (arith, w.many))
-            (put ∙ ap (λ (x : List ℕ). set x 0 number) w.written ∙ sym (set-sets out 0 number 1 (started l s done tick before start stop) (omega arith)))))
+            (handed-whole (near.number ∷ started l s done tick before start stop) out out' count (omega (arith, w.fits)) (omega (arith, w.many))
+            (put ∙ ap (λ (x : List ℕ). set x 0 near.number) w.written ∙ sym (set-sets out 0 near.number 1 (started l s done tick before start stop) (omega arith)))))
 
-        pub touching_over_16 : r ≡ TooSmall → TouchingClosed blocks nodes entries tick start stop out out₁ (refused 16)
+        pub touching_over_16 : r ≡ None → TouchingClosed blocks nodes entries tick start stop out out₁ (refused 16)
         touching_over_16 q =
             touching_by_lem (λ pieces store l enc s done before.
             let w = placed_short (rest enc s done before) q in
-            rw (← whole enc s done before) (handed_short (number ∷ started l s done tick before start stop) out out₁ (omega (arith, w.long)) w.kept))
+            rw (← whole enc s done before) (handed_short (near.number ∷ started l s done tick before start stop) out out₁ (omega (arith, w.long)) w.kept))
 
-pub ruleset listing = (touching_14, touching_15, touching_empty, touching_listed, touching_16, touching_over, touching_over_16, arith)
+      -- either way: its place is kept free where there is one
+      pub touching_short : {q : Bool} → q ≡ is_some found → at ≡ bool_byte q → (start ≡ stop → ⊥) → r ≡ None → TouchingClosed blocks nodes entries tick start stop out out₁ (refused 16)
+      touching_short {q} asked place some none_left = go found refl
+        where
+          go : (x : Option Neighbour) → found ≡ x → TouchingClosed blocks nodes entries tick start stop out out₁ (refused 16)
+          go None is = touching_16 is (rw (asked, is) at place) none_left
+          go (Some near) is = touching_over_16 is (rw (asked, is) at place) some none_left
+
+pub ruleset listing = (touching_14, touching_15, touching_empty)

@@ -1,34 +1,29 @@
 -- The returns of `next_closed` and `last_closed`: over a closed index they are the ledger's neighbours. Assumes nothing.
+use Rattle.std.specs.Prelude.{Option as Found, Some, None}
 use mathlib.Core.Path.{◌≡◌, refl, ap}
 use mathlib.Core.Logic.{inl, inr}
-use mathlib.Core.Bool.{true}
 use mathlib.Core.Option.{Option, none, some}
 use mathlib.Core.List.{List}
 use Prim.Native.Nat.{ℕ, ◌≤◌, ◌<◌}
 use native.Mathlib.Omega.{arith}
 use Rattle.lists.proofs.Lists.{all_mem}
 use Rattle.lists.proofs.Numbers.{le_or_lt, lt_or_le}
-use Rattle.history.specs.Words.{Block, ends, live}
+use Rattle.history.specs.Words.{ends}
 use Rattle.history.specs.Tree.{block_at, key_in}
-use Rattle.history.specs.Ledger.{Ledger, finished}
+use Rattle.history.specs.Ledger.{Ledger}
 use Rattle.history.specs.Reads.{next_by, last_by}
-use Rattle.history.specs.Refusals.{Answer, accepted, refused, next_answer, last_answer}
-use Rattle.history.specs.Law.{LiveFrom, LiveBelow}
-use Rattle.history.specs.Sound.{Sound}
+use Rattle.history.specs.Refusals.{accepted, refused}
+use Rattle.history.specs.Law.{LiveBelow}
 use Rattle.history.proofs.Touching.{neighbours_law}
 use Rattle.tables.specs.Columns.{block_column, head_end, head_kind}
 use Rattle.segment_near.specs.declared.Side.TheVariants.{From, Before}
 use Rattle.segment_near.specs.declared.Neighbour.{Neighbour}
-use Rattle.segment_near.specs.declared.Neighbour.TheVariants.{Block as Next, Nothing}
 use Rattle.segment_near.specs.Neighbours.{NearestLive}
-use Rattle.layout.specs.Tables.{tables}
-use Rattle.layout.specs.Encodes.{Encodes}
-use Rattle.layout.specs.Reads.{ClosedBy}
 use Rattle.layout.specs.Relations.{near_of}
 use Rattle.layout.proofs.ReadLaws.{neighbour_14, neighbour_rest, out_refused, closed_refuses}
 use Rattle.runs.specs.Runs.{ClosedAt}
 use Rattle.runs.proofs.Seeing.{some_cell, meet_same}
-use Rattle.runs.proofs.Living.{Living, living}
+use Rattle.runs.proofs.Living.{living}
 use Rattle.touching_read.specs.Reads.{EndOf, NextClosed, LastClosed}
 use Rattle.touching_read.proofs.Reaching.{closed_at, end_is}
 
@@ -49,15 +44,15 @@ module _ {blocks nodes entries : List ℕ} {tick cell last : ℕ} (e : last ≡ 
     };
   }
 
-  module _ {kind : ℕ} {found : Neighbour} (k : kind ≡ block_column blocks 0 head_kind) (h : tick < last) (n : NearestLive nodes entries kind last tick From cell found) where
-    pub next_block : {number first : ℕ} → found ≡ Next number first → NextClosed blocks nodes entries tick cell (accepted (record { found = 1; number = number }))
-    next_block {number} {first} is = next_by_lem {x = some number} h (λ store l c.
+  module _ {kind : ℕ} {found : Found Neighbour} (k : kind ≡ block_column blocks 0 head_kind) (h : tick < last) (n : NearestLive nodes entries kind last tick From cell found) where
+    pub next_block : {b : Neighbour} → found ≡ Some b → NextClosed blocks nodes entries tick cell (accepted (record { found = 1; number = b.number }))
+    next_block {b} is = next_by_lem {x = some b.number} h (λ store l c.
         let v = living c in
-        let m = (v.near From cell (rw (k, e) at n)).block number first is in
-        (neighbours_law l c.sound c.done tick cell c.before_end).next.nearest number (record { living = v.lives number m.listed; starts = m.beside })
+        let m = (v.near From cell (rw (k, e) at n)).block b is in
+        (neighbours_law l c.sound c.done tick cell c.before_end).next.nearest b.number (record { living = v.lives b.number m.listed; starts = m.beside })
         (λ j p. all_mem m.nearest (v.met j p.living) p.starts))
 
-    pub next_missing : found ≡ Nothing → NextClosed blocks nodes entries tick cell (accepted (record { found = 0; number = 0 }))
+    pub next_missing : found ≡ None → NextClosed blocks nodes entries tick cell (accepted (record { found = 0; number = 0 }))
     next_missing is = next_by_lem {x = none} h (λ store l c.
         let v = living c in
         let without = (v.near From cell (rw (k, e) at n)).nothing is in
@@ -86,66 +81,66 @@ module _ {blocks nodes entries : List ℕ} {tick cell last : ℕ} (e : last ≡ 
     };
   }
 
-  module _ {kind : ℕ} {found : Neighbour} (k : kind ≡ block_column blocks 0 head_kind) (h : tick < last) (n : NearestLive nodes entries kind last tick Before cell found) where
+  module _ {kind : ℕ} {found : Found Neighbour} (k : kind ≡ block_column blocks 0 head_kind) (h : tick < last) (n : NearestLive nodes entries kind last tick Before cell found) where
     -- nothing starts before the cell
-    pub last_missing : found ≡ Nothing → LastClosed blocks nodes entries tick cell (accepted (record { found = 0; number = 0 }))
+    pub last_missing : found ≡ None → LastClosed blocks nodes entries tick cell (accepted (record { found = 0; number = 0 }))
     last_missing is = last_by_lem {x = none} h (λ store l c.
         let v = living c in
         let without = (v.near Before cell (rw (k, e) at n)).nothing is in
         (neighbours_law l c.sound c.done tick cell c.before_end).last.nothing (λ j p. all_mem without (v.met j p.living) (starts_below c j p)))
 
-    module _ {number first end : ℕ} (is : found ≡ Next number first) (at : EndOf blocks number end) where
+    module _ {b : Neighbour} {end : ℕ} (is : found ≡ Some b) (at : EndOf blocks b.number end) where
       -- the last that starts before the cell ends there too
-      pub last_block : end ≤ cell → LastClosed blocks nodes entries tick cell (accepted (record { found = 1; number = number }))
-      last_block g = last_by_lem {x = some number} h (λ store l c.
+      pub last_block : end ≤ cell → LastClosed blocks nodes entries tick cell (accepted (record { found = 1; number = b.number }))
+      last_block g = last_by_lem {x = some b.number} h (λ store l c.
           let v = living c in
-          let m = (v.near Before cell (rw (k, e) at n)).block number first is in
-          let a = v.lives number m.listed in
-          (neighbours_law l c.sound c.done tick cell c.before_end).last.nearest number (record { living = a; ended = omega (arith, end_is c number end a at) })
+          let m = (v.near Before cell (rw (k, e) at n)).block b is in
+          let a = v.lives b.number m.listed in
+          (neighbours_law l c.sound c.done tick cell c.before_end).last.nearest b.number (record { living = a; ended = omega (arith, end_is c b.number end a at) })
           (λ j p. all_mem m.nearest (v.met j p.living) (starts_below c j p)))
 
       -- it reaches over the cell: whatever lies below the cell starts before it
-      module _ {earlier : Neighbour} (g : cell < end) (n' : NearestLive nodes entries kind last tick Before first earlier) where
+      module _ {earlier : Found Neighbour} (g : cell < end) (n' : NearestLive nodes entries kind last tick Before b.first earlier) where
         before_first : {store : List ℕ} {l : Ledger} → (c : ClosedAt blocks store nodes entries (block_column blocks 0 head_kind) tick l) → (j : ℕ) → LiveBelow l tick cell j
-            → key_in l.now.blocks j < first
+            → key_in l.now.blocks j < b.first
         before_first {l = l} c j p =
             let v = living c in
-            let m = (v.near Before cell (rw (k, e) at n)).block number first is in
-            let a = v.lives number m.listed in
+            let m = (v.near Before cell (rw (k, e) at n)).block b is in
+            let a = v.lives b.number m.listed in
             let near = all_mem m.nearest (v.met j p.living) (starts_below c j p) in
-            elim (lt_or_le (key_in l.now.blocks j) first) [
+            elim (lt_or_le (key_in l.now.blocks j) b.first) [
               | inl y ↦ y
               | inr y ↦
-                  let one : j ≡ number =
-                  meet_same l.now.blocks tick v.apart v.filled j number p.living a
-                  (omega (arith, m.starts, near, some_cell l.now.blocks tick v.apart v.filled number a))
+                  let one : j ≡ b.number =
+                  meet_same l.now.blocks tick v.apart v.filled j b.number p.living a
+                  (omega (arith, m.starts, near, some_cell l.now.blocks tick v.apart v.filled b.number a))
                   (omega (arith, m.starts, some_cell l.now.blocks tick v.apart v.filled j p.living)) in
-                  absurd (omega (arith, p.ended, end_is c number end a at, ap (λ x. ends (block_at l.now.blocks x).stretch) one))
+                  absurd (omega (arith, p.ended, end_is c b.number end a at, ap (λ x. ends (block_at l.now.blocks x).stretch) one))
             ]
 
-        pub last_earlier : {number' first' : ℕ} → earlier ≡ Next number' first' → LastClosed blocks nodes entries tick cell (accepted (record { found = 1; number = number' }))
-        last_earlier {number'} {first'} is' = last_by_lem {x = some number'} h (λ store l c.
+        pub last_earlier : {b' : Neighbour} → earlier ≡ Some b' → LastClosed blocks nodes entries tick cell (accepted (record { found = 1; number = b'.number }))
+        last_earlier {b'} is' = last_by_lem {x = some b'.number} h (λ store l c.
             let v = living c in
-            let m = (v.near Before cell (rw (k, e) at n)).block number first is in
-            let m' = (v.near Before first (rw (k, e) at n')).block number' first' is' in
-            let a = v.lives number m.listed in
-            let a' = v.lives number' m'.listed in
-            let ended : ends (block_at l.now.blocks number').stretch ≤ cell =
-            elim (le_or_lt (ends (block_at l.now.blocks number').stretch) cell) [
+            let m = (v.near Before cell (rw (k, e) at n)).block b is in
+            let m' = (v.near Before b.first (rw (k, e) at n')).block b' is' in
+            let a = v.lives b.number m.listed in
+            let a' = v.lives b'.number m'.listed in
+            let ended : ends (block_at l.now.blocks b'.number).stretch ≤ cell =
+            elim (le_or_lt (ends (block_at l.now.blocks b'.number).stretch) cell) [
               | inl y ↦ y
               | inr y ↦
-                  let one : number' ≡ number =
-                  meet_same l.now.blocks tick v.apart v.filled number' number a' a
-                  (omega (arith, m.starts, m'.beside, some_cell l.now.blocks tick v.apart v.filled number a)) (omega (arith, m.starts, m.beside)) in
+                  let one : b'.number ≡ b.number =
+                  meet_same l.now.blocks tick v.apart v.filled b'.number b.number a' a
+                  (omega (arith, m.starts, m'.beside, some_cell l.now.blocks tick v.apart v.filled b.number a)) (omega (arith, m.starts, m.beside)) in
                   absurd (omega (arith, m.starts, m'.beside, ap (key_in l.now.blocks) one))
             ] in
-            (neighbours_law l c.sound c.done tick cell c.before_end).last.nearest number' (record { living = a'; ended = ended })
+            (neighbours_law l c.sound c.done tick cell c.before_end).last.nearest b'.number (record { living = a'; ended = ended })
             (λ j p. all_mem m'.nearest (v.met j p.living) (before_first c j p)))
 
-        pub last_none : earlier ≡ Nothing → LastClosed blocks nodes entries tick cell (accepted (record { found = 0; number = 0 }))
+        pub last_none : earlier ≡ None → LastClosed blocks nodes entries tick cell (accepted (record { found = 0; number = 0 }))
         last_none is' = last_by_lem {x = none} h (λ store l c.
             let v = living c in
-            let without = (v.near Before first (rw (k, e) at n')).nothing is' in
+            let without = (v.near Before b.first (rw (k, e) at n')).nothing is' in
             (neighbours_law l c.sound c.done tick cell c.before_end).last.nothing (λ j p. all_mem without (v.met j p.living) (before_first c j p)))
 
 pub ruleset lasting = (last_14, last_missing, last_block, last_earlier, last_none, arith)

@@ -1,41 +1,25 @@
 -- Where a block ends, and the live block that reaches over a place. One step for each return. Assumes nothing.
-use mathlib.Core.Path.{◌≡◌, refl, ◌∙◌, subst}
+use Rattle.std.specs.Prelude.{Option, Some, None}
+use mathlib.Core.Path.{◌≡◌, ◌∙◌, subst}
 use mathlib.Core.Bool.{true}
 use mathlib.Core.List.{List}
-use Prim.Native.Nat.{ℕ, suc, ◌+◌, ◌-◌, ◌^◌, ◌≤◌, ◌<◌}
+use Prim.Native.Nat.{ℕ, ◌-◌, ◌^◌, ◌≤◌, ◌<◌}
 use native.Mathlib.Omega.{arith}
-use native.Mathlib.Numerals.{add-one}
 use Rattle.lists.proofs.Lists.{all_at, all_mem}
-use Rattle.history.specs.Words.{Block, ends, live}
-use Rattle.history.specs.Tree.{no_block, block_at, key_in}
+use Rattle.history.specs.Words.{ends, live}
+use Rattle.history.specs.Tree.{no_block, block_at}
 use Rattle.history.specs.Ledger.{Ledger, finished}
 use Rattle.history.specs.Sound.{Sound}
-use Rattle.tables.specs.Columns.{block_column, head_end, head_kind, head_count}
-use Rattle.tables.specs.Sums.{plus_up_to}
-use Rattle.block_table.specs.Blocks.{first_cell_at, length_at}
+use Rattle.tables.specs.Columns.{block_column, head_end, head_kind}
 use Rattle.segment_near.specs.declared.Side.TheVariants.{Before}
 use Rattle.segment_near.specs.declared.Neighbour.{Neighbour}
-use Rattle.segment_near.specs.declared.Neighbour.TheVariants.{Block as Next, Nothing}
 use Rattle.segment_near.specs.Neighbours.{NearestLive}
 use Rattle.layout.specs.Tables.{tables}
 use Rattle.layout.specs.Encodes.{Encodes}
-use Rattle.runs.specs.Runs.{ClosedAt, Passed}
+use Rattle.runs.specs.Runs.{ClosedAt}
 use Rattle.runs.proofs.Seeing.{live-number, passed_last, passed_first}
-use Rattle.runs.proofs.Living.{Living, living}
+use Rattle.runs.proofs.Living.{living}
 use Rattle.touching_read.specs.Reads.{EndOf, Reaches, OverAt}
-
--- ── the end of a block ──
-
-pub end_unknown : {blocks : List ℕ} {count number : ℕ} → count ≡ block_column blocks 0 head_count → count ≤ number → EndOf blocks number 0
-end_unknown e h = record { ended = λ known. absurd (omega arith) }
-
-pub end_known : {blocks : List ℕ} {number link first length r : ℕ} → link ≡ number + 1 → first ≡ first_cell_at blocks link → length ≡ length_at blocks link
-    → r ≡ plus_up_to first length → EndOf blocks number r
-end_known {blocks} {number} {link} {first} {length} at f n e =
-    let row : link ≡ suc number = at ∙ add-one number in
-    record { ended = λ known. e ∙ rw (f, n, row) }
-
-pub ruleset ending = (end_unknown, end_known, arith)
 
 -- ── a closed index ──
 
@@ -56,38 +40,36 @@ end_is {l = l} c k r lives e =
 
 -- ── the returns of `over` ──
 
-module _ {blocks nodes entries : List ℕ} {kind last tick place : ℕ} {found : Neighbour} (k : kind ≡ block_column blocks 0 head_kind) (e : last ≡ block_column blocks 0 head_end)
+module _ {blocks nodes entries : List ℕ} {kind last tick place : ℕ} {found : Option Neighbour} (k : kind ≡ block_column blocks 0 head_kind) (e : last ≡ block_column blocks 0 head_end)
     (n : NearestLive nodes entries kind last tick Before place found) where
-  pub over_none : found ≡ Nothing → OverAt blocks nodes entries tick place Nothing
+  pub over_none : found ≡ None → OverAt blocks nodes entries tick place None
   over_none is = record {
-    block = λ j first z. let no : ◌≡◌ {A = ℕ} 0 1 = cc in absurd (omega arith);
+    block = λ x z. let no : ◌≡◌ {A = ℕ} 0 1 = cc in absurd (omega arith);
     nothing = λ _ store l c.
         let v = living c in
         let without = (v.near Before place (rw (k, e) at n)).nothing is in
         passed_first l.now.blocks tick v.apart v.filled place (λ j b g. all_mem without (v.met j b) g);
   }
 
-  module _ {number first end : ℕ} (is : found ≡ Next number first) (at : EndOf blocks number end) where
-    pub over_ended : end ≤ place → OverAt blocks nodes entries tick place Nothing
+  module _ {b : Neighbour} {end : ℕ} (is : found ≡ Some b) (at : EndOf blocks b.number end) where
+    pub over_ended : end ≤ place → OverAt blocks nodes entries tick place None
     over_ended h = record {
-      block = λ j first' z. let no : ◌≡◌ {A = ℕ} 0 1 = cc in absurd (omega arith);
+      block = λ x z. let no : ◌≡◌ {A = ℕ} 0 1 = cc in absurd (omega arith);
       nothing = λ _ store l c.
           let v = living c in
-          let m = (v.near Before place (rw (k, e) at n)).block number first is in
-          let a = v.lives number m.listed in
-          passed_last l.now.blocks tick v.apart v.filled number place a (λ j b g. all_mem m.nearest (v.met j b) g) (omega (arith, end_is c number end a at));
+          let m = (v.near Before place (rw (k, e) at n)).block b is in
+          let a = v.lives b.number m.listed in
+          passed_last l.now.blocks tick v.apart v.filled b.number place a (λ j y g. all_mem m.nearest (v.met j y) g) (omega (arith, end_is c b.number end a at));
     }
 
-    pub over_block : place < end → OverAt blocks nodes entries tick place (Next number first)
+    pub over_block : place < end → OverAt blocks nodes entries tick place (Some b)
     over_block h = record {
-      block = λ j first' z store l c.
+      block = λ x z store l c.
           let v = living c in
-          let m = (v.near Before place (rw (k, e) at n)).block number first is in
-          let a = v.lives number m.listed in
-          let same : number ≡ j = cc in
-          subst (λ (x : ℕ). Reaches l.now.blocks tick place x) same
-          (record { lives = a; before = m.beside; beyond = omega (arith, end_is c number end a at) });
+          let m = (v.near Before place (rw (k, e) at n)).block b is in
+          let a = v.lives b.number m.listed in
+          let same : b ≡ x = cc in
+          subst (λ (y : Neighbour). Reaches l.now.blocks tick place y.number) same
+          (record { lives = a; before = m.beside; beyond = omega (arith, end_is c b.number end a at) });
       nothing = λ z. let no : ◌≡◌ {A = ℕ} 0 1 = cc in absurd (omega arith);
     }
-
-pub ruleset reaching = (over_none, over_ended, over_block, arith)

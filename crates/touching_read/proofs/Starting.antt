@@ -1,17 +1,16 @@
 -- The blocks that touch a window: those that start in it, in order of first cell, behind the one that reaches over its start. Assumes nothing.
-use mathlib.Core.Path.{◌≡◌, refl, ap, ◌∙◌}
-use mathlib.Core.Logic.{inl, inr, ◌≢◌}
+use mathlib.Core.Path.{◌≡◌, ◌∙◌}
+use mathlib.Core.Logic.{inl, inr}
 use mathlib.Core.Bool.{Bool, true, false, cond, ◌&&◌}
 use mathlib.Core.List.{List, [], ◌∷◌}
 use Prim.Native.Nat.{ℕ, ◌≤◌, ◌<◌}
 use native.Mathlib.Omega.{arith}
-use lib.ListN.{length}
-use Rattle.lists.specs.Lists.{All, Mem, here, there, Ascending, pairs_nil, pairs_cons, count}
-use Rattle.lists.proofs.Numbers.{le_or_lt, lt_or_le, eq_or_ne, and_left, and_right, and_both}
+use Rattle.lists.specs.Lists.{Mem, here, there, Ascending, pairs_nil, pairs_cons, count}
+use Rattle.lists.proofs.Numbers.{lt_or_le, eq_or_ne, and_left, and_right, and_both}
 use Rattle.lists.proofs.Lists.{all_map, all_of_mem}
 use Rattle.lists.proofs.Counting.{not_mem_nil, count_distinct}
-use Rattle.history.specs.Words.{within, Block, ends, first_cell, live}
-use Rattle.history.specs.Tree.{no_block, block_at, key_in}
+use Rattle.history.specs.Words.{within, Block, first_cell, live}
+use Rattle.history.specs.Tree.{no_block, key_in}
 use Rattle.history.specs.Rules.{Apart}
 use Rattle.history.specs.Ledger.{Ledger, finished}
 use Rattle.history.specs.Reads.{block_by, find_by, touches, touching_by}

@@ -1,5 +1,5 @@
 -- What touching, next and last hand out of a closed index, for the ledger that its tables stand for. Definitions alone.
-use Rattle.std.specs.Prelude.{◌≡◌, true, List, ℕ, suc, ◌≤◌, ◌<◌, length}
+use Rattle.std.specs.Prelude.{◌≡◌, Option, Some, None, true, List, ℕ, suc, ◌<◌, length}
 use Rattle.history.specs.Words.{Block, ends, live}
 use Rattle.history.specs.Tree.{block_at, key_in}
 use Rattle.history.specs.Ledger.{Ledger}
@@ -8,7 +8,6 @@ use Rattle.tables.specs.Columns.{block_column, head_kind, head_count}
 use Rattle.tables.specs.Sums.{plus_up_to}
 use Rattle.block_table.specs.Blocks.{first_cell_at, length_at}
 use Rattle.segment_near.specs.declared.Neighbour.{Neighbour}
-use Rattle.segment_near.specs.declared.Neighbour.TheVariants.{Block as Next, Nothing}
 use Rattle.layout.specs.Tables.{tables}
 use Rattle.layout.specs.Reads.{HandedOut, HandedInto, ClosedBy}
 use Rattle.layout.specs.Relations.{Near, near_of}
@@ -27,10 +26,10 @@ pub record Reaches (bs : List Block) (t place k : ℕ) : Type 0 where
   pub beyond : place < ends (block_at bs k).stretch
 
 -- the one that does, of a closed index; where there is none the place is passed
-pub record OverAt (blocks nodes entries : List ℕ) (tick place : ℕ) (r : Neighbour) : Type 0 where
-  pub block : (k first : ℕ) → r ≡ Next k first → (store : List ℕ) (l : Ledger) → ClosedAt blocks store nodes entries (block_column blocks 0 head_kind) tick l
-      → Reaches l.now.blocks tick place k
-  pub nothing : r ≡ Nothing → (store : List ℕ) (l : Ledger) → ClosedAt blocks store nodes entries (block_column blocks 0 head_kind) tick l → Passed l.now.blocks tick place
+pub record OverAt (blocks nodes entries : List ℕ) (tick place : ℕ) (r : Option Neighbour) : Type 0 where
+  pub block : (n : Neighbour) → r ≡ Some n → (store : List ℕ) (l : Ledger) → ClosedAt blocks store nodes entries (block_column blocks 0 head_kind) tick l
+      → Reaches l.now.blocks tick place n.number
+  pub nothing : r ≡ None → (store : List ℕ) (l : Ledger) → ClosedAt blocks store nodes entries (block_column blocks 0 head_kind) tick l → Passed l.now.blocks tick place
 
 -- ── the reads ──
 

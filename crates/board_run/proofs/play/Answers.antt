@@ -1,9 +1,9 @@
--- `board_run::play` meets its contract: each arm is a step of `playing`. Assumes nothing.
-use Rattle.board_run.proofs.Running.{playing}
+-- `board_run::play` meets its contract: refused, or played. Assumes nothing.
+use Rattle.board_run.proofs.Running.{play_refused, play_opened}
 use Rattle.board_run.proofs.play.Goals as goal
 
-pub returns-in-Refused : goal.returns-in-Refused
-returns-in-Refused c = search playing
+pub returns-in-Ok : goal.returns-in-Ok
+returns-in-Ok c = play_opened c.open.ensures c.in-Ok.is c.play_open.ensures
 
-pub returns-in-Opened : goal.returns-in-Opened
-returns-in-Opened c = search playing
+pub returns-in-Err : goal.returns-in-Err
+returns-in-Err c = play_refused c.open.ensures c.in-Err.is c.from.ensures c.open_refused.ensures

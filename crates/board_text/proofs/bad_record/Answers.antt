@@ -1,7 +1,5 @@
--- `board_text::bad_record` meets its contract. Assumes nothing.
 use Rattle.lists.proofs.Puts.{put_append}
 use Rattle.board_text.proofs.bad_record.Goals as goal
 
--- src/lib.rt:185:1
 pub returns : goal.returns
 returns c = put_append c.text-next.ensures c.last_field.ensures

@@ -1,22 +1,21 @@
--- `call_lists::operation_at` meets its contract: each return is a step of `items`. Assumes nothing.
-use borrow.Author.Rules.{rules}
-use Rattle.call_lists.proofs.Reading.{start_inside, items}
+-- Each return of `operation_at` is a step of the reader.
+use Rattle.call_lists.proofs.Reading.{start_inside, item_no_tick, item_no_first, item_no_length, item_cut, item_whole}
 use Rattle.call_lists.proofs.operation_at.Goals as goal
 
-pub returns-in_default : goal.returns-in_default
-returns-in_default c = search items
+pub returns-in_err-tick : goal.returns-in_err-tick
+returns-in_err-tick c = rw c.from_residual.ensures (item_no_tick _ _ c.in_err-tick.ensures)
 
-pub returns-in_default-number_at : goal.returns-in_default-number_at
-returns-in_default-number_at c = search items
+pub returns-in_err-first : goal.returns-in_err-first
+returns-in_err-first c = rw c.from_residual-in_err-first.ensures (item_no_first _ _ c.in_ok-tick.ensures c.in_err-first.ensures)
 
-pub returns-in_default-number_at-2 : goal.returns-in_default-number_at-2
-returns-in_default-number_at-2 c = search items
+pub returns-in_err-length : goal.returns-in_err-length
+returns-in_err-length c = rw c.from_residual-in_err-length.ensures (item_no_length _ _ c.in_ok-tick.ensures c.in_ok-first.ensures c.in_err-length.ensures)
 
 pub overflow_sub-list : goal.overflow_sub-list
-overflow_sub-list c = search (rules, start_inside)
+overflow_sub-list c = start_inside _ _ c.in_ok-length.ensures
 
 pub returns-then-list-start : goal.returns-then-list-start
-returns-then-list-start c = search (items, rules)
+returns-then-list-start c = item_cut _ _ c.in_ok-tick.ensures c.in_ok-first.ensures c.in_ok-length.ensures c.if-list-start.true
 
 pub returns : goal.returns
-returns c = search (items, rules)
+returns c = item_whole _ _ c.in_ok-tick.ensures c.in_ok-first.ensures c.in_ok-length.ensures c.if-list-start.false

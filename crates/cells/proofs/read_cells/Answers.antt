@@ -1,12 +1,12 @@
--- `cells::read_cells` meets its contract: each arm is a step of `answering`. Assumes nothing.
-use Rattle.cells.proofs.Answering.{answering}
+-- `cells::read_cells` meets its contract: refused by the state, or what the inner call hands out. Assumes nothing.
+use Rattle.std.proofs.lemmas.Result.{err_from_is_err_and}
+use Rattle.cells.proofs.Answering.{cells_not_closed, cells_read}
 use Rattle.cells.proofs.read_cells.Goals as goal
 
-pub returns-in-Bad : goal.returns-in-Bad
-returns-in-Bad c = search answering
+pub returns-in_err-closed : goal.returns-in_err-closed
+returns-in_err-closed c =
+    let p = err_from_is_err_and c.from_residual.result c.from_residual.ensures.1 in
+    rw (p.1, p.2) (cells_not_closed c.test.result c.test.ensures c.closed.ensures c.in_err-closed.was)
 
-pub returns-in-Open : goal.returns-in-Open
-returns-in-Open c = search answering
-
-pub returns-in-Closed : goal.returns-in-Closed
-returns-in-Closed c = search answering
+pub returns : goal.returns
+returns c = cells_read c.test.result c.test.ensures c.closed.ensures c.in_ok-closed.was c.read_closed.ensures

@@ -1,24 +1,28 @@
--- `load` meets its contract: each return is a step of `proofs/Loading`. Assumes nothing.
-use mathlib.Core.Bool.{not}
-use mathlib.Core.Path.{ap}
-use native.Mathlib.Omega.{arith}
+-- Each return is a step of `proofs/Loading`.
+use Rattle.std.proofs.Common.{◌≡◌, arith, length, replicate, refl}
+use Rattle.std.proofs.lemmas.Grind.{common_steps}
+use Rattle.std.proofs.lemmas.Result.{err_from_is_err_and}
 use Rattle.file_load.proofs.Loading.{load_start, load_scan, load_full, load_broken, load_right}
 use Rattle.file_load.proofs.load.Goals as goal
 
+pub returns-in_err-counts : goal.returns-in_err-counts
+returns-in_err-counts c =
+    let p = err_from_is_err_and c.from_residual.result c.from_residual.ensures.1 in
+    rw (p.1, p.2) (load_scan _ _ _ _ _ _ _ c.in_err-counts.ensures)
+
 pub returns-then-not-room : goal.returns-then-not-room
-returns-then-not-room c = load_full _ _ _ _ _ _ _ c.scan.ensures c.in-Counts.is c.room.ensures (ap not c.if-not-room.true)
+returns-then-not-room c = load_full _ _ _ _ _ _ _ c.in_ok-counts.ensures c.room.ensures c.if-not-room.true
 
-pub overflow_add-start : goal.overflow_add-start
-overflow_add-start c = omega (arith, load_start _ _ c.scan.ensures c.in-Counts.is)
+pub overflow_add-at : goal.overflow_add-at
+overflow_add-at c = omega (arith, load_start _ _ c.in_ok-counts.ensures)
 
-pub returns-then-fault-ne0 : goal.returns-then-fault-ne0
-returns-then-fault-ne0 c =
-    let kept = c.build-fault.auto in
-    load_broken _ _ _ _ _ _ _ c.scan.ensures c.in-Counts.is c.room.ensures (ap not c.if-not-room.false) c.build-fault.ensures c.if-fault-ne0.true c.zero.ensures c.zero_all.ensures kept.blocks kept.store kept.nodes kept.entries
+pub returns-in-Ok : goal.returns-in-Ok
+returns-in-Ok c =
+    let cleared : c.fill.new.self ≡ replicate (length c.args.pieces.now) 0 = grind (arith, common_steps) in
+    load_right _ _ _ _ _ _ _ c.in_ok-counts.ensures c.room.ensures c.if-not-room.false c.in-Ok.ensures refl cleared
 
-pub returns-in-Fault : goal.returns-in-Fault
-returns-in-Fault c = load_scan _ _ _ _ _ _ _ c.scan.ensures c.in-Fault.is
-
-pub returns-else-fault-ne0 : goal.returns-else-fault-ne0
-returns-else-fault-ne0 c =
-    load_right _ _ _ _ _ _ _ c.scan.ensures c.in-Counts.is c.room.ensures (ap not c.if-not-room.false) c.build-fault.ensures c.if-fault-ne0.false c.zero.ensures
+pub returns-in-Err : goal.returns-in-Err
+returns-in-Err c =
+    let kept = c.build-built.auto in
+    let cleared : c.fill.new.self ≡ replicate (length c.args.pieces.now) 0 = grind (arith, common_steps) in
+    load_broken _ _ _ _ _ _ _ c.in_ok-counts.ensures c.room.ensures c.if-not-room.false c.in-Err.ensures c.in-Err.refusal refl cleared c.zero_all.ensures kept.blocks kept.store kept.nodes kept.entries

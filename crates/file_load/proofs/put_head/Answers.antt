@@ -1,6 +1,6 @@
--- `put_head` meets its contract: zeros, and the last row behind them, are the head. Assumes nothing.
+-- Zeros, and the last row behind them, are the head.
 use Rattle.file_load.proofs.Building.{head_put}
 use Rattle.file_load.proofs.put_head.Goals as goal
 
 pub returns : goal.returns
-returns c = search head_put
+returns c = head_put c.put_zeros.ensures c.put_row.ensures

@@ -3,8 +3,8 @@ use borrow.Author.Rules.{rules}
 use Rattle.find_all.proofs.Asking.{ones}
 use Rattle.find_all.proofs.find_one.Goals as goal
 
-pub returns-in-Listed : goal.returns-in-Listed
-returns-in-Listed c = search (ones, rules)
+pub returns-in-Ok : goal.returns-in-Ok
+returns-in-Ok c = search (ones, rules)
 
-pub returns-in-Refused : goal.returns-in-Refused
-returns-in-Refused c = search (ones, rules)
+pub returns-in-Err : goal.returns-in-Err
+returns-in-Err c = search (ones, rules)

@@ -2,8 +2,8 @@
 use Rattle.index.proofs.Answering.{carrying}
 use Rattle.index.proofs.block_bytes.Goals as goal
 
-pub returns-in-Block : goal.returns-in-Block
-returns-in-Block c = search carrying
+pub returns-in-Ok : goal.returns-in-Ok
+returns-in-Ok c = search carrying
 
-pub returns-in-Refused : goal.returns-in-Refused
-returns-in-Refused c = search carrying
+pub returns-in-Err : goal.returns-in-Err
+returns-in-Err c = search carrying

@@ -1,12 +1,13 @@
--- `reads_tested::last_tested` meets its contract: each return is a step of `last-answers`. Assumes nothing.
-use Rattle.reads_tested.proofs.Answering.{last_answers}
+-- `reads_tested::last_tested` meets its contract: refused by the state, or what the inner call hands out. Assumes nothing.
+use Rattle.std.proofs.Common.{rules}
+use Rattle.std.proofs.lemmas.Result.{err_from_is_err_and}
+use Rattle.reads_tested.proofs.Answering.{last_refused, last_taken}
 use Rattle.reads_tested.proofs.last_tested.Goals as goal
 
-pub returns-in-Bad : goal.returns-in-Bad
-returns-in-Bad c = search last_answers
+pub returns-in_err-closed : goal.returns-in_err-closed
+returns-in_err-closed c =
+    let p = err_from_is_err_and c.from_residual.result c.from_residual.ensures.1 in
+    rw (p.1, p.2) (last_refused c.args.state c.closed.ensures c.in_err-closed.was)
 
-pub returns-in-Open : goal.returns-in-Open
-returns-in-Open c = search last_answers
-
-pub returns-in-Closed : goal.returns-in-Closed
-returns-in-Closed c = search last_answers
+pub returns : goal.returns
+returns c = last_taken c.args.state c.closed.ensures c.in_ok-closed.was (search rules)

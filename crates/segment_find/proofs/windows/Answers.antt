@@ -1,5 +1,4 @@
 -- `segment_find::windows` meets its contract: each turn and each return is one step of `windowing`. Assumes nothing.
-use Rattle.std.proofs.Common.{rules}
 use Rattle.segment_find.proofs.Windowing.{windows_empty, windows_more, windowing}
 use Rattle.segment_find.proofs.windows.Goals as goal
 

@@ -1,10 +1,10 @@
--- `servercape::servercape_block` meets its contract: each return is its answer's number. Assumes nothing.
-use Rattle.index_read.specs.Answers.{given_of}
-use Rattle.servercape.proofs.Answering.{answer_0, answer_n, numbers}
+-- `servercape::servercape_block` meets its contract: given or refused. Assumes nothing.
+use Rattle.index_read.specs.Answers.{fields_given}
+use Rattle.servercape.proofs.Answering.{result_0, result_n}
 use Rattle.servercape.proofs.servercape_block.Goals as goal
 
-pub returns-in-Block : goal.returns-in-Block
-returns-in-Block c = search (answer_0 given_of, numbers)
+pub returns-in-Ok : goal.returns-in-Ok
+returns-in-Ok c = result_0 fields_given c.block.ensures c.in-Ok.is
 
-pub returns-in-Refused : goal.returns-in-Refused
-returns-in-Refused c = search (answer_n given_of, numbers)
+pub returns-in-Err : goal.returns-in-Err
+returns-in-Err c = result_n fields_given c.block.ensures c.in-Err.is c.from.ensures

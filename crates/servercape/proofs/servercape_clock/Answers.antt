@@ -1,10 +1,9 @@
--- `servercape::servercape_clock` meets its contract: each return is its answer's number. Assumes nothing.
-use Rattle.clock.specs.Answers.{told_of}
-use Rattle.servercape.proofs.Answering.{answer_0, answer_n, numbers}
+-- `servercape::servercape_clock` meets its contract: taken or refused. Assumes nothing.
+use Rattle.servercape.proofs.Answering.{result_0, result_n}
 use Rattle.servercape.proofs.servercape_clock.Goals as goal
 
-pub returns-in-Label : goal.returns-in-Label
-returns-in-Label c = search (answer_0 told_of, numbers)
+pub returns-in-Ok : goal.returns-in-Ok
+returns-in-Ok c = result_0 (λ n. n) c.clock.ensures c.in-Ok.is
 
-pub returns-in-Refused : goal.returns-in-Refused
-returns-in-Refused c = search (answer_n told_of, numbers)
+pub returns-in-Err : goal.returns-in-Err
+returns-in-Err c = result_n (λ n. n) c.clock.ensures c.in-Err.is c.from.ensures

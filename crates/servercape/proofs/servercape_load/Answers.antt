@@ -1,10 +1,9 @@
--- `servercape::servercape_load` meets its contract: each return is its answer's number. Assumes nothing.
-use Rattle.file_load.specs.Load.{loaded_of}
-use Rattle.servercape.proofs.Answering.{answer_0, answer_n, numbers}
+-- `servercape::servercape_load` meets its contract: taken or refused. Assumes nothing.
+use Rattle.servercape.proofs.Answering.{result_0, result_n}
 use Rattle.servercape.proofs.servercape_load.Goals as goal
 
-pub returns-in-Next : goal.returns-in-Next
-returns-in-Next c = search (answer_0 loaded_of, numbers)
+pub returns-in-Ok : goal.returns-in-Ok
+returns-in-Ok c = result_0 (λ n. n) c.deserialize.ensures c.in-Ok.is
 
-pub returns-in-Refused : goal.returns-in-Refused
-returns-in-Refused c = search (answer_n loaded_of, numbers)
+pub returns-in-Err : goal.returns-in-Err
+returns-in-Err c = result_n (λ n. n) c.deserialize.ensures c.in-Err.is c.from.ensures

@@ -1,10 +1,9 @@
--- `servercape::servercape_open` meets its contract: each return is its answer's number. Assumes nothing.
-use Rattle.index.specs.Answers.{opened_of}
-use Rattle.servercape.proofs.Answering.{answer_0, answer_n, numbers}
+-- `servercape::servercape_open` meets its contract: opened or refused. Assumes nothing.
+use Rattle.servercape.proofs.Answering.{result_0, result_n}
 use Rattle.servercape.proofs.servercape_open.Goals as goal
 
-pub returns-in-Opened : goal.returns-in-Opened
-returns-in-Opened c = search (answer_0 opened_of, numbers)
+pub returns-in-Ok : goal.returns-in-Ok
+returns-in-Ok c = result_0 (λ u. u) c.open.ensures c.in-Ok.is
 
-pub returns-in-Refused : goal.returns-in-Refused
-returns-in-Refused c = search (answer_n opened_of, numbers)
+pub returns-in-Err : goal.returns-in-Err
+returns-in-Err c = result_n (λ u. u) c.open.ensures c.in-Err.is c.from.ensures

@@ -1,10 +1,9 @@
--- `servercape::servercape_read_cells` meets its contract: each return is its answer's number. Assumes nothing.
-use Rattle.cells_read.specs.Answers.{read_of}
-use Rattle.servercape.proofs.Answering.{answer_0, answer_n, numbers}
+-- `servercape::servercape_read_cells` meets its contract: taken or refused. Assumes nothing.
+use Rattle.servercape.proofs.Answering.{result_0, result_n}
 use Rattle.servercape.proofs.servercape_read_cells.Goals as goal
 
-pub returns-in-Filled : goal.returns-in-Filled
-returns-in-Filled c = search (answer_0 read_of, numbers)
+pub returns-in-Ok : goal.returns-in-Ok
+returns-in-Ok c = result_0 (λ _. tt) c.read_cells-read.ensures c.in-Ok.is
 
-pub returns-in-Refused : goal.returns-in-Refused
-returns-in-Refused c = search (answer_n read_of, numbers)
+pub returns-in-Err : goal.returns-in-Err
+returns-in-Err c = result_n (λ _. tt) c.read_cells-read.ensures c.in-Err.is c.from.ensures

@@ -1,4 +1,5 @@
 -- `servercape_tested::numbered` meets its contract: each return is a step of `states`. Assumes nothing.
+use native.Mathlib.Omega.{arith}
 use Rattle.servercape_tested.proofs.Numbering.{states}
 use Rattle.servercape_tested.proofs.numbered.Goals as goal
 
@@ -9,4 +10,4 @@ pub returns-then-state-eq2 : goal.returns-then-state-eq2
 returns-then-state-eq2 c = search states
 
 pub returns : goal.returns
-returns c = search states
+returns c = search (states, arith)

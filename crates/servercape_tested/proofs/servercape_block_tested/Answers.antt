@@ -1,9 +1,9 @@
--- `servercape_tested::servercape_block_tested` meets its contract: each return is its answer's number. Assumes nothing.
-use Rattle.servercape_tested.proofs.Numbering.{numbering}
+-- `servercape_tested::servercape_block_tested` meets its contract: given or refused. Assumes nothing.
+use Rattle.servercape_tested.proofs.Numbering.{block_0, block_n}
 use Rattle.servercape_tested.proofs.servercape_block_tested.Goals as goal
 
-pub returns-in-Block : goal.returns-in-Block
-returns-in-Block c = search numbering
+pub returns-in-Ok : goal.returns-in-Ok
+returns-in-Ok c = block_0 c.numbered.ensures c.block_tested.ensures c.in-Ok.is
 
-pub returns-in-Refused : goal.returns-in-Refused
-returns-in-Refused c = search numbering
+pub returns-in-Err : goal.returns-in-Err
+returns-in-Err c = block_n c.numbered.ensures c.block_tested.ensures c.in-Err.is c.from.ensures

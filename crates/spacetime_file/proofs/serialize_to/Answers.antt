@@ -1,12 +1,12 @@
--- `spacetime_file::serialize_to` meets its contract: each arm is a step of `answering`. Assumes nothing.
-use Rattle.spacetime_file.proofs.Answering.{answering}
+-- `spacetime_file::serialize_to` meets its contract: refused by the state, or written. Assumes nothing.
+use Rattle.std.proofs.lemmas.Result.{err_from_is_err_and}
+use Rattle.spacetime_file.proofs.Answering.{write_refused, write_taken}
 use Rattle.spacetime_file.proofs.serialize_to.Goals as goal
 
-pub returns-in-Bad : goal.returns-in-Bad
-returns-in-Bad c = search answering
+pub returns-in_err-closed : goal.returns-in_err-closed
+returns-in_err-closed c =
+    let p = err_from_is_err_and c.from_residual.result c.from_residual.ensures.1 in
+    rw (p.1, p.2) (write_refused c.test.result c.test.ensures c.closed.ensures c.in_err-closed.was)
 
-pub returns-in-Open : goal.returns-in-Open
-returns-in-Open c = search answering
-
-pub returns-in-Closed : goal.returns-in-Closed
-returns-in-Closed c = search answering
+pub returns : goal.returns
+returns c = write_taken c.test.result c.test.ensures c.closed.ensures c.in_ok-closed.was c.write_closed.ensures

@@ -1,12 +1,13 @@
--- `touching::next` meets its contract: each arm is a step of `next-answers`. Assumes nothing.
-use Rattle.touching.proofs.Answering.{next_answers}
+-- `touching::next` meets its contract: refused by the state, or what the inner call hands out. Assumes nothing.
+use Rattle.std.proofs.Common.{rules}
+use Rattle.std.proofs.lemmas.Result.{err_from_is_err_and}
+use Rattle.touching.proofs.Answering.{next_refused, next_taken}
 use Rattle.touching.proofs.next.Goals as goal
 
-pub returns-in-Bad : goal.returns-in-Bad
-returns-in-Bad c = search next_answers
+pub returns-in_err-closed : goal.returns-in_err-closed
+returns-in_err-closed c =
+    let p = err_from_is_err_and c.from_residual.result c.from_residual.ensures.1 in
+    rw (p.1, p.2) (next_refused c.test.result c.test.ensures c.closed.ensures c.in_err-closed.was)
 
-pub returns-in-Open : goal.returns-in-Open
-returns-in-Open c = search next_answers
-
-pub returns-in-Closed : goal.returns-in-Closed
-returns-in-Closed c = search next_answers
+pub returns : goal.returns
+returns c = next_taken c.test.result c.test.ensures c.closed.ensures c.in_ok-closed.was (search rules)

@@ -1,12 +1,12 @@
--- `touching::touching` meets its contract: each arm is a step of `touching-answers`. Assumes nothing.
-use Rattle.touching.proofs.Answering.{touching_answers}
+-- `touching::touching` meets its contract: refused by the state, or what the inner call hands out. Assumes nothing.
+use Rattle.std.proofs.lemmas.Result.{err_from_is_err_and}
+use Rattle.touching.proofs.Answering.{touching_refused, touching_taken}
 use Rattle.touching.proofs.touching.Goals as goal
 
-pub returns-in-Bad : goal.returns-in-Bad
-returns-in-Bad c = search touching_answers
+pub returns-in_err-closed : goal.returns-in_err-closed
+returns-in_err-closed c =
+    let p = err_from_is_err_and c.from_residual.result c.from_residual.ensures.1 in
+    rw (p.1, p.2) (touching_refused c.test.result c.test.ensures c.closed.ensures c.in_err-closed.was)
 
-pub returns-in-Open : goal.returns-in-Open
-returns-in-Open c = search touching_answers
-
-pub returns-in-Closed : goal.returns-in-Closed
-returns-in-Closed c = search touching_answers
+pub returns : goal.returns
+returns c = touching_taken c.test.result c.test.ensures c.closed.ensures c.in_ok-closed.was c.touching_closed.ensures

@@ -1,24 +1,27 @@
--- `touching_read::touching_closed` meets its contract: each return is a step of `listing`. Assumes nothing.
-use Rattle.touching_read.proofs.Listing.{listing}
+use Rattle.std.proofs.Common.{rules, arith}
+use Rattle.touching_read.proofs.Listing.{touching_listed, touching_over, touching_short, listing}
 use Rattle.touching_read.proofs.touching_closed.Goals as goal
 
 pub returns-then-last-tick : goal.returns-then-last-tick
-returns-then-last-tick c = search listing
+returns-then-last-tick c = search (listing, arith)
 
 pub returns-then-end-start : goal.returns-then-end-start
-returns-then-end-start c = search listing
+returns-then-end-start c = search (listing, arith)
 
 pub returns-then-start-end : goal.returns-then-start-end
-returns-then-start-end c = search listing
+returns-then-start-end c = search (listing, arith)
 
-pub returns-in-Listed : goal.returns-in-Listed
-returns-in-Listed c = search listing
+pub returns-in_default : goal.returns-in_default
+returns-in_default c =
+    touching_short c.end-last.ensures c.if-last-tick.false c.if-end-start.false c.kind-kind.ensures c.over-before.ensures c.starting-listed.ensures c.is_some.ensures c.from-at.ensures
+    (search rules) c.in_default.is
 
-pub returns-in-TooSmall : goal.returns-in-TooSmall
-returns-in-TooSmall c = search listing
+pub returns-in-Some-before : goal.returns-in-Some-before
+returns-in-Some-before c =
+    touching_over c.end-last.ensures c.if-last-tick.false c.if-end-start.false c.kind-kind.ensures c.over-before.ensures c.starting-listed.ensures c.in-Some-before.is
+    (rw (c.is_some.ensures, c.in-Some-before.is) at c.from-at.ensures) (search rules) c.in-Some.is c.put.ensures
 
-pub returns-in-Listed-listed : goal.returns-in-Listed-listed
-returns-in-Listed-listed c = search listing
-
-pub returns-in-TooSmall-listed : goal.returns-in-TooSmall-listed
-returns-in-TooSmall-listed c = search listing
+pub returns-in_default-before : goal.returns-in_default-before
+returns-in_default-before c =
+    touching_listed c.end-last.ensures c.if-last-tick.false c.if-end-start.false c.kind-kind.ensures c.over-before.ensures c.starting-listed.ensures c.in_default-before.is
+    (rw (c.is_some.ensures, c.in_default-before.is) at c.from-at.ensures) c.in-Some.is

@@ -2,8 +2,8 @@
 use Rattle.board_lines.proofs.Listing.{listing_one}
 use Rattle.board_lines.proofs.blocks.list_one.Goals as goal
 
-pub returns-in-Refused : goal.returns-in-Refused
-returns-in-Refused c = search listing_one
+pub returns-in-Err : goal.returns-in-Err
+returns-in-Err c = search listing_one
 
-pub returns-in-Block : goal.returns-in-Block
-returns-in-Block c = search listing_one
+pub returns-in-Ok : goal.returns-in-Ok
+returns-in-Ok c = search listing_one

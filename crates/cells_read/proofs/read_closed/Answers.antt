@@ -1,0 +1,19 @@
+use Rattle.cells_read.proofs.Reading.{reading}
+use Rattle.cells_read.proofs.read_closed.Goals as goal
+use Rattle.cells_read.proofs.read_closed.Goals.{then-bytes-many-via-then-bytes-many, then-bytes-many-via-else-bytes-many+then-held-many}
+
+pub returns-then-end-tick : goal.returns-then-end-tick
+returns-then-end-tick c = search reading
+
+pub returns-then-end-start : goal.returns-then-end-start
+returns-then-end-start c = search reading
+
+pub returns-then-bytes-many : goal.returns-then-bytes-many
+returns-then-bytes-many c =
+    elim c.then-bytes-many.branch [
+      | then-bytes-many-via-then-bytes-many w ↦ search reading
+      | then-bytes-many-via-else-bytes-many+then-held-many w ↦ search reading
+    ]
+
+pub returns : goal.returns
+returns c = search reading

@@ -1,9 +1,0 @@
--- `fields::number_at` meets its contract: each return is one step of `reading`. Assumes nothing.
-use borrow.Author.Rules.{rules}
-use Rattle.fields.proofs.Reading.{reading}
-use Rattle.fields.proofs.number_at.Statement.{statement}
-use Rattle.fields.proofs.number_at.Tie as tie
-
-pub number_at_spec : {M : Type 1} → statement M
-number_at_spec =
-    tie.close (tie.spec (λ c. search reading) (λ c. search rules) (λ c. search reading) (λ c κs. search rules) (λ c. search rules) (λ c κs. search rules) (λ c. search rules) (λ c. search rules) (λ c. search rules) (λ c. search reading))

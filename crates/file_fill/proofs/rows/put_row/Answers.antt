@@ -1,0 +1,14 @@
+-- Each turn writes one number of the row.
+use Rattle.std.proofs.Common.{arith}
+use Rattle.std.proofs.Common.{◌∙◌, ap, ◌+◌, ◌*◌, List, ℕ}
+use Rattle.std.proofs.lemmas.List.{take_all}
+use Rattle.std.proofs.lemmas.List.Edits.{sets}
+use Rattle.history.specs.Lent.{row_width}
+use Rattle.file_fill.proofs.Storing.{row_more}
+use Rattle.file_fill.proofs.rows.put_row.Goals as goal
+
+pub loop-col-preserved : goal.loop-col-preserved
+loop-col-preserved c = row_more c.args.table.now _ _ c.loop-col.col c.args.row c.loop-col.invariant c.put.ensures (omega arith) (omega arith)
+
+pub returns : goal.returns
+returns c = c.loop-col.invariant ∙ ap (λ (l : List ℕ). sets c.args.table.now (row_width * c.args.link + c.args.base) l) (take_all c.loop-col.col c.args.row (omega arith))

@@ -1,0 +1,14 @@
+use Rattle.index_read.proofs.Finding.{finding}
+use Rattle.index_read.proofs.find_closed.Goals as goal
+
+pub returns-then-last-tick : goal.returns-then-last-tick
+returns-then-last-tick c = search finding
+
+pub returns-then-end-start : goal.returns-then-end-start
+returns-then-end-start c = search finding
+
+pub returns-in-Some : goal.returns-in-Some
+returns-in-Some c = search finding
+
+pub returns-in-None : goal.returns-in-None
+returns-in-None c = search finding

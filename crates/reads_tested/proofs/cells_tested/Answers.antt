@@ -1,0 +1,12 @@
+-- `reads_tested::cells_tested` meets its contract: refused by the state, or what the inner call hands out. Assumes nothing.
+use Rattle.std.proofs.lemmas.Result.{err_from_is_err_and}
+use Rattle.reads_tested.proofs.Answering.{cells_not_closed, cells_taken}
+use Rattle.reads_tested.proofs.cells_tested.Goals as goal
+
+pub returns-in_err-closed : goal.returns-in_err-closed
+returns-in_err-closed c =
+    let p = err_from_is_err_and c.from_residual.result c.from_residual.ensures.1 in
+    rw (p.1, p.2) (cells_not_closed c.args.state c.closed.ensures c.in_err-closed.was)
+
+pub returns : goal.returns
+returns c = cells_taken c.args.state c.closed.ensures c.in_ok-closed.was c.read_closed.ensures

@@ -1,0 +1,9 @@
+use Rattle.std.proofs.Common.{arith}
+use Rattle.segment_walk.proofs.Halving.{present, half_falls}
+use Rattle.segment_find.proofs.Searching.{deep_half}
+use Rattle.segment_find.proofs.+search.Goals as goal
+
+pub search-requires : goal.search-requires
+search-requires t c =
+    let there = present c.absent.ensures c.if-absent.false in
+    (omega (arith, c.decreases, half_falls _ _ _ _ there c.half-below.ensures), deep_half _ _ there c.requires c.half-below.ensures)

@@ -1,0 +1,13 @@
+use Rattle.segment_tree.proofs.Running.{runs_none, runs_more, sum_more}
+use Rattle.segment_tree.proofs.close.assign_runs.Goals as goal
+
+pub loop-j-init : goal.loop-j-init
+loop-j-init c = record { runs = (runs_none _).0; sum = (runs_none _).1 }
+
+pub loop-j-preserved : goal.loop-j-preserved
+loop-j-preserved c =
+    let turn = c.loop-j in
+    record {
+      runs = runs_more _ _ _ _ turn.invariant.runs turn.invariant.sum c.put.ensures;
+      sum = sum_more c.args.nodes.now turn.j turn.at turn.nodes turn.invariant.runs turn.invariant.sum c.get-count.ensures c.saturating_add-at.ensures;
+    }

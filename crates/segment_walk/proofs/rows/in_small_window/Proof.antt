@@ -1,8 +1,0 @@
--- `segment_walk::rows::in_small_window` meets its contract: two lower bounds enclose the window. Assumes nothing.
-use borrow.Author.Rules.{rules}
-use Rattle.segment_walk.proofs.Windows.{in_window}
-use Rattle.segment_walk.proofs.rows.in_small_window.Statement.{statement}
-use Rattle.segment_walk.proofs.rows.in_small_window.Tie as tie
-
-pub in_small_window_spec : {M : Type 1} → statement M
-in_small_window_spec = tie.close (tie.spec (λ c κs. search rules) (λ c κs. search rules) (λ c κs. search rules) (λ c. search in_window))
