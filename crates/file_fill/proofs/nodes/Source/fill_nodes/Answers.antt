@@ -1,6 +1,6 @@
 -- Each return is a step of `proofs/FillingNodes`.
 use Rattle.file_fill.proofs.FillingNodes.{nodes_no_end, nodes_wrong, nodes_right}
-use Rattle.file_fill.proofs.nodes.fill_nodes.Goals as goal
+use Rattle.file_fill.proofs.nodes.Source.fill_nodes.Goals as goal
 
 pub returns-in_err-end : goal.returns-in_err-end
 returns-in_err-end c = rw c.from_residual.ensures (nodes_no_end _ _ _ _ c.in_err-end.ensures)

@@ -2,7 +2,7 @@
 use Rattle.std.proofs.Common.{arith}
 use Rattle.std.proofs.Common.{◌≡◌, ◌+◌, ◌-◌}
 use Rattle.file_fill.proofs.FillingEntries.{entries_start, entries_room, entries_turn, entries_end, entries_done}
-use Rattle.file_fill.proofs.nodes.fill_entries.Goals as goal
+use Rattle.file_fill.proofs.nodes.Source.fill_entries.Goals as goal
 
 pub loop-more-init : goal.loop-more-init
 loop-more-init c =
