@@ -1,6 +1,6 @@
 use Rattle.std.proofs.Common.{arith, length-set}
 use Rattle.board_text.proofs.Digits.{spelling_one, spelled}
-use Rattle.board_text.proofs.decimal.Goals as goal
+use Rattle.board_text.proofs.Output.decimal.Goals as goal
 
 pub loop-rest-preserved : goal.loop-rest-preserved
 loop-rest-preserved c =
