@@ -3,13 +3,13 @@
 -- Say that k is destroyed at t and shares a cell with j, which lives on. Then j starts before k's end, so one of the list lies between: it starts in j, and
 -- ends where k starts or before. It is no j, which reaches into k. If it lives on, it shares a cell with j at t, against rule 24 at t. If it is destroyed
 -- at t, it shares a cell with j and starts before k: so the first one that does has none before it.
-use mathlib.Core.Path.{◌≡◌, subst, sym, ap, ◌∙◌}
+use mathlib.Core.Path.{◌≡◌, subst, sym, ap}
 use mathlib.Core.Logic.{◌⊎◌, inl, inr}
 use mathlib.Core.List.{List, []}
 use Prim.Native.Nat.{ℕ, zero, suc, ◌-◌, ◌≤◌, ◌<◌}
 use native.Mathlib.Omega.{arith}
 use Rattle.lists.specs.Lists.{Mem}
-use Rattle.lists.proofs.Numbers.{lt_or_le, le_or_lt, eq_or_ne}
+use Rattle.lists.proofs.Numbers.{lt_or_le, eq_or_ne}
 use Rattle.lists.proofs.Lists.{all_at, all_mem, mem_at, pairs_of_at}
 use Rattle.history.specs.Words.{Block, size, ends, HasCell}
 use Rattle.history.specs.Tree.{Tree, no_block, block_at, key_in}

@@ -1,10 +1,11 @@
 -- The way to a tick: in a subtree, where it is a spine, and over any tree with rules 21 and 23, where the blocks that are live then stand on it, each
 -- once, and no others. Assumes nothing.
 use mathlib.Core.Path.{◌≡◌, ◌∙◌}
-use mathlib.Core.Bool.{Bool, true, false, cond}
+use mathlib.Core.Bool.{false, cond}
 use mathlib.Core.List.{List, [], ◌++◌}
 use Prim.Native.Nat.{ℕ, ◌+◌, ◌-◌, ◌≤◌, ◌<◌}
 use native.Mathlib.Omega.{arith}
+use Rattle.lists.proofs.Numbers.{counts_one}
 use Rattle.lists.specs.Lists.{Mem, count}
 use Rattle.history.specs.Words.{Block, live}
 use Rattle.history.specs.Tree.{Tree, node, mid, no_block, block_at}
@@ -37,11 +38,7 @@ module _ (end : ℕ) (bs : List Block) (tree : Tree) (ruled : Ruled end bs tree)
   no_block_lem = within_high 0 0 t (omega arith)
 
   pub way_once : (k : ℕ) → count k (path t 0 end tree) ≤ 1
-  way_once k = rw (met k) (most (live t (block_at bs k)))
-    where
-      most : (u : Bool) → cond u 1 0 ≤ 1
-      most true = omega arith
-      most false = omega arith
+  way_once k = rw (met k) (counts_one (live t (block_at bs k)))
 
   pub way_has : (k : ℕ) → (block_at bs k).created ≤ t → t < (block_at bs k).destroyed → Mem k (path t 0 end tree)
   way_has k born alive = counted_mem bs (live t) no_block_lem (path t 0 end tree) met k (within_in _ _ t born alive)

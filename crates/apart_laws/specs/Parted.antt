@@ -3,7 +3,7 @@
 use Rattle.std.specs.Prelude.{◌≡◌, List, ℕ, ◌≤◌, ◌<◌}
 use Rattle.lists.specs.Lists.{All, Mem}
 use Rattle.history.specs.Words.{Block, ends}
-use Rattle.history.specs.Tree.{block_at, key_in}
+use Rattle.history.specs.Tree.{key_in}
 use Rattle.apart_laws.specs.Slots.{stretch_at}
 
 -- between blocks j and k there is one of the list: it starts where j does or behind, and ends where k starts or before

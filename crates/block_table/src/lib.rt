@@ -11,8 +11,9 @@
 
 #![tactic(auto)]
 
-ghost use Rattle.std.specs.Prelude.{◌≡◌, set};
+ghost use Rattle.std.specs.Prelude.{◌≡◌, ◌+◌, set, leb, ltb};
 ghost use Rattle.lists.specs.Tests.{Decides};
+ghost use Rattle.tables.specs.Sums.{plus_up_to};
 ghost use Rattle.tables.specs.Columns.{block_column, head_state, head_end, head_kind, head_count, head_used, head_last, block_next};
 ghost use Rattle.block_table.specs.Blocks.{head_place, StartsBefore};
 ghost use Rattle.block_table.specs.RowRead.{Reads};
@@ -23,6 +24,7 @@ pub mod rows;
 use tables::block;
 
 // ── the head ──
+// A function for each field: `block::get` with a column says the same, but callers speak of the head by name.
 
 // What there is: no index, an open one, a closed one.
 pub fn state(blocks: &[u64]) -> u64
@@ -136,6 +138,29 @@ pub struct Row {
     pub created: u64,
     pub destroyed: u64,
     pub next: u64,
+}
+
+impl Row {
+    // The cell after the last one, or the largest number where that is passed: in tables that nobody has tested.
+    pub fn end(self) -> u64
+        ensures { result ≡ plus_up_to self.first self.length }
+    {
+        self.first.saturating_add(self.length)
+    }
+
+    // Whether the row ends at the place or before it. It subtracts and does not add, as an end may pass 2^64.
+    pub fn ends_by(self, place: u64) -> bool
+        ensures { result ≡ leb (self.first + self.length) place }
+    {
+        self.first <= place && self.length <= place - self.first
+    }
+
+    // Whether the block has a life: one that is destroyed at the tick of its creation has none.
+    pub fn lives(self) -> bool
+        ensures { result ≡ ltb self.created self.destroyed }
+    {
+        self.created < self.destroyed
+    }
 }
 
 // Reads the row of a link, under one test where the table has it: for loops that go over many rows.

@@ -29,6 +29,7 @@ fn test_row(blocks: &[u64], link: u64, bounds: Bounds) -> bool
 }
 
 // Whether the rows 1 to n are sound. Linear in n, and ends at the first fault: from the last row down, so that a count past the table ends at once.
+// A `for` and not `.all(..)`: with that the proof did not close.
 pub fn test_rows(blocks: &[u64], n: u64, kind: u64, end: u64, used: u64) -> bool
     ensures { Decides result (RowsSound blocks.now (record { kind = kind; end = end; used = used }) 0 n) }
 {

@@ -40,7 +40,7 @@ module _ {input : List ℕ} {at k : ℕ} (c : Checking input at k) where
     more = records_on input k at e
 
     pub check_further : at < r.next
-    check_further = omega (arith, more.behind, more.ends)
+    check_further = omega (arith, more.behind, more.forward)
 
     pub check_inside : r.next ≤ length input
     check_inside = more.inside

@@ -3,7 +3,7 @@ use mathlib.Core.Path.{◌≡◌, refl, sym, ◌∙◌, ap}
 use mathlib.Core.Logic.{⊎_elim}
 use Rattle.std.proofs.Common.{Option, Some, None, Result, Ok, Err}
 use mathlib.Core.List.{List, [], ◌∷◌}
-use Prim.Native.Nat.{ℕ, suc}
+use Prim.Native.Nat.{ℕ, suc, ◌-◌}
 use lib.ListN.{length, take, drop}
 use Rattle.lists.proofs.Numbers.{le_or_lt}
 use Rattle.history.specs.Printed.{Records, bad, all, onto, parsed, Booking}
@@ -47,7 +47,7 @@ module _ (input : List ℕ) where
       go rest None h = let b = sym (records_end input k at h) ∙ e in cc
       go rest (Some (Err _)) h = let b = sym (records_bad input k at h) ∙ e in cc
       go rest (Some (Ok r)) h =
-          let one : onto (record { tick = r.tick; first = r.first; bytes = take r.length (drop r.start input) }) (records_at (suc k) input r.next) ≡ all (o ∷ os) =
+          let one : onto (record { tick = r.tick; first = r.first; bytes = take (r.next - r.start) (drop r.start input) }) (records_at (suc k) input r.next) ≡ all (o ∷ os) =
           sym (records_on input k at h).records ∙ e in
           rw (← (onto_first _ o os _ one)) (walk_on h (rest r.next (onto_rest _ o os _ one)))
 

@@ -7,8 +7,8 @@ use mathlib.Core.List.{List}
 use Prim.Native.Nat.{ℕ, ◌+◌, ◌-◌, ◌≤◌, ◌<◌}
 use native.Mathlib.Omega.{arith}
 use lib.Dec.{eqb}
-use lib.ListN.{length, get_or, take, drop, length-drop}
-use lib.Seq.{length-take-le, drop-cons}
+use lib.ListN.{length, get_or, take, drop}
+use lib.Seq.{drop-cons}
 use borrow.Author.Tests.{le-leb, lt-leb, eq-eqb, ne_eqb}
 use Rattle.lists.proofs.Numbers.{le_or_lt, bool_cases}
 use Rattle.history.specs.File.{number_of, got, fault, onward, ◌>>=◌, give, refuse◌unless◌, field, number}
@@ -164,11 +164,9 @@ module _ (input : List ℕ) (at : ℕ) where
     item_cut h = sym (rw (marks, lt-leb (at + record_front + cells) (length input) (omega arith)) refl) ∙ item_within (omega arith)
 
     pub item_record : {tick first : ℕ} → cells ≤ length input - (at + record_front) → NumberAt input (at + 2) 8 tick → NumberAt input (at + 2 + 8) 8 first
-        → Some (Ok (record { tick = tick; first = first; start = at + record_front; length = cells; next = at + record_front + cells })) ≡ item_at input at
+        → Some (Ok (record { tick = tick; first = first; start = at + record_front; next = at + record_front + cells })) ≡ item_at input at
     unfolding onward field
     item_record h t f =
-        let sized : length (take cells (drop (at + record_front) input)) ≡ cells =
-        length-take-le cells (drop (at + record_front) input) (rw (length-drop (at + record_front) input) h) in
-        sym (rw (marks, le-leb (at + record_front + cells) (length input) (omega arith), sized, ← t.says, ← f.says) refl) ∙ item_within (omega arith)
+        sym (rw (marks, le-leb (at + record_front + cells) (length input) (omega arith), ← t.says, ← f.says) refl) ∙ item_within (omega arith)
 
 pub ruleset refusing = (item_end, item_short, item_wrong)

@@ -31,9 +31,9 @@ pub record Stands (input : List ℕ) (at : ℕ) (o : Booking) (n : ℕ) : Type 0
 -- the record at a position, and those behind it
 pub record OneMore (input : List ℕ) (k at : ℕ) (r : Record) : Type 0 where
   pub records : records_at k input at
-      ≡ onto (record { tick = r.tick; first = r.first; bytes = take r.length (drop r.start input) }) (records_at (suc k) input r.next)
+      ≡ onto (record { tick = r.tick; first = r.first; bytes = take (r.next - r.start) (drop r.start input) }) (records_at (suc k) input r.next)
   pub behind : at < r.start
-  pub ends : r.next ≡ r.start + r.length
+  pub forward : r.start ≤ r.next
   pub inside : r.next ≤ length input
 
 -- what is bad was not read
@@ -132,18 +132,21 @@ module _ (input : List ℕ) (k at : ℕ) where
 
   -- the record that was read, and those behind it
   one_more : {o : Booking} {n : ℕ} → at < length input → read_record input at ≡ got o n
-      → OneMore input k at (record { tick = o.tick; first = o.first; start = at + record_front; length = length o.bytes; next = n })
+      → OneMore input k at (record { tick = o.tick; first = o.first; start = at + record_front; next = n })
   one_more {o} {n} within q =
       let s : Stands input at o n = record_stands input at q in
       let there : records_at k input at ≡ onto o (records_at (suc k) input n) =
       ap (λ (f : ℕ). records_from f k input at) (suc_of (length input) (omega arith))
       ∙ records_got input (length input - 1) k at within q
       ∙ ap (onto o) (records_fuel input (length input - 1) (length input) (suc k) n (omega (arith, s.next)) (omega arith)) in
+      let width : length o.bytes ≡ n - (at + record_front) = omega (arith, s.next) in
+      let bytes : o.bytes ≡ take (n - (at + record_front)) (drop (at + record_front) input) =
+      s.bytes ∙ ap (λ (m : ℕ). take m (drop (at + record_front) input)) width in
       record {
         records = there
-            ∙ ap (λ (bs : List ℕ). onto (record { tick = o.tick; first = o.first; bytes = bs }) (records_at (suc k) input n)) s.bytes;
+            ∙ ap (λ (bs : List ℕ). onto (record { tick = o.tick; first = o.first; bytes = bs }) (records_at (suc k) input n)) bytes;
         behind = omega arith;
-        ends = s.next;
+        forward = omega (arith, s.next);
         inside = s.inside;
       }
 
@@ -156,7 +159,7 @@ module _ (input : List ℕ) (k at : ℕ) where
       go true h b q e = cc
       go false h (fault i) q e = cc
       go false h (got o n) q e =
-          let same : record { tick = o.tick; first = o.first; start = at + record_front; length = length o.bytes; next = n } ≡ r = cc in
+          let same : record { tick = o.tick; first = o.first; start = at + record_front; next = n } ≡ r = cc in
           subst (OneMore input k at) same (one_more (leb-false (length input) at h) q)
 
 -- ── the whole input ──

@@ -32,7 +32,7 @@ record_front = 20
 
 abbrev pub item_from : (at : ℕ) → Read Booking → Option (Result Record BadRecord)
 item_from at (got o next) =
-    Some (Ok (record { tick = o.tick; first = o.first; start = at + record_front; length = length o.bytes; next = next }))
+    Some (Ok (record { tick = o.tick; first = o.first; start = at + record_front; next = next }))
 item_from at (fault n) = Some (Err (record {}))
 
 unfoldable pub item_at : (input : List ℕ) (at : ℕ) → Option (Result Record BadRecord)

@@ -1,5 +1,5 @@
 -- Going from record to record: what a caller of `record_at` meets.
-use Rattle.std.specs.Prelude.{◌≡◌, Some, None, Ok, List, [], ◌∷◌, ℕ, ◌≤◌, length, take, drop}
+use Rattle.std.specs.Prelude.{◌≡◌, Some, None, Ok, List, [], ◌∷◌, ℕ, ◌-◌, ◌≤◌, length, take, drop}
 use Rattle.history.specs.Printed.{bad, all, input_most, parsed, Booking}
 use Rattle.board_input.specs.Input.{start_of, item_at, first_record, input_from, records_of}
 use Rattle.board_input.specs.declared.Start.{Start}
@@ -9,7 +9,7 @@ use Rattle.board_input.specs.declared.Record.{Record}
 pub data Walk (input : List ℕ) : (at : ℕ) → List Booking → Type 0 where
   walk_end : {at : ℕ} → None ≡ item_at input at → Walk input at []
   walk_on : {at : ℕ} {r : Record} {os : List Booking} → Some (Ok r) ≡ item_at input at → Walk input r.next os
-      → Walk input at (record { tick = r.tick; first = r.first; bytes = take r.length (drop r.start input) } ∷ os)
+      → Walk input at (record { tick = r.tick; first = r.first; bytes = take (r.next - r.start) (drop r.start input) } ∷ os)
 
 -- What the functions of `input` say of the first 65,536 bytes is what history says of the whole input: its end tick and kind; and where no record is
 -- bad, the walk from the first one on meets exactly its bookings.

@@ -34,13 +34,12 @@ pub struct Start {
     pub kind: u8,
 }
 
-// A record, whose bytes are the `length` bytes from `start` on.
+// A record, whose bytes stand from `start` up to `next`, where the next record does.
 #[derive(Clone, Copy, Debug, PartialEq, Eq)]
 pub struct Record {
     pub tick: u64,
     pub first: u64,
     pub start: usize,
-    pub length: usize,
     pub next: usize,
 }
 
@@ -95,12 +94,12 @@ pub fn record_at(input: &[u8], at: usize) -> Option<Result<Record, BadRecord>>
         tick: number_at(input, at + MARK, NUMBER),
         first: number_at(input, at + MARK + NUMBER, NUMBER),
         start,
-        length,
         next: start + length,
     }))
 }
 
 // Looks for the first wrong mark or cut record, whose number is the error. Records count from 1; input too short to open with is record 0.
+// Records have their own lengths: each says where the next one stands.
 #[tactic(auto, using(crate::proofs::Checking::checking))]
 pub fn check_records(input: &[u8]) -> Result<(), u64>
     ensures { result ≡ check_of (records_of input.now) }

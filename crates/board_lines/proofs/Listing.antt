@@ -17,7 +17,7 @@ use Rattle.history.specs.Refusals.{Answer, accepted, refused, finish_answer, blo
 use Rattle.history.specs.Calls.{finish_call, answer_to, accepted_by, leaves, after}
 use Rattle.history.specs.Sound.{Sound}
 use Rattle.history.specs.Printed.{block_line, refused_line, finish_text, last_lines}
-use Rattle.history.proofs.EveryList.{law_after}
+use Rattle.history.proofs.EveryList.{law_after, finish_done}
 use Rattle.tables.specs.Columns.{block_column, head_count, head_state}
 use Rattle.tables.specs.Parts.{part_of}
 use Rattle.tables.proofs.Parts.{part-whole}
@@ -34,18 +34,19 @@ use Rattle.index_read.specs.Answers.{fields_given}
 use Rattle.index_read.specs.Reads.{BlockClosed}
 use Rattle.index_read.specs.declared.Block.{Block as Given}
 use Rattle.index_finish.specs.Answers.{FinishesOpen}
-use Rattle.lists.specs.Puts.{Put}
+use Rattle.board_text.specs.declared.Output.{Output}
+use Rattle.board_text.specs.Wrote.{Wrote}
 use Rattle.board_text.specs.Line.{block_line_of}
-use Rattle.lists.proofs.Puts.{put_none, put_append}
-use Rattle.board_text.proofs.Lines.{law_of_lines}
+use Rattle.board_text.proofs.Lines.{law_of_lines, wrote_none, wrote_append}
 use Rattle.board_lines.specs.Lines.{Standing, ListedOne, Listed, FinishPut}
 
 -- ── the returns of `list_one` ──
 
 module _ {blocks store : List ℕ} {k : ℕ} {r : Told Given Refusal} (d : BlockClosed blocks k (answer_by fields_given r)) where
-  pub one_none : {x : Refusal} {at : ℕ} {out : List ℕ} → r ≡ Err x → ListedOne blocks store k out at out at
+  pub one_none : {x : Refusal} {out : Output} → r ≡ Err x → ListedOne blocks store k out out
   one_none {x} e =
       record {
+        same_loan = refl;
         line = λ pieces nodes entries l enc s done below.
             let given : ◌≡◌ {A = Answer Block} (refused (number_of x)) (block_answer l k) = rw e at ((d.given pieces store nodes entries).closed l enc s done).bytes_there in
             let never : ◌≡◌ {A = Answer Block} (refused (number_of x)) (accepted (block_by l k)) = given ∙ block_there enc done k below in
@@ -53,10 +54,11 @@ module _ {blocks store : List ℕ} {k : ℕ} {r : Told Given Refusal} (d : Block
             absurd (omega arith);
       }
 
-  pub one_line : {b : Given} {at next : ℕ} {bytes out out' : List ℕ} → r ≡ Ok b
-      → bytes ≡ part_of store b.offset b.length → Put out at (block_line_of b.first b.created b.destroyed bytes) out' next → ListedOne blocks store k out at out' next
-  one_line {b} {at} {next} {bytes} {out} {out'} e part put =
+  pub one_line : {b : Given} {bytes : List ℕ} {out out' : Output} → r ≡ Ok b
+      → bytes ≡ part_of store b.offset b.length → Wrote out (block_line_of b.first b.created b.destroyed bytes) out' → ListedOne blocks store k out out'
+  one_line {b} {bytes} {out} {out'} e part put =
       record {
+        same_loan = put.same_loan;
         line = λ pieces nodes entries l enc s done below.
             let g = (d.given pieces store nodes entries).closed l enc s done in
             let f : Fields = fields_given b in
@@ -67,7 +69,7 @@ module _ {blocks store : List ℕ} {k : ℕ} {r : Told Given Refusal} (d : Block
             let whole : bytes ≡ take f.length (drop f.offset store) = part ∙ part-whole store f.offset f.length (g.whole f same) in
             let text : block_line_of f.first f.created f.destroyed bytes ≡ block_line (block_by l k) =
             ap (block_line_of f.first f.created f.destroyed) whole ∙ sym (law_of_lines.in_parts (block_in store f)) ∙ ap block_line block in
-            subst (λ (x : List ℕ). Put out at x out' next) text put;
+            subst (λ (x : List ℕ). Wrote out x out') text put;
       }
 
 pub ruleset listing_one = (one_none, one_line)
@@ -75,9 +77,10 @@ pub ruleset listing_one = (one_none, one_line)
 -- ── the loop of `list` ──
 
 -- the lines of the first blocks are put
-pub record Listing (blocks store out₀ : List ℕ) (from number : ℕ) (out : List ℕ) (at : ℕ) : Type 0 where
+pub record Listing (blocks store : List ℕ) (out₀ : Output) (number : ℕ) (out : Output) : Type 0 where
+  pub same_loan : out.buffer.ghost_name ≡ out₀.buffer.ghost_name
   pub lines : (pieces nodes entries : List ℕ) (l : Ledger) → Encodes (tables pieces blocks store nodes entries) l → Sound l → finished l ≡ true
-      → Put out₀ from (flat_map block_line (take number l.now.blocks)) out at
+      → Wrote out₀ (flat_map block_line (take number l.now.blocks)) out
 
 lines_append : (xs ys : List Block) → flat_map block_line (xs ++ ys) ≡ flat_map block_line xs ++ flat_map block_line ys
 unfolding flat_map
@@ -88,16 +91,16 @@ lines_one : (b : Block) → flat_map block_line (b ∷ []) ≡ block_line b
 unfolding flat_map
 lines_one b = append-nil (block_line b)
 
-pub listing_none : (blocks store out : List ℕ) (from : ℕ) → Listing blocks store out from 0 out from
+pub listing_none : (blocks store : List ℕ) (out : Output) → Listing blocks store out 0 out
 unfolding flat_map
-listing_none blocks store out from = record { lines = λ pieces nodes entries l enc s done. put_none out from }
+listing_none blocks store out = record { same_loan = refl; lines = λ pieces nodes entries l enc s done. wrote_none out }
 
-module _ {blocks store out₀ out : List ℕ} {from number at : ℕ} (count : ℕ) (counts : count ≡ block_column blocks 0 head_count)
-    (so_far : Listing blocks store out₀ from number out at) where
-  pub listing-on : {out' : List ℕ} {at' : ℕ} → number < count → ListedOne blocks store number out at out' at'
-      → Listing blocks store out₀ from (number + 1) out' at'
-  listing-on {out'} {at'} below one =
+module _ {blocks store : List ℕ} {out₀ out : Output} {number : ℕ} (count : ℕ) (counts : count ≡ block_column blocks 0 head_count)
+    (so_far : Listing blocks store out₀ number out) where
+  pub listing-on : {out' : Output} → number < count → ListedOne blocks store number out out' → Listing blocks store out₀ (number + 1) out'
+  listing-on {out'} below one =
       record {
+        same_loan = one.same_loan ∙ so_far.same_loan;
         lines = λ pieces nodes entries l enc s done.
             let bs = l.now.blocks in
             let inside : number < length bs = omega (arith, counts, enc.count) in
@@ -106,13 +109,14 @@ module _ {blocks store out₀ out : List ℕ} {from number at : ℕ} (count : �
             ∙ ap (flat_map block_line) (take-suc bs number no_block inside)
             ∙ lines_append (take number bs) (block_by l number ∷ [])
             ∙ ap (λ (t : List ℕ). flat_map block_line (take number bs) ++ t) (lines_one (block_by l number)) in
-            subst (λ (x : List ℕ). Put out₀ from x out' at') (sym text)
-            (put_append (so_far.lines pieces nodes entries l enc s done) (one.line pieces nodes entries l enc s done inside));
+            subst (λ (x : List ℕ). Wrote out₀ x out') (sym text)
+            (wrote_append (so_far.lines pieces nodes entries l enc s done) (one.line pieces nodes entries l enc s done inside));
       }
 
-  pub listing_all : count ≤ number → Listed blocks store out₀ from out at
+  pub listing_all : count ≤ number → Listed blocks store out₀ out
   listing_all past =
       record {
+        same_loan = so_far.same_loan;
         lines = λ pieces nodes entries l enc s done.
             let all : take number l.now.blocks ≡ l.now.blocks = take_all number l.now.blocks (omega (arith, counts, enc.count)) in
             rw all at (so_far.lines pieces nodes entries l enc s done);
@@ -123,10 +127,6 @@ module _ {blocks store out₀ out : List ℕ} {from number at : ℕ} (count : �
 open_state_lem : (x : Option Tree) → is_some x ≡ false → state_of x ≡ open_state
 open_state_lem none e = refl
 open_state_lem (some t) e = let z : ◌≡◌ {A = ℕ} 0 1 = cc in absurd (omega arith)
-
-finish_done : (l : Ledger) → finished (finish_by l) ≡ true
-unfolding finish_by
-finish_done l = refl
 
 -- what finish answers and leaves
 given : {pieces blocks store nodes entries pieces' blocks' nodes' entries' : List ℕ} {a : Answer Result} → length store < 2 ^ 64
@@ -141,16 +141,17 @@ given {pieces} {blocks} {store} {nodes} {entries} fits d l s =
 
 module _ {pieces blocks store nodes entries pieces' blocks' nodes' entries' : List ℕ} {r : Told Unit Refusal} (fits : length store < 2 ^ 64)
     (d : FinishesOpen pieces blocks nodes entries pieces' blocks' nodes' entries' (answer_by (λ _. done) r)) where
-  pub finish_refused : {n at next : ℕ} {out out' : List ℕ} {x : Refusal} → r ≡ Err x → n ≡ number_of x → Put out at (refused_line finish_text n) out' next
-      → FinishPut (tables pieces blocks store nodes entries) out at out' next
+  pub finish_refused : {n : ℕ} {out out' : Output} {x : Refusal} → r ≡ Err x → n ≡ number_of x → Wrote out (refused_line finish_text n) out'
+      → FinishPut (tables pieces blocks store nodes entries) out out'
   unfolding answer_to last_lines
-  finish_refused e m put = record { lines = λ l s. rw (← (given fits d l s).0, e, ← m) put }
+  finish_refused e m put = record { same_loan = put.same_loan; lines = λ l s. rw (← (given fits d l s).0, e, ← m) put }
 
-  pub finish_listed : {at next : ℕ} {out out' : List ℕ} {u : Unit} → r ≡ Ok u → Listed blocks' store out at out' next
-      → FinishPut (tables pieces blocks store nodes entries) out at out' next
+  pub finish_listed : {out out' : Output} {u : Unit} → r ≡ Ok u → Listed blocks' store out out'
+      → FinishPut (tables pieces blocks store nodes entries) out out'
   unfolding answer_to last_lines after leaves accepted_by
-  finish_listed {at} {next} {out} {out'} e listed =
+  finish_listed {out} {out'} e listed =
       record {
+        same_loan = listed.same_loan;
         lines = λ l s.
             go l (finish_answer l) (sym (given fits d l s).0 ∙ ap (answer_by (λ _. done)) e) (law_after l s.calls finish_call s.law).sound.sound
             (given fits d l s).1;
@@ -158,6 +159,6 @@ module _ {pieces blocks store nodes entries pieces' blocks' nodes' entries' : Li
     where
       go : (l : Ledger) (a : Answer Result) → a ≡ accepted done → Sound (leaves a l (finish_by l))
           → FinishLeaves a l (tables pieces blocks store nodes entries) (tables pieces' blocks' store nodes' entries')
-          → Put out at (last_lines (leaves a l (finish_by l)) a) out' next
+          → Wrote out (last_lines (leaves a l (finish_by l)) a) out'
       go l (accepted u) h sound x = listed.lines pieces' nodes' entries' (finish_by l) x.0 sound (finish_done l)
       go l (refused n) h sound x = let z : ◌≡◌ {A = ℕ} 0 1 = cc in absurd (omega arith)

@@ -1,17 +1,17 @@
 -- The tables between calls: opening makes them stand for the ledger, and record keeps them so. Assumes nothing.
-use mathlib.Core.Path.{◌≡◌, refl, ◌∙◌}
+use mathlib.Core.Path.{◌≡◌, ◌∙◌}
 use mathlib.Core.Bool.{false}
 use mathlib.Core.List.{[], ◌∷◌}
 use Prim.Native.Nat.{ℕ}
 use Rattle.history.specs.Words.{Operation}
 use Rattle.history.specs.Lent.{too_short}
-use Rattle.history.specs.Ledger.{Opening, Ledger, opened, finished, is_read, record_by}
+use Rattle.history.specs.Ledger.{Ledger, opened, is_read, record_by}
 use Rattle.history.specs.Results.{Result}
 use Rattle.history.specs.Refusals.{Answer, accepted, refused, open_answer, record_answer}
 use Rattle.history.specs.Calls.{record_call, answer_to, accepted_by, leaves, after, after_all, noted, history}
 use Rattle.history.specs.Law.{LedgerLaw}
 use Rattle.history.specs.Printed.{board_scratch}
-use Rattle.history.proofs.EveryList.{the_law, law_after}
+use Rattle.history.proofs.EveryList.{the_law, law_after, opened_open}
 use Rattle.layout.specs.Tables.{Tables, lengths_of}
 use Rattle.layout.specs.Relations.{opening_of, opened_tables, RecordLeaves}
 use Rattle.layout.proofs.Recording.{record_blank, record_open}
@@ -38,10 +38,6 @@ record_stands o t t' l s x = go (record_answer l board_scratch o) (law_after l s
 
 -- ── open ──
 
-opened_unfinished : (a : Opening) → finished (opened a) ≡ false
-unfolding opened
-opened_unfinished a = refl
-
 pub opened_stands : (end kind : ℕ) (t : Tables) → too_short (lengths_of t) ≡ false → open_answer (opening_of end kind t) ≡ accepted tt
     → Standing (opened_tables end kind t) (opened (opening_of end kind t))
 unfolding after_all history
@@ -50,6 +46,6 @@ opened_stands end kind t fits taken =
       encodes = opened_encodes end kind t fits;
       calls = [];
       law = the_law (opening_of end kind t) taken [];
-      unfinished = opened_unfinished (opening_of end kind t);
+      unfinished = opened_open (opening_of end kind t);
       blank = opened_blank end kind t;
     }

@@ -1,58 +1,50 @@
 // The records of the input, one after the other.
-ghost use Rattle.index_record.specs.Calls.{operation};
+ghost use Rattle.index_record.specs.Calls.{lent_operation};
 ghost use Rattle.board_lines.specs.Lines.{RecordedOne, RecordedAll};
+
+use board_text::Output;
+use index_record::Operation;
 
 // Records an operation; a refused one is record k, and its line is put. Nothing is written to a scratch, so none is made.
 fn record_one(
     pieces: &mut [u64],
     blocks: &mut [u64],
     store: &mut [u8],
-    tick: u64,
-    first: u64,
-    bytes: &[u8],
+    op: Operation,
     k: u64,
-    out: &mut [u8],
-    at: usize,
-) -> usize
+    out: &mut Output<'_>,
+)
     ensures { RecordedOne pieces.old blocks.old store.old pieces.new blocks.new store.new
-        (operation tick first bytes.now) k out.old at out.new result }
+        (lent_operation op.entry) k out.old out.new }
 {
-    match index_record::record_open(pieces, blocks, store, tick, first, bytes) {
-        Ok(_) => at,
-        Err(refusal) => board_text::op_refused(out, at, k, u64::from(refusal)),
+    match index_record::record_open(pieces, blocks, store, op) {
+        Ok(_) => {}
+        Err(refusal) => out.op_refused(k, u64::from(refusal)),
     }
 }
 
 // Records the operations of the input, of which none is bad, and puts a line for each refused one.
+// Records have their own lengths: each says where the next one stands.
 pub fn record_all(
     input: &[u8],
     pieces: &mut [u64],
     blocks: &mut [u64],
     store: &mut [u8],
-    out: &mut [u8],
-    from: usize,
-) -> usize
+    out: &mut Output<'_>,
+)
     ensures { RecordedAll input.now pieces.old blocks.old store.old pieces.new blocks.new store.new
-        out.old from out.new result }
+        out.old out.new }
 {
     let mut position = board_input::RECORDS;
     let mut k = 1;
-    let mut at = from;
     while let Some(Ok(record)) = board_input::record_at(input, position) {
-        let bytes = &input[record.start..record.next];
-        at = record_one(
-            pieces,
-            blocks,
-            store,
-            record.tick,
-            record.first,
-            bytes,
-            k,
-            out,
-            at,
-        );
+        let op = Operation {
+            tick: record.tick,
+            first: record.first,
+            bytes: &input[record.start..record.next],
+        };
+        record_one(pieces, blocks, store, op, k, out);
         position = record.next;
         k += 1;
     }
-    at
 }

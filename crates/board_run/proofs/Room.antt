@@ -153,7 +153,7 @@ walk_count : {input : List ℕ} {at : ℕ} {bs : List Booking} → Walk input at
 walk_count (walk_end h) inside = omega arith
 walk_count {input} {at} (walk_on h w) inside =
     let more = records_on input 0 at h in
-    omega (arith, item_start input at h, more.ends, more.inside, walk_count w more.inside)
+    omega (arith, item_start input at h, more.forward, more.inside, walk_count w more.inside)
 
 few_records : (input : List ℕ) (bs : List Booking) → length input ≤ 65536 → records_of input ≡ all bs → length bs ≤ 3276
 few_records input bs fits e = ⊎_elim

@@ -20,10 +20,11 @@ use Rattle.refusals.specs.declared.Refusal.{Refusal}
 use Rattle.refusals.specs.Numbers.{number_of, answer_by}
 use Rattle.board_input.specs.Input.{start_of, records_of, check_of}
 use Rattle.lists.specs.Puts.{Put}
+use Rattle.board_text.specs.declared.Output.{Output}
+use Rattle.board_text.specs.Wrote.{Wrote}
 use Rattle.board_input.specs.declared.Start.{Start}
-use Rattle.lists.proofs.Puts.{put_append}
 use Rattle.board_input.proofs.Meeting.{law_of_input}
-use Rattle.board_text.proofs.Lines.{law_of_lines}
+use Rattle.board_text.proofs.Lines.{law_of_lines, wrote_append}
 use Rattle.board_lines.specs.Lines.{Standing, RecordedAll, FinishPut}
 use Rattle.board_lines.proofs.Standing.{opened_stands}
 use Rattle.board_run.specs.Runs.{OpenPut, PlayPut, LendPut, printed_of}
@@ -32,15 +33,16 @@ use Rattle.board_run.proofs.Room.{room}
 
 -- ── `play_open` ──
 
-pub open_lines_lem : {pieces blocks store nodes entries pieces' blocks' store' input out o₁ o₂ out' : List ℕ} {p q next : ℕ}
-    → Put out 0 (header_text ++ (newline ∷ [])) o₁ p → RecordedAll input pieces blocks store pieces' blocks' store' o₁ p o₂ q
-    → FinishPut (tables pieces' blocks' store' nodes entries) o₂ q out' next → OpenPut (tables pieces blocks store nodes entries) input out out' next
+pub open_lines_lem : {pieces blocks store nodes entries pieces' blocks' store' input : List ℕ} {out o₁ o₂ out' : Output}
+    → Wrote out (header_text ++ (newline ∷ [])) o₁ → RecordedAll input pieces blocks store pieces' blocks' store' o₁ o₂
+    → FinishPut (tables pieces' blocks' store' nodes entries) o₂ out' → OpenPut (tables pieces blocks store nodes entries) input out out'
 unfolding lines_from
-open_lines_lem {nodes} {entries} {out} {out'} {next} header records last =
+open_lines_lem {nodes} {entries} header records last =
     record {
+      same_loan = last.same_loan ∙ records.same_loan ∙ header.same_loan;
       lines = λ l s os w.
           let m = records.recorded nodes entries l os s w in
-          rw m.rest (put_append header (put_append m.put (last.lines m.ledger m.standing)));
+          rw m.rest (wrote_append header (wrote_append m.put (last.lines m.ledger m.standing)));
     }
 
 -- ── `play` ──
@@ -58,20 +60,27 @@ board_fits : too_short board_lent ≡ false
 unfolding too_short
 board_fits = refl
 
-module _ {end kind : ℕ} {t t' : Tables} {r : Told Unit Refusal} (d : OpenedBy end kind t t' (answer_by (λ u. u) r)) where
-  pub play_refused : {n next : ℕ} {input out out' : List ℕ} {x : Refusal} → r ≡ Err x → n ≡ number_of x → Put out 0 (refused_line open_text n) out' next → PlayPut t input end kind out out' next
+module _ {start : Start} {t t' : Tables} {r : Told Unit Refusal} (d : OpenedBy start.end start.kind t t' (answer_by (λ u. u) r)) where
+  pub play_refused : {n : ℕ} {input : List ℕ} {out out' : Output} {x : Refusal} → r ≡ Err x → n ≡ number_of x → Wrote out (refused_line open_text n) out'
+      → PlayPut t input start out out'
   play_refused {n} e m put =
+      let end = start.end in
+      let kind = start.kind in
       record {
+        same_loan = put.same_loan;
         lines = λ lent os w.
             let answer : open_answer (board_opening end kind) ≡ refused n =
             ap (λ (x : Lent). open_answer (opening_for end kind x)) (sym lent) ∙ sym d.answered ∙ ap (answer_by (λ u. u)) e ∙ ap refused (sym m) in
             rw (lines_refused end kind n os answer) put;
       }
 
-  pub play_opened : {next : ℕ} {input out out' : List ℕ} {u : Unit} → r ≡ Ok u → OpenPut t' input out out' next → PlayPut t input end kind out out' next
+  pub play_opened : {input : List ℕ} {out out' : Output} {u : Unit} → r ≡ Ok u → OpenPut t' input out out' → PlayPut t input start out out'
   unfolding left_by
-  play_opened {next} {input} {out} {out'} e puts =
+  play_opened {input} {out} {out'} e puts =
+      let end = start.end in
+      let kind = start.kind in
       record {
+        same_loan = puts.same_loan;
         lines = λ lent os w.
             let taken : open_answer (opening_of end kind t) ≡ accepted tt = sym d.answered ∙ ap (answer_by (λ u. u)) e in
             let same : opening_of end kind t ≡ board_opening end kind = ap (opening_for end kind) lent in
@@ -80,16 +89,15 @@ module _ {end kind : ℕ} {t t' : Tables} {r : Told Unit Refusal} (d : OpenedBy 
             subst (λ (x : Tables). Standing x (opened (opening_of end kind t))) (sym left) (opened_stands end kind t (ap too_short lent ∙ board_fits) taken) in
             let text : record_lines end kind (all os) ≡ header_text ++ (newline ∷ lines_from 1 (opened (opening_of end kind t)) os) =
             lines_taken end kind os (ap open_answer (sym same) ∙ taken) ∙ ap (λ (a : Opening). header_text ++ (newline ∷ lines_from 1 (opened a) os)) (sym same) in
-            subst (λ (x : List ℕ). Put out 0 x out' next) (sym text) (puts.lines (opened (opening_of end kind t)) stands os w);
+            subst (λ (x : List ℕ). Wrote out x out') (sym text) (puts.lines (opened (opening_of end kind t)) stands os w);
       }
 
 -- ── `lend` ──
 
-pub lend_lines : {pieces blocks store nodes entries input out out' : List ℕ} {end kind next : ℕ} → length pieces ≡ board_lent.pieces
+pub lend_lines : {pieces blocks store nodes entries input : List ℕ} {out out' : Output} {start : Start} → length pieces ≡ board_lent.pieces
     → length blocks ≡ board_lent.blocks → length store ≡ board_lent.store → length nodes ≡ board_lent.nodes → length entries ≡ board_lent.entries
-    → PlayPut (tables pieces blocks store nodes entries) input end kind out out' next
-    → LendPut input end kind out out' next
-lend_lines a b c d e puts = record { lines = puts.lines (rw (a, b, c, d, e)) }
+    → PlayPut (tables pieces blocks store nodes entries) input start out out' → LendPut input start out out'
+lend_lines a b c d e puts = record { same_loan = puts.same_loan; lines = puts.lines (rw (a, b, c, d, e)) }
 
 -- ── `run_first` ──
 
@@ -106,16 +114,16 @@ bad_lines : (input : List ℕ) (k : ℕ) → records_of input ≡ bad k → prin
 unfolding printed_of record_lines
 bad_lines input k e = rw e
 
-module _ (input : List ℕ) {out out' : List ℕ} {next : ℕ} where
-  pub first_short : None ≡ start_of input → Put out 0 (bad_record_text ++ decimal 0 (newline ∷ [])) out' next → Put out 0 (printed_of input) out' next
+module _ (input : List ℕ) {out out' : Output} where
+  pub first_short : None ≡ start_of input → Wrote out (bad_record_text ++ decimal 0 (newline ∷ [])) out' → Wrote out (printed_of input) out'
   first_short e put = rw (bad_lines input 0 (law_of_input.too_short input e)) put
 
-  pub first_bad : {k : ℕ} → Err k ≡ check_of (records_of input) → Put out 0 (bad_record_text ++ decimal k (newline ∷ [])) out' next
-      → Put out 0 (printed_of input) out' next
+  pub first_bad : {k : ℕ} → Err k ≡ check_of (records_of input) → Wrote out (bad_record_text ++ decimal k (newline ∷ [])) out'
+      → Wrote out (printed_of input) out'
   first_bad {k = k} e put = rw (bad_lines input k (found_bad (records_of input) k e)) put
 
-  pub first_good : {s : Start} → Some s ≡ start_of input → Ok tt ≡ check_of (records_of input) → LendPut input s.end s.kind out out' next
-      → Put out 0 (printed_of input) out' next
+  pub first_good : {s : Start} → Some s ≡ start_of input → Ok tt ≡ check_of (records_of input) → LendPut input s out out'
+      → Wrote out (printed_of input) out'
   unfolding printed_of
   first_good {s} starts e puts =
       let found = found_good (records_of input) e in

@@ -6,6 +6,7 @@ use mathlib.Core.Option
 use mathlib.Core.Option.{Option, none, some, Option-elim}
 use mathlib.Core.List.{List, [], ◌∷◌, ◌++◌, map, filter_map}
 use Prim.Native.Nat.{ℕ, ◌+◌, ◌-◌, ◌≤◌, ◌<◌, min, max}
+use native.Mathlib.Nat.{add_comm}
 use native.Mathlib.Omega.{arith}
 use lib.Dec.{ltb}
 use lib.ListN.{length, length-append}
@@ -194,8 +195,5 @@ unfolding settled
 held-settled e m h =
     blocks_append m.blocks (map (block_of e) m.pieces)
     ∙ ap (λ (n : ℕ). block_sizes m.blocks + n) (blocks_of_lem e m.pieces)
-    ∙ swapped (block_sizes m.blocks) (piece_sizes m.pieces)
+    ∙ add_comm (block_sizes m.blocks) (piece_sizes m.pieces)
     ∙ h.all_there
-  where
-    swapped : (a b : ℕ) → a + b ≡ b + a
-    swapped a b = omega arith

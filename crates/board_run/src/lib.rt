@@ -12,9 +12,11 @@ ghost use Rattle.std.specs.Prelude.{◌≡◌, length};
 ghost use Rattle.layout.specs.Tables.{tables};
 ghost use Rattle.board_run.specs.Runs.{OpenPut, PlayPut, LendPut, printed_of};
 ghost use Rattle.board_run.specs.Room.{output_most, PrintsBoard};
-ghost use Rattle.lists.specs.Puts.{Put};
+ghost use Rattle.board_text.specs.Wrote.{Wrote};
 
+use board_input::Start;
 use board_lines::{blocks, records};
+use board_text::Output;
 use index::Index;
 use tables::{block, entry, node, piece};
 
@@ -48,14 +50,14 @@ fn play_open(
     store: &mut [u8],
     nodes: &mut [u64],
     entries: &mut [u64],
-    out: &mut [u8],
-) -> usize
+    out: &mut Output<'_>,
+)
     ensures { OpenPut (tables pieces.old blocks.old store.old nodes.old entries.old)
-        input.now out.old out.new result }
+        input.now out.old out.new }
 {
-    let behind_header = board_text::header(out, 0);
-    let behind_ops = records::record_all(input, pieces, blocks, store, out, behind_header);
-    blocks::finish(pieces, blocks, store, nodes, entries, out, behind_ops)
+    out.header();
+    records::record_all(input, pieces, blocks, store, out);
+    blocks::finish(pieces, blocks, store, nodes, entries, out);
 }
 
 // Opens the index and plays the records.
@@ -66,22 +68,21 @@ fn play(
     store: &mut [u8],
     nodes: &mut [u64],
     entries: &mut [u64],
-    end: u64,
-    kind: u8,
-    out: &mut [u8],
-) -> usize
+    start: Start,
+    out: &mut Output<'_>,
+)
     ensures { PlayPut (tables pieces.old blocks.old store.old nodes.old entries.old)
-        input.now end kind out.old out.new result }
+        input.now start out.old out.new }
 {
-    match Index::open(pieces, blocks, store, nodes, entries, end, kind) {
+    match Index::open(pieces, blocks, store, nodes, entries, start.end, start.kind) {
         Ok(()) => play_open(input, pieces, blocks, store, nodes, entries, out),
-        Err(refusal) => board_text::open_refused(out, 0, u64::from(refusal)),
+        Err(refusal) => out.open_refused(u64::from(refusal)),
     }
 }
 
 // Opens and plays on tables of its own.
-fn lend(input: &[u8], end: u64, kind: u8, out: &mut [u8]) -> usize
-    ensures { LendPut input.now end kind out.old out.new result }
+fn lend(input: &[u8], start: Start, out: &mut Output<'_>)
+    ensures { LendPut input.now start out.old out.new }
 {
     let mut pieces = [0u64; PIECES];
     let mut blocks = [0u64; BLOCKS];
@@ -95,22 +96,22 @@ fn lend(input: &[u8], end: u64, kind: u8, out: &mut [u8]) -> usize
         &mut store,
         &mut nodes,
         &mut entries,
-        end,
-        kind,
+        start,
         out,
-    )
+    );
 }
 
 // All that `board` prints of the first 65,536 bytes of an input, or of all where there are fewer.
-fn run_first(input: &[u8], out: &mut [u8]) -> usize
-    ensures { Put out.old 0 (printed_of input.now) out.new result }
+fn run_first(input: &[u8], out: &mut Output<'_>)
+    ensures { Wrote out.old (printed_of input.now) out.new }
 {
     let Some(start) = board_input::opening(input) else {
-        return board_text::bad_record(out, 0, 0);
+        out.bad_record(0);
+        return;
     };
     match board_input::check_records(input) {
-        Ok(()) => lend(input, start.end, start.kind, out),
-        Err(k) => board_text::bad_record(out, 0, k),
+        Ok(()) => lend(input, start, out),
+        Err(k) => out.bad_record(k),
     }
 }
 
@@ -118,5 +119,7 @@ fn run_first(input: &[u8], out: &mut [u8]) -> usize
 pub fn run(input: &[u8], out: &mut [u8]) -> usize
     ensures { PrintsBoard input.now out.old out.new result }
 {
-    run_first(&input[..input.len().min(INPUT)], out)
+    let mut output = Output { buffer: out, at: 0 };
+    run_first(&input[..input.len().min(INPUT)], &mut output);
+    output.at
 }

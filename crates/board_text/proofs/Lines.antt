@@ -10,10 +10,20 @@ use Rattle.history.specs.Days.{days_of}
 use Rattle.history.specs.Reads.{clock_label}
 use Rattle.history.specs.Printed.{digit, decimal, four_digits, hex_digit, hex_bytes, block_line, refused_line, refused_text, space, newline}
 use Rattle.history.specs.Words.{Block, first_cell}
-use Rattle.lists.specs.Puts.{Put}
+use Rattle.board_text.specs.declared.Output.{Output}
+use Rattle.board_text.specs.Wrote.{Wrote}
 use Rattle.board_text.specs.Line.{block_front, block_line_of, front_most, LawOfLines}
 use Rattle.board_text.proofs.Digits.{digits_front, digits-length}
 use Rattle.lists.proofs.Puts.{put_none, put_append, put_shown}
+
+-- ── parts ──
+
+pub wrote_none : (out : Output) → Wrote out [] out
+wrote_none out = record { same_loan = refl; put = put_none out.buffer.now out.at }
+
+-- one part behind another
+pub wrote_append : {out mid after : Output} {xs ys : List ℕ} → Wrote out xs mid → Wrote mid ys after → Wrote out (xs ++ ys) after
+wrote_append a b = record { same_loan = b.same_loan ∙ a.same_loan; put = put_append a.put b.put }
 
 -- ── bytes in hexadecimal ──
 
@@ -27,68 +37,66 @@ unfolding hex_bytes
 hex_append [] ys = refl
 hex_append (b ∷ bs) ys = ap (λ (t : List ℕ). hex_digit (b / 16) ∷ hex_digit (b % 16) ∷ t) (hex_append bs ys)
 
-pub hex_byte : {out mid after : List ℕ} {at p q high low : ℕ} (byte : ℕ) → high ≡ hex_digit (byte / 16) → low ≡ hex_digit (byte % 16)
-    → Put out at (high ∷ []) mid p → Put mid p (low ∷ []) after q → Put out at (hex_bytes (byte ∷ []) []) after q
+pub hex_byte : {out mid after : Output} {high low : ℕ} (byte : ℕ) → high ≡ hex_digit (byte / 16) → low ≡ hex_digit (byte % 16)
+    → Wrote out (high ∷ []) mid → Wrote mid (low ∷ []) after → Wrote out (hex_bytes (byte ∷ []) []) after
 unfolding hex_bytes
-hex_byte {high} {low} byte e f a b = rw (← e, ← f) (put_append a b)
+hex_byte {high} {low} byte e f a b = rw (← e, ← f) (wrote_append a b)
 
 -- ── the loop of `hex` ──
 
-pub hex_none : (out bytes : List ℕ) (at : ℕ) → Put out at (hex_bytes (take 0 bytes) []) out at
+pub hex_none : (out : Output) (bytes : List ℕ) → Wrote out (hex_bytes (take 0 bytes) []) out
 unfolding hex_bytes
-hex_none out bytes at = put_none out at
+hex_none out bytes = wrote_none out
 
-pub hex_one : {out mid after : List ℕ} {at p q : ℕ} (bytes : List ℕ) (i : ℕ) → i < length bytes → Put out at (hex_bytes (take i bytes) []) mid p
-    → Put mid p (hex_bytes (get_or bytes i 0 ∷ []) []) after q → Put out at (hex_bytes (take (i + 1) bytes) []) after q
+pub hex_one : {out mid after : Output} (bytes : List ℕ) (i : ℕ) → i < length bytes → Wrote out (hex_bytes (take i bytes) []) mid
+    → Wrote mid (hex_bytes (get_or bytes i 0 ∷ []) []) after → Wrote out (hex_bytes (take (i + 1) bytes) []) after
 hex_one bytes i h a b =
-    rw (add-one i, take-suc bytes i 0 h, hex_append (take i bytes) (get_or bytes i 0 ∷ [])) (put_append a b)
+    rw (add-one i, take-suc bytes i 0 h, hex_append (take i bytes) (get_or bytes i 0 ∷ [])) (wrote_append a b)
 
-pub hex_all : {out after : List ℕ} {at q : ℕ} (bytes : List ℕ) (i : ℕ) → length bytes ≤ i → Put out at (hex_bytes (take i bytes) []) after q
-    → Put out at (hex_bytes bytes []) after q
+pub hex_all : {out after : Output} (bytes : List ℕ) (i : ℕ) → length bytes ≤ i → Wrote out (hex_bytes (take i bytes) []) after
+    → Wrote out (hex_bytes bytes []) after
 hex_all bytes i h a = rw (take_all i bytes h) at a
 
 -- ── the label ──
 
-pub label_put : {out after : List ℕ} {at q n a b c d : ℕ} (cell : ℕ) → n ≡ clock_label (days_of []) cell → a ≡ digit (n / 1000 % 10) → b ≡ digit (n / 100 % 10)
-    → c ≡ digit (n / 10 % 10) → d ≡ digit (n % 10) → Put out at (a ∷ b ∷ c ∷ d ∷ []) after q → Put out at (four_digits (clock_label [] cell) []) after q
+pub label_put : {out after : Output} {n a b c d : ℕ} (cell : ℕ) → n ≡ clock_label (days_of []) cell → a ≡ digit (n / 1000 % 10) → b ≡ digit (n / 100 % 10)
+    → c ≡ digit (n / 10 % 10) → d ≡ digit (n % 10) → Wrote out (a ∷ b ∷ c ∷ d ∷ []) after → Wrote out (four_digits (clock_label [] cell) []) after
 unfolding days_of four_digits
 label_put cell e f g h i put = rw (← e, ← f, ← g, ← h, ← i) put
 
 -- ── lines of numbers ──
 
-pub field_put : {out mid after : List ℕ} {at p q : ℕ} (n : ℕ) {c : ℕ} → Put out at (decimal n []) mid p → Put mid p (c ∷ []) after q
-    → Put out at (decimal n (c ∷ [])) after q
-field_put n {c} a b = rw (digits_front 20 n [] (c ∷ [])) (put_append a b)
+pub field_put : {out mid after : Output} (n : ℕ) {c : ℕ} → Wrote out (decimal n []) mid → Wrote mid (c ∷ []) after → Wrote out (decimal n (c ∷ [])) after
+field_put n {c} a b = rw (digits_front 20 n [] (c ∷ [])) (wrote_append a b)
 
 -- a field, and what follows it
-more_put : {out mid after : List ℕ} {at p q : ℕ} (n : ℕ) {text : List ℕ} → Put out at (decimal n (space ∷ [])) mid p → Put mid p text after q
-    → Put out at (decimal n (space ∷ text)) after q
-more_put n {text} a b = rw (digits_front 20 n (space ∷ []) text) (put_append a b)
+more_put : {out mid after : Output} (n : ℕ) {text : List ℕ} → Wrote out (decimal n (space ∷ [])) mid → Wrote mid text after
+    → Wrote out (decimal n (space ∷ text)) after
+more_put n {text} a b = rw (digits_front 20 n (space ∷ []) text) (wrote_append a b)
 
-label_more : {out mid after : List ℕ} {at p q : ℕ} (n : ℕ) {text : List ℕ} → Put out at (four_digits n []) mid p → Put mid p text after q
-    → Put out at (four_digits n text) after q
+label_more : {out mid after : Output} (n : ℕ) {text : List ℕ} → Wrote out (four_digits n []) mid → Wrote mid text after
+    → Wrote out (four_digits n text) after
 unfolding four_digits
-label_more n a b = put_append a b
+label_more n a b = wrote_append a b
 
-pub front_put : {out o₁ o₂ o₃ o₄ o₅ after : List ℕ} {at p₁ p₂ p₃ p₄ p₅ q : ℕ} (first cells created destroyed : ℕ)
-    → Put out at (decimal first (space ∷ [])) o₁ p₁ → Put o₁ p₁ (decimal cells (space ∷ [])) o₂ p₂ → Put o₂ p₂ (decimal created (space ∷ [])) o₃ p₃
-    → Put o₃ p₃ (decimal destroyed (space ∷ [])) o₄ p₄ → Put o₄ p₄ (four_digits (clock_label [] first) []) o₅ p₅ → Put o₅ p₅ (space ∷ []) after q
-    → Put out at (block_front first cells created destroyed) after q
+pub front_put : {out o₁ o₂ o₃ o₄ o₅ after : Output} (first cells created destroyed : ℕ)
+    → Wrote out (decimal first (space ∷ [])) o₁ → Wrote o₁ (decimal cells (space ∷ [])) o₂ → Wrote o₂ (decimal created (space ∷ [])) o₃
+    → Wrote o₃ (decimal destroyed (space ∷ [])) o₄ → Wrote o₄ (four_digits (clock_label [] first) []) o₅ → Wrote o₅ (space ∷ []) after
+    → Wrote out (block_front first cells created destroyed) after
 unfolding block_front
 front_put first cells created destroyed a b c d e f =
     more_put first a (more_put cells b (more_put created c (more_put destroyed d (label_more (clock_label [] first) e f))))
 
-pub line_put : {out o₁ o₂ after : List ℕ} {at p₁ p₂ q : ℕ} (first created destroyed : ℕ) (bytes : List ℕ)
-    → Put out at (block_front first (length bytes) created destroyed) o₁ p₁ → Put o₁ p₁ (hex_bytes bytes []) o₂ p₂ → Put o₂ p₂ (newline ∷ []) after q
-    → Put out at (block_line_of first created destroyed bytes) after q
+pub line_put : {out o₁ o₂ after : Output} (first created destroyed : ℕ) (bytes : List ℕ)
+    → Wrote out (block_front first (length bytes) created destroyed) o₁ → Wrote o₁ (hex_bytes bytes []) o₂ → Wrote o₂ (newline ∷ []) after
+    → Wrote out (block_line_of first created destroyed bytes) after
 unfolding block_line_of
-line_put first created destroyed bytes a b c = put_append a (put_append b c)
+line_put first created destroyed bytes a b c = wrote_append a (wrote_append b c)
 
-pub refused_put : {out mid after : List ℕ} {at p q : ℕ} (what : List ℕ) (n : ℕ) → Put out at what mid p
-    → Put mid p (refused_text ++ decimal n (newline ∷ [])) after q
-    → Put out at (refused_line what n) after q
+pub refused_put : {out mid after : Output} (what : List ℕ) (n : ℕ) → Wrote out what mid → Wrote mid (refused_text ++ decimal n (newline ∷ [])) after
+    → Wrote out (refused_line what n) after
 unfolding refused_line
-refused_put what n a b = put_append a b
+refused_put what n a b = wrote_append a b
 
 -- ── a block's line in parts ──
 

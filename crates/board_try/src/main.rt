@@ -20,12 +20,13 @@ const NUMBER: usize = 4;
 fn number_at(data: &[u8], at: usize) -> usize
     ensures { result < 2 ^ 32 }
 {
-    if data.len() < NUMBER || data.len() - NUMBER < at {
+    let Some(bytes) = data.get(at..at.saturating_add(NUMBER)) else {
         return 0;
-    }
-    let low = usize::from(data[at]) + 256 * usize::from(data[at + 1]);
-    let high = usize::from(data[at + 2]) + 256 * usize::from(data[at + 3]);
-    low + 65536 * high
+    };
+    let Ok(number) = <[u8; NUMBER]>::try_from(bytes) else {
+        return 0;
+    };
+    u32::from_le_bytes(number) as usize
 }
 
 // The text whose length stands at a position; the empty one where the data is cut.

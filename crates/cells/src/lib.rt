@@ -6,28 +6,31 @@
 
 #![tactic(auto)]
 
-ghost use Rattle.layout.specs.Tables.{tables};
+ghost use Rattle.layout.specs.Tables.{held as Tables·held};
 ghost use Rattle.refusals.specs.Numbers.{answer_by};
 ghost use Rattle.cells.specs.Answers.{CellsReadBy};
 
+use layout::Tables;
 use refusals::Refusal;
+use segment_table::lent::Closed;
 
 // The cells of [start, end) at a tick, into two lent slices.
 pub fn read_cells(
-    pieces: &[u64],
-    blocks: &[u64],
-    store: &[u8],
-    nodes: &[u64],
-    entries: &[u64],
+    lent: Tables,
     tick: u64,
     start: u64,
     end: u64,
     bytes: &mut [u8],
     held: &mut [u8],
 ) -> Result<(), Refusal>
-    ensures { CellsReadBy (tables pieces.now blocks.now store.now nodes.now entries.now) tick start end
+    ensures { CellsReadBy (Tables·held lent.entry) tick start end
         bytes.old bytes.new held.old held.new (answer_by (λ _. tt) result) }
 {
-    index_test::test(pieces, blocks, store, nodes, entries).closed()?;
-    cells_read::read_closed(blocks, store, nodes, entries, tick, start, end, bytes, held)
+    index_test::test(lent).closed()?;
+    let closed = Closed {
+        blocks: lent.blocks,
+        nodes: lent.nodes,
+        entries: lent.entries,
+    };
+    cells_read::read_closed(&closed, lent.store, tick, start, end, bytes, held)
 }

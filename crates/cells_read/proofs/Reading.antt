@@ -55,13 +55,13 @@ module _ {blocks store nodes entries : List ℕ} {tick start stop last : ℕ} {b
       → ReadClosed blocks store nodes entries tick start stop bytes bytes held held (refused 16)
   read_16_held h b room short = refuses 16 (λ pieces l enc done. cells_held enc done tick start stop (length bytes) (length held) (omega arith) b room short)
 
-  pub read_filled : {kind : ℕ} {bytes' held' : List ℕ} → kind ≡ block_column blocks 0 head_kind → tick < last → start ≤ stop → stop - start ≤ length bytes
-      → stop - start ≤ length held → Shown blocks store nodes entries kind tick start stop stop bytes bytes' held held'
+  pub read_filled : {bytes' held' : List ℕ} → tick < last → start ≤ stop → stop - start ≤ length bytes
+      → stop - start ≤ length held → Shown blocks store nodes entries (block_column blocks 0 head_kind) tick start stop stop bytes bytes' held held'
       → ReadClosed blocks store nodes entries tick start stop bytes bytes' held held' (accepted tt)
-  read_filled {kind} k h b room room' shown = record {
+  read_filled h b room room' shown = record {
     read = λ pieces. record {
       closed = λ l enc s done.
-          let at : ClosedAt blocks store nodes entries kind tick l = record { pieces = pieces; encodes = enc; sound = s; done = done; own_kind = k ∙ enc.kind; before_end = omega (arith, enc.end) } in
+          let at : ClosedAt blocks store nodes entries (block_column blocks 0 head_kind) tick l = record { pieces = pieces; encodes = enc; sound = s; done = done; own_kind = enc.kind; before_end = omega (arith, enc.end) } in
           let to = (shown.shown l at room room').0 in
           rw (cells_given enc done tick start stop (length bytes) (length held) (omega arith) b room room')
           (record { answered = refl; in_bytes = to.in_bytes; in_held = to.in_held });

@@ -13,23 +13,22 @@ ghost use Rattle.cells_read.specs.Answers.{ReadClosed};
 mod show;
 
 use refusals::Refusal;
+use segment_table::lent::Closed;
 
 // The cells of [start, end) at a tick: 14, 15 and 16 in their order. Both slices are filled, or nothing has changed.
 pub fn read_closed(
-    blocks: &[u64],
+    closed: &Closed,
     store: &[u8],
-    nodes: &[u64],
-    entries: &[u64],
     tick: u64,
     start: u64,
     end: u64,
     bytes: &mut [u8],
     held: &mut [u8],
 ) -> Result<(), Refusal>
-    ensures { ReadClosed blocks.now store.now nodes.now entries.now tick start end
+    ensures { ReadClosed closed.now.blocks.now store.now closed.now.nodes.now closed.now.entries.now tick start end
         bytes.old bytes.new held.old held.new (answer_by (λ _. tt) result) }
 {
-    if block_table::end(blocks) <= tick {
+    if block_table::end(closed.blocks) <= tick {
         return Err(Refusal::NoSuchTick);
     }
     if end < start {
@@ -39,9 +38,6 @@ pub fn read_closed(
     if bytes.len() < many || held.len() < many {
         return Err(Refusal::ResultTooLong);
     }
-    let kind = block_table::kind(blocks);
-    show::show(
-        blocks, store, nodes, entries, kind, tick, start, end, bytes, held,
-    );
+    show::show(closed, store, tick, start, end, bytes, held);
     Ok(())
 }

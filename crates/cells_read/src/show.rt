@@ -1,9 +1,11 @@
 // Cells written run by run.
 ghost use Rattle.std.specs.Prelude.{◌≤◌};
+ghost use Rattle.tables.specs.Columns.{block_column, head_kind};
 ghost use Rattle.runs.specs.Runs.{Laid};
 ghost use Rattle.cells_read.specs.Shows.{FilledWith, ShownRun, Shown};
 
 use runs::Run;
+use segment_table::lent::Closed;
 
 // Writes a value to `count` places from `at` on, if there is room for them.
 fn fill(out: &mut [u8], at: usize, count: usize, value: u8)
@@ -30,13 +32,10 @@ fn show_run(store: &[u8], run: Run, start: u64, place: u64, bytes: &mut [u8], he
     fill(held, middle, count, 1);
 }
 
-// Shows the cells of [start, end) at a tick, for blocks of a kind, if the slices have room for them. Each run goes on where the one before it ended.
+// Shows the cells of [start, end) at a tick, if the slices have room for them. Each run goes on where the one before it ended.
 pub fn show(
-    blocks: &[u64],
+    closed: &Closed,
     store: &[u8],
-    nodes: &[u64],
-    entries: &[u64],
-    kind: u64,
     tick: u64,
     start: u64,
     end: u64,
@@ -44,14 +43,15 @@ pub fn show(
     held: &mut [u8],
 )
     requires { start ≤ end }
-    ensures { Shown blocks.now store.now nodes.now entries.now kind tick start end end
+    ensures { Shown closed.now.blocks.now store.now closed.now.nodes.now closed.now.entries.now
+        (block_column closed.now.blocks.now 0 head_kind) tick start end end
         bytes.old bytes.new held.old held.new }
 {
-    let first = runs::first_run(blocks, store, nodes, entries, kind, tick, start, end);
+    let first = runs::first_run(closed, store, tick, start, end);
     show_run(store, first, start, start, bytes, held);
     let mut place = first.past;
     while place < end {
-        let next = runs::next_run(blocks, store, nodes, entries, kind, tick, place, end);
+        let next = runs::next_run(closed, store, tick, place, end);
         show_run(store, next, start, place, bytes, held);
         place = next.past;
     }

@@ -5,11 +5,12 @@
 
 #![tactic(auto)]
 
-ghost use Rattle.layout.specs.Tables.{tables};
+ghost use Rattle.layout.specs.Tables.{held};
 ghost use Rattle.layout.specs.Relations.{ClockGivenBy};
 ghost use Rattle.refusals.specs.Numbers.{answer_by};
 ghost use Rattle.clock.specs.Answers.{ClockTold};
 
+use layout::Tables;
 use refusals::Refusal;
 
 // The label of a cell, hours times 100 plus minutes, of tables that are not tested here.
@@ -21,16 +22,9 @@ pub fn clock_formed(blocks: &[u64], cell: u64) -> u64
 }
 
 // The label of a cell.
-pub fn clock(
-    pieces: &[u64],
-    blocks: &[u64],
-    store: &[u8],
-    nodes: &[u64],
-    entries: &[u64],
-    cell: u64,
-) -> Result<u64, Refusal>
-    ensures { ClockGivenBy (tables pieces.now blocks.now store.now nodes.now entries.now) cell (answer_by (λ n. n) result) }
+pub fn clock(lent: Tables, cell: u64) -> Result<u64, Refusal>
+    ensures { ClockGivenBy (held lent.entry) cell (answer_by (λ n. n) result) }
 {
-    index_test::test(pieces, blocks, store, nodes, entries).formed()?;
-    Ok(clock_formed(blocks, cell))
+    index_test::test(lent).formed()?;
+    Ok(clock_formed(lent.blocks, cell))
 }

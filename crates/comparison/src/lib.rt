@@ -11,6 +11,7 @@ ghost use Rattle.comparison.specs.Comparison.{Matching, Compared};
 use piece_table::Piece;
 
 // How many of the bytes from `from` on are the store's from `at` on, `run` at most.
+// A loop: by `zip` and `position`, or by `(0..run).find(..)`, the search did not find the proof of the return.
 fn matching(store: &[u8], at: usize, bytes: &[u8], from: usize, run: usize) -> usize
     requires { (at + run ≤ length store.now) × (from + run ≤ length bytes.now) }
     ensures { Matching store.now at bytes.now from run result }

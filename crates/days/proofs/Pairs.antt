@@ -1,7 +1,7 @@
 -- The pairs of a slice: how many, and the next one. Assumes nothing.
 use mathlib.Core.Path.{◌≡◌, refl, sym, ap, ◌∙◌}
-use mathlib.Core.List.{List, [], ◌∷◌}
-use Prim.Native.Nat.{ℕ, zero, suc, ◌+◌, ◌*◌, ◌/◌, ◌%◌, ◌≤◌, ◌<◌}
+use mathlib.Core.List.{List, [], ◌∷◌, ◌++◌}
+use Prim.Native.Nat.{ℕ, zero, suc, ◌+◌, ◌*◌, ◌/◌, ◌%◌, ◌≤◌, ◌<◌, min}
 use native.Mathlib.Omega.{arith}
 use lib.ListN.{length, get_or, drop, length-drop, drop_of_length-le}
 use lib.Seq.{get_or-drop, drop-drop}
@@ -35,6 +35,16 @@ days_next l k h =
 pub days_end : (l : List ℕ) (k : ℕ) → length (days_of l) ≤ k → days_of (drop (2 * k) l) ≡ []
 unfolding days_of
 days_end l k h = rw (drop_of_length-le l {i = 2 * k} (omega (arith, days_count l)))
+
+-- the pair in front of others, as a part of the slice
+pub pair_next : (l pair rest : List ℕ) → 0 < length l → l ≡ pair ++ rest → length pair ≡ min 2 (length l)
+    → days_of l ≡ record { day = get_or pair 0 0; minutes = get_or pair 1 0 } ∷ days_of rest
+unfolding days_of
+pair_next l [] rest h e s = absurd (omega arith)
+pair_next l (day ∷ []) [] h e s = rw e
+pair_next l (day ∷ []) (x ∷ rest) h e s = absurd (omega (arith, ap length e))
+pair_next l (day ∷ minutes ∷ []) rest h e s = rw e
+pair_next l (day ∷ minutes ∷ x ∷ more) rest h e s = absurd (omega arith)
 
 -- ── lists of the same numbers ──
 

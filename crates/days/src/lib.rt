@@ -28,6 +28,7 @@ pub const MOST: usize = 64;
 pub const PLATFORM: u64 = 1 << 32;
 
 // The number at a place, 0 past the end.
+// C lends a list as numbers, so it is read by number: the last pair may lack its minutes, which are 0 then.
 pub fn number(list: &[u64], at: usize) -> u64
     ensures { result ≡ get_or list.now at 0 }
 {
@@ -66,9 +67,9 @@ pub fn takes(list: &[u64]) -> bool
         return false;
     }
     let mut before = None;
-    for k in 0..count {
-        let day = number(list, 2 * k);
-        if !rises(before, day) || !may_last(number(list, 2 * k + 1)) {
+    for pair in list.chunks(2) {
+        let day = number(pair, 0);
+        if !rises(before, day) || !may_last(number(pair, 1)) {
             return false;
         }
         before = Some(day);

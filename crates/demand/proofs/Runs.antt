@@ -24,7 +24,7 @@ use Rattle.history.specs.Refusals.{Answer, accepted, refused, first_of, max_end_
 use Rattle.history.specs.Calls.{Call, record_call, finish_call, calendar_call, days_call, answer_to, accepted_by, leaves, after, answers, after_all, last_days, noted, history}
 use Rattle.history.specs.Sound.{Sound}
 use Rattle.history.specs.Law.{LedgerLaw, Faithful}
-use Rattle.history.proofs.EveryList.{the_law, every_list, law_after, opening_kept}
+use Rattle.history.proofs.EveryList.{the_law, every_list, law_after, opening_kept, opened_opening, opened_open, finish_done}
 use Rattle.history.proofs.DaysLaws.{days_last}
 use Rattle.history.proofs.FindSound.{find_sound}
 use Rattle.layout.specs.Tables.{Tables, lengths_of}
@@ -89,10 +89,6 @@ record Standing (t : Tables) (l : Ledger) (h : List Operation) : Type 0 where
   encodes : Encodes t l
   law : LedgerLaw l h
   blank : finished l ≡ false → Blank t
-
-finish_done : (l : Ledger) → finished (finish_by l) ≡ true
-unfolding finish_by
-finish_done l = refl
 
 step_record : (scratch : ℕ) (o : Operation) (t t' : Tables) (l : Ledger) (h : List Operation) (a : Answer Result) → Standing t l h → RecordedBy scratch o t t' a
     → (a ≡ record_answer l scratch o) × Standing t' (after l (record_call scratch o)) (noted h (record_call scratch o) (record_answer l scratch o))
@@ -248,17 +244,9 @@ zeros_balanced l t none_left zeros = record {
 
 -- ── the demand ──
 
-opened_opening : (a : Opening) → (opened a).opening ≡ a
-unfolding opened
-opened_opening a = refl
-
 opened_pieces : (a : Opening) → (opened a).now.pieces ≡ []
 unfolding opened
 opened_pieces a = refl
-
-opened_open : (a : Opening) → finished (opened a) ≡ false
-unfolding opened
-opened_open a = refl
 
 module _ (end kind : ℕ) (some_tick : 1 ≤ end) (end_most : end ≤ max_end_tick) (known_kind : kind ≤ 4) (t t₀ : Tables) (opening : Answer Unit)
     (d : OpenedBy end kind t t₀ opening) where

@@ -1,21 +1,19 @@
 -- Touching, next and last after every list of calls: the tables stand for the finished ledger, whose live blocks show the history. Assumes nothing.
 use mathlib.Core.Path.{◌≡◌, refl, sym, ap, ◌∙◌, subst}
-use mathlib.Core.Bool.{true, ◌&&◌}
-use mathlib.Core.Option.{some}
+use mathlib.Core.Bool.{true}
 use mathlib.Core.List.{List}
 use Prim.Native.Nat.{ℕ, ◌≤◌, ◌<◌}
 use native.Mathlib.Omega.{arith}
 use lib.ListN.{length}
 use borrow.Author.Tests.{le-ltb, lt-ltb}
-use Rattle.lists.specs.Lists.{All, Mem, here}
+use Rattle.lists.specs.Lists.{Mem, here}
 use Rattle.lists.proofs.Numbers.{and_left}
 use Rattle.lists.proofs.Lists.{all_map, all_mem, mem_at, mem_right, mem_place}
-use Rattle.history.specs.Words.{Operation, Block, HasCell, Holds, byte_at, live}
+use Rattle.history.specs.Words.{Operation, HasCell, Holds, live}
 use Rattle.history.specs.Tree.{no_block}
 use Rattle.history.specs.Ledger.{Ledger, finished}
 use Rattle.history.specs.Reads.{block_by, touches, touching_by, next_by, last_by}
-use Rattle.history.specs.Refusals.{Answer, accepted, refused, touching_answer}
-use Rattle.history.specs.Calls.{value_at}
+use Rattle.history.specs.Refusals.{accepted, refused, touching_answer}
 use Rattle.history.specs.Law.{LastCall, Faithful}
 use Rattle.history.specs.Sound.{Sound}
 use Rattle.history.proofs.Within.{within_in, within_true}

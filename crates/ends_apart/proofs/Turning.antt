@@ -1,10 +1,16 @@
 -- H1 along the rows: one step for each return and each turn. Assumes nothing.
-use mathlib.Core.Path.{◌≡◌}
-use mathlib.Core.Bool.{Bool, true}
+use mathlib.Core.Path.{◌≡◌, refl, subst, sym, ◌∙◌}
+use mathlib.Core.Bool.{Bool, true, false}
 use mathlib.Core.Logic.{◌⊎◌, inl, inr}
 use mathlib.Core.List.{List}
-use Prim.Native.Nat.{ℕ, ◌+◌, ◌≤◌, ◌<◌, max}
+use Prim.Native.Nat.{ℕ, ◌+◌, ◌-◌, ◌≤◌, ◌<◌, max}
 use native.Mathlib.Omega.{arith}
+use lib.ListN.{length, get_or}
+use Rattle.std.specs.Bool.{MatchBool}
+use Rattle.std.specs.List.{AllWithin, range_with_len}
+use Rattle.std.proofs.lemmas.List.FromFn.{length-range_with_len, get_or-range_with_len}
+use lib.Dec.{ltb}
+use borrow.Author.Tests.{ltb-false, not-true, not-false}
 use Rattle.lists.proofs.Numbers.{lt_or_le}
 use Rattle.tables.specs.Sums.{plus_up_to}
 use Rattle.block_table.specs.Blocks.{first_cell_at, length_at, destroyed_at}
@@ -12,34 +18,34 @@ use Rattle.block_table.specs.declared.Row.{Row}
 use Rattle.block_table.specs.RowRead.{Reads}
 use Rattle.ends_apart.specs.Rows.{LivesAt, CellAt, NoWrap}
 use Rattle.ends_apart.specs.declared.Run.{Run}
-use Rattle.ends_apart.specs.Turns.{EndsApart, HasCell, Parted, Clear, ClearBack, Follows, Met, Continues, SeenApart}
+use Rattle.ends_apart.specs.Turns.{EndsApart, HasCell, Parted, ClearBack, Follows, Met, Continues, SeenApart}
 
--- ── the turns and returns of `clear_back` ──
+-- ── the return of `clear_back` ──
 
-pub record ClearTo (blocks : List ℕ) (low i : ℕ) (own : Row) : Type 0 where
-  pub clear : Clear blocks low i own
+-- what `all` over a range says of each number in it
+pub each_below : (P : ℕ → Type 0) (No : Type 0) {low k : ℕ} {r : Bool} → MatchBool r (AllWithin P (range_with_len low (k - low)) 0 (length (range_with_len low (k - low)))) No → r ≡ true
+    → (i : ℕ) → low ≤ i → i < k → P i
+each_below P No {low} {k} m e i a b =
+    subst P {x = get_or (range_with_len low (k - low)) (i - low) 0} {y = i} (omega (arith, get_or-range_with_len low (k - low) (i - low) 0 (omega arith)))
+    ((rw e at m) (i - low) 0 (omega arith) (omega (arith, length-range_with_len low (k - low))))
 
-pub clear_start : {blocks : List ℕ} {low : ℕ} {own : Row} → ClearTo blocks low low own
-clear_start = record { clear = λ i a b. absurd (omega arith) }
+-- the row behind i is clear of the other
+pub record RowClear (blocks : List ℕ) (own : Row) (i : ℕ) : Type 0 where
+  pub clear : LivesAt blocks (i + 1) → (cell : ℕ) → CellAt blocks (i + 1) cell → HasCell own cell → ⊥
 
 -- a row that was read has the cells of its link
 read_cell : {blocks : List ℕ} {link cell : ℕ} {row : Row} → Reads blocks link row → CellAt blocks link cell → HasCell row cell
 read_cell r c = record { from = omega (arith, r.first, c.from); below = omega (arith, r.first, r.length, c.below) }
 
-pub clear_turn : {blocks : List ℕ} {low i : ℕ} {own row : Row} {q : Bool} → ClearTo blocks low i own → Reads blocks (i + 1) row → Parted row own q → q ≡ true
-    → ClearTo blocks low (i + 1) own
-clear_turn {blocks} {low} {i} {own} {row} {q} t r p f = record { clear = go }
-  where
-    go : Clear blocks low (i + 1) own
-    go j a b lives cell c o =
-        elim (lt_or_le i j) [
-          | inl h ↦ let e : j ≡ i + 1 = omega arith in
-              p.shown f (omega (arith, r.created, r.destroyed, rw e at lives)) cell (read_cell r (rw e at c)) o
-          | inr h ↦ t.clear j a h lives cell c o
-        ]
+pub row_clear : {blocks : List ℕ} {i : ℕ} {own row : Row} → Reads blocks (i + 1) row → Parted row own true → RowClear blocks own i
+row_clear r p = record { clear = λ lives cell c o. p.shown refl (omega (arith, r.created, r.destroyed, lives)) cell (read_cell r c) o }
 
-pub clear_end : {blocks : List ℕ} {low i k : ℕ} {own : Row} → ClearTo blocks low i own → k ≤ i → ClearBack blocks low k own true
-clear_end t h = record { shown = λ _ j a b. t.clear j a (omega arith) }
+pub rows_clear : {blocks : List ℕ} {low k : ℕ} {own : Row} {r : Bool} → (r ≡ true → (i : ℕ) → low ≤ i → i < k → RowClear blocks own i) → ClearBack blocks low k own r
+rows_clear {blocks} each = record {
+  shown = λ e i a b.
+      let z : i - 1 + 1 ≡ i = omega arith in
+      rw z at ((each e (i - 1) (omega arith) (omega arith)).clear);
+}
 
 -- ── the returns of `with` ──
 
@@ -73,12 +79,15 @@ early : {blocks : List ℕ} {run : Run} {k : ℕ} → Met blocks k run → (i : 
 early {run = run} s i a b l = elim (lt_or_le run.low i) [ inl q ↦ omega (arith, s.since i q b l) | inr q ↦ omega (arith, s.before i a q l) ]
 
 module _ {blocks : List ℕ} {run : Run} {k : ℕ} {row : Row} where
-  pub goes_lifeless : row.destroyed ≤ row.created → Continues blocks run k row run
-  goes_lifeless d = record { met = go }
+  pub goes_lifeless : {lives : Bool} → lives ≡ ltb row.created row.destroyed → lives ≡ false → Continues blocks run k row run
+  goes_lifeless el f = record { met = go }
     where
+      d : row.destroyed ≤ row.created
+      d = ltb-false row.created row.destroyed (sym el ∙ f)
+
       go : Reads blocks (k + 1) row → NoWrap blocks (k + 1) → Met blocks k run → Met blocks (k + 1) run
       go r w s =
-          let dead : (i : ℕ) → i ≡ k + 1 → LivesAt blocks i → ⊥ = λ i e l. omega (arith, r.created, r.destroyed, rw e at l) in
+          let dead : (i : ℕ) → i ≡ k + 1 → LivesAt blocks i → ⊥ = λ i e l. omega (arith, d, r.created, r.destroyed, rw e at l) in
           record {
             within = omega (arith, s.within);
             before = s.before;
@@ -119,7 +128,7 @@ module _ {blocks : List ℕ} {run : Run} {k : ℕ} {row : Row} where
                 ]);
           }
 
-pub ruleset going = (goes_lifeless, goes_later, goes_on)
+pub ruleset going = (goes_lifeless, goes_later, goes_on, not-true, not-false)
 
 -- ── the turns and the return of `ends_apart` ──
 

@@ -16,10 +16,6 @@ pub record HasCell (row : Row) (cell : ℕ) : Type 0 where
   pub from : row.first ≤ cell
   pub below : cell < row.first + row.length
 
--- it ends at a place or before it
-pub record EndsBy (row : Row) (place : ℕ) : Type 0 where
-  pub is : row.first + row.length ≤ place
-
 -- `parted`: yes is said only where the row has no life or shares no cell with the other
 pub record Parted (row own : Row) (r : Bool) : Type 0 where
   pub shown : r ≡ true → row.created < row.destroyed → (cell : ℕ) → HasCell row cell → HasCell own cell → ⊥

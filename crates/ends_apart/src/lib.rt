@@ -9,26 +9,18 @@
 #![tactic(auto)]
 
 ghost use Rattle.std.specs.Prelude.{IfSome};
-ghost use Rattle.lists.specs.Tests.{Decides};
-ghost use Rattle.ends_apart.specs.Turns.{EndsBy, Parted, ClearBack, SeenApart};
+ghost use Rattle.ends_apart.specs.Turns.{Parted, ClearBack, SeenApart};
 
 use block_table::Row;
 
 // How many rows of its tick a row is held against.
 const MANY: u64 = 64;
 
-// Whether the row ends at the place or before it. It subtracts and does not add: an end may pass 2^64 in tables that nobody has tested.
-fn ends_by(row: Row, place: u64) -> bool
-    ensures { Decides result (EndsBy row place) }
-{
-    row.first <= place && row.length <= place - row.first
-}
-
 // Whether the row has no life or shares no cell with the other.
 fn parted(row: Row, own: Row) -> bool
     ensures { Parted row own result }
 {
-    row.destroyed <= row.created || ends_by(row, own.first) || ends_by(own, row.first)
+    !row.lives() || row.ends_by(own.first) || own.ends_by(row.first)
 }
 
 // Whether each of the rows above `low` up to k is parted from the other; of many nothing is said.
@@ -38,16 +30,11 @@ fn clear_back(blocks: &[u64], low: u64, k: u64, own: Row) -> bool
     if MANY < k.saturating_sub(low) {
         return false;
     }
-    for i in low..k {
-        if !parted(block_table::read(blocks, i + 1), own) {
-            return false;
-        }
-    }
-    true
+    (low..k).all(|i| parted(block_table::read(blocks, i + 1), own))
 }
 
 // The rows of the last tick that was met: those above `low`, none of which ends after `top`.
-#[derive(Clone, Copy)]
+#[derive(Clone, Copy, Default)]
 struct Run {
     tick: u64,
     top: u64,
@@ -69,10 +56,10 @@ impl Run {
     fn with(self, blocks: &[u64], k: u64, row: Row) -> Option<Run>
         ensures { IfSome result (Continues blocks.now self k row) }
     {
-        if row.destroyed <= row.created {
+        if !row.lives() {
             return Some(self);
         }
-        let end = row.first.saturating_add(row.length);
+        let end = row.end();
         if self.tick < row.destroyed {
             return Some(Run {
                 tick: row.destroyed,
@@ -95,11 +82,7 @@ impl Run {
 pub fn ends_apart(blocks: &[u64], n: u64) -> bool
     ensures { SeenApart blocks.now n result }
 {
-    let mut run = Run {
-        tick: 0,
-        top: 0,
-        low: 0,
-    };
+    let mut run = Run::default();
     for k in 0..n {
         let row = block_table::read(blocks, k + 1);
         let Some(next) = run.with(blocks, k, row) else {

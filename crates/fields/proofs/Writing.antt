@@ -1,19 +1,15 @@
 -- Bytes put over a part of a slice: as `sets` has it. Assumes nothing.
 use mathlib.Core.Path.{◌≡◌, refl, sym, ◌∙◌, ap}
-use lib.Seq.{length-sets}
 use mathlib.Core.List.{List}
-use mathlib.Core.Logic.{inl, inr}
-use Prim.Native.Nat.{ℕ, ◌+◌, ◌/◌, ◌%◌, ◌-◌, ◌≤◌, min}
+use Prim.Native.Nat.{ℕ, ◌+◌, ◌/◌, ◌%◌, ◌≤◌}
 use native.Mathlib.Omega.{arith}
-use lib.ListN.{length, take, drop, set, length-take}
+use lib.ListN.{length, set}
 use borrow.Rule.Slice.PartMut.{put_mid}
-use Rattle.std.proofs.lemmas.List.{take-append-drop, take_all}
 use Rattle.std.proofs.Common.{append_assoc}
-use Rattle.std.proofs.lemmas.Bool.{cases_lt}
 use Rattle.std.proofs.lemmas.List.Edits.{sets, sets-eq, paste_all}
 use Rattle.std.proofs.lemmas.Slice.{put_mid-paste}
 use Rattle.std.specs.Int.{w64, to_le_bytes}
-use Rattle.lists.proofs.Stores.{sets-append, sets-past}
+use Rattle.lists.proofs.Stores.{sets-past}
 use Rattle.history.specs.File.{bytes_of}
 
 -- bytes over a part that is as long as they are
@@ -23,24 +19,6 @@ put_mid-sets out at k part bytes room n e =
     let m : at + k ≡ at + length bytes = omega arith in
     put_mid-paste at k out part bytes k e refl n ∙ paste_all out at bytes k n
     ∙ rw (m, ← append_assoc) (sym (sets-eq bytes out at (omega arith)))
-
--- what goes in of bytes is all of them, or ends where the slice does
-sets-cut : (out : List ℕ) (at n : ℕ) (bytes : List ℕ) → n ≡ min (length bytes) (length out - at) → sets out at (take n bytes) ≡ sets out at bytes
-sets-cut out at n bytes m =
-    elim (cases_lt n (length bytes)) [
-      | inl h ↦
-          let past : length (sets out at (take n bytes)) ≤ at + length (take n bytes) = simp (length-sets, length-take) (omega arith) in
-          let rest = sets-past (drop n bytes) (sets out at (take n bytes)) (at + length (take n bytes)) past in
-          sym (rw take-append-drop at (sets-append out at (take n bytes) (drop n bytes)) ∙ rest)
-      | inr h ↦ rw (take_all n bytes h) refl
-    ]
-
--- as many of the bytes as go in
-pub put_mid-cut : (out : List ℕ) (at n k : ℕ) (part bytes : List ℕ) → at ≤ length out → n ≡ min (length bytes) (length out - at) → k ≡ n
-    → part ≡ take n bytes → put_mid at k out part ≡ sets out at bytes
-put_mid-cut out at n k part bytes h m j e =
-    let long : k ≡ length (take n bytes) = simp length-take (omega arith) in
-    put_mid-sets out at k part (take n bytes) (omega arith) long e ∙ sets-cut out at n bytes m
 
 pub put-past : (out : List ℕ) (at : ℕ) (bytes : List ℕ) → length out ≤ at → out ≡ sets out at bytes
 put-past out at bytes h = sym (sets-past bytes out at h)
@@ -68,4 +46,4 @@ put_eight out at k value part bytes b e n room =
     let long : k ≡ length bytes = rw b n in
     put_mid-sets out at k part bytes (omega arith) long e ∙ ap (λ (l : List ℕ). sets out at l) (b ∙ eight_bytes value)
 
-pub ruleset writing = (put_mid-cut, put-past, put_one, put_eight, eight_bytes)
+pub ruleset writing = (put-past, put_one, put_eight, eight_bytes)

@@ -5,27 +5,13 @@ ghost use Rattle.history.specs.File.{bytes_of};
 
 use crate::WIDTH;
 
-// A number has digits to this base, the lowest first.
-const BASE: u64 = 256;
-
-// Writes bytes from place `at` on, as many as go in.
-#[tactic(auto, using(crate::proofs::Writing::writing))]
-fn put(out: &mut [u8], at: usize, bytes: &[u8])
-    ensures { out.new ≡ sets out.old at bytes.now }
-{
-    if at < out.len() {
-        let n = bytes.len().min(out.len() - at);
-        out[at..at + n].copy_from_slice(&bytes[..n]);
-    }
-}
-
 // Writes a byte, the lowest of a value.
 #[tactic(auto, using(crate::proofs::Writing::writing))]
 pub fn put_byte(out: &mut [u8], at: usize, value: u64)
     ensures { out.new ≡ sets out.old at (bytes_of 1 value) }
 {
     if at < out.len() {
-        out[at] = (value % BASE) as u8;
+        out[at] = value.to_le_bytes()[0];
     }
 }
 
@@ -38,6 +24,6 @@ pub fn put_number(out: &mut [u8], at: usize, value: u64)
     if WIDTH <= out.len() && at <= out.len() - WIDTH {
         out[at..at + WIDTH].copy_from_slice(&bytes);
     } else {
-        put(out, at, &bytes);
+        tables::copy_in(out, at, &bytes);
     }
 }

@@ -12,7 +12,7 @@ use Rattle.history.specs.Words.{Block, size}
 use Rattle.history.specs.File.{got, onward, ◌>>=◌, give, many, read_block}
 use Rattle.history.proofs.FileYields.{got_value, got_next, fault_got}
 use Rattle.tables.specs.Columns.{block_base}
-use Rattle.std.specs.Prelude.{Ok, Err}
+use Rattle.history.specs.Refusals.{accepted, refused}
 use Rattle.file_scan.specs.Rows.{block_row}
 use Rattle.file_scan.proofs.Readers.{onward_got}
 use Rattle.file_scan.proofs.RowReads.{block_passes, block_of}
@@ -73,7 +73,7 @@ fill_start file kind count at blocks store =
 
 module _ {file : List ℕ} {kind count at : ℕ} {blocks₀ store₀ blocks store : List ℕ} {left rows used place : ℕ}
     (o : Onward file kind count at blocks₀ store₀ blocks store left rows used place) where
-  module _ {a b c d q n : ℕ} (e : Ok (block_of a b c d q n) ≡ block_row place (read_block kind file place)) where
+  module _ {a b c d q n : ℕ} (e : accepted (block_of a b c d q n) ≡ block_row place (read_block kind file place)) where
     said : Says place (read_block kind file place) a b c d q n
     said = block_says place (read_block kind file place) e
 
@@ -114,7 +114,7 @@ module _ {file : List ℕ} {kind count at : ℕ} {blocks₀ store₀ blocks stor
           let one : rest ≡ left - 1 = omega arith in
           rw one (turn (omega arith))
 
-  pub fill_fault : {i : ℕ} → Err i ≡ block_row place (read_block kind file place) → 0 < left → FilledBlocks file kind count at blocks₀ store₀ blocks store
+  pub fill_fault : {i : ℕ} → refused i ≡ block_row place (read_block kind file place) → 0 < left → FilledBlocks file kind count at blocks₀ store₀ blocks store
   unfolding many ◌>>=◌ onward give
   fill_fault e h = o.rest blocks store (record { numbers = λ bs n g. absurd (none g); bytes = λ bs n g. absurd (none g) })
     where

@@ -81,15 +81,15 @@ module _ (blocks file : List ℕ) (kind at : ℕ) {nodes entries : List ℕ} whe
     }
 
     module _ {f : Filled} (is : r ≡ Some f) {nodes₂ entries₂ : List ℕ}
-        (node_head_lem : nodes₂ ≡ sets nodes₁ 0 (node_head_numbers kind f.rows))
-        (entry_head_lem : entries₂ ≡ sets entries₁ (row_width * 0 + 0) (f.runs ∷ 0 ∷ 0 ∷ 0 ∷ 0 ∷ 0 ∷ 0 ∷ 0 ∷ [])) where
+        (node_head_lem : nodes₂ ≡ sets nodes₁ 0 (node_head_numbers kind f.behind.rows))
+        (entry_head_lem : entries₂ ≡ sets entries₁ (row_width * 0 + 0) (f.behind.runs ∷ 0 ∷ 0 ∷ 0 ∷ 0 ∷ 0 ∷ 0 ∷ 0 ∷ [])) where
       left : (t : Nodes) (next : ℕ) → InRange e t → TreeLeft blocks kind 0 e 0 0 (tree_from t) next nodes entries nodes₁ entries₁ r
           → NodesLeft blocks kind t nodes entries nodes₂ entries₂ (Some e)
       left t next i l =
           let T = tree_from t in
           let s = tree_parts (sym is ∙ l.answered) in
-          let many : f.rows ≡ node_count T = omega (arith, s.1) in
-          let all : f.runs ≡ entry_count T = omega (arith, s.2) in
+          let many : f.behind.rows ≡ node_count T = omega (arith, s.1) in
+          let all : f.behind.runs ≡ entry_count T = omega (arith, s.2) in
           record {
             ends = ap Some (sym i.is);
             node_rows_lem =

@@ -128,9 +128,9 @@ entries_joined key xs ys zs = entry_numbers_append key xs (ys ++ zs) ∙ ap (λ 
 tree_same : {a b c d a' b' c' d' : ℕ} → a ≡ a' → b ≡ b' → c ≡ c' → d ≡ d' → filled a b c d ≡ filled a' b' c' d'
 tree_same p q r s = rw (p, q, r, s) refl
 
-pub tree_parts : {f : Filled} {a b c d : ℕ} → Some f ≡ filled a b c d → (f.root ≡ a) × (f.rows ≡ b) × (f.runs ≡ c) × (f.next ≡ d)
+pub tree_parts : {f : Filled} {a b c d : ℕ} → Some f ≡ filled a b c d → (f.root ≡ a) × (f.behind.rows ≡ b) × (f.behind.runs ≡ c) × (f.behind.at ≡ d)
 tree_parts {f} {a} {b} {c} {d} e =
-    let same : f ≡ record { root = a; rows = b; runs = c; next = d } = cc in
+    let same : f ≡ record { root = a; behind = record { at = d; rows = b; runs = c } } = cc in
     rw same (refl, refl, refl, refl)
 
 pub tree_not_wrong : {f : Filled} → Some f ≡ None → ⊥
@@ -237,11 +237,11 @@ module _ (blocks file : List ℕ) (kind lo hi at rows runs : ℕ) {count q n : �
     }
 
     module _ {lf : Filled} (tl : rl ≡ Some lf) {nodes₂ entries₃ : List ℕ} {rr : Option Filled}
-        (right : FilledTree blocks file kind f hi lf.next lf.rows lf.runs nodes₁ entries₂ nodes₂ entries₃ rr) where
+        (right : FilledTree blocks file kind f hi lf.behind.at lf.behind.rows lf.behind.runs nodes₁ entries₂ nodes₂ entries₃ rr) where
       -- what is known of both where the left half fits
       module _ (l : Nodes) (p₁ : ℕ) (fl : TreeLeft blocks kind lo (mid lo hi) (suc rows) (runs + length es) (tree_from l) p₁ nodes entries₁ nodes₁ entries₂ rl) where
-        left_answered : (lf.root ≡ root_link (suc rows) (tree_from l)) × (lf.rows ≡ suc rows + node_count (tree_from l))
-            × (lf.runs ≡ runs + length es + entry_count (tree_from l)) × (lf.next ≡ p₁)
+        left_answered : (lf.root ≡ root_link (suc rows) (tree_from l)) × (lf.behind.rows ≡ suc rows + node_count (tree_from l))
+            × (lf.behind.runs ≡ runs + length es + entry_count (tree_from l)) × (lf.behind.at ≡ p₁)
         left_answered = tree_parts (sym tl ∙ fl.answered)
 
         right_is : FilledTree blocks file kind (right_start lo hi) hi p₁ (suc rows + node_count (tree_from l)) (runs + length es + entry_count (tree_from l))
@@ -266,7 +266,7 @@ module _ (blocks file : List ℕ) (kind lo hi at rows runs : ℕ) {count q n : �
         -- both halves fit
         both : (l r : Nodes) (p₁ next : ℕ) → read_root file p₁ ≡ got r next → fits (right_start lo hi) hi r ≡ true
             → TreeLeft blocks kind lo (mid lo hi) (suc rows) (runs + length es) (tree_from l) p₁ nodes entries₁ nodes₁ entries₂ rl
-            → TreeLeft blocks kind lo hi rows runs (node es (tree_from l) (tree_from r)) next nodes entries nodes₃ entries₃ (filled (rows + 1) rf.rows rf.runs rf.next)
+            → TreeLeft blocks kind lo hi rows runs (node es (tree_from l) (tree_from r)) next nodes entries nodes₃ entries₃ (filled (rows + 1) rf.behind.rows rf.behind.runs rf.behind.at)
         unfolding root_link node_count entry_count node_numbers entries_in
         both l r p₁ next read fr fl =
             let L = tree_from l in
@@ -298,7 +298,7 @@ module _ (blocks file : List ℕ) (kind lo hi at rows runs : ℕ) {count q n : �
               entry_rows_lem = all ∙ ap (λ (u : List ℕ). sets entries (entry_place runs) u) (sym (entries_joined key es (entries_in L) (entries_in R)));
             }
 
-        pub tree_both : FilledTree blocks file kind lo hi at rows runs nodes entries nodes₃ entries₃ (filled (rows + 1) rf.rows rf.runs rf.next)
+        pub tree_both : FilledTree blocks file kind lo hi at rows runs nodes entries nodes₃ entries₃ (filled (rows + 1) rf.behind.rows rf.behind.runs rf.behind.at)
         unfolding tree_from
         tree_both = record {
           right = λ z next read fz.

@@ -1,4 +1,4 @@
--- Where a node should stand: one step for each return of `is_place`, `right_start`, `half_at`, `root_end`, `root_in` and `first_cell`. Assumes nothing.
+-- Where a node should stand: one step for each return of `is_place`, `right_start`, `half_at`, `root_end` and `first_cell`. Assumes nothing.
 use mathlib.Core.Path.{◌≡◌, refl}
 use mathlib.Core.Logic.{◌⊎◌, ⊎_elim}
 use mathlib.Core.Bool.{true, false, ◌&&◌, and-false}
@@ -17,7 +17,7 @@ use Rattle.tables.proofs.Past.{read_past}
 use Rattle.std.specs.Prelude.{Some, None, Result, Ok, Err}
 use Rattle.std.specs.Result.{result_ok}
 use Rattle.refusals.specs.declared.Refusal.{Refusal}
-use Rattle.file_scan.specs.Faults.{numbered}
+use Rattle.refusals.specs.Numbers.{answer_by}
 use Rattle.file_scan.specs.declared.rows.NodeRow.{NodeRow}
 use Rattle.file_scan.specs.declared.rows.NodeRow.TheVariants as node
 use Rattle.file_scan.specs.Rows.{row_head, Head, head_absent, head_present, node_row}
@@ -67,12 +67,12 @@ module _ (lo hi : ℕ) where
 -- ── the returns of `half_at` and `root_end` ──
 
 module _ (lo hi at : ℕ) (o : Read Head) where
-  pub half_fault : (r : Result NodeRow Refusal) → None ≡ result_ok r → numbered r ≡ node_row at o → None ≡ half_of lo hi at o
+  pub half_fault : (r : Result NodeRow Refusal) → None ≡ result_ok r → answer_by (λ x. x) r ≡ node_row at o → None ≡ half_of lo hi at o
   unfolding half_of
   half_fault (Ok x) t e = absurd (cc)
   half_fault (Err f) t e = rw (row_fault at o e) refl
 
-  pub half_absent : (r : Result NodeRow Refusal) {n : ℕ} → Some (node.Absent n) ≡ result_ok r → numbered r ≡ node_row at o
+  pub half_absent : (r : Result NodeRow Refusal) {n : ℕ} → Some (node.Absent n) ≡ result_ok r → answer_by (λ x. x) r ≡ node_row at o
       → Some (half.Absent n) ≡ half_of lo hi at o
   unfolding half_of
   half_absent (Ok x) {n} t e =
@@ -81,7 +81,7 @@ module _ (lo hi at : ℕ) (o : Read Head) where
   half_absent (Err f) t e = absurd (cc)
 
   module _ {a b c d q n : ℕ} where
-    pub half_wrong : (r : Result NodeRow Refusal) → Some (node.Present a b c d q n) ≡ result_ok r → numbered r ≡ node_row at o
+    pub half_wrong : (r : Result NodeRow Refusal) → Some (node.Present a b c d q n) ≡ result_ok r → answer_by (λ x. x) r ≡ node_row at o
         → false ≡ is_place lo hi a b c → None ≡ half_of lo hi at o
     unfolding half_of
     half_wrong (Ok x) t e place =
@@ -89,7 +89,7 @@ module _ (lo hi at : ℕ) (o : Read Head) where
         row_present at o (rw same at e) λ es g z w. rw (g, ← place) refl
     half_wrong (Err f) t e place = absurd (cc)
 
-    pub half_present : (r : Result NodeRow Refusal) → Some (node.Present a b c d q n) ≡ result_ok r → numbered r ≡ node_row at o
+    pub half_present : (r : Result NodeRow Refusal) → Some (node.Present a b c d q n) ≡ result_ok r → answer_by (λ x. x) r ≡ node_row at o
         → true ≡ is_place lo hi a b c → Some (half.Present d q n) ≡ half_of lo hi at o
     unfolding half_of
     half_present (Ok x) t e place =
@@ -98,12 +98,12 @@ module _ (lo hi at : ℕ) (o : Read Head) where
     half_present (Err f) t e place = absurd (cc)
 
 module _ (at : ℕ) (o : Read Head) where
-  pub end_fault : (r : Result NodeRow Refusal) → None ≡ result_ok r → numbered r ≡ node_row at o → None ≡ root_end o
+  pub end_fault : (r : Result NodeRow Refusal) → None ≡ result_ok r → answer_by (λ x. x) r ≡ node_row at o → None ≡ root_end o
   unfolding root_end
   end_fault (Ok x) t e = absurd (cc)
   end_fault (Err f) t e = rw (row_fault at o e) refl
 
-  pub end_absent : (r : Result NodeRow Refusal) {n : ℕ} → Some (node.Absent n) ≡ result_ok r → numbered r ≡ node_row at o → None ≡ root_end o
+  pub end_absent : (r : Result NodeRow Refusal) {n : ℕ} → Some (node.Absent n) ≡ result_ok r → answer_by (λ x. x) r ≡ node_row at o → None ≡ root_end o
   unfolding root_end
   end_absent (Ok x) {n} t e =
       let same : x ≡ node.Absent n = cc in
@@ -111,7 +111,7 @@ module _ (at : ℕ) (o : Read Head) where
   end_absent (Err f) t e = absurd (cc)
 
   module _ {a b c d q n : ℕ} where
-    pub end_out_of_range : (r : Result NodeRow Refusal) → Some (node.Present a b c d q n) ≡ result_ok r → numbered r ≡ node_row at o
+    pub end_out_of_range : (r : Result NodeRow Refusal) → Some (node.Present a b c d q n) ≡ result_ok r → answer_by (λ x. x) r ≡ node_row at o
         → ((b ≡ 0) ⊎ ((b ≡ 0 → ⊥) × (2 ^ 63 < b))) → None ≡ root_end o
     unfolding root_end
     end_out_of_range (Ok x) t e h =
@@ -120,7 +120,7 @@ module _ (at : ℕ) (o : Read Head) where
         ⊎_elim (λ p. rw (g, le-ltb 0 b (omega arith)) refl) (λ p. rw (g, lt-leb b (2 ^ 63) p.1, and-false (ltb 0 b)) refl) h
     end_out_of_range (Err f) t e h = absurd (cc)
 
-    pub end_there : (r : Result NodeRow Refusal) → Some (node.Present a b c d q n) ≡ result_ok r → numbered r ≡ node_row at o → (b ≡ 0 → ⊥) → b ≤ 2 ^ 63
+    pub end_there : (r : Result NodeRow Refusal) → Some (node.Present a b c d q n) ≡ result_ok r → answer_by (λ x. x) r ≡ node_row at o → (b ≡ 0 → ⊥) → b ≤ 2 ^ 63
         → Some b ≡ root_end o
     unfolding root_end
     end_there (Ok x) t e p h =

@@ -59,7 +59,7 @@ root_end (fault n) = None
 
 -- a tree that was filled
 abbrev pub filled : (root rows runs next : ℕ) → Option Filled
-filled root rows runs next = Some (record { root = root; rows = rows; runs = runs; next = next })
+filled root rows runs next = Some (record { root = root; behind = record { at = next; rows = rows; runs = runs } })
 
 -- ── entries ──
 
@@ -88,7 +88,7 @@ pub record FilledTree (blocks file : List ℕ) (kind lo hi at rows runs : ℕ) (
       → TreeLeft blocks kind lo hi rows runs (tree_from t) next nodes entries nodes' entries' r
   pub wrong : (t : Nodes) (next : ℕ) → read_root file at ≡ got t next → fits lo hi t ≡ false → r ≡ None
   -- each row and each entry has bytes of its own
-  pub bound : {f : Filled} → r ≡ Some f → (f.rows ≤ f.next) × (f.runs ≤ f.next)
+  pub bound : {f : Filled} → r ≡ Some f → (f.behind.rows ≤ f.behind.at) × (f.behind.runs ≤ f.behind.at)
 
 -- ── the whole ──
 

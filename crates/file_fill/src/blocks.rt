@@ -6,7 +6,7 @@ use file_scan::rows;
 use file_scan::rows::BlockRow;
 use tables::block;
 
-// Fills the rows from link 1 on, and the store from its start on. Linear in the blocks and their bytes.
+// Fills the rows from link 1 on, and the store from its start on. Linear in the blocks and their bytes. The kind is a number, as any may be filled in.
 pub fn fill_blocks(
     blocks: &mut [u64],
     store: &mut [u8],

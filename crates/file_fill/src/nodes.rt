@@ -5,13 +5,13 @@ ghost use Rattle.std.proofs.lemmas.List.Edits.{sets};
 ghost use Rattle.history.specs.Lent.{entry_width, entry_head};
 ghost use Rattle.history.specs.Tree.{mid};
 ghost use Rattle.file_scan.specs.Rows.{read_head};
-ghost use Rattle.layout.specs.Rows.{root_in, node_head_numbers};
+ghost use Rattle.layout.specs.Rows.{node_head_numbers};
 ghost use Rattle.file_fill.specs.Fill.{first_cell_of, is_place, right_start, half_of, root_end, FilledEntries, FilledTree, FilledNodes};
 
 use crate::rows::put_row;
 use file_scan::rows;
 use file_scan::rows::NodeRow;
-use tables::{block, entry};
+use tables::{ROW, block, entry, node};
 
 // What stands at a position where the node of an interval is awaited: that node, or no node.
 #[derive(Clone, Copy)]
@@ -26,13 +26,28 @@ pub enum Half {
     },
 }
 
-// A tree that was filled: the link of its root, or 0 for none; how many node and entry rows are in use, and the position behind it.
+// A position in the file, with how many node and entry rows are in use there.
+#[derive(Clone, Copy)]
+pub struct Position {
+    pub at: usize,
+    pub rows: u64,
+    pub runs: u64,
+}
+
+// A tree that was filled: the link of its root, or 0 for none, and the position behind it.
 #[derive(Clone, Copy)]
 pub struct Filled {
     pub root: u64,
-    pub rows: u64,
-    pub runs: u64,
-    pub next: usize,
+    pub behind: Position,
+}
+
+// What the nodes are filled from: the file, its kind, and its blocks as they were filled.
+#[derive(Clone, Copy)]
+pub struct Source<'a> {
+    pub blocks: &'a [u64],
+    pub file: &'a [u8],
+    // a number, as any may be filled in
+    pub kind: u64,
 }
 
 // Whether a node that says low, high and middle is the node [min, max), which has a tick.
@@ -51,7 +66,6 @@ fn middle_of(min: u64, max: u64) -> u64
 }
 
 // Where the right half of [min, max) starts. A node of width 1 has none: from max on no node can stand.
-
 fn right_start(min: u64, max: u64) -> u64
     ensures { min < max → result ≡ right_start min max }
 {
@@ -89,7 +103,6 @@ fn half_at(file: &[u8], at: usize, min: u64, max: u64) -> Option<Half>
 }
 
 // The first cell of a block by its number, which the file may give too high: then 0.
-
 fn first_cell(blocks: &[u64], number: u64) -> u64
     ensures { result ≡ first_cell_of blocks.now number }
 {
@@ -100,79 +113,11 @@ fn first_cell(blocks: &[u64], number: u64) -> u64
 }
 
 // One entry row.
-
 fn put_entry(entries: &mut [u64], row: u64, number: u64, cell: u64)
     ensures { entries.new ≡ sets entries.old (entry_head + entry_width * row) (number ∷ cell ∷ []) }
 {
     entry::put(entries, row, entry::BLOCK, number);
     entry::put(entries, row, entry::KEY, cell);
-}
-
-// The entries of one node: the `count` numbers at a position, each with the first cell of its block.
-fn fill_entries(entries: &mut [u64], blocks: &[u64], file: &[u8], at: usize, first: u64, count: u64)
-    requires { first ≤ at }
-    ensures { FilledEntries blocks.now file.now at first count entries.old entries.new }
-{
-    let mut place = at;
-    for more in 0..count {
-        let Some((number, next)) = fields::number_at(file, place) else {
-            return;
-        };
-        put_entry(entries, first + more, number, first_cell(blocks, number));
-        place = next;
-    }
-}
-
-// Fills the tree at a position, whose root is to be [min, max), behind the node and entry rows in use; none if it is not. The interval halves: at most
-// 65 calls deep for an end up to 2^63. Linear in the nodes and entries met.
-fn fill_tree(
-    nodes: &mut [u64],
-    entries: &mut [u64],
-    blocks: &[u64],
-    file: &[u8],
-    kind: u64,
-    min: u64,
-    max: u64,
-    at: usize,
-    rows: u64,
-    runs: u64,
-) -> Option<Filled>
-    requires rows_le_at { rows ≤ at }
-    requires runs_le_at { runs ≤ at }
-    ensures { FilledTree blocks.now file.now kind min max at rows runs nodes.old entries.old nodes.new entries.new result }
-{
-    let half = half_at(file, at, min, max)?;
-    match half {
-        Half::Absent { next } => Some(Filled {
-            root: 0,
-            rows,
-            runs,
-            next,
-        }),
-        Half::Present {
-            count,
-            entries: entries_at,
-            next,
-        } => {
-            let link = rows + 1;
-            let more = runs + count;
-            let mid = middle_of(min, max);
-            let from = right_start(min, max);
-            fill_entries(entries, blocks, file, entries_at, runs, count);
-            let left = fill_tree(
-                nodes, entries, blocks, file, kind, min, mid, next, link, more,
-            )?;
-            let right = fill_tree(
-                nodes, entries, blocks, file, kind, from, max, left.next, left.rows, left.runs,
-            )?;
-            let row = [min, max, left.root, right.root, runs, count, kind, 0];
-            put_row(nodes, 0, link, row);
-            Some(Filled {
-                root: link,
-                ..right
-            })
-        }
-    }
 }
 
 // The end tick that the root at a position says; none without a root, or where it is out of range.
@@ -190,39 +135,105 @@ fn root_end(file: &[u8], at: usize) -> Option<u64>
     }
 }
 
-// 1, the link of the root, in the column of its kind.
-fn root_in(kind: u64, col: u64) -> u64
-    ensures { result ≡ root_in kind col }
-{
-    u64::from(kind == col)
-}
-
-// The head of the node table: one root, and the count.
+// The head of the node table: one root, of link 1 in the column of its kind, and the count.
 fn put_node_head(nodes: &mut [u64], kind: u64, count: u64)
     ensures { nodes.new ≡ sets nodes.old 0 (node_head_numbers kind count) }
 {
-    let a = root_in(kind, 0);
-    let b = root_in(kind, 1);
-    let c = root_in(kind, 2);
-    let d = root_in(kind, 3);
-    let e = root_in(kind, 4);
-    put_row(nodes, 0, 0, [a, b, c, d, e, count, 0, 0]);
+    let mut row = [0; ROW];
+    if kind < node::COUNT as u64 {
+        row[kind as usize] = 1;
+    }
+    row[node::COUNT] = count;
+    put_row(nodes, 0, 0, row);
 }
 
-// Fills the nodes at a position, with their entries, and the heads of the two tables. Gives the end tick; none where rule 21 is broken.
-pub fn fill_nodes(
-    nodes: &mut [u64],
-    entries: &mut [u64],
-    blocks: &[u64],
-    file: &[u8],
-    kind: u64,
-    at: usize,
-) -> Option<u64>
-    ensures { FilledNodes blocks.now file.now kind at nodes.old entries.old nodes.new entries.new result }
-{
-    let end = root_end(file, at)?;
-    let filled = fill_tree(nodes, entries, blocks, file, kind, 0, end, at, 0, 0)?;
-    put_node_head(nodes, kind, filled.rows);
-    put_row(entries, 0, 0, [filled.runs, 0, 0, 0, 0, 0, 0, 0]);
-    Some(end)
+impl Source<'_> {
+    // The entries of one node: the `count` numbers at a position, each with the first cell of its block.
+    fn fill_entries(&self, entries: &mut [u64], at: usize, first: u64, count: u64)
+        requires { first ≤ at }
+        ensures { FilledEntries self.now.blocks.now self.now.file.now at first count entries.old entries.new }
+    {
+        let mut place = at;
+        for more in 0..count {
+            let Some((number, next)) = fields::number_at(self.file, place) else {
+                return;
+            };
+            put_entry(
+                entries,
+                first + more,
+                number,
+                first_cell(self.blocks, number),
+            );
+            place = next;
+        }
+    }
+
+    // Fills the tree at a position, whose root is to be [min, max), behind the node and entry rows in use; none if it is not. The interval halves: at
+    // most 65 calls deep for an end up to 2^63. Linear in the nodes and entries met.
+    fn fill_tree(
+        &self,
+        nodes: &mut [u64],
+        entries: &mut [u64],
+        min: u64,
+        max: u64,
+        from: Position,
+    ) -> Option<Filled>
+        requires rows_le_at { from.rows ≤ from.at }
+        requires runs_le_at { from.runs ≤ from.at }
+        ensures { FilledTree self.now.blocks.now self.now.file.now self.now.kind min max from.at from.rows from.runs
+            nodes.old entries.old nodes.new entries.new result }
+    {
+        let Position { at, rows, runs } = from;
+        let half = half_at(self.file, at, min, max)?;
+        match half {
+            Half::Absent { next } => Some(Filled {
+                root: 0,
+                behind: Position {
+                    at: next,
+                    rows,
+                    runs,
+                },
+            }),
+            Half::Present {
+                count,
+                entries: entries_at,
+                next,
+            } => {
+                let link = rows + 1;
+                let more = runs + count;
+                let mid = middle_of(min, max);
+                let start = right_start(min, max);
+                self.fill_entries(entries, entries_at, runs, count);
+                let own = Position {
+                    at: next,
+                    rows: link,
+                    runs: more,
+                };
+                let left = self.fill_tree(nodes, entries, min, mid, own)?;
+                let right = self.fill_tree(nodes, entries, start, max, left.behind)?;
+                let row = [min, max, left.root, right.root, runs, count, self.kind, 0];
+                put_row(nodes, 0, link, row);
+                Some(Filled {
+                    root: link,
+                    ..right
+                })
+            }
+        }
+    }
+
+    // Fills the nodes at a position, with their entries, and the heads of the two tables. Gives the end tick; none where rule 21 is broken.
+    pub fn fill_nodes(&self, nodes: &mut [u64], entries: &mut [u64], at: usize) -> Option<u64>
+        ensures { FilledNodes self.now.blocks.now self.now.file.now self.now.kind at nodes.old entries.old nodes.new entries.new result }
+    {
+        let end = root_end(self.file, at)?;
+        let start = Position {
+            at,
+            rows: 0,
+            runs: 0,
+        };
+        let filled = self.fill_tree(nodes, entries, 0, end, start)?;
+        put_node_head(nodes, self.kind, filled.behind.rows);
+        put_row(entries, 0, 0, [filled.behind.runs, 0, 0, 0, 0, 0, 0, 0]);
+        Some(end)
+    }
 }

@@ -14,6 +14,7 @@ use Rattle.refusals.specs.Numbers.{number_of}
 use Rattle.lists.proofs.Stores.{sets-append}
 use Rattle.lists.proofs.Numbers.{bool_cases, lt_or_le}
 use Rattle.history.specs.Lent.{row_width}
+use Rattle.history.specs.Refusals.{Answer, accepted, refused}
 use Rattle.history.specs.Words.{Block}
 use Rattle.history.specs.Tree.{Tree}
 use Rattle.history.specs.Rules.{rule23, apart}
@@ -45,15 +46,15 @@ head_put {blocks} {b₁} {b₂} {e} {kind} {n} {used} cleared wrote =
 -- ── the verdict ──
 
 -- the first broken rule of four, by their outcomes
-abbrev first_broken : (a b c d : Bool) → ℕ
-first_broken a b c d = cond a (cond b (cond c (cond d 0 24) 23) 22) 21
+abbrev first_broken : (a b c d : Bool) → Answer (Unit {0})
+first_broken a b c d = cond a (cond b (cond c (cond d (accepted tt) (refused 24)) (refused 23)) (refused 22)) (refused 21)
 
-none_broken : (a b c d : Bool) → first_broken a b c d ≡ 0 → (a ≡ true) × (b ≡ true) × (c ≡ true) × (d ≡ true)
+none_broken : (a b c d : Bool) → first_broken a b c d ≡ accepted tt → (a ≡ true) × (b ≡ true) × (c ≡ true) × (d ≡ true)
 none_broken true true true true e = (refl, refl, refl, refl)
-none_broken true true true false e = absurd (omega arith)
-none_broken true true false d e = absurd (omega arith)
-none_broken true false c d e = absurd (omega arith)
-none_broken false b c d e = absurd (omega arith)
+none_broken true true true false e = absurd (cc)
+none_broken true true false d e = absurd (cc)
+none_broken true false c d e = absurd (cc)
+none_broken false b c d e = absurd (cc)
 
 module _ (f : File) where
   abbrev E : ℕ
@@ -62,7 +63,7 @@ module _ (f : File) where
   abbrev T : Tree
   T = tree_from f.nodes
 
-  pub verdict-none : verdict f ≡ 0
+  pub verdict-none : verdict f ≡ accepted tt
       → (rule21 f.nodes ≡ true) × (rule22 E f.blocks ≡ true) × (rule23 E f.blocks T ≡ true) × (apart f.blocks ≡ true)
   unfolding verdict judgement
   verdict-none e = none_broken (rule21 f.nodes) (rule22 E f.blocks) (rule23 E f.blocks T) (apart f.blocks) e
@@ -73,7 +74,7 @@ module _ (f : File) where
   unfolding verdict judgement
   verdict_by p q r s = λ i. first_broken (p i) (q i) (r i) (s i)
 
-  verdict_21 : rule21 f.nodes ≡ false → verdict f ≡ 21
+  verdict_21 : rule21 f.nodes ≡ false → verdict f ≡ refused 21
   unfolding verdict
   verdict_21 e = rw e refl
 
@@ -81,7 +82,7 @@ module _ (f : File) where
   unfolding verdict
   verdict_rest e = rw e refl
 
-no_block_lem : (e : ℕ) (bs : List Block) (T : Tree) → length bs ≡ 0 → judgement e bs T ≡ 22
+no_block_lem : (e : ℕ) (bs : List Block) (T : Tree) → length bs ≡ 0 → judgement e bs T ≡ refused 22
 unfolding judgement rule22
 no_block_lem e [] T h = refl
 no_block_lem e (b ∷ bs) T h = absurd (omega arith)
@@ -96,16 +97,16 @@ module _ (file : List ℕ) (kind n used start root : ℕ) {blocks store nodes en
     (filled_blocks : FilledBlocks file kind n start blocks store b₁ store')
     (filled-nodes : FilledNodes b₁ file kind root nodes entries nodes' entries' o) where
   -- 21
-  pub build_halves : {i : Refusal} → Err i ≡ ok_or o FileTree → Built file kind n used start root blocks store nodes entries b₁ store' nodes' entries' (number_of i)
+  pub build_halves : {i : Refusal} → Err i ≡ ok_or o FileTree → Built file kind n used start root blocks store nodes entries b₁ store' nodes' entries' (refused (number_of i))
   build_halves z =
       let (none, broken) = halves_is o z in
       rw broken
       (record {
         answered = λ f pieces r room. sym (is none f r);
-        stands = λ f pieces r room v. absurd (let w : 21 ≡ 0 = sym (is none f r) ∙ v in omega arith);
+        stands = λ f pieces r room v. absurd (let w = sym (is none f r) ∙ v in cc);
       })
     where
-      is : o ≡ None → (f : File) → PartsAt file kind n used start root f → verdict f ≡ 21
+      is : o ≡ None → (f : File) → PartsAt file kind n used start root f → verdict f ≡ refused 21
       is none f r =
           ⊎_elim
           (λ y. let ends = sym none ∙ (filled-nodes.right f.nodes r.nodes_end r.nodes y).ends in absurd (cc))
@@ -113,7 +114,7 @@ module _ (file : List ℕ) (kind n used start root : ℕ) {blocks store nodes en
 
   module _ {e : ℕ} (some_end : o ≡ Some e) {b₂ : List ℕ}
       (head : HeadPut b₁ b₂ e kind n used)
-      {r : ℕ} (judged : Judged (lent b₂ nodes' entries') kind e n r) where
+      {r : Answer (Unit {0})} (judged : Judged (lent b₂ nodes' entries') kind e n r) where
     keeps_21 : (f : File) → PartsAt file kind n used start root f → rule21 f.nodes ≡ true
     keeps_21 f q =
         ⊎_elim (λ y. y) (λ y. let ends = sym some_end ∙ filled-nodes.wrong f.nodes q.nodes_end q.nodes y in absurd (cc)) (bool_cases (rule21 f.nodes))

@@ -13,6 +13,7 @@ use Rattle.lists.proofs.Lists.{all_of_map, all_at}
 use Rattle.lists.proofs.Numbers.{bool_cases, lt_or_le, and_right, and_both, decided, decides_same}
 use Rattle.lists.proofs.Counting.{all_count_from}
 use Rattle.history.specs.Lent.{row_width, block_head, entry_head}
+use Rattle.history.specs.Refusals.{accepted, refused}
 use Rattle.history.specs.Words.{Block, size}
 use Rattle.history.specs.Tree.{Tree, no_block}
 use Rattle.history.specs.Rules.{every, filled, lived, rule23, apart}
@@ -112,7 +113,7 @@ module _ (t : closed.Tables) (kind end n : ℕ) {live : Bool} (lives : TestedLiv
   abbrev bs : List ℕ → List Block
   bs store = blocks_of store t.blocks n
 
-  pub judge_blocks : live ≡ false → Judged t kind end n 22
+  pub judge_blocks : live ≡ false → Judged t kind end n (refused 22)
   unfolding judgement
   judge_blocks e = record { is = λ store tree q. rw (← (lives.is store q.stored), e) refl; none = λ z. refl }
 
@@ -163,7 +164,7 @@ module _ (t : closed.Tables) (kind end n : ℕ) {live : Bool} (lives : TestedLiv
         same false true d = d.yes refl
         same false false d = refl
 
-    pub judge_entries : stands ≡ false → Judged t kind end n 23
+    pub judge_entries : stands ≡ false → Judged t kind end n (refused 23)
     unfolding judgement
     judge_entries e = record { is = λ store tree q. rw (rule store q.stored, rule_23 store tree q, e) refl; none = λ z. absurd (never_none z) }
 
@@ -187,12 +188,12 @@ module _ (t : closed.Tables) (kind end n : ℕ) {live : Bool} (lives : TestedLiv
           decides_same (apart (bs store)) clear (apart_decides (bs store))
           (closed_decides t kind end n store apart-is (rows store) ((tested (bs store) (rows store)).yes whole) (bounded store q.stored) q.stored)
 
-      pub judge_shared : clear ≡ false → Judged t kind end n 24
+      pub judge_shared : clear ≡ false → Judged t kind end n (refused 24)
       unfolding judgement
       judge_shared e =
           record { is = λ store tree q. rw (rule store q.stored, rule_23 store tree q, whole, rule_24 store tree q, e) refl; none = λ z. absurd (never_none z) }
 
-      pub judge_none : clear ≡ true → Judged t kind end n 0
+      pub judge_none : clear ≡ true → Judged t kind end n (accepted tt)
       unfolding judgement
       judge_none e =
           record { is = λ store tree q. rw (rule store q.stored, rule_23 store tree q, whole, rule_24 store tree q, e) refl; none = λ z. absurd (never_none z) }

@@ -3,23 +3,19 @@ use mathlib.Core.Path.{◌≡◌, refl, sym, ◌∙◌, ap}
 use mathlib.Core.Logic.{⊎_elim}
 use mathlib.Core.Bool.{Bool, true, false}
 use mathlib.Core.List.{List}
-use Prim.Native.Nat.{ℕ, ◌+◌, ◌≤◌, ◌<◌}
+use Prim.Native.Nat.{ℕ, ◌≤◌, ◌<◌}
 use native.Mathlib.Omega.{arith}
 use lib.ListN.{length, replicate}
 use borrow.Author.Tests.{lt-ltb, le-ltb}
 use Rattle.lists.proofs.Numbers.{bool_cases}
 use Rattle.history.specs.Lent.{Lent}
 use Rattle.history.specs.Rules.{rule23, apart}
-use Rattle.history.specs.Refusals.{accepted, refused}
+use Rattle.history.specs.Refusals.{Answer, accepted, refused}
 use Rattle.history.specs.File.{got, fault, File, read_file, tree_from, end_of, rule20, rule21, rule22, loaded_from, load}
 use Rattle.history.proofs.FileLoad.{load_fault, load_room, load-halves, load_blocks, load_entries, load_disjoint, load-taken}
-use Rattle.std.specs.Prelude.{Ok, Err}
-use Rattle.file_scan.specs.declared.Counts.{Counts}
 use Rattle.refusals.specs.declared.Refusal.{Refusal}
 use Rattle.refusals.specs.Numbers.{number_of}
-use Rattle.refusals.proofs.Numbers.{some_number}
-use Rattle.file_scan.specs.Counts.{scan_of}
-use Rattle.file_scan.proofs.Readers.{number_passes}
+use Rattle.file_scan.specs.Counts.{Scanned, scan_of}
 use Rattle.file_scan.proofs.FileParts.{file_parts, Counted, scan_counts, scan_fault}
 use Rattle.layout.specs.Tables.{Tables, tables, lengths_of}
 use Rattle.layout.specs.Relations.{zeros}
@@ -30,15 +26,23 @@ use Rattle.file_load.proofs.Faults.{low_file}
 
 -- ── what load answers ──
 
+refused_same : {i j : ℕ} → ◌≡◌ {A = Answer (Unit {0})} (refused i) (refused j) → i ≡ j
+refused_same e = cc
+
 module _ (n : Lent) (file : List ℕ) (at : ℕ) (f : File) (next : ℕ) (read : read_file file at ≡ got f next) (room : rule20 n f ≡ true) where
   -- by the verdict: a fault above 20, or the file's index
   pub record Answers : Type 0 where
-    pub taken : verdict f ≡ 0 → load n file at ≡ got (loaded_from f) next
-    pub not_taken : (verdict f ≡ 0 → ⊥) → load n file at ≡ fault (verdict f)
-    pub above : (verdict f ≡ 0 → ⊥) → 20 < verdict f
+    pub taken : verdict f ≡ accepted tt → load n file at ≡ got (loaded_from f) next
+    pub not_taken : (i : ℕ) → verdict f ≡ refused i → load n file at ≡ fault i
+    pub above : (i : ℕ) → verdict f ≡ refused i → 20 < i
 
-  faulty : (i : ℕ) → 20 < i → verdict f ≡ i → load n file at ≡ fault i → Answers
-  faulty i h v l = record { taken = λ z. absurd (omega arith); not_taken = λ z. l ∙ ap fault (sym v); above = λ z. omega arith }
+  faulty : (i : ℕ) → 20 < i → verdict f ≡ refused i → load n file at ≡ fault i → Answers
+  faulty i h v l =
+      record {
+        taken = λ z. absurd (let w = sym v ∙ z in cc);
+        not_taken = λ j z. l ∙ ap fault (refused_same (sym v ∙ z));
+        above = λ j z. omega (arith, h, refused_same (sym v ∙ z));
+      }
 
   pub answers : Answers
   answers =
@@ -52,8 +56,8 @@ module _ (n : Lent) (file : List ℕ) (at : ℕ) (f : File) (next : ℕ) (read :
       (λ d.
       record {
         taken = λ z. load-taken n file at f next read (record { room = room; halves = a; blocks = b; entries = c; disjoint = d });
-        not_taken = λ z. absurd (z (verdict_by f a b c d));
-        above = λ z. absurd (z (verdict_by f a b c d));
+        not_taken = λ i z. absurd (let w = sym (verdict_by f a b c d) ∙ z in cc);
+        above = λ i z. absurd (let w = sym (verdict_by f a b c d) ∙ z in cc);
       })
       (λ d. faulty 24 (omega arith) (verdict_by f a b c d) (load_disjoint n file at f next read room a b c d))
       (bool_cases (apart f.blocks)))
@@ -78,27 +82,22 @@ module _ (file : List ℕ) (at : ℕ) (t : Tables) where
 
 -- ── the returns of `load` ──
 
--- the blocks begin inside the file
-pub load_start : (file : List ℕ) (at : ℕ) {c : Counts} → Ok c ≡ scan_of at (read_file file at) → at + 9 ≤ length file
-load_start file at scanned =
-    scan_counts at (read_file file at) scanned λ f r c. (number_passes file (at + 1) 8 (file_parts file at r).count).inside
-
 module _ (file : List ℕ) (at : ℕ) (pieces blocks store nodes entries : List ℕ) where
   abbrev t : Tables
   t = tables pieces blocks store nodes entries
 
-  pub load_scan : {i : ℕ} → Err i ≡ scan_of at (read_file file at) → LoadedBy file at t t (refused i)
+  pub load_scan : {i : ℕ} → refused i ≡ scan_of at (read_file file at) → LoadedBy file at t t (refused i)
   load_scan {i} scanned =
       let r = scan_fault at (read_file file at) scanned in
       by_low file at t i (load_fault (lengths_of t) file at i r) (omega (arith, low_file.low file at i r))
 
-  module _ {counts : Counts} (scanned : Ok counts ≡ scan_of at (read_file file at)) where
-    said : {G : Type 0} → ((f : File) → read_file file at ≡ got f counts.next → Counted at f counts.kind counts.blocks counts.bytes counts.nodes counts.entries counts.nodes_at → G) → G
+  module _ {counts : Scanned} (scanned : accepted counts ≡ scan_of at (read_file file at)) where
+    said : {G : Type 0} → ((f : File) → read_file file at ≡ got f counts.next → Counted at f counts.kind counts.blocks counts.bytes counts.nodes counts.entries counts.blocks_at counts.nodes_at → G) → G
     said g = scan_counts at (read_file file at) scanned g
 
     module _ {room : Bool} (tested : room ≡ room_for (length blocks) (length store) (length nodes) (length entries) counts.blocks counts.bytes counts.nodes counts.entries) where
       -- the test of the counts is rule 20
-      room_is : (f : File) → Counted at f counts.kind counts.blocks counts.bytes counts.nodes counts.entries counts.nodes_at → rule20 (lengths_of t) f ≡ room
+      room_is : (f : File) → Counted at f counts.kind counts.blocks counts.bytes counts.nodes counts.entries counts.blocks_at counts.nodes_at → rule20 (lengths_of t) f ≡ room
       unfolding rule20 room_for
       room_is f c = sym (tested ∙ rw (c.same_blocks, c.same_bytes, c.same_nodes, c.same_entries) refl)
 
@@ -107,14 +106,14 @@ module _ (file : List ℕ) (at : ℕ) (pieces blocks store nodes entries : List 
           said λ f r c.
           by_low file at t 20 (load_room (lengths_of t) file at f counts.next r (room_is f c ∙ h)) (omega arith)
 
-      module _ (fits : room ≡ true) {blocks' store' nodes' entries' : List ℕ} {number : ℕ}
-          (built : Built file counts.kind counts.blocks counts.bytes (at + 9) counts.nodes_at blocks store nodes entries blocks' store' nodes' entries' number) where
+      module _ (fits : room ≡ true) {blocks' store' nodes' entries' : List ℕ} {r : Answer (Unit {0})}
+          (built : Built file counts.kind counts.blocks counts.bytes counts.blocks_at counts.nodes_at blocks store nodes entries blocks' store' nodes' entries' r) where
         -- the parts of the file, where they stand
-        parts : (f : File) → read_file file at ≡ got f counts.next → Counted at f counts.kind counts.blocks counts.bytes counts.nodes counts.entries counts.nodes_at → PartsAt file counts.kind counts.blocks counts.bytes (at + 9) counts.nodes_at f
+        parts : (f : File) → read_file file at ≡ got f counts.next → Counted at f counts.kind counts.blocks counts.bytes counts.nodes counts.entries counts.blocks_at counts.nodes_at → PartsAt file counts.kind counts.blocks counts.bytes counts.blocks_at counts.nodes_at f
         parts f r c =
             let p = file_parts file at r in
             record {
-              blocks = rw (c.same_kind, c.same_blocks, c.same_start) p.blocks;
+              blocks = rw (c.same_kind, c.same_blocks, c.same_first, c.same_start) p.blocks;
               nodes_end = counts.next;
               nodes = rw c.same_start p.nodes;
               own_kind = c.same_kind;
@@ -123,33 +122,31 @@ module _ (file : List ℕ) (at : ℕ) (pieces blocks store nodes entries : List 
               bytes = c.same_bytes;
             }
 
-        room_there : (f : File) → Counted at f counts.kind counts.blocks counts.bytes counts.nodes counts.entries counts.nodes_at → rule20 (lengths_of t) f ≡ true
+        room_there : (f : File) → Counted at f counts.kind counts.blocks counts.bytes counts.nodes counts.entries counts.blocks_at counts.nodes_at → rule20 (lengths_of t) f ≡ true
         room_there f c = room_is f c ∙ fits
 
-        pub load_broken : {pieces'' blocks'' store'' nodes'' entries'' : List ℕ} (i : Refusal) → number ≡ number_of i → pieces'' ≡ zeros pieces
+        pub load_broken : {pieces'' blocks'' store'' nodes'' entries'' : List ℕ} (i : Refusal) → r ≡ refused (number_of i) → pieces'' ≡ zeros pieces
             → Zeroed blocks' store' nodes' entries' blocks'' store'' nodes'' entries''
             → length blocks' ≡ length blocks → length store' ≡ length store → length nodes' ≡ length nodes → length entries' ≡ length entries
-            → LoadedBy file at t (tables pieces'' blocks'' store'' nodes'' entries'') (refused number)
+            → LoadedBy file at t (tables pieces'' blocks'' store'' nodes'' entries'') (refused (number_of i))
         load_broken i h p z bl sl nl el =
             said λ f r c.
-            let is : number ≡ verdict f = built.answered f pieces (parts f r c) (room_there f c) in
+            let is : verdict f ≡ refused (number_of i) = sym (built.answered f pieces (parts f r c) (room_there f c)) ∙ h in
             let a = answers (lengths_of t) file at f counts.next r (room_there f c) in
-            let broken : verdict f ≡ 0 → ⊥ = λ v. some_number i (sym h ∙ is ∙ v) in
             let all : tables _ _ _ _ _ ≡ zeroed_tables t =
             tables_same p (z.blocks_are ∙ ap (λ (k : ℕ). replicate k 0) bl) (z.store_is ∙ ap (λ (k : ℕ). replicate k 0) sl)
             (z.nodes_are ∙ ap (λ (k : ℕ). replicate k 0) nl) (z.entries_are ∙ ap (λ (k : ℕ). replicate k 0) el) in
-            by_high file at t number (a.not_taken broken ∙ ap fault (sym is)) (omega (arith, a.above broken)) all
+            by_high file at t (number_of i) (a.not_taken (number_of i) is) (a.above (number_of i) is) all
           where
             tables_same : {a b c d e a' b' c' d' e' : List ℕ} → a ≡ a' → b ≡ b' → c ≡ c' → d ≡ d' → e ≡ e' → tables a b c d e ≡ tables a' b' c' d' e'
             tables_same p q r s u = λ i. tables (p i) (q i) (r i) (s i) (u i)
 
-        pub load_right : {pieces'' : List ℕ} → number ≡ 0 → pieces'' ≡ zeros pieces
+        pub load_right : {pieces'' : List ℕ} → r ≡ accepted tt → pieces'' ≡ zeros pieces
             → LoadedBy file at t (tables pieces'' blocks' store' nodes' entries') (accepted counts.next)
         unfolding position_of
         load_right h p =
             said λ f r c.
-            let is : number ≡ verdict f = built.answered f pieces (parts f r c) (room_there f c) in
-            let v : verdict f ≡ 0 = sym is ∙ h in
+            let v : verdict f ≡ accepted tt = sym (built.answered f pieces (parts f r c) (room_there f c)) ∙ h in
             let a = (answers (lengths_of t) file at f counts.next r (room_there f c)).taken v in
             record {
               answered = rw a refl;

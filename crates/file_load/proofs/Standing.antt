@@ -38,6 +38,7 @@ use Rattle.layout.specs.Relations.{zeros}
 use Rattle.layout.specs.Files.{headed, loaded_head, loaded_rows, LoadedTables}
 use Rattle.layout.proofs.Lengths.{lent_same, fit_heads}
 use Rattle.layout.proofs.Opening.{get_d_zeros, no_links}
+use Rattle.history.specs.Refusals.{Answer}
 use Rattle.file_load.specs.Load.{Ready, Judged, judgement}
 use Rattle.file_load.proofs.Holding.{HoldsAt, written_holds, holds_left, holds_right, holds_moved, holds_part}
 use Rattle.file_load.proofs.Rows.{numbers_length, bytes_length, filled_blocks, filled_stored}
@@ -266,7 +267,7 @@ module _ {f : File} {kind n used e : ℕ} {blocks store nodes entries b₁ b₂ 
     }
 
     -- so the judgement is the file's
-    pub judged_is : {r : ℕ} → Judged (lent b₂ nodes' entries') kind e n r → r ≡ judgement (end_of f.nodes) bs T
+    pub judged_is : {r : Answer (Unit {0})} → Judged (lent b₂ nodes' entries') kind e n r → r ≡ judgement (end_of f.nodes) bs T
     judged_is j = j.is store' T ready ∙ ap₂ (λ (x : ℕ) (ys : List Block). judgement x ys T) (end_is F.tree_is.ends) blocks_are
 
     -- ── the index ──

@@ -2,6 +2,7 @@
 use Rattle.std.specs.Prelude.{◌≡◌, Bool, true, false, cond, ◌&&◌, List, ℕ, ◌+◌, ◌-◌, ◌*◌, ◌/◌, ◌^◌, ◌≤◌, ◌<◌, leb, ltb, length}
 use Rattle.std.proofs.lemmas.List.Edits.{sets}
 use Rattle.history.specs.Lent.{row_width, entry_width, block_head, node_head, entry_head}
+use Rattle.history.specs.Refusals.{Answer, accepted, refused}
 use Rattle.history.specs.Words.{Block}
 use Rattle.history.specs.Tree.{Tree}
 use Rattle.history.specs.Rules.{rule23, apart, is_hole}
@@ -37,9 +38,9 @@ pub record TestedLives (blocks : List ℕ) (n end : ℕ) (r : Bool) : Type 0 whe
 
 -- ── 22 to 24 ──
 
--- the first that is broken, or 0
-unfoldable pub judgement : (end : ℕ) → List Block → Tree → ℕ
-judgement e bs tree = cond (rule22 e bs) (cond (rule23 e bs tree) (cond (apart bs) 0 24) 23) 22
+-- the first that is broken
+unfoldable pub judgement : (end : ℕ) → List Block → Tree → Answer (Unit {0})
+judgement e bs tree = cond (rule22 e bs) (cond (rule23 e bs tree) (cond (apart bs) (accepted tt) (refused 24)) (refused 23)) (refused 22)
 
 -- Tables that were filled: blocks whose bytes are in a store, and a tree with a root. An entry table without a head goes with no entry at
 -- all, which breaks rule 23.
@@ -52,9 +53,9 @@ pub record Ready (t : closed.Tables) (kind end n : ℕ) (store : List ℕ) (tree
   pub headless : length t.entries < entry_head → rule22 end (blocks_of store t.blocks n) ≡ true → rule23 end (blocks_of store t.blocks n) tree ≡ false
 
 -- of no block it is 22
-pub record Judged (t : closed.Tables) (kind end n r : ℕ) : Type 0 where
+pub record Judged (t : closed.Tables) (kind end n : ℕ) (r : Answer (Unit {0})) : Type 0 where
   pub is : (store : List ℕ) (tree : Tree) → Ready t kind end n store tree → r ≡ judgement end (blocks_of store t.blocks n) tree
-  pub none : n ≡ 0 → r ≡ 22
+  pub none : n ≡ 0 → r ≡ refused 22
 
 -- ── the head ──
 
@@ -63,9 +64,9 @@ pub record HeadPut (blocks blocks' : List ℕ) (end kind n used : ℕ) : Type 0 
 
 -- ── 21 to 24 ──
 
--- the first rule that the file breaks, or 0
-unfoldable pub verdict : File → ℕ
-verdict f = cond (rule21 f.nodes) (judgement (end_of f.nodes) f.blocks (tree_from f.nodes)) 21
+-- the first rule that the file breaks
+unfoldable pub verdict : File → Answer (Unit {0})
+verdict f = cond (rule21 f.nodes) (judgement (end_of f.nodes) f.blocks (tree_from f.nodes)) (refused 21)
 
 -- a file whose parts are read where they stand, with the counts of the first pass
 pub record PartsAt (file : List ℕ) (kind n used start root : ℕ) (f : File) : Type 0 where
@@ -77,12 +78,12 @@ pub record PartsAt (file : List ℕ) (kind n used start root : ℕ) (f : File) :
   pub count : n ≡ length f.blocks
   pub bytes : used ≡ bytes_in f.blocks
 
--- the verdict, and where it is 0, tables that stand for the file's index
-pub record Built (file : List ℕ) (kind n used start root : ℕ) (blocks store nodes entries blocks' store' nodes' entries' : List ℕ) (r : ℕ) : Type 0 where
+-- the verdict, and where no rule is broken, tables that stand for the file's index
+pub record Built (file : List ℕ) (kind n used start root : ℕ) (blocks store nodes entries blocks' store' nodes' entries' : List ℕ) (r : Answer (Unit {0})) : Type 0 where
   pub answered : (f : File) (pieces : List ℕ) → PartsAt file kind n used start root f → rule20 (lengths_of (tables pieces blocks store nodes entries)) f ≡ true
       → r ≡ verdict f
   pub stands : (f : File) (pieces : List ℕ) → PartsAt file kind n used start root f → rule20 (lengths_of (tables pieces blocks store nodes entries)) f ≡ true
-      → verdict f ≡ 0 → LoadedTables (loaded_from f) (tables pieces blocks store nodes entries) (tables (zeros pieces) blocks' store' nodes' entries')
+      → verdict f ≡ accepted tt → LoadedTables (loaded_from f) (tables pieces blocks store nodes entries) (tables (zeros pieces) blocks' store' nodes' entries')
 
 -- ── zeros ──
 

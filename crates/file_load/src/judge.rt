@@ -1,10 +1,11 @@
 // Rules 22, 23 and 24 on tables that were filled.
 ghost use Rattle.std.specs.Prelude.{◌≡◌};
 ghost use Rattle.segment_test.specs.Test.{lent};
-ghost use Rattle.file_load.specs.Faults.{told};
+ghost use Rattle.refusals.specs.Numbers.{answer_by};
 ghost use Rattle.file_load.specs.Load.{lives_at, TestedLives, Judged};
 
 use refusals::Refusal;
+use segment_table::lent::Claim;
 use tables::block;
 
 // Whether the block of a link has cells, no end above the largest number, and a life that ends by `end`. It subtracts and does not add.
@@ -33,23 +34,17 @@ fn all_live(blocks: &[u64], n: u64, end: u64) -> bool
 }
 
 // The first rule of 22 to 24 that the index in the tables breaks.
-pub fn judge(
-    blocks: &[u64],
-    nodes: &[u64],
-    entries: &[u64],
-    kind: u64,
-    end: u64,
-    n: u64,
-) -> Result<(), Refusal>
-    ensures { Judged (lent blocks.now nodes.now entries.now) kind end n (told result) }
+pub fn judge(claim: &Claim<'_>) -> Result<(), Refusal>
+    ensures { Judged (lent claim.now.tables.blocks.now claim.now.tables.nodes.now claim.now.tables.entries.now)
+        claim.now.kind claim.now.end claim.now.n (answer_by (λ u. u) result) }
 {
-    if !all_live(blocks, n, end) {
+    if !all_live(claim.tables.blocks, claim.n, claim.end) {
         return Err(Refusal::FileBlocks);
     }
-    if !segment_test::test_tree(blocks, nodes, entries, kind, end, n) {
+    if !segment_test::test_tree(claim) {
         return Err(Refusal::FileEntries);
     }
-    if !segment_apart::apart(blocks, nodes, entries, kind, end, n) {
+    if !segment_apart::apart(claim) {
         return Err(Refusal::FileShared);
     }
     Ok(())

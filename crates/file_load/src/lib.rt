@@ -8,7 +8,6 @@
 //
 //   room              20
 //   judge             22 to 24, on filled tables
-//   specs/Faults      the numbers of 21 to 24, or 0
 //   specs/Load        what each part answers
 //   proofs/Holding    numbers that stand in a table
 //   proofs/Rows       the filled block rows are the file's blocks
@@ -23,19 +22,18 @@
 ghost use Rattle.layout.specs.Tables.{tables};
 ghost use Rattle.layout.specs.Files.{LoadedBy};
 ghost use Rattle.refusals.specs.Numbers.{answer_by};
-ghost use Rattle.file_load.specs.Faults.{told};
+ghost use Rattle.tables.specs.Kinds.{code_of};
 ghost use Rattle.file_load.specs.Load.{HeadPut, Built, Zeroed};
 
-use file_fill::{blocks, nodes, rows};
+use file_fill::nodes::Source;
+use file_fill::{blocks, rows};
 use file_scan::Counts;
 use refusals::Refusal;
+use segment_table::lent::{Claim, Closed};
 use tables::block;
 
 mod judge;
 mod room;
-
-// Bytes in front of the blocks: the kind and the block count.
-const FRONT: usize = 1 + fields::WIDTH;
 
 // Everything but the pieces becomes zeros.
 fn zero_all(blocks: &mut [u64], store: &mut [u8], nodes: &mut [u64], entries: &mut [u64])
@@ -63,23 +61,34 @@ fn build(
     nodes: &mut [u64],
     entries: &mut [u64],
     file: &[u8],
-    start: usize,
     counts: Counts,
 ) -> Result<(), Refusal>
-    ensures { Built file.now counts.kind counts.blocks counts.bytes start counts.nodes_at
-        blocks.old store.old nodes.old entries.old blocks.new store.new nodes.new entries.new (told result) }
+    ensures { Built file.now (code_of counts.kind) counts.blocks counts.bytes counts.blocks_at counts.nodes_at
+        blocks.old store.old nodes.old entries.old blocks.new store.new nodes.new entries.new (answer_by (λ u. u) result) }
 {
-    let kind = counts.kind;
     let n = counts.blocks;
-    blocks::fill_blocks(blocks, store, file, kind, n, start);
-    let end = nodes::fill_nodes(nodes, entries, blocks, file, kind, counts.nodes_at).ok_or(
-        Refusal::FileTree,
-    )?;
+    let kind = u64::from(counts.kind);
+    blocks::fill_blocks(blocks, store, file, kind, n, counts.blocks_at);
+    let source = Source { blocks, file, kind };
+    let end = source
+        .fill_nodes(nodes, entries, counts.nodes_at)
+        .ok_or(Refusal::FileTree)?;
     put_head(blocks, end, kind, n, counts.bytes);
-    judge::judge(blocks, nodes, entries, kind, end, n)
+    let tables = Closed {
+        blocks,
+        nodes,
+        entries,
+    };
+    judge::judge(&Claim {
+        tables,
+        kind,
+        end,
+        n,
+    })
 }
 
-// Loads the file at a position: the next position, and tables that stand for its index; or a refusal.
+// Loads the file at a position: the next position, and tables that stand for its index; or a refusal. The tables stand one by one: of a struct of `&mut`
+// slices each contract would have to say that every one stays lent.
 pub fn load(
     pieces: &mut [u64],
     blocks: &mut [u64],
@@ -95,7 +104,7 @@ pub fn load(
     if !room::room(blocks, store, nodes, entries, counts) {
         return Err(Refusal::FileRoom);
     }
-    let built = build(blocks, store, nodes, entries, file, at + FRONT, counts);
+    let built = build(blocks, store, nodes, entries, file, counts);
     pieces.fill(0);
     match built {
         Ok(()) => Ok(counts.next),

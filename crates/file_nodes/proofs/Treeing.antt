@@ -1,4 +1,4 @@
--- The tree's bytes: the turns of `put_entries`, and the returns of `put_node` and `put_tree`. Assumes nothing.
+-- The tree's bytes: the turns of `put_entries`, and the returns of `put_node` and `put`. Assumes nothing.
 use mathlib.Core.Path.{◌≡◌, sym, ◌∙◌, ap}
 use mathlib.Core.Bool.{true}
 use mathlib.Core.List.{List, [], ◌∷◌, ◌++◌, map, flat_map, flatten, append_assoc, append-nil}

@@ -17,10 +17,6 @@ pub record Numbering (out : List ℕ) (at listed : ℕ) (ks : List ℕ) : Type 0
   pub inside : 0 < listed → blocks_at + 8 * listed ≤ length out
   pub stands : 0 < listed → (j : ℕ) → j < listed → number_of (take 8 (drop (blocks_at + 8 * j) out)) ≡ get_or ks j 0
 
--- the number in a place of the list, where the slice reaches so far
-pub record Numbered (out : List ℕ) (place r : ℕ) : Type 0 where
-  pub number : blocks_at + 8 * place + 8 ≤ length out → r ≡ number_of (take 8 (drop (blocks_at + 8 * place) out))
-
 pub record NewNumber (out : List ℕ) (listed k r : ℕ) : Type 0 where
   pub new : (at : ℕ) (ks : List ℕ) → Numbering out at listed ks → has k ks ≡ true → r ≡ place_in ks k
 

@@ -4,27 +4,27 @@ ghost use mathlib.Core.List.{flat_map};
 ghost use Rattle.history.specs.File.{bytes_of};
 ghost use Rattle.lists.specs.Puts.{Put};
 ghost use Rattle.file_put.specs.Living.{living};
-ghost use Rattle.file_nodes.specs.Numbering.{NewNumber, Listed, Numbered};
+ghost use Rattle.file_nodes.specs.Numbering.{NewNumber, Listed};
 
 use fields::WIDTH;
 use file_put::{BLOCKS_AT, blocks, put};
 
 // Puts the numbers of those of the first `count` blocks that have a life.
+#[tactic(auto, using(file_put::proofs::Laying::listing))]
 fn put_living(blocks: &[u64], count: u64, out: &mut [u8], at: usize) -> usize
     ensures { Put out.old at (flat_map (bytes_of 8) (living blocks.now count)) out.new result }
 {
     let mut next = at;
-    let mut link = 0;
-    while link < count {
-        link += 1;
-        if blocks::lives(blocks, link) {
-            next = put::number(out, next, link - 1);
+    for k in 0..count {
+        if blocks::lives(blocks, k + 1) {
+            next = put::number(out, next, k);
         }
     }
     next
 }
 
 // Lists the numbers of the blocks that have a life, `living` of `count`, and answers how many are listed: none where all have one.
+#[tactic(auto, using(crate::proofs::Listing::telling))]
 pub fn list(blocks: &[u64], count: u64, living: u64, out: &mut [u8]) -> u64
     ensures { Listed blocks.now count living out.old out.new result }
 {
@@ -35,36 +35,19 @@ pub fn list(blocks: &[u64], count: u64, living: u64, out: &mut [u8]) -> u64
     living
 }
 
-// The number in a place of the list; 0 past the slice's end.
-#[tactic(auto, using(crate::proofs::Ranking::reading))]
-fn listed_at(out: &[u8], place: usize) -> u64
-    ensures { Numbered out.now place result }
-{
-    if out.len() / WIDTH <= place {
-        return 0;
-    }
-    let Some((number, _)) = fields::number_at(out, BLOCKS_AT + WIDTH * place) else {
-        return 0;
-    };
-    number
-}
-
-// The new number of a block: its place in the list, by binary search.
+// The new number of a block: its place in the list, by binary search. A list that the slice does not hold, which no closed index has, is not searched.
 pub fn new_number(out: &[u8], listed: u64, number: u64) -> u64
     ensures { NewNumber out.now listed number result }
 {
     if listed == 0 {
         return number;
     }
-    let mut lo = 0;
-    let mut hi = listed;
-    while lo < hi {
-        let mid = lo + (hi - lo) / 2;
-        if listed_at(out, mid as usize) < number {
-            lo = mid + 1;
-        } else {
-            hi = mid;
-        }
-    }
-    lo
+    let Some(behind) = out.get(BLOCKS_AT..) else {
+        return 0;
+    };
+    let (all, _) = behind.as_chunks::<WIDTH>();
+    let Some(list) = all.get(..listed as usize) else {
+        return 0;
+    };
+    list.partition_point(|bytes| u64::from_le_bytes(*bytes) < number) as u64
 }

@@ -34,10 +34,6 @@ module _ {A : Type 0} where
 
 -- ── one block more ──
 
-pub lives-told : (blocks : List ℕ) (link a b : ℕ) → a ≡ created_at blocks link → b ≡ destroyed_at blocks link
-    → ltb a b ≡ ltb (created_at blocks link) (destroyed_at blocks link)
-lives-told blocks link a b e f = rw (e, f)
-
 module _ (blocks : List ℕ) (n : ℕ) (t : Bool) (e : t ≡ ltb (created_at blocks (n + 1)) (destroyed_at blocks (n + 1))) where
   pub told : t ≡ lives blocks n
   told = rw (add-one n) at e
@@ -67,30 +63,32 @@ lay_start f blocks out at = put_none out at
 -- ── the list of numbers: the turns of `put_living` ──
 
 -- the numbers of those of the first n that have a life are put
-pub record ListedTo (blocks out : List ℕ) (at n : ℕ) (o : List ℕ) (next : ℕ) : Type 0 where
-  pub put : Put out at (flat_map (bytes_of 8) (living blocks n)) o next
+unfoldable pub ListedTo : (blocks out : List ℕ) (at n : ℕ) (o : List ℕ) (next : ℕ) → Type 0
+ListedTo blocks out at n o next = Put out at (flat_map (bytes_of 8) (living blocks n)) o next
 
 pub list_start : (blocks out : List ℕ) (at : ℕ) → ListedTo blocks out at 0 out at
-list_start blocks out at = record { put = lay_start (bytes_of 8) blocks out at }
+unfolding ListedTo
+list_start blocks out at = lay_start (bytes_of 8) blocks out at
 
 pub list_one : (blocks out o o' : List ℕ) (at n next next' : ℕ) (t : Bool) → ListedTo blocks out at n o next
-    → t ≡ ltb (created_at blocks (n + 1)) (destroyed_at blocks (n + 1)) → t ≡ true → Put o next (bytes_of 8 (n + 1 - 1)) o' next'
+    → t ≡ ltb (created_at blocks (n + 1)) (destroyed_at blocks (n + 1)) → t ≡ true → Put o next (bytes_of 8 n) o' next'
     → ListedTo blocks out at (n + 1) o' next'
-list_one blocks out o o' at n next next' t a e y b =
-    let k : n + 1 - 1 ≡ n = omega arith in
-    record { put = lay_one blocks n t e (bytes_of 8) out o at next a.put y (rw k at b) }
+unfolding ListedTo
+list_one blocks out o o' at n next next' t a e y b = lay_one blocks n t e (bytes_of 8) out o at next a y b
 
 pub list_none : (blocks out o : List ℕ) (at n next : ℕ) (t : Bool) → ListedTo blocks out at n o next
     → t ≡ ltb (created_at blocks (n + 1)) (destroyed_at blocks (n + 1)) → t ≡ false → ListedTo blocks out at (n + 1) o next
-list_none blocks out o at n next t a e y = record { put = lay_none blocks n t e (bytes_of 8) out o at next a.put y }
+unfolding ListedTo
+list_none blocks out o at n next t a e y = lay_none blocks n t e (bytes_of 8) out o at next a y
 
 pub list_all : (blocks out o : List ℕ) (at n count next : ℕ) → ListedTo blocks out at n o next → n ≤ count → count ≤ n
     → Put out at (flat_map (bytes_of 8) (living blocks count)) o next
+unfolding ListedTo
 list_all blocks out o at n count next a h g =
     let e : n ≡ count = omega arith in
-    rw e at a.put
+    rw e at a
 
-pub ruleset listing = (list_start, list_one, list_none, list_all, arith)
+pub ruleset listing = (list_start, list_one, list_none, arith)
 
 -- ── a block ──
 

@@ -14,6 +14,7 @@ pub fn lives(blocks: &[u64], link: u64) -> bool
 }
 
 // The block of a link: its row, and its bytes from the store. Of bytes that are not in the store, which no closed index has, nothing is put.
+#[tactic(auto, using(crate::proofs::Laying::blocking))]
 fn put_block(blocks: &[u64], store: &[u8], link: u64, out: &mut [u8], at: usize) -> usize
     ensures { PutBlock store.now blocks.now link out.old at out.new result }
 {
@@ -36,15 +37,14 @@ fn put_block(blocks: &[u64], store: &[u8], link: u64, out: &mut [u8], at: usize)
 }
 
 // Those of the first `count` blocks that have a life.
+#[tactic(auto, using(crate::proofs::Laying::laying))]
 pub fn put_blocks(blocks: &[u64], store: &[u8], count: u64, out: &mut [u8], at: usize) -> usize
     ensures { PutBlocks store.now blocks.now count out.old at out.new result }
 {
     let mut next = at;
-    let mut link = 0;
-    while link < count {
-        link += 1;
-        if lives(blocks, link) {
-            next = put_block(blocks, store, link, out, next);
+    for k in 0..count {
+        if lives(blocks, k + 1) {
+            next = put_block(blocks, store, k + 1, out, next);
         }
     }
     next

@@ -1,4 +1,5 @@
 // Bytes put into a lent slice one part after the other, as far as it goes. Each function answers the place behind what it has put.
+// A slice and a place, and no struct of both: the nodes are put at a place that was measured, before the blocks in front of them.
 ghost use Rattle.std.specs.Prelude.{◌≡◌, length};
 ghost use Rattle.history.specs.File.{bytes_of};
 ghost use Rattle.lists.specs.Puts.{behind, Put};
@@ -14,6 +15,7 @@ fn past(out: &[u8], at: usize, many: usize) -> usize
 }
 
 // A byte, the lowest of a value.
+#[tactic(auto, using(crate::proofs::Putting::put_field))]
 pub fn byte(out: &mut [u8], at: usize, value: u64) -> usize
     ensures { Put out.old at (bytes_of 1 value) out.new result }
 {
@@ -22,6 +24,7 @@ pub fn byte(out: &mut [u8], at: usize, value: u64) -> usize
 }
 
 // A number.
+#[tactic(auto, using(crate::proofs::Putting::put_field))]
 pub fn number(out: &mut [u8], at: usize, value: u64) -> usize
     ensures { Put out.old at (bytes_of 8 value) out.new result }
 {

@@ -9,15 +9,15 @@ use Rattle.lists.proofs.Numbers.{suc_of}
 use Rattle.history.specs.Words.{Block, size}
 use Rattle.history.specs.File.{Read, got, fault, onward, ◌>>=◌, give, many, read_block}
 use Rattle.file_scan.specs.declared.blocks.Blocks.{Blocks}
-use Rattle.std.specs.Prelude.{Result, Ok, Err}
+use Rattle.history.specs.Refusals.{Answer, accepted, refused}
 use Rattle.file_scan.specs.declared.rows.BlockRow.{BlockRow}
 use Rattle.file_scan.specs.Rows.{block_row}
 use Rattle.file_scan.specs.Counts.{bytes_in, blocks_from}
 use Rattle.file_scan.proofs.RowReads.{block_passes}
 use Rattle.file_scan.proofs.RowSays.{block_says, block_fault}
 
-abbrev passed : (bytes next : ℕ) → Result Blocks ℕ
-passed bytes next = Ok (record { bytes = bytes; next = next })
+abbrev passed : (bytes next : ℕ) → Answer Blocks
+passed bytes next = accepted (record { bytes = bytes; next = next })
 
 -- ── one more block ──
 
@@ -35,14 +35,14 @@ module _ (kind : ℕ) (file : List ℕ) (at left bytes : ℕ) where
   unfolding many ◌>>=◌ onward give
   blocks_more {x} {n} e = rw e (blocks_cons bytes x (many (read_block kind) left file n))
 
-  blocks_stop : {i : ℕ} → read_block kind file at ≡ fault i → blocks_from bytes (many (read_block kind) (suc left) file at) ≡ Err i
+  blocks_stop : {i : ℕ} → read_block kind file at ≡ fault i → blocks_from bytes (many (read_block kind) (suc left) file at) ≡ refused i
   unfolding many ◌>>=◌ onward give blocks_from
   blocks_stop e = rw e refl
 
 -- ── the loop ──
 
 -- the blocks that are left, with the bytes counted so far, say the same as all of them
-pub record Counts (kind : ℕ) (file : List ℕ) (whole : Result Blocks ℕ) (left bytes place : ℕ) : Type 0 where
+pub record Counts (kind : ℕ) (file : List ℕ) (whole : Answer Blocks) (left bytes place : ℕ) : Type 0 where
   pub same : blocks_from bytes (many (read_block kind) left file place) ≡ whole
   pub bound : bytes ≤ place
 
@@ -50,8 +50,8 @@ pub record Counts (kind : ℕ) (file : List ℕ) (whole : Result Blocks ℕ) (le
 pub pass_start : (kind : ℕ) (file : List ℕ) (left place : ℕ) → Counts kind file (blocks_from 0 (many (read_block kind) left file place)) left 0 place
 pass_start kind file left place = record { same = refl; bound = omega arith }
 
-module _ {kind : ℕ} {file : List ℕ} {whole : Result Blocks ℕ} {left bytes place : ℕ} (s : Counts kind file whole left bytes place) where
-  module _ {row : BlockRow} (e : Ok row ≡ block_row place (read_block kind file place)) where
+module _ {kind : ℕ} {file : List ℕ} {whole : Answer Blocks} {left bytes place : ℕ} (s : Counts kind file whole left bytes place) where
+  module _ {row : BlockRow} (e : accepted row ≡ block_row place (read_block kind file place)) where
     -- the bytes counted are bytes of the file
     pub pass_room : bytes + row.length ≤ length file
     pass_room =
@@ -67,7 +67,7 @@ module _ {kind : ℕ} {file : List ℕ} {whole : Result Blocks ℕ} {left bytes 
         let more = rw (← h, ← said.cells_are) at (blocks_more kind file place rest bytes said.read) in
         record { same = sym more ∙ s.same; bound = omega (arith, s.bound, said.cells_are) }
 
-  pub pass_fault : {i : ℕ} → Err i ≡ block_row place (read_block kind file place) → 0 < left → Err i ≡ whole
+  pub pass_fault : {i : ℕ} → refused i ≡ block_row place (read_block kind file place) → 0 < left → refused i ≡ whole
   pass_fault e h =
       sym (rw (← (suc_of left (λ k. omega arith))) at (blocks_stop kind file place (left - 1) bytes (block_fault place (read_block kind file place) e))) ∙ s.same
 

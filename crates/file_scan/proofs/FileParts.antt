@@ -8,9 +8,8 @@ use borrow.Author.Tests.{leb-true}
 use Rattle.history.specs.Tree.{node_count, entry_count}
 use Rattle.history.specs.File.{File, Read, got, fault, ◌>>=◌, give, number, many, read_block, read_root, read_file, tree_from}
 use Rattle.history.proofs.FileYields.{got_value, got_next}
-use Rattle.std.specs.Prelude.{Ok, Err}
-use Rattle.file_scan.specs.declared.Counts.{Counts}
-use Rattle.file_scan.specs.Counts.{bytes_in, nodes_at, scan_of}
+use Rattle.history.specs.Refusals.{accepted, refused}
+use Rattle.file_scan.specs.Counts.{Scanned, bytes_in, nodes_at, scan_of}
 use Rattle.file_scan.proofs.Readers.{onward_got, refuse_got, number_passes}
 use Rattle.file_scan.proofs.Scanning.{blocks_end, counts_of}
 
@@ -49,25 +48,26 @@ file_parts file at {f} {next} e =
 
 -- ── what the counts say of the file ──
 
-pub record Counted (at : ℕ) (f : File) (kind blocks bytes nodes entries start : ℕ) : Type 0 where
+pub record Counted (at : ℕ) (f : File) (kind blocks bytes nodes entries first start : ℕ) : Type 0 where
   pub same_kind : kind ≡ f.kind
   pub same_blocks : blocks ≡ length f.blocks
   pub same_bytes : bytes ≡ bytes_in f.blocks
   pub same_nodes : nodes ≡ node_count (tree_from f.nodes)
   pub same_entries : entries ≡ entry_count (tree_from f.nodes)
+  pub same_first : first ≡ at + 9
   pub same_start : start ≡ nodes_at at f.blocks
 
 -- counts come of a file that was read, and a fault of a fault
-pub scan_counts : (at : ℕ) {c : Counts} {G : Type 0} (o : Read File) → Ok c ≡ scan_of at o
-    → ((f : File) → o ≡ got f c.next → Counted at f c.kind c.blocks c.bytes c.nodes c.entries c.nodes_at → G) → G
+pub scan_counts : (at : ℕ) {c : Scanned} {G : Type 0} (o : Read File) → accepted c ≡ scan_of at o
+    → ((f : File) → o ≡ got f c.next → Counted at f c.kind c.blocks c.bytes c.nodes c.entries c.blocks_at c.nodes_at → G) → G
 unfolding scan_of
 scan_counts at {c} (got f n) e g =
-    let same : c ≡ counts_of f.kind (length f.blocks) (bytes_in f.blocks) (node_count (tree_from f.nodes)) (entry_count (tree_from f.nodes)) (nodes_at at f.blocks) n = cc in
+    let same : c ≡ counts_of f.kind (length f.blocks) (bytes_in f.blocks) (node_count (tree_from f.nodes)) (entry_count (tree_from f.nodes)) (at + 9) (nodes_at at f.blocks) n = cc in
     g f (rw same refl)
-    (rw same (record { same_kind = refl; same_blocks = refl; same_bytes = refl; same_nodes = refl; same_entries = refl; same_start = refl }))
+    (rw same (record { same_kind = refl; same_blocks = refl; same_bytes = refl; same_nodes = refl; same_entries = refl; same_first = refl; same_start = refl }))
 scan_counts at (fault i) e g = absurd (cc)
 
-pub scan_fault : (at : ℕ) {i : ℕ} (o : Read File) → Err i ≡ scan_of at o → o ≡ fault i
+pub scan_fault : (at : ℕ) {i : ℕ} (o : Read File) → refused i ≡ scan_of at o → o ≡ fault i
 unfolding scan_of
 scan_fault at (got f n) e = absurd (cc)
 scan_fault at (fault j) e = cc

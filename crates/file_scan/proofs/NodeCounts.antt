@@ -10,7 +10,7 @@ use Rattle.lists.proofs.Numbers.{suc_of}
 use Rattle.history.specs.Tree.{node_count, entry_count}
 use Rattle.history.specs.File.{Nodes, absent, present, Read, got, fault, onward, ◌>>=◌, give, many, read_root, tree_from}
 use Rattle.file_scan.specs.declared.nodes.Nodes.{Nodes as Trees}
-use Rattle.std.specs.Prelude.{Result, Ok, Err}
+use Rattle.history.specs.Refusals.{Answer, accepted, refused}
 use Rattle.file_scan.specs.declared.rows.NodeRow.TheVariants as node
 use Rattle.file_scan.specs.Rows.{row_head, head_absent, head_present, read_head, node_row}
 use Rattle.file_scan.specs.Counts.{nodes_from}
@@ -26,13 +26,13 @@ nodes_in ts = sum_of (map (λ t. node_count (tree_from t)) ts)
 abbrev entries_in : List Nodes → ℕ
 entries_in ts = sum_of (map (λ t. entry_count (tree_from t)) ts)
 
-abbrev passed : (nodes entries next : ℕ) → Result Trees ℕ
-passed nodes entries next = Ok (record { nodes = nodes; entries = entries; next = next })
+abbrev passed : (nodes entries next : ℕ) → Answer Trees
+passed nodes entries next = accepted (record { nodes = nodes; entries = entries; next = next })
 
 -- so many nodes and entries were counted before these trees
-unfoldable pub forest_from : (nodes entries : ℕ) → Read (List Nodes) → Result Trees ℕ
+unfoldable pub forest_from : (nodes entries : ℕ) → Read (List Nodes) → Answer Trees
 forest_from nodes entries (got ts next) = passed (nodes + nodes_in ts) (entries + entries_in ts) next
-forest_from nodes entries (fault i) = Err i
+forest_from nodes entries (fault i) = refused i
 
 passed_same : {n n' e e' : ℕ} (next : ℕ) → n ≡ n' → e ≡ e' → passed n e next ≡ passed n' e' next
 passed_same next p q = ap₂ (λ (x y : ℕ). passed x y next) p q
@@ -92,14 +92,14 @@ module _ (file : List ℕ) (at nodes entries awaited : ℕ) where
   forest_present {a} {b} {c} {n} {es} e =
       rw (root_parts file at, e) (cons_left nodes entries a b c es (read_root file n) (read_root file) (many read_root awaited file))
 
-  forest_fault : {i : ℕ} → read_head file at ≡ fault i → forest_from nodes entries (many read_root (suc awaited) file at) ≡ Err i
+  forest_fault : {i : ℕ} → read_head file at ≡ fault i → forest_from nodes entries (many read_root (suc awaited) file at) ≡ refused i
   unfolding many ◌>>=◌ onward give forest_from
   forest_fault e = rw (root_parts file at, e) refl
 
 -- ── the loop ──
 
 -- the trees that are awaited, with what is counted so far, say the same as the whole tree; each node and each entry has bytes of its own
-pub record Awaits (file : List ℕ) (whole : Result Trees ℕ) (awaited nodes entries place : ℕ) : Type 0 where
+pub record Awaits (file : List ℕ) (whole : Answer Trees) (awaited nodes entries place : ℕ) : Type 0 where
   pub same : forest_from nodes entries (many read_root awaited file place) ≡ whole
   pub bound : row_head * nodes + 8 * entries ≤ place
   pub few : awaited ≤ nodes + 1
@@ -108,8 +108,8 @@ pub record Awaits (file : List ℕ) (whole : Result Trees ℕ) (awaited nodes en
 pub pass_start : (file : List ℕ) (place : ℕ) → Awaits file (nodes_from (read_root file place)) 1 0 0 place
 pass_start file place = record { same = forest_one file place; bound = omega arith; few = omega arith }
 
-module _ {file : List ℕ} {whole : Result Trees ℕ} {awaited nodes entries place : ℕ} (s : Awaits file whole awaited nodes entries place) where
-  module _ {a b c d q n : ℕ} (e : Ok (node.Present a b c d q n) ≡ node_row place (read_head file place)) where
+module _ {file : List ℕ} {whole : Answer Trees} {awaited nodes entries place : ℕ} (s : Awaits file whole awaited nodes entries place) where
+  module _ {a b c d q n : ℕ} (e : accepted (node.Present a b c d q n) ≡ node_row place (read_head file place)) where
     -- what is counted with this node, and the position behind it
     pub present_room : (row_head * (nodes + 1) + 8 * (entries + d) ≤ n) × (place < n) × (n ≤ length file)
     present_room =
@@ -125,7 +125,7 @@ module _ {file : List ℕ} {whole : Result Trees ℕ} {awaited nodes entries pla
         let turn = rw (k, ← (suc_of awaited (λ w. omega arith)), z) at (forest_present file place nodes entries (awaited - 1) g) in
         record { same = sym turn ∙ s.same; bound = present_room.0; few = omega (arith, s.few) }
 
-  module _ {n : ℕ} (e : Ok (node.Absent n) ≡ node_row place (read_head file place)) where
+  module _ {n : ℕ} (e : accepted (node.Absent n) ≡ node_row place (read_head file place)) where
     -- the position behind an absent child
     pub absent_room : (place < n) × (n ≤ length file)
     absent_room =
@@ -138,7 +138,7 @@ module _ {file : List ℕ} {whole : Result Trees ℕ} {awaited nodes entries pla
         let turn = rw (← (suc_of awaited (λ w. omega arith))) at (forest_absent file place nodes entries (awaited - 1) g) in
         record { same = sym turn ∙ s.same; bound = omega (arith, s.bound, absent_room.0); few = omega (arith, s.few) }
 
-  pub pass_fault : {i : ℕ} → Err i ≡ node_row place (read_head file place) → 0 < awaited → Err i ≡ whole
+  pub pass_fault : {i : ℕ} → refused i ≡ node_row place (read_head file place) → 0 < awaited → refused i ≡ whole
   pass_fault e h =
       sym (rw (← (suc_of awaited (λ w. omega arith))) at (forest_fault file place nodes entries (awaited - 1) (row_fault place (read_head file place) e)))
       ∙ s.same

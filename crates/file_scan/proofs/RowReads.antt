@@ -11,8 +11,9 @@ use Rattle.history.specs.Words.{Block, a_block, size}
 use Rattle.history.specs.File.{Read, got, fault, onward, ◌>>=◌, give, refuse◌unless◌, field, number, many, read_block}
 use Rattle.history.proofs.FileYields.{got_value, got_next}
 use Rattle.fields.specs.Fields.{read_of}
-use Rattle.std.specs.Prelude.{Option, Some, None, Ok, Err, ok_or}
+use Rattle.std.specs.Prelude.{Option, Some, None, Err, ok_or}
 use Rattle.file_scan.specs.declared.rows.BlockRow.{BlockRow}
+use Rattle.history.specs.Refusals.{accepted, refused}
 use Rattle.refusals.specs.declared.Refusal.{Refusal}
 use Rattle.refusals.specs.declared.Refusal.TheVariants.{FileEnds}
 use Rattle.refusals.specs.Numbers.{number_of}
@@ -101,30 +102,30 @@ block_of first length created destroyed bytes next =
 
 -- o is what the read of the kind byte has answered, f that of the four numbers
 module _ (kind : ℕ) (file : List ℕ) (at : ℕ) where
-  pub block_ends : (o : Option (ℕ × ℕ)) {f : Refusal} → Err f ≡ ok_or o FileEnds → read_of o ≡ number 1 file at → Err (number_of f) ≡ block_row at (read_block kind file at)
+  pub block_ends : (o : Option (ℕ × ℕ)) {f : Refusal} → Err f ≡ ok_or o FileEnds → read_of o ≡ number 1 file at → refused (number_of f) ≡ block_row at (read_block kind file at)
   unfolding onward block_row
   block_ends o t e =
       let (z, k) = ends_is o t in
       rw (k, block_parts kind file at, ← e, z) refl
 
   module _ {o : Option (ℕ × ℕ)} {own p : ℕ} (t : o ≡ Some (own, p)) (e : read_of o ≡ number 1 file at) where
-    pub block_kind : (own ≡ kind → ⊥) → Err 18 ≡ block_row at (read_block kind file at)
+    pub block_kind : (own ≡ kind → ⊥) → refused 18 ≡ block_row at (read_block kind file at)
     unfolding onward refuse◌unless◌ block_row
     block_kind h = rw (block_parts kind file at, ← e, t, ne_eqb own kind h) refl
 
     module _ (same : own ≡ kind) where
-      pub block_four_ends : (f : Option (ℕ × ℕ × ℕ × ℕ × ℕ)) {i : Refusal} → Err i ≡ ok_or f FileEnds → four_of f ≡ read_four file p → Err (number_of i) ≡ block_row at (read_block kind file at)
+      pub block_four_ends : (f : Option (ℕ × ℕ × ℕ × ℕ × ℕ)) {i : Refusal} → Err i ≡ ok_or f FileEnds → four_of f ≡ read_four file p → refused (number_of i) ≡ block_row at (read_block kind file at)
       unfolding onward refuse◌unless◌ block_row
       block_four_ends f u g =
           let (z, k) = ends_is f u in
           rw (k, block_parts kind file at, ← e, t, eq-eqb own kind same, ← g, z) refl
 
       module _ {f : Option (ℕ × ℕ × ℕ × ℕ × ℕ)} {a b c d q left : ℕ} (u : f ≡ Some (a, b, c, d, q)) (g : four_of f ≡ read_four file p) (l : left ≡ length file - q) where
-        pub block_short : left < b → Err 17 ≡ block_row at (read_block kind file at)
+        pub block_short : left < b → refused 17 ≡ block_row at (read_block kind file at)
         unfolding onward refuse◌unless◌ block_row
         block_short h = rw (block_parts kind file at, ← e, t, eq-eqb own kind same, ← g, u, field_end file q b (omega arith)) refl
 
-        pub block_all : b ≤ left → Ok (block_of a b c d q (q + b)) ≡ block_row at (read_block kind file at)
+        pub block_all : b ≤ left → accepted (block_of a b c d q (q + b)) ≡ block_row at (read_block kind file at)
         unfolding onward refuse◌unless◌ block_row
         block_all h =
             let s₁ = number_passes file at 1 (sym e ∙ ap read_of t) in
@@ -175,36 +176,36 @@ head_passes file at {h} {n} e =
 
 -- o is what the read of the presence byte has answered, f that of the four numbers
 module _ (file : List ℕ) (at : ℕ) where
-  pub node_ends : (o : Option (ℕ × ℕ)) {f : Refusal} → Err f ≡ ok_or o FileEnds → read_of o ≡ number 1 file at → Err (number_of f) ≡ node_row at (read_head file at)
+  pub node_ends : (o : Option (ℕ × ℕ)) {f : Refusal} → Err f ≡ ok_or o FileEnds → read_of o ≡ number 1 file at → refused (number_of f) ≡ node_row at (read_head file at)
   unfolding read_head ◌>>=◌ onward node_row
   node_ends o t e =
       let (z, k) = ends_is o t in
       rw (k, ← e, z) refl
 
   module _ {o : Option (ℕ × ℕ)} {presence p : ℕ} (t : o ≡ Some (presence, p)) (e : read_of o ≡ number 1 file at) where
-    pub node_presence : 1 < presence → Err 19 ≡ node_row at (read_head file at)
+    pub node_presence : 1 < presence → refused 19 ≡ node_row at (read_head file at)
     unfolding read_head ◌>>=◌ onward refuse◌unless◌ node_row
     node_presence h = rw (← e, t, lt-leb presence 1 h) refl
 
-    pub node_absent : presence ≡ 0 → Ok (node.Absent p) ≡ node_row at (read_head file at)
+    pub node_absent : presence ≡ 0 → accepted (node.Absent p) ≡ node_row at (read_head file at)
     unfolding read_head ◌>>=◌ onward refuse◌unless◌ give node_row
     node_absent h = rw (← e, t, h) refl
 
     module _ (low : presence ≤ 1) (some : presence ≡ 0 → ⊥) where
-      pub node_four_ends : (f : Option (ℕ × ℕ × ℕ × ℕ × ℕ)) {i : Refusal} → Err i ≡ ok_or f FileEnds → four_of f ≡ read_four file p → Err (number_of i) ≡ node_row at (read_head file at)
+      pub node_four_ends : (f : Option (ℕ × ℕ × ℕ × ℕ × ℕ)) {i : Refusal} → Err i ≡ ok_or f FileEnds → four_of f ≡ read_four file p → refused (number_of i) ≡ node_row at (read_head file at)
       unfolding read_head ◌>>=◌ onward refuse◌unless◌ node_row
       node_four_ends f u g =
           let (z, k) = ends_is f u in
           rw (k, ← e, t, le-leb presence 1 low, ne_eqb presence 0 some, present_parts file p, ← g, z) refl
 
       module _ {f : Option (ℕ × ℕ × ℕ × ℕ × ℕ)} {a b c d q left : ℕ} (u : f ≡ Some (a, b, c, d, q)) (g : four_of f ≡ read_four file p) (l : left ≡ length file - q) where
-        pub node_short : left / 8 < d → Err 17 ≡ node_row at (read_head file at)
+        pub node_short : left / 8 < d → refused 17 ≡ node_row at (read_head file at)
         unfolding read_head ◌>>=◌ onward refuse◌unless◌ node_row
         node_short h =
             let s₂ = four_passes file p (sym g ∙ ap four_of u) in
             rw (← e, t, le-leb presence 1 low, ne_eqb presence 0 some, present_parts file p, ← g, u, many_end file q d s₂.inside (omega arith)) refl
 
-        pub node_all : d ≤ left / 8 → Ok (node.Present a b c d q (q + 8 * d)) ≡ node_row at (read_head file at)
+        pub node_all : d ≤ left / 8 → accepted (node.Present a b c d q (q + 8 * d)) ≡ node_row at (read_head file at)
         unfolding read_head ◌>>=◌ onward refuse◌unless◌ node_row
         node_all h =
             let s₁ = number_passes file at 1 (sym e ∙ ap read_of t) in

@@ -1,6 +1,7 @@
 -- A row of the file: what its reader in `history` gives, without the bytes of a block and without the children of a node. Definitions alone.
-use Rattle.std.specs.Prelude.{cond, Option, Some, None, Result, Ok, Err, List, ℕ, ◌+◌, ◌*◌, length, leb, eqb}
+use Rattle.std.specs.Prelude.{cond, Option, Some, None, List, ℕ, ◌+◌, ◌*◌, length, leb, eqb}
 use Rattle.history.specs.Words.{Block, size, first_cell}
+use Rattle.history.specs.Refusals.{Answer, accepted, refused}
 use Rattle.history.specs.File.{Read, got, fault, Reader, ◌>>=◌, ◌>>◌, give, refuse◌unless◌, number, many}
 use Rattle.file_scan.specs.declared.rows.BlockRow.{BlockRow}
 use Rattle.file_scan.specs.declared.rows.NodeRow.{NodeRow}
@@ -33,9 +34,9 @@ row_head = 1 + 4 * 8
 
 -- ── a block ──
 
-unfoldable pub block_row : (at : ℕ) → Read Block → Result BlockRow ℕ
+unfoldable pub block_row : (at : ℕ) → Read Block → Answer BlockRow
 block_row at (got b next) =
-    Ok
+    accepted
     (record {
       first = first_cell b;
       length = size b.stretch;
@@ -44,7 +45,7 @@ block_row at (got b next) =
       bytes = at + row_head;
       next = next;
     })
-block_row at (fault n) = Err n
+block_row at (fault n) = refused n
 
 -- ── a node ──
 
@@ -69,7 +70,7 @@ read_head = do
   refuse 19 unless (leb presence 1)
   cond (eqb presence 0) (give head_absent) read_present
 
-unfoldable pub node_row : (at : ℕ) → Read Head → Result NodeRow ℕ
-node_row at (got head_absent next) = Ok (node.Absent next)
-node_row at (got (head_present min max middle es) next) = Ok (node.Present min max middle (length es) (at + row_head) next)
-node_row at (fault n) = Err n
+unfoldable pub node_row : (at : ℕ) → Read Head → Answer NodeRow
+node_row at (got head_absent next) = accepted (node.Absent next)
+node_row at (got (head_present min max middle es) next) = accepted (node.Present min max middle (length es) (at + row_head) next)
+node_row at (fault n) = refused n

@@ -4,7 +4,6 @@
 //
 //   rows              a block or a node of the file, without what follows its numbers
 //   blocks, nodes     all of them, counted
-//   specs/Faults      a result with the number of its refusal, 17 to 19
 //   specs/Rows        what a row says, in the words of `history`
 //   specs/Counts      what is counted of the file
 
@@ -12,40 +11,39 @@
 
 ghost use Rattle.std.specs.Prelude.{◌≡◌};
 ghost use Rattle.history.specs.File.{read_file};
-ghost use Rattle.file_scan.specs.Faults.{numbered};
-ghost use Rattle.file_scan.specs.Counts.{scan_of};
+ghost use Rattle.refusals.specs.Numbers.{answer_by};
+ghost use Rattle.file_scan.specs.Counts.{scanned, scan_of};
 
 use refusals::Refusal;
+use tables::kind::Kind;
 
 pub mod blocks;
 pub mod nodes;
 pub mod rows;
 
-// The largest code of a kind.
-const KINDS: u64 = 4;
-
-// What the tables must hold, and where the nodes begin.
+// What the tables must hold, and where blocks and nodes begin.
 #[derive(Clone, Copy)]
 pub struct Counts {
-    pub kind: u64,
+    pub kind: Kind,
     pub blocks: u64,
     pub bytes: u64,
     pub nodes: u64,
     pub entries: u64,
+    pub blocks_at: usize,
     pub nodes_at: usize,
     pub next: usize,
 }
 
 // Reads a file from a position on, and counts what it has.
 pub fn scan(file: &[u8], at: usize) -> Result<Counts, Refusal>
-    ensures { numbered result ≡ scan_of at (read_file file.now at) }
+    ensures { answer_by scanned result ≡ scan_of at (read_file file.now at) }
 {
-    let (kind, count_at) = fields::byte_at(file, at).ok_or(Refusal::FileEnds)?;
-    if KINDS < kind {
+    let (code, count_at) = fields::byte_at(file, at).ok_or(Refusal::FileEnds)?;
+    let Ok(kind) = Kind::try_from(code) else {
         return Err(Refusal::FileKind);
-    }
+    };
     let (count, blocks_at) = fields::number_at(file, count_at).ok_or(Refusal::FileEnds)?;
-    let blocks = blocks::pass(file, kind, count, blocks_at)?;
+    let blocks = blocks::pass(file, code, count, blocks_at)?;
     let nodes = nodes::pass(file, blocks.next)?;
     Ok(Counts {
         kind,
@@ -53,6 +51,7 @@ pub fn scan(file: &[u8], at: usize) -> Result<Counts, Refusal>
         bytes: blocks.bytes,
         nodes: nodes.nodes,
         entries: nodes.entries,
+        blocks_at,
         nodes_at: blocks.next,
         next: nodes.next,
     })

@@ -1,7 +1,7 @@
 // All nodes of the file, root first, left before right: no call for a child, but a count of the subtrees that are still to come.
 ghost use Rattle.std.specs.Prelude.{◌≡◌};
 ghost use Rattle.history.specs.File.{read_root};
-ghost use Rattle.file_scan.specs.Faults.{numbered};
+ghost use Rattle.refusals.specs.Numbers.{answer_by};
 ghost use Rattle.file_scan.specs.Counts.{nodes_from};
 
 use crate::rows;
@@ -16,9 +16,9 @@ pub struct Nodes {
     pub next: usize,
 }
 
-// Passes the tree at a position.
+// Passes the tree at a position. No `for`: each node that is read says whether two more are awaited.
 pub fn pass(file: &[u8], at: usize) -> Result<Nodes, Refusal>
-    ensures { numbered result ≡ nodes_from (read_root file.now at) }
+    ensures { answer_by (λ x. x) result ≡ nodes_from (read_root file.now at) }
 {
     let mut awaited: u64 = 1;
     let mut nodes: u64 = 0;

@@ -1,7 +1,7 @@
 // One row of the file: a kind or presence byte, then four numbers, then a block's bytes or a node's entries, which are passed by.
 ghost use Rattle.std.specs.Prelude.{◌≡◌};
 ghost use Rattle.history.specs.File.{read_block};
-ghost use Rattle.file_scan.specs.Faults.{numbered};
+ghost use Rattle.refusals.specs.Numbers.{answer_by};
 ghost use Rattle.file_scan.specs.Rows.{four_of, read_four, block_row, node_row, read_head};
 
 use refusals::Refusal;
@@ -53,9 +53,9 @@ fn four_at(file: &[u8], at: usize) -> Option<(u64, u64, u64, u64, usize)>
     Some((a, b, c, d, next))
 }
 
-// The block at a position, if it is of the kind.
+// The block at a position, if it is of the kind: a number, as any may be asked for.
 pub fn block_at(file: &[u8], kind: u64, at: usize) -> Result<BlockRow, Refusal>
-    ensures { numbered result ≡ block_row at (read_block kind file.now at) }
+    ensures { answer_by (λ x. x) result ≡ block_row at (read_block kind file.now at) }
 {
     let (own, first_at) = fields::byte_at(file, at).ok_or(Refusal::FileEnds)?;
     if own != kind {
@@ -80,7 +80,7 @@ pub fn block_at(file: &[u8], kind: u64, at: usize) -> Result<BlockRow, Refusal>
 
 // The node at a position, or an absent child. A count of more entries than bytes are left is answered at once.
 pub fn node_at(file: &[u8], at: usize) -> Result<NodeRow, Refusal>
-    ensures { numbered result ≡ node_row at (read_head file.now at) }
+    ensures { answer_by (λ x. x) result ≡ node_row at (read_head file.now at) }
 {
     let (presence, min_at) = fields::byte_at(file, at).ok_or(Refusal::FileEnds)?;
     if PRESENT < presence {

@@ -55,11 +55,11 @@ list_fits blocks n many = go (eqb many n)
     go true = omega arith
     go false = omega (arith, numbers_length (living blocks n), list_shorter blocks n)
 
-pub file_written : (blocks store nodes entries : List ℕ) (many place count kind end root listed p₂ p₃ p₄ p₅ : ℕ) (out o₁ o₂ o₃ o₄ o₅ : List ℕ)
+pub file_written : {blocks store nodes entries : List ℕ} {many place count kind end root listed p₂ p₃ p₄ p₅ : ℕ} {out o₁ o₂ o₃ o₄ o₅ : List ℕ}
     → count ≡ block_count blocks → kind ≡ block_column blocks 0 head_kind → end ≡ block_column blocks 0 head_end → root ≡ column nodes 0 kind
     → Listed blocks count many out o₁ listed → PutTree nodes entries root 0 end listed o₁ place o₂ p₂ → PutBlocks store blocks count o₂ 9 o₃ p₃
     → Put o₃ 0 (bytes_of 1 kind) o₄ p₄ → Put o₄ p₄ (bytes_of 8 many) o₅ p₅ → FileWritten blocks store nodes entries many place out o₅
-file_written blocks store nodes entries many place count kind end root listed p₂ p₃ p₄ p₅ out o₁ o₂ o₃ o₄ o₅ c k e r list tree put mark number =
+file_written {blocks} {store} {nodes} {entries} {many} {place} {count} {kind} {end} {root} {listed} {p₂} {p₃} {p₄} {p₅} {out} {o₁} {o₂} {o₃} {o₄} {o₅} c k e r list tree put mark number =
     record { file = λ pieces l enc s done some m w room. whole (agrees pieces blocks store nodes entries l enc s done) some m w room }
   where
     whole : {l : Ledger} → Agrees blocks store nodes entries l → 0 < block_count blocks → many ≡ length (living blocks (block_count blocks))

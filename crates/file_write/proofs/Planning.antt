@@ -3,7 +3,7 @@ use mathlib.Core.Path.{◌≡◌, refl, sym, ap, ◌∙◌}
 use mathlib.Core.Logic.{⊎_elim}
 use mathlib.Core.Bool.{Bool, true, false, cond}
 use mathlib.Core.List.{List, [], ◌∷◌, ◌++◌, append-nil}
-use Prim.Native.Nat.{ℕ, zero, suc, ◌+◌, ◌*◌, ◌-◌, ◌/◌, ◌≤◌, ◌<◌}
+use Prim.Native.Nat.{ℕ, zero, suc, ◌+◌, ◌*◌, ◌-◌, ◌≤◌, ◌<◌}
 use native.Mathlib.Numerals.{add-one}
 use native.Mathlib.Omega.{arith}
 use lib.Dec.{ltb}
@@ -52,68 +52,60 @@ list_shorter blocks (suc n) = go (lives blocks n) (list_shorter blocks n)
 
 -- ── the turns of `measure_blocks` ──
 
--- the first n blocks go into the room: how many have a life, and the place behind them
-pub record Measured (blocks : List ℕ) (room n many next : ℕ) : Type 0 where
+-- the first n blocks go into the room: how many have a life, and the room behind them
+pub record Measured (blocks : List ℕ) (room n many left : ℕ) : Type 0 where
   pub count : many ≡ length (living blocks n)
   pub few : many ≤ n
-  pub place : next ≡ nodes_at blocks n
-  pub fits : next ≤ room
+  pub place : nodes_at blocks n + left ≡ room
 
 pub share_short : (blocks : List ℕ) (count room : ℕ) → room < 9 → None ≡ share_of blocks count room
 unfolding share_of
-share_short blocks count room h = rw (lt-leb (nodes_at blocks count) room (omega arith))
+share_short blocks count room h = rw (lt-leb (nodes_at blocks count) room (omega arith)) refl
 
-pub share_start : (blocks : List ℕ) (room : ℕ) → 9 ≤ room → Measured blocks room 0 0 9
+pub share_start : (blocks : List ℕ) (room left : ℕ) → 9 + left ≡ room → Measured blocks room 0 0 left
 unfolding living blocks_size
-share_start blocks room h = record { count = refl; few = omega arith; place = refl; fits = h }
+share_start blocks room left h = record { count = refl; few = omega arith; place = omega arith }
 
-module _ (blocks : List ℕ) (room n many next : ℕ) (t : Bool) (m : Measured blocks room n many next)
+module _ (blocks : List ℕ) (room n many left : ℕ) (t : Bool) (m : Measured blocks room n many left)
     (e : t ≡ ltb (created_at blocks (n + 1)) (destroyed_at blocks (n + 1))) where
-  pub share_one : (cells : ℕ) → t ≡ true → cells ≡ length_at blocks (n + 1) → 33 ≤ room - next → cells ≤ room - next - 33
-      → Measured blocks room (n + 1) (many + 1) (next + (33 + cells))
-  share_one cells y c h g =
+  pub share_one : (cells rest : ℕ) → t ≡ true → cells ≡ length_at blocks (n + 1) → rest + (33 + cells) ≡ left
+      → Measured blocks room (n + 1) (many + 1) rest
+  share_one cells rest y c h =
       record {
         count = rw (living-one blocks n t e y) (rw (length-append (living blocks n) (n ∷ [])) (omega (arith, m.count)));
         few = omega (arith, m.few);
         place = rw (size-one blocks n t e y) (omega (arith, m.place));
-        fits = omega (arith, m.fits);
       }
 
-  pub share_none : t ≡ false → Measured blocks room (n + 1) many next
+  pub share_none : t ≡ false → Measured blocks room (n + 1) many left
   share_none y =
       record {
         count = rw (living-none blocks n t e y) m.count;
         few = omega (arith, m.few);
         place = rw (size_none blocks n t e y) m.place;
-        fits = m.fits;
       }
 
-  module _ (count cells : ℕ) (y : t ≡ true) (less : n < count) (c : cells ≡ length_at blocks (n + 1)) where
-    share_over : room < next + (33 + cells) → None ≡ share_of blocks count room
-    unfolding share_of
-    share_over h = rw (lt-leb (nodes_at blocks count) room (omega (arith, m.place, size-one blocks n t e y, size_more blocks (n + 1) count (omega arith))))
+  pub share_over : (count cells : ℕ) → t ≡ true → n < count → cells ≡ length_at blocks (n + 1) → left < 33 + cells → None ≡ share_of blocks count room
+  unfolding share_of
+  share_over count cells y less c h =
+      rw (lt-leb (nodes_at blocks count) room (omega (arith, m.place, size-one blocks n t e y, size_more blocks (n + 1) count (omega arith)))) refl
 
-    pub share_row : room - next < 33 → None ≡ share_of blocks count room
-    share_row h = share_over (omega (arith, m.fits))
-
-    pub share_bytes : room - next - 33 < cells → 33 ≤ room - next → None ≡ share_of blocks count room
-    share_bytes h g = share_over (omega (arith, m.fits))
-
-pub share_fits : (blocks : List ℕ) (count room n many next : ℕ) → Measured blocks room n many next → n ≤ count → count ≤ n
-    → Some (many, next) ≡ share_of blocks count room
+pub share_fits : (blocks : List ℕ) (count room n many left : ℕ) → Measured blocks room n many left → n ≤ count → count ≤ n
+    → Some (many, room - left) ≡ share_of blocks count room
 unfolding share_of
-share_fits blocks count room n many next m h g =
+share_fits blocks count room n many left m h g =
     let e : n ≡ count = omega arith in
-    rw (← e, le-leb (nodes_at blocks n) room (omega (arith, m.place, m.fits)), ← m.count, ← m.place) refl
+    let p : room - left ≡ nodes_at blocks n = omega (arith, m.place) in
+    rw (← e, le-leb (nodes_at blocks n) room (omega (arith, m.place)), ← m.count, ← p) refl
 
-pub ruleset sharing = (share_short, share_start, share_one, share_none, share_row, share_bytes, share_fits, arith)
+pub ruleset sharing = (share_short, share_start, share_one, share_none, share_over, share_fits, arith)
 
 -- ── the returns of `measure` ──
 
 module _ (blocks nodes entries : List ℕ) (room : ℕ) where
   plan_over : room < file_size blocks nodes entries → None ≡ plan_of blocks nodes entries room
   unfolding plan_of
-  plan_over h = rw (lt-leb (file_size blocks nodes entries) room h)
+  plan_over h = rw (lt-leb (file_size blocks nodes entries) room h) refl
 
   module _ (count : ℕ) (c : count ≡ block_count blocks) (r : Option (ℕ × ℕ)) (s : r ≡ share_of blocks count room) where
     shared : (many next : ℕ) → r ≡ Some (many, next) → (many ≡ length (living blocks (block_count blocks))) × (next ≡ nodes_at blocks (block_count blocks)) × (next ≤ room)
@@ -144,27 +136,25 @@ module _ (blocks nodes entries : List ℕ) (room : ℕ) where
         (le_or_lt (nodes_at blocks (block_count blocks)) room)
 
     module _ (many next : ℕ) (f : r ≡ Some (many, next)) where
-      pub plan_full : room ≤ next → None ≡ plan_of blocks nodes entries room
+      pub plan_full : room < next + 1 → None ≡ plan_of blocks nodes entries room
       unfolding nodes_size
       plan_full h = plan_over (omega (arith, (shared many next f).1))
 
-      module _ (rows : ℕ) (p : rows ≡ nodes_used nodes) (some : next < room) where
-        pub plan_rows : (room - next - 1) / 34 < rows → None ≡ plan_of blocks nodes entries room
+      module _ (rows : ℕ) (p : rows ≡ nodes_used nodes) where
+        pub plan_rows : room < next + 1 + 34 * rows → None ≡ plan_of blocks nodes entries room
         unfolding nodes_size
         plan_rows h = plan_over (omega (arith, (shared many next f).1))
 
-        module _ (numbers : ℕ) (q : numbers ≡ entries_used entries) (g : rows ≤ (room - next - 1) / 34) where
-          pub plan_entries : (room - next - 1 - 34 * rows) / 8 < numbers → None ≡ plan_of blocks nodes entries room
+        module _ (numbers : ℕ) (q : numbers ≡ entries_used entries) where
+          pub plan_entries : room < next + 1 + 34 * rows + 8 * numbers → None ≡ plan_of blocks nodes entries room
           unfolding nodes_size
           plan_entries h = plan_over (omega (arith, (shared many next f).1))
 
-          pub plan_fits : numbers ≤ (room - next - 1 - 34 * rows) / 8
-              → plan many next (room - (room - next - 1 - 34 * rows - 8 * numbers)) ≡ plan_of blocks nodes entries room
+          pub plan_fits : (spare : ℕ) → next + 1 + 34 * rows + 8 * numbers + spare ≡ room → plan many next (room - spare) ≡ plan_of blocks nodes entries room
           unfolding plan_of nodes_size
-          plan_fits h =
+          plan_fits spare h =
               let k = shared many next f in
-              let all : room - (room - next - 1 - 34 * rows - 8 * numbers) ≡ nodes_at blocks (block_count blocks) + (34 * nodes_used nodes + (8 * entries_used entries + 1)) =
-              omega (arith, k.1) in
+              let all : room - spare ≡ nodes_at blocks (block_count blocks) + (34 * nodes_used nodes + (8 * entries_used entries + 1)) = omega (arith, k.1) in
               let in-room : nodes_at blocks (block_count blocks) + (34 * nodes_used nodes + (8 * entries_used entries + 1)) ≤ room = omega (arith, k.1) in
               rw (le-leb (nodes_at blocks (block_count blocks) + (34 * nodes_used nodes + (8 * entries_used entries + 1))) room in-room, all, k.0, k.1) refl
 

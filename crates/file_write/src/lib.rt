@@ -14,55 +14,54 @@ ghost use Rattle.file_write.specs.Answers.{FileWritten, WrittenClosed};
 
 mod plan;
 
-use file_nodes::{nodes, numbers};
+use file_nodes::nodes::{Place, Tree};
+use file_nodes::numbers;
 use file_put::{BLOCKS_AT, blocks, put};
 use plan::Plan;
 use refusals::Refusal;
+use segment_table::lent::Closed;
 use tables::block;
 
-// Writes the file of an index with blocks, `living` of which have a life: the list of these, if it is needed, then by it the nodes, from `place` on,
-// then the blocks over it.
-fn write_file(
-    blocks: &[u64],
-    store: &[u8],
-    nodes: &[u64],
-    entries: &[u64],
-    living: u64,
-    place: usize,
-    out: &mut [u8],
-)
-    ensures { FileWritten blocks.now store.now nodes.now entries.now living place out.old out.new }
+// Writes the file of an index with blocks, as it is planned: the list of the blocks that have a life, if it is needed, then by it the nodes, then the
+// blocks over it.
+fn write_file(closed: &Closed<'_>, store: &[u8], plan: Plan, out: &mut [u8])
+    ensures { FileWritten closed.now.blocks.now store.now closed.now.nodes.now closed.now.entries.now plan.living plan.nodes_at out.old out.new }
 {
+    let Closed {
+        blocks,
+        nodes,
+        entries,
+    } = *closed;
     let count = block_table::count(blocks);
     let kind = block_table::kind(blocks);
     let end = block_table::end(blocks);
     let root = tables::get(nodes, 0, kind as usize);
-    let listed = numbers::list(blocks, count, living, out);
-    nodes::put_tree(nodes, entries, root, 0, end, listed, out, place);
+    let listed = numbers::list(blocks, count, plan.living, out);
+    let tree = Tree {
+        nodes,
+        entries,
+        listed,
+    };
+    let whole = Place {
+        link: root,
+        min: 0,
+        max: end,
+    };
+    tree.put(whole, out, plan.nodes_at);
     blocks::put_blocks(blocks, store, count, out, BLOCKS_AT);
     let count_at = put::byte(out, 0, kind);
-    put::number(out, count_at, living);
+    put::number(out, count_at, plan.living);
 }
 
 // Writes the file of a closed index, and gives how many bytes it has: 16 if it exceeds the slice, and nothing has changed. An index without blocks
 // writes nothing.
-pub fn write_closed(
-    blocks: &[u64],
-    store: &[u8],
-    nodes: &[u64],
-    entries: &[u64],
-    out: &mut [u8],
-) -> Result<u64, Refusal>
-    ensures { WrittenClosed blocks.now store.now nodes.now entries.now out.old out.new (answer_by (λ n. n) result) }
+pub fn write_closed(closed: &Closed<'_>, store: &[u8], out: &mut [u8]) -> Result<u64, Refusal>
+    ensures { WrittenClosed closed.now.blocks.now store.now closed.now.nodes.now closed.now.entries.now out.old out.new (answer_by (λ n. n) result) }
 {
-    if block_table::count(blocks) == 0 {
+    if block_table::count(closed.blocks) == 0 {
         return Ok(0);
     }
-    let Plan {
-        living,
-        nodes_at,
-        size,
-    } = plan::measure(blocks, nodes, entries, out.len()).ok_or(Refusal::ResultTooLong)?;
-    write_file(blocks, store, nodes, entries, living, nodes_at, out);
-    Ok(size as u64)
+    let plan = plan::measure(closed, out.len()).ok_or(Refusal::ResultTooLong)?;
+    write_file(closed, store, plan, out);
+    Ok(plan.size as u64)
 }

@@ -3,6 +3,7 @@ ghost use Rattle.std.specs.Prelude.{◌≡◌};
 ghost use Rattle.file_write.specs.Sizes.{share_of, plan_of};
 
 use file_put::{BLOCKS_AT, blocks};
+use segment_table::lent::Closed;
 use tables::{block, entry, node};
 
 // A kind or presence byte and four numbers.
@@ -22,53 +23,38 @@ pub struct Plan {
 
 // Measures the first `count` blocks: how many are written, and the place behind them. None where they do not fit. Blocks may share bytes of the store,
 // so their sum is bounded by the room alone.
+#[tactic(auto, using(crate::proofs::Planning::sharing))]
 fn measure_blocks(blocks: &[u64], count: u64, room: usize) -> Option<(u64, usize)>
     ensures { result ≡ share_of blocks.now count room }
 {
-    if room < BLOCKS_AT {
-        return None;
-    }
     let mut living = 0;
-    let mut next = BLOCKS_AT;
+    let mut left = room.checked_sub(BLOCKS_AT)?;
     for number in 0..count {
         let link = number + 1;
         if blocks::lives(blocks, link) {
             let length = block::get(blocks, link, block::LENGTH) as usize;
-            if room - next < ROW {
-                return None;
-            }
-            if room - next - ROW < length {
-                return None;
-            }
+            left = left.checked_sub(ROW)?.checked_sub(length)?;
             living += 1;
-            next += ROW + length;
         }
     }
-    Some((living, next))
+    Some((living, room - left))
 }
 
 // Measures the file of a closed index. None where it does not fit.
-pub fn measure(blocks: &[u64], nodes: &[u64], entries: &[u64], room: usize) -> Option<Plan>
-    ensures { result ≡ plan_of blocks.now nodes.now entries.now room }
+#[tactic(auto, using(crate::proofs::Planning::planning))]
+pub fn measure(closed: &Closed<'_>, room: usize) -> Option<Plan>
+    ensures { result ≡ plan_of closed.now.blocks.now closed.now.nodes.now closed.now.entries.now room }
 {
-    let count = block_table::count(blocks);
-    let (living, next) = measure_blocks(blocks, count, room)?;
-    if room <= next {
-        return None;
-    }
-    let left = (room - next - 1) as u64;
-    let rows = tables::get(nodes, 0, node::COUNT);
-    if left / NODE < rows {
-        return None;
-    }
-    let rest = left - NODE * rows;
-    let numbers = tables::get(entries, 0, entry::COUNT);
-    if rest / ENTRY < numbers {
-        return None;
-    }
+    let count = block_table::count(closed.blocks);
+    let (living, nodes_at) = measure_blocks(closed.blocks, count, room)?;
+    let left = room.checked_sub(nodes_at)?.checked_sub(1)? as u64;
+    let rows = tables::get(closed.nodes, 0, node::COUNT);
+    let rest = left.checked_sub(NODE.checked_mul(rows)?)?;
+    let numbers = tables::get(closed.entries, 0, entry::COUNT);
+    let spare = rest.checked_sub(ENTRY.checked_mul(numbers)?)?;
     Some(Plan {
         living,
-        nodes_at: next,
-        size: room - (rest - ENTRY * numbers) as usize,
+        nodes_at,
+        size: room - spare as usize,
     })
 }

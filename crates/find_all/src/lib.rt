@@ -7,14 +7,16 @@
 #![tactic(auto)]
 
 ghost use Rattle.std.specs.Prelude.{◌+◌, ◌*◌, ◌≤◌, min, ◌≡◌, length};
-ghost use Rattle.layout.specs.Tables.{tables};
+ghost use Rattle.layout.specs.Tables.{held};
 ghost use Rattle.refusals.specs.Numbers.{answer_by};
 ghost use Rattle.index_read.specs.Answers.{counts_given};
 ghost use Rattle.find_all.specs.Many.{FoundBehind, FoundOne, FoundAll};
 
 use index::Found;
 use index_test::State;
+use layout::Tables;
 use refusals::Refusal;
+use segment_table::lent::Closed;
 
 // The place behind so many numbers more, held to the room that there is.
 fn behind(used: usize, count: u64, room: usize) -> usize
@@ -26,9 +28,7 @@ fn behind(used: usize, count: u64, room: usize) -> usize
 // Asks query i, lent the numbers behind `used` others.
 fn find_behind(
     state: State,
-    blocks: &[u64],
-    nodes: &[u64],
-    entries: &[u64],
+    lent: Tables,
     queries: &[u64],
     i: usize,
     numbers: &mut [u64],
@@ -36,31 +36,25 @@ fn find_behind(
 ) -> Result<Found, Refusal>
     requires i_in_bounds { 3 * i + 3 ≤ length queries.now }
     requires used_in_bounds { used ≤ length numbers.old }
-    ensures { FoundBehind state blocks.now nodes.now entries.now queries.now i
+    ensures { FoundBehind state lent.entry.blocks.now lent.entry.nodes.now lent.entry.entries.now queries.now i
         numbers.old used numbers.new (answer_by counts_given result) }
 {
     let at = 3 * i;
     let tick = queries[at];
     let start = queries[at + 1];
     let end = queries[at + 2];
-    index_tested::find_tested(
-        state,
-        blocks,
-        nodes,
-        entries,
-        tick,
-        start,
-        end,
-        &mut numbers[used..],
-    )
+    let closed = Closed {
+        blocks: lent.blocks,
+        nodes: lent.nodes,
+        entries: lent.entries,
+    };
+    index_tested::find_tested(state, &closed, tick, start, end, &mut numbers[used..])
 }
 
 // Asks query i and puts its answer. The place behind its numbers.
 fn find_one(
     state: State,
-    blocks: &[u64],
-    nodes: &[u64],
-    entries: &[u64],
+    lent: Tables,
     queries: &[u64],
     i: usize,
     answers: &mut [u64],
@@ -70,11 +64,11 @@ fn find_one(
     requires i_in_bounds { 3 * i + 3 ≤ length queries.now }
     requires i_in_bounds_2 { 3 * i + 3 ≤ length answers.old }
     requires used_in_bounds { used ≤ length numbers.old }
-    ensures { FoundOne state blocks.now nodes.now entries.now queries.now i
+    ensures { FoundOne state lent.entry.blocks.now lent.entry.nodes.now lent.entry.entries.now queries.now i
         answers.old answers.new numbers.old numbers.new used result }
 {
     let room = numbers.len();
-    match find_behind(state, blocks, nodes, entries, queries, i, numbers, used) {
+    match find_behind(state, lent, queries, i, numbers, used) {
         Ok(found) => {
             call_lists::put_three(answers, 3 * i, 0, found.count, found.visited);
             behind(used, found.count, room)
@@ -87,26 +81,15 @@ fn find_one(
 }
 
 // Asks the queries as long as there are whole ones and places for their answers.
-pub fn find_all(
-    pieces: &[u64],
-    blocks: &[u64],
-    store: &[u8],
-    nodes: &[u64],
-    entries: &[u64],
-    queries: &[u64],
-    answers: &mut [u64],
-    numbers: &mut [u64],
-) -> usize
-    ensures { FoundAll (tables pieces.now blocks.now store.now nodes.now entries.now)
+pub fn find_all(lent: Tables, queries: &[u64], answers: &mut [u64], numbers: &mut [u64]) -> usize
+    ensures { FoundAll (held lent.entry)
         queries.now answers.old answers.new numbers.old numbers.new result }
 {
-    let state = index_test::test(pieces, blocks, store, nodes, entries);
+    let state = index_test::test(lent);
     let most = queries.len().min(answers.len()) / 3;
     let mut used = 0;
     for i in 0..most {
-        used = find_one(
-            state, blocks, nodes, entries, queries, i, answers, numbers, used,
-        );
+        used = find_one(state, lent, queries, i, answers, numbers, used);
     }
     most
 }

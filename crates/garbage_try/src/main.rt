@@ -6,7 +6,7 @@
 
 ghost use Rattle.std.specs.Prelude.{◌≤◌};
 
-use index::Index;
+use index::{Index, Operation};
 use tables::{ROW, block};
 use tally::Tally;
 
@@ -70,15 +70,31 @@ struct Tables<'a> {
     entries: &'a mut [u64],
 }
 
+impl Tables<'_> {
+    // For a call that reads them.
+    fn lent(&self) -> layout::Tables<'_> {
+        layout::Tables {
+            pieces: self.pieces,
+            blocks: self.blocks,
+            store: self.store,
+            nodes: self.nodes,
+            entries: self.entries,
+        }
+    }
+}
+
 // ── calls ──
 
 fn try_record(tally: &mut Tally, t: &mut Tables<'_>, wanted: Option<u64>) {
     let scratch = [0; 72];
     let nodes = &mut *t.nodes;
     let entries = &mut *t.entries;
-    let answer = index::record_op(
-        t.pieces, t.blocks, t.store, nodes, entries, &scratch, 0, 5, b"1",
-    );
+    let op = Operation {
+        tick: 0,
+        first: 5,
+        bytes: b"1",
+    };
+    let answer = index::record_op(t.pieces, t.blocks, t.store, nodes, entries, &scratch, op);
     let told = match answer {
         Ok(_) => None,
         Err(refusal) => Some(u64::from(refusal)),
@@ -99,7 +115,7 @@ fn try_finish(tally: &mut Tally, t: &mut Tables<'_>) {
 fn try_block(tally: &mut Tally, t: &Tables<'_>) {
     let bytes = index::block_bytes(t.pieces, t.blocks, t.store, t.nodes, t.entries, 0);
     tally.compare(bytes.is_empty());
-    let told = match index::block(t.pieces, t.blocks, t.store, t.nodes, t.entries, 0) {
+    let told = match index::block(t.lent(), 0) {
         Ok(_) => None,
         Err(refusal) => Some(u64::from(refusal)),
     };
@@ -108,17 +124,7 @@ fn try_block(tally: &mut Tally, t: &Tables<'_>) {
 
 fn try_find(tally: &mut Tally, t: &Tables<'_>) {
     let mut answer = [0; 9];
-    let asked = index::find(
-        t.pieces,
-        t.blocks,
-        t.store,
-        t.nodes,
-        t.entries,
-        0,
-        0,
-        9,
-        &mut answer,
-    );
+    let asked = index::find(t.lent(), 0, 0, 9, &mut answer);
     let told = match asked {
         Ok(_) => None,
         Err(refusal) => Some(u64::from(refusal)),

@@ -2,7 +2,7 @@
 use mathlib.Core.Path.{◌≡◌, ap, sym, ◌∙◌}
 use mathlib.Core.Option.{Option, none, some}
 use mathlib.Core.List.{List, ◌++◌}
-use Prim.Native.Nat.{ℕ, ◌+◌}
+use Prim.Native.Nat.{ℕ}
 use native.Mathlib.Omega.{arith}
 use lib.ListN.{length, take, replicate, replicate-append-replicate}
 use lib.Seq.{take-append-le}
@@ -146,3 +146,6 @@ longer-tables = record {
   reads = reads_alike;
   takes = takes_alike;
 }
+
+-- a name without a dash, which an attribute can say
+pub ruleset lengthening = (longer-tables)

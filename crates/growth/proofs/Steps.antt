@@ -110,9 +110,9 @@ grown l (grows more ∷ ss) =
       same = subst (λ (m : Ledger). after_steps (lent_more more l) ss ≡ after_all m (taken (lent_more more l) ss)) sum g.same;
     }
 
-pub grown-boards : GrownBoards
+pub grown_boards : GrownBoards
 unfolding opened open_refusals
-grown-boards = record {
+grown_boards = record {
   accepts = λ l ss. (grown l ss).accepts;
   same = λ l ss. (grown l ss).same;
   law = λ a taken_in ss. rw (grown (opened a) ss).same (the_law (opening_for a.end a.kind (lengthened (grown_by ss) a.lent)) taken_in (taken (opened a) ss));

@@ -1,8 +1,11 @@
 -- What is counted for each row when the first k of all rows were looked at: one step for each turn and each return. Assumes nothing.
-use mathlib.Core.Path.{◌≡◌, sym, subst, ◌∙◌}
+use mathlib.Core.Path.{◌≡◌, refl, sym, subst, ◌∙◌}
+use mathlib.Core.Bool.{Bool, true}
 use mathlib.Core.List.{List, [], ◌∷◌, ◌++◌}
-use Prim.Native.Nat.{ℕ, suc, ◌+◌, ◌≤◌, ◌<◌}
+use Prim.Native.Nat.{ℕ, suc, ◌+◌, ◌-◌, ◌≤◌, ◌<◌}
 use native.Mathlib.Omega.{arith}
+use lib.Dec.{ltb}
+use borrow.Author.Tests.{ltb-true}
 use native.Mathlib.Numerals.{add-one}
 use Rattle.lists.specs.Lists.{count_from}
 use Rattle.lists.proofs.Lists.{count-append}
@@ -18,8 +21,9 @@ use Rattle.apart_laws.specs.Slots.{stretch_at, Slot, Counts, TakesIn}
 use Rattle.apart_laws.proofs.Slots.{slot_steps}
 use Rattle.block_table.specs.declared.Row.{Row}
 use Rattle.block_table.specs.RowRead.{Reads}
+use Rattle.ends_apart.specs.Rows.{LivesAt}
 use Rattle.handed_rows.specs.Numbered.{Given, all_rows}
-use Rattle.handed_rows.specs.Handed.{in_common, Grows, stays, takes, HandsOn, slot_at, Tallied, TalliedRows, Written, TalliedPieces}
+use Rattle.handed_rows.specs.Handed.{in_common, Grows, stays, takes, HandsOn, TakenOver, AllTaken, slot_at, Tallied, TalliedRows, Written, TalliedPieces}
 use Rattle.handed_rows.proofs.Numbered.{Is, row_is, piece_is}
 use Rattle.handed_rows.proofs.Along.{only_same, only_both}
 
@@ -93,9 +97,12 @@ module _ {b₀ b : List ℕ} {n k : ℕ} {row : Row} (t : RowsTo b₀ b n k) (h 
   pub rows_pass : RowsTo b₀ b n (k + 1)
   rows_pass = record { within = omega arith; only = t.only; done = λ g eb en u. tally_on (t.done g eb en u) }
 
-  pub rows_count : {b' : List ℕ} → row.created < row.destroyed → HandsOn b b' n row.first row.length row.created → RowsTo b₀ b' n (k + 1)
-  rows_count {b'} lives hands = record { within = omega arith; only = only_both t.only hands.only; done = go }
+  pub rows_count : {b' : List ℕ} {l : Bool} → l ≡ ltb row.created row.destroyed → l ≡ true → HandsOn b b' n row.first row.length row.created → RowsTo b₀ b' n (k + 1)
+  rows_count {b'} el alive hands = record { within = omega arith; only = only_both t.only hands.only; done = go }
     where
+      lives : row.created < row.destroyed
+      lives = ltb-true row.created row.destroyed (sym el ∙ alive)
+
       go : (g : Given) → g.blocks ≡ b₀ → g.n ≡ n → Unordered b₀ n → Tallied g b' (k + 1)
       go g eb en u =
           let s : Tallied g b k = t.done g eb en u in
@@ -142,3 +149,19 @@ pub pieces_end : {pieces b₀ b : List ℕ} {m n k : ℕ} → PiecesTo pieces m 
 pieces_end {pieces} {b₀} {b} {m} {n} {k} t h = record { only = t.only; done = λ g ep em en w s. let e : m ≡ k = omega (arith, t.within) in rw e (t.done g ep em en w s) }
 
 pub ruleset pieces = (pieces_start, pieces_end)
+
+-- ── all rows taken over ──
+
+-- the row behind i is taken over, if it has a life
+pub record RowTaken (blocks : List ℕ) (i : ℕ) : Type 0 where
+  pub taken : LivesAt blocks (i + 1) → length_at blocks (i + 1) ≤ next_at blocks (i + 1)
+
+pub row_taken : {blocks : List ℕ} {i : ℕ} {row : Row} → Reads blocks (i + 1) row → TakenOver row true → RowTaken blocks i
+row_taken r t = record { taken = λ lives. let z = t.shown refl (omega (arith, r.created, r.destroyed, lives)) in omega (arith, z, r.length, r.next) }
+
+pub rows_taken : {blocks : List ℕ} {n : ℕ} {q : Bool} → (q ≡ true → (i : ℕ) → 0 ≤ i → i < n → RowTaken blocks i) → AllTaken blocks n q
+rows_taken {blocks} each = record {
+  shown = λ e link a b.
+      let z : link - 1 + 1 ≡ link = omega arith in
+      rw z at ((each e (link - 1) (omega arith) (omega arith)).taken);
+}

@@ -11,7 +11,7 @@
 
 #![tactic(auto)]
 
-ghost use Rattle.std.specs.Prelude.{◌≡◌, ◌≤◌};
+ghost use Rattle.std.specs.Prelude.{◌≤◌};
 ghost use Rattle.tables.specs.Columns.{column, pieces_count};
 ghost use Rattle.handed_rows.specs.Handed.{Common, HandsOn, TalliedRows, TalliedPieces, TakenOver, AllTaken, SeenHanded};
 
@@ -36,7 +36,7 @@ fn common(row: Row, stretch: Stretch) -> u64
 {
     let lo = row.first.max(stretch.first);
     let end = stretch.first.saturating_add(stretch.length);
-    let hi = row.first.saturating_add(row.length).min(end);
+    let hi = row.end().min(end);
     hi.saturating_sub(lo)
 }
 
@@ -56,6 +56,7 @@ fn passed(blocks: &[u64], i: u64, n: u64, stretch: Stretch, left: u64) -> u64
 
 // Counts a stretch for the rows that are destroyed at its tick and have cells in common with it. Where a row is full already, two stretches have a cell
 // in common, and no more is counted.
+// No `for` goes over the rows: a turn may jump to where the cell is sought.
 #[tactic(auto, using(crate::proofs::Along::along))]
 fn hand_on(blocks: &mut [u64], n: u64, marks: &[Mark; MARKS], stretch: Stretch)
     ensures { HandsOn blocks.old blocks.new n stretch.first stretch.length stretch.tick }
@@ -91,7 +92,7 @@ fn tally_rows(blocks: &mut [u64], n: u64, marks: &[Mark; MARKS])
 {
     for k in 0..n {
         let row = block_table::read(blocks, k + 1);
-        if row.created < row.destroyed {
+        if row.lives() {
             let stretch = Stretch {
                 first: row.first,
                 length: row.length,
@@ -121,19 +122,14 @@ fn tally_pieces(pieces: &[u64], m: u64, blocks: &mut [u64], n: u64, marks: &[Mar
 fn taken_over(row: Row) -> bool
     ensures { TakenOver row result }
 {
-    row.destroyed <= row.created || row.length <= row.next
+    !row.lives() || row.length <= row.next
 }
 
 // Whether all rows 1 to n are so.
 fn all_taken(blocks: &[u64], n: u64) -> bool
     ensures { AllTaken blocks.now n result }
 {
-    for k in 0..n {
-        if !taken_over(block_table::read(blocks, k + 1)) {
-            return false;
-        }
-    }
-    true
+    (0..n).all(|k| taken_over(block_table::read(blocks, k + 1)))
 }
 
 // Whether no two of the blocks 1 to n and of the pieces are seen to share a cell at a tick, each piece counted as live for ever; if not, nothing is said.

@@ -10,8 +10,8 @@ use native.Mathlib.Nat.{zero-add}
 use native.Mathlib.Omega.{arith}
 use lib.ListN.{length, get_or}
 use borrow.Author.Tests.{eq-eqb, ne_eqb}
-use Rattle.lists.specs.Lists.{All, all_nil, all_cons, Mem, here, there, Ascending, pairs_nil, pairs_cons, count}
-use Rattle.lists.proofs.Numbers.{bool_cases, le_or_lt}
+use Rattle.lists.specs.Lists.{All, all_nil, Mem, here, there, Ascending, pairs_nil, pairs_cons, count}
+use Rattle.lists.proofs.Numbers.{bool_cases}
 use Rattle.lists.proofs.Lists.{all_map, all_mem}
 use Rattle.lists.proofs.Counting.{not_mem_nil}
 use Rattle.history.specs.Words.{Block}

@@ -1,19 +1,18 @@
 -- What an operation changes first, from its comparison with each piece. Assumes nothing.
 use mathlib.Core.Path.{◌≡◌, refl, sym, ap, ◌∙◌, subst}
 use mathlib.Core.Logic.{◌⊎◌, inl, inr}
-use mathlib.Core.Bool.{Bool, true, false, cond, not}
+use mathlib.Core.Bool.{Bool, true, false, cond}
 use mathlib.Core.Option.{Option, none, some}
 use mathlib.Core.List.{List, [], ◌∷◌, map, filter_map, Option-to_list}
-use Prim.Native.Nat.{ℕ, zero, suc, ◌≤◌, ◌<◌, min}
+use Prim.Native.Nat.{ℕ, zero, suc, ◌≤◌}
 use native.Mathlib.Omega.{arith}
-use lib.Dec.{eqb}
 use lib.ListN.{length}
 use borrow.Author.Tests.{eq-eqb, ne_eqb}
 use Rattle.lists.specs.Lists.{All, all_nil, all_cons, Mem, here, there, pairs_nil, pairs_cons, has}
 use Rattle.lists.proofs.Numbers.{eq_or_ne}
 use Rattle.lists.proofs.Lists.{all_map, all_any, all_of_map}
 use Rattle.lists.proofs.Maps.{map_all, filter_map_cons}
-use Rattle.history.specs.Words.{Stretch, Operation, Piece, ends, stretch_of, byte_at, is_other, differs_from, held_at}
+use Rattle.history.specs.Words.{Stretch, Piece, stretch_of, byte_at, is_other, differs_from, held_at}
 use Rattle.history.specs.Ledger.{first_change, changed}
 use Rattle.history.specs.Sound.{InOrder, is_empty}
 use Rattle.history.specs.Law.{lower, lowest, first_unknown, LawOfChange}

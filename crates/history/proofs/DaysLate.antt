@@ -8,7 +8,7 @@ use lib.ListN.{length-append}
 use Rattle.lists.specs.Lists.{All, all_cons}
 use Rattle.lists.proofs.Numbers.{lt_or_le}
 use Rattle.lists.proofs.Lists.{all_left, pairs_left, all_map}
-use Rattle.history.specs.Days.{Day, day_minutes, short_day, DaysTaken, start_of, Place, unlisted, place_from, place_of, day_of, shown_on, label_minute}
+use Rattle.history.specs.Days.{Day, day_minutes, short_day, DaysTaken, start_of, Place, unlisted, place_from, day_of, shown_on, label_minute}
 use Rattle.history.proofs.DaysRising.{taken-rises}
 use Rattle.history.proofs.DaysSpans.{start_next}
 use Rattle.history.proofs.DaysPlaces.{place_before, place_in, place_after, day_has}

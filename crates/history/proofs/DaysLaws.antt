@@ -1,18 +1,17 @@
 -- The laws of days gathered; hours that go by label; the call that installs a list. Assumes nothing.
-use mathlib.Core.Path.{◌≡◌, refl, sym, ap, ap₂, ◌∙◌}
+use mathlib.Core.Path.{◌≡◌, refl, sym, ap, ◌∙◌}
 use mathlib.Core.Bool.{false, not}
 use mathlib.Core.List.{List, [], ◌∷◌}
 use Prim.Native.Nat.{ℕ, ◌+◌, ◌/◌, ◌%◌, ◌≤◌, ◌<◌}
 use native.Mathlib.Omega.{arith}
 use Rattle.lists.proofs.Numbers.{decides_not, decided}
-use Rattle.history.specs.Lent.{Lent, too_short}
-use Rattle.history.specs.Days.{Day, day_minutes, long_day, days_of, days_taken, DaysTaken, length_of, start_of, day_of, shown_on, label_minute}
+use Rattle.history.specs.Lent.{too_short}
+use Rattle.history.specs.Days.{Day, day_minutes, long_day, days_of, days_taken, DaysTaken, length_of, start_of, shown_on}
 use Rattle.history.specs.Hours.{Calendar, covered, windows_of, open_minute}
 use Rattle.history.specs.Ledger.{Opening, Ledger, opened, record_by, finish_by, install_by, install_days_by}
 use Rattle.history.specs.Results.{Result, done}
 use Rattle.history.specs.Refusals.{Answer, accepted, refused, first_of, days_refusals, days_answer}
 use Rattle.history.specs.Calls.{Call, record_call, finish_call, calendar_call, days_call, answer_to, accepted_by, leaves, after, after_all, days_left, last_days}
-use Rattle.history.specs.File.{Loaded, loaded_ledger}
 use Rattle.history.specs.DaysLaw.{LawOfPlaces, LawOfLabels, LawOfListedHours, NotDays, LawOfInstallingDays, LawOfDays}
 use Rattle.history.proofs.DaysRising.{days_taken_decides}
 use Rattle.history.proofs.DaysSpans.{length-listed, length-unlisted, start_none, start_next}

@@ -3,6 +3,7 @@ use mathlib.Core.Path.{◌≡◌, refl, sym, ap, ◌∙◌}
 use mathlib.Core.Logic.{inl, inr, ⊎_elim}
 use mathlib.Core.List.{List, [], ◌∷◌}
 use Prim.Native.Nat.{ℕ, suc, ◌+◌, ◌-◌, ◌*◌, ◌/◌, ◌%◌, ◌≤◌, ◌<◌}
+use native.Mathlib.Nat.{zero-add}
 use native.Mathlib.Omega.{arith}
 use borrow.Author.Tests.{lt-ltb, le-ltb}
 use Rattle.lists.proofs.Numbers.{lt_or_le}
@@ -117,10 +118,7 @@ pub day_has : (es : List Day) (m : ℕ) → DaysTaken es → start_of es (day_of
 unfolding start_of
 day_has es m t =
     let lies = place_lies m (taken-rises t) in
-    omega (arith, lies.sums, ap (span_of es 0) (lies.reaches ∙ none lies.past))
-  where
-    none : (a : ℕ) → 0 + a ≡ a
-    none a = omega arith
+    omega (arith, lies.sums, ap (span_of es 0) (lies.reaches ∙ zero-add lies.past))
 
 pub minute_below : (es : List Day) (m : ℕ) → DaysTaken es → minute_in es m < length_of es (day_of es m)
 minute_below es m t =

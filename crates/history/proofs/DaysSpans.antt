@@ -2,6 +2,7 @@
 use mathlib.Core.Path.{◌≡◌, refl, sym, ap, ◌∙◌}
 use mathlib.Core.List.{List, [], ◌∷◌}
 use Prim.Native.Nat.{ℕ, zero, suc, ◌+◌, ◌*◌, ◌≤◌, ◌<◌}
+use native.Mathlib.Nat.{zero-add, add-zero}
 use native.Mathlib.Omega.{arith}
 use borrow.Author.Tests.{eq-eqb, ne_eqb}
 use Rattle.lists.specs.Lists.{All, all_nil, all_cons, Mem, here, there, count_from, sum_of}
@@ -53,13 +54,7 @@ span_first es from n = refl
 -- one stretch after the other
 pub span_add : (es : List Day) (from n k : ℕ) → span_of es from (n + k) ≡ span_of es from n + span_of es (from + n) k
 span_add es from zero k =
-    omega (arith, span_none es from, ap (span_of es from) (none k), ap (λ (x : ℕ). span_of es x k) (same from))
-  where
-    none : (a : ℕ) → 0 + a ≡ a
-    none a = omega arith
-
-    same : (a : ℕ) → a + 0 ≡ a
-    same a = omega arith
+    omega (arith, span_none es from, ap (span_of es from) (zero-add k), ap (λ (x : ℕ). span_of es x k) (add-zero from))
 span_add es from (suc n) k =
     ap (span_of es from) (past n k)
     ∙ omega (arith, span_first es from (n + k), span_first es from n, span_add es (suc from) n k, ap (λ (x : ℕ). span_of es x k) (shift from n))
@@ -92,13 +87,10 @@ start_none es = span_none es 0
 pub start_next : (es : List Day) (d : ℕ) → start_of es (suc d) ≡ start_of es d + length_of es d
 unfolding start_of
 start_next es d =
-    ap (span_of es 0) (one d) ∙ omega (arith, span_add es 0 d 1, span_first es (0 + d) 0, span_none es (suc (0 + d)), ap (length_of es) (none d))
+    ap (span_of es 0) (one d) ∙ omega (arith, span_add es 0 d 1, span_first es (0 + d) 0, span_none es (suc (0 + d)), ap (length_of es) (zero-add d))
   where
     one : (a : ℕ) → suc a ≡ a + 1
     one a = omega arith
-
-    none : (a : ℕ) → 0 + a ≡ a
-    none a = omega arith
 
 -- a later day starts no earlier
 pub start_up : (es : List Day) (d k : ℕ) → start_of es d ≤ start_of es (d + k)

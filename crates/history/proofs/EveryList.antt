@@ -195,6 +195,19 @@ finish_cells : (l : Ledger) (h : List Operation) → Shown l.opening l.now h →
 unfolding finish_by
 finish_cells l h cells t c p = subst (λ (bs : List Block). seen t c bs ≡ Option-to_list (value_at h t c)) (sym (finish_settled l)) (cells t c p)
 
+-- what open and finish leave
+pub opened_opening : (a : Opening) → (opened a).opening ≡ a
+unfolding opened
+opened_opening a = refl
+
+pub opened_open : (a : Opening) → finished (opened a) ≡ false
+unfolding opened
+opened_open a = refl
+
+pub finish_done : (l : Ledger) → finished (finish_by l) ≡ true
+unfolding finish_by
+finish_done l = refl
+
 finish_closed : (l : Ledger) → finished (finish_by l) ≡ false → true ≡ false
 unfolding finish_by
 finish_closed l e = e
@@ -292,10 +305,6 @@ opening_kept (k ∷ ks) l = opening_kept ks (after l k) ∙ one k (answer_to l k
     one (days_call numbers) (accepted a) = refl
     one (days_call numbers) (refused n) = refl
 
-opening_of : (a : Opening) → (opened a).opening ≡ a
-unfolding opened
-opening_of a = refl
-
 -- THE LAW: it holds after every list of calls on an index that opening takes.
 pub the_law : (a : Opening) → open_answer a ≡ accepted tt → (ks : List Call) → LedgerLaw (after_all (opened a) ks) (history [] (opened a) ks)
 unfolding opened
@@ -354,7 +363,7 @@ every_list a e ks = record { law = the_law a e ks; faithful = done }
     h = history [] (opened a) ks
 
     same_end : l.opening.end ≡ a.end
-    same_end = ap (λ (x : Opening). x.end) (opening_kept ks (opened a) ∙ opening_of a)
+    same_end = ap (λ (x : Opening). x.end) (opening_kept ks (opened a) ∙ opened_opening a)
 
     no_pieces : (t : Option Tree) → is_some t ≡ true → SoundTree l t → l.now.pieces ≡ []
     no_pieces none x s = absurd (false≢true x)

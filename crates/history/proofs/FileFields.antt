@@ -1,13 +1,11 @@
 -- Fields at a position: one number, so many, and the four that stand in a node and in a block, read or cut. Assumes nothing.
 use mathlib.Core.Path.{◌≡◌, refl, ◌∙◌, ap}
 use mathlib.Core.Logic.{inl, inr}
-use mathlib.Core.Option.{none}
 use mathlib.Core.List.{List, [], ◌∷◌}
 use Prim.Native.Nat.{ℕ, ◌<◌, ◌≤◌, ◌+◌, zero, suc, ◌*◌}
 use native.Mathlib.Omega.{arith}
 use native.Mathlib.Nat.{mul-suc, mul-zero}
 use lib.ListN.{length, take, drop}
-use Rattle.lists.specs.Lists.{count}
 use Rattle.lists.proofs.Numbers.{le_or_lt}
 use Rattle.history.specs.File.{number_of, got, ◌>>=◌, onward, give, number, many, fault, Reader}
 use Rattle.history.proofs.FileReads.{number_read, number_cut}

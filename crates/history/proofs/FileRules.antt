@@ -1,12 +1,12 @@
 -- The tests of rules 20 to 22 decide what document 01 says, and a tree that is written keeps rule 21. Assumes nothing.
-use mathlib.Core.Path.{◌≡◌, sym, ◌∙◌}
-use mathlib.Core.Bool.{Bool, true, ◌&&◌, true≢false, not}
+use mathlib.Core.Path.{◌≡◌}
+use mathlib.Core.Bool.{true, ◌&&◌}
 use mathlib.Core.List.{List, map}
 use Prim.Native.Nat.{ℕ, ◌<◌, ◌≤◌, ◌^◌, ◌-◌}
 use lib.ListN.{length}
 use Rattle.lists.specs.Lists.{All, sum_of}
 use Rattle.lists.specs.Tests.{Decides}
-use Rattle.lists.proofs.Numbers.{decides_iff, decides_and, decides_leb, decides_ltb}
+use Rattle.lists.proofs.Numbers.{decides_iff, decides_and, decides_leb, decides_ltb, decides_itself}
 use Rattle.history.specs.Words.{Block, ends, size}
 use Rattle.history.specs.Tree.{node_count, entry_count}
 use Rattle.history.specs.File.{tree_from, rule20, rule21, rule22, Nodes, end_of, File, placed_in}
@@ -46,10 +46,7 @@ rule21_decides t =
     decides_iff (rule21 t)
     (λ z. record { some_tick = z.0.0; end_most = z.0.1; places = z.1.0; halves = z.1.1 })
     (λ r. ((r.some_tick, r.end_most), (r.places, r.halves)))
-    (decides_and _ _ (decides_and _ _ (decides_ltb _ _) (decides_leb _ _)) (decides_and _ _ (itself _) (itself _)))
-  where
-    itself : (t : Bool) → Decides t (t ≡ true)
-    itself t = record { yes = λ e. e; not = λ e h. true≢false (sym h ∙ e) }
+    (decides_and _ _ (decides_and _ _ (decides_ltb _ _) (decides_leb _ _)) (decides_and _ _ (decides_itself _) (decides_itself _)))
 
 -- ── 22 ──
 

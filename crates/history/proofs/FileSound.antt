@@ -12,7 +12,6 @@ use Rattle.lists.proofs.Lists.{all_map, all_both}
 use Rattle.lists.proofs.Numbers.{decided}
 use Rattle.history.specs.Words.{Block, size}
 use Rattle.history.specs.Tree.{Tree}
-use Rattle.history.specs.Find.{visited}
 use Rattle.history.specs.Reads.{find_by, cells_by}
 use Rattle.history.specs.File.{new_number, file_bytes, got, tree_from, load, end_of, Loaded, File, loaded_from, loaded_ledger, saved_ledger}
 use Rattle.history.specs.Rules.{filled}
@@ -26,7 +25,6 @@ use Rattle.history.proofs.FileNumbers.{Bytes}
 use Rattle.history.proofs.FileYields.{Yielded}
 use Rattle.history.proofs.FileRoundTrip.{gives_file, BlockFits, FileFits}
 use Rattle.history.proofs.FileRules.{rule20_decides, rule21_decides, rule22_decides, Rule20, Rule21, LivingBlock, Rule22}
-use Rattle.history.proofs.FileContents.{nodes_fit}
 use Rattle.history.proofs.FileIntervals.{tree_from_rooted}
 use Rattle.history.proofs.FileLoad.{load_accepted, read_inside, Accepted, LoadedOf}
 use Rattle.history.proofs.FileKept.{WholeBlock, Writable}

@@ -10,7 +10,7 @@ use lib.ListN.{length}
 use lib.Dec.{eqb}
 use borrow.Author.Tests.{ne_eqb}
 use Rattle.lists.specs.Lists.{All, Mem, Distinct, has, count, sum_of}
-use Rattle.lists.proofs.Numbers.{eq_or_ne, cond_same, decides_same}
+use Rattle.lists.proofs.Numbers.{eq_or_ne, cond_same, decides_same, counts_one}
 use Rattle.lists.proofs.Counting.{has_decides, count_distinct}
 use Rattle.history.specs.Words.{within, Block, first_cell, live}
 use Rattle.history.specs.Tree.{Tree, no_block, block_at, key_in}
@@ -83,11 +83,7 @@ module _ (e : ℕ) (bs : List Block) (tree : Tree) (halves : halved 0 e tree ≡
 
   -- nothing is listed twice
   pub find_distinct : Distinct (find e bs tree t s n)
-  find_distinct = count_distinct (find e bs tree t s n) (λ k. rw (find-count k) (at_most (listed_now (block_at bs k))))
-    where
-      at_most : (u : Bool) → cond u 1 0 ≤ 1
-      at_most true = omega arith
-      at_most false = omega arith
+  find_distinct = count_distinct (find e bs tree t s n) (λ k. rw (find-count k) (counts_one (listed_now (block_at bs k))))
 
   -- The list is as long as there are such blocks.
   pub find-length : length (find e bs tree t s n) ≡ sum_of (map (λ b. cond (live t b && within s n (first_cell b)) 1 0) bs)

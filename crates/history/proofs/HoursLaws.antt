@@ -1,15 +1,16 @@
 -- The laws of Hours: days, open cells, what is refused by 26 and 27. Assumes nothing.
 use mathlib.Core.Path.{◌≡◌, refl, ap, ◌∙◌}
 use mathlib.Core.Logic.{◌⊎◌, inl, inr}
-use mathlib.Core.Bool.{Bool, true, false, ◌&&◌, ◌||◌, not, true≢false}
+use mathlib.Core.Bool.{true, false, ◌&&◌, ◌||◌, not, true≢false}
 use mathlib.Core.Option.{none, some}
 use mathlib.Core.List.{List, [], ◌∷◌}
-use Prim.Native.Nat.{ℕ, zero, suc, ◌+◌, ◌-◌, ◌*◌, ◌%◌, ◌≤◌, ◌<◌, min}
+use Prim.Native.Nat.{ℕ, zero, suc, ◌+◌, ◌*◌, ◌%◌, ◌≤◌, ◌<◌, min}
 use native.Mathlib.Nat.{zero-add}
 use native.Mathlib.Omega.{arith}
-use lib.ListN.{length, get_or, replicate}
+use lib.ListN.{get_or, replicate}
 use lib.Dec.{leb, ltb, eqb}
 use borrow.Author.Tests.{eq-eqb, ne_eqb}
+use Rattle.std.proofs.Math.Bool.{and-false}
 use Rattle.lists.specs.Lists.{All, all_nil, all_cons, pairs_nil, pairs_cons, Ascending, Mem, here, there, count_from}
 use Rattle.lists.specs.Tests.{Decides}
 use Rattle.lists.proofs.Numbers.{bool_cases, eq_or_ne, decided, confirm, refute, decides_iff, decides_and, decides_leb, decides_ltb}
@@ -193,11 +194,7 @@ zeros_pass days c first (suc n) = zeros_pass days c (suc first) n
 pub always_passes : (days : List Day) (c : Calendar) → DaysTaken days → AlwaysOpen c → (first : ℕ) (bytes : List ℕ) → closed_cell days c first bytes ≡ false
 unfolding closed_cell
 always_passes days c t a first [] = refl
-always_passes days c t a first (b ∷ bs) = rw (always_opens days c t a first, and_false (not (eqb b 0))) (always_passes days c t a (suc first) bs)
-  where
-    and_false : (t : Bool) → (t && false) ≡ false
-    and_false true = refl
-    and_false false = refl
+always_passes days c t a first (b ∷ bs) = rw (always_opens days c t a first, and-false (not (eqb b 0))) (always_passes days c t a (suc first) bs)
 
 -- ── calendars that are taken ──
 

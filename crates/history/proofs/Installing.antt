@@ -13,7 +13,7 @@ use Rattle.history.specs.Words.{Operation}
 use Rattle.history.specs.Hours.{Calendar, calendar_of, closed_cell, closed_by}
 use Rattle.history.specs.Ledger.{Opening, Ledger, opened, is_some, record_by, finish_by, install_by, install_days_by}
 use Rattle.history.specs.Results.{Result}
-use Rattle.history.specs.Refusals.{Answer, accepted, refused, Refusal, ◌if◌, first_of, record_refusals, record_answer, finish_refusals, finish_answer, install_refusals, install_answer, days_refusals, days_answer}
+use Rattle.history.specs.Refusals.{Answer, accepted, refused, Refusal, ◌if◌, first_of, record_refusals, record_answer, finish_refusals, days_refusals}
 use Rattle.history.specs.Calls.{Call, record_call, finish_call, calendar_call, days_call, answer_to, accepted_by, leaves, after, answers}
 use Rattle.history.specs.HoursLaw.{OutsideHours, ByThen, NotInstall, LawOfInstalling, LawOfHours}
 use Rattle.history.proofs.HoursLaws.{law_of_plain_days, law_of_opening, closed_decides, law_of_closing}

@@ -3,9 +3,9 @@ use mathlib.Core.Path.{◌≡◌, refl, sym, ◌∙◌, ap}
 use mathlib.Core.Bool.{Bool, cond, true, false}
 use mathlib.Core.Option.{Option, none, some, none-ne-some}
 use mathlib.Core.List.{List, [], ◌∷◌, ◌++◌, Option-to_list, filter_map, nil≢cons, head-eq_of_cons-eq}
-use Prim.Native.Nat.{ℕ, ◌+◌, ◌-◌, ◌≤◌, ◌<◌}
+use Prim.Native.Nat.{ℕ, ◌-◌, ◌≤◌, ◌<◌}
 use lib.ListN.{get_or}
-use Rattle.history.specs.Words.{Holds, live, within, Block, ends, byte_at}
+use Rattle.history.specs.Words.{Holds, within, Block, ends, byte_at}
 use Rattle.history.specs.Reads.{shows, seen}
 use Rattle.lists.specs.Lists.{All, all_nil, all_cons, Mem, here, there}
 use Rattle.lists.proofs.Lists.{mem_right}

@@ -1,7 +1,7 @@
 -- The tests of specs/Rules decide what document 01 says: each turned into a fact, and back. Assumes nothing.
-use mathlib.Core.Path.{◌≡◌, refl, sym, ◌∙◌}
+use mathlib.Core.Path.{◌≡◌, refl, ◌∙◌}
 use mathlib.Core.Logic.{inl, inr}
-use mathlib.Core.Bool.{Bool, true, false, true≢false, false≢true, ◌&&◌, ◌||◌, not}
+use mathlib.Core.Bool.{Bool, true, false, false≢true, ◌&&◌, ◌||◌, not}
 use mathlib.Core.List.{List, [], ◌∷◌, ◌++◌}
 use Prim.Native.Nat.{ℕ, ◌+◌, ◌-◌, ◌^◌, ◌≤◌, ◌<◌, min, max}
 use native.Mathlib.Omega.{arith}
@@ -10,7 +10,7 @@ use lib.Dec.{leb, ltb, eqb}
 use borrow.Author.Tests.{ltb-true, ltb-false, eqb-true, not-true}
 use Rattle.lists.specs.Tests.{Decides}
 use Rattle.lists.specs.Lists.{All, all_nil, all_cons, pairs_nil, pairs_cons, Ascending, count, count_from}
-use Rattle.lists.proofs.Numbers.{bool_cases, and_left, and_right, and_both, or_cases, confirm, decides_iff, decides_leb, decides_ltb, decides_eqb, decides_and, decides_not}
+use Rattle.lists.proofs.Numbers.{bool_cases, and_left, and_right, and_both, or_cases, confirm, decides_iff, decides_leb, decides_ltb, decides_eqb, decides_and, decides_not, decides_itself}
 use Rattle.lists.proofs.Lists.{all_append, all_left, all_right, all_at, all_of_at, count_from_length, count_from_at}
 use Rattle.history.specs.Words.{size, ends, Block, life, Holds, first_cell}
 use Rattle.history.specs.Tree.{Tree, hole, node, mid, halves, covers, block_at, key_in, widths, entries_in}
@@ -233,7 +233,7 @@ rule23_decides end bs tree =
     decides_iff (n && (p && (s && w)))
     (λ z. record { numbers = z.0; places = z.1.0; order = z.1.1.0; sums = z.1.1.1 })
     (λ r. (r.numbers, (r.places, (r.order, r.sums))))
-    (decides_and n (p && (s && w)) (itself n) (decides_and p (s && w) (itself p) (decides_and s w (itself s) (summed_decides end bs tree))))
+    (decides_and n (p && (s && w)) (decides_itself n) (decides_and p (s && w) (decides_itself p) (decides_and s w (decides_itself s) (summed_decides end bs tree))))
   where
     n : Bool
     n = numbered (length bs) tree
@@ -246,9 +246,6 @@ rule23_decides end bs tree =
 
     w : Bool
     w = summed end bs tree
-
-    itself : (t : Bool) → Decides t (t ≡ true)
-    itself t = record { yes = λ e. e; not = λ e h. true≢false (sym h ∙ e) }
 
 -- ── 24 ──
 

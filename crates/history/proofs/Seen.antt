@@ -5,7 +5,7 @@ use mathlib.Core.Bool.{Bool, cond, true, false, ◌&&◌}
 use mathlib.Core.Option
 use mathlib.Core.Option.{Option, none, some, bind}
 use mathlib.Core.List.{List, [], ◌∷◌, ◌++◌, map, filter_map, filter_map-map, filter_map-filter_map, filter_map-append, Option-to_list}
-use Prim.Native.Nat.{ℕ, ◌+◌, ◌-◌, ◌≤◌, ◌<◌}
+use Prim.Native.Nat.{ℕ, ◌-◌, ◌≤◌, ◌<◌}
 use lib.Dec.{leb, ltb}
 use lib.ListN.{get_or}
 use borrow.Author.Tests.{lt-ltb, le-ltb}

@@ -1,13 +1,12 @@
 -- Touching, next and last over any sound closed index: exactly the live blocks asked for, in order of first cell. Assumes nothing.
-use mathlib.Core.Path.{◌≡◌, refl, sym, ◌∙◌}
+use mathlib.Core.Path.{◌≡◌, refl, ◌∙◌}
 use mathlib.Core.Logic.{inl, inr, ◌≢◌}
 use mathlib.Core.Bool.{Bool, true, false, cond, ◌&&◌}
-use mathlib.Core.Option.{Option, none, some}
+use mathlib.Core.Option.{none}
 use mathlib.Core.List.{List, [], ◌∷◌, map, head?}
 use Prim.Native.Nat.{ℕ, ◌+◌, ◌≤◌, ◌<◌, min, max}
 use native.Mathlib.Omega.{arith}
-use lib.ListN.{length, get_or}
-use lib.Dec.{leb, ltb}
+use lib.ListN.{length}
 use borrow.Author.Tests.{lt-ltb, ltb-true, le-leb, leb-true}
 use Rattle.lists.specs.Lists.{All, Mem, here, Ascending, count, sum_of}
 use Rattle.lists.proofs.Numbers.{bool_cases, and_left, and_right, and_both}
@@ -19,7 +18,7 @@ use Rattle.history.specs.Rules.{Apart}
 use Rattle.history.specs.Ledger.{Ledger, finished}
 use Rattle.history.specs.Reads.{block_by, live_by, touches, starts_from, ends_by, last_in}
 use Rattle.history.specs.Sound.{Sound}
-use Rattle.history.specs.Law.{Touching, TouchingLaw, LawOfTouching, LiveFrom, LiveBelow, NeighbourLaw, NeighboursLaw, LawOfNeighbours}
+use Rattle.history.specs.Law.{Touching, LawOfTouching, LiveFrom, LiveBelow, NeighbourLaw, LawOfNeighbours}
 use Rattle.history.proofs.Within.{within_in, within_high, within_true}
 use Rattle.history.proofs.TreeSorted.{Filled}
 use Rattle.history.proofs.TreeOrder.{cells_apart}

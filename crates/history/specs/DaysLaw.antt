@@ -1,10 +1,10 @@
 -- What is proved of days of 23 and 25 hours: of the definitions in Days, of hours and labels that go by them, and of the call that installs a list.
 -- Statements alone: the proofs stand in proofs/.
-use Rattle.std.specs.Prelude.{◌≡◌, true, false, List, [], ◌∷◌, ◌++◌, ℕ, suc, ◌+◌, ◌-◌, ◌*◌, ◌/◌, ◌%◌, ◌^◌, ◌≤◌, ◌<◌}
+use Rattle.std.specs.Prelude.{◌≡◌, false, List, [], ◌++◌, ℕ, suc, ◌+◌, ◌-◌, ◌*◌, ◌/◌, ◌%◌, ◌^◌, ◌≤◌, ◌<◌}
 use Rattle.lists.specs.Lists.{All, Mem}
 use Rattle.lists.specs.Tests.{Decides}
 use Rattle.history.specs.Lent.{Lent, too_short}
-use Rattle.history.specs.Days.{Day, day_minutes, short_day, long_day, days_of, days_taken, DaysTaken, length_of, start_of, minute_of, day_of, minute_in, shown_on, label_minute}
+use Rattle.history.specs.Days.{Day, day_minutes, short_day, long_day, days_of, days_taken, DaysTaken, length_of, start_of, day_of, minute_in, shown_on, label_minute}
 use Rattle.history.specs.Hours.{Calendar, covered, windows_of, open_minute}
 use Rattle.history.specs.Ledger.{Opening, Ledger, opened}
 use Rattle.history.specs.Results.{Result, done}

@@ -1,6 +1,6 @@
 -- Station hours (02, items 5, 6 and 8): a calendar, read from numbers; which cells it opens; which calendars can be installed; which operations it refuses.
 -- Definitions alone: their laws stand in proofs/HoursLaws.antt.
-use Rattle.std.specs.Prelude.{◌≡◌, Bool, true, false, cond, not, ◌&&◌, ◌||◌, List, [], ◌∷◌, map, ℕ, suc, ◌+◌, ◌*◌, ◌/◌, ◌%◌, ◌^◌, ◌≤◌, ◌<◌, min, length, get_or, leb, ltb, eqb}
+use Rattle.std.specs.Prelude.{◌≡◌, Bool, true, false, cond, not, ◌&&◌, ◌||◌, List, [], ◌∷◌, map, ℕ, suc, ◌+◌, ◌*◌, ◌%◌, ◌≤◌, ◌<◌, min, length, get_or, leb, ltb, eqb}
 use Rattle.std.proofs.Math.Option.{Option, none, some}
 use Rattle.lists.specs.Lists.{All, Ascending, count_from}
 use Rattle.history.specs.Rules.{every}

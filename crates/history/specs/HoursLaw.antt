@@ -9,7 +9,7 @@ use Rattle.history.specs.Results.{Result}
 use Rattle.history.specs.Refusals.{Answer, accepted, refused, record_answer}
 use Rattle.history.specs.Calls.{Call, record_call, finish_call, calendar_call, days_call, answer_to, after, answers}
 use Rattle.history.specs.Days.{Day, DaysTaken, day_minutes, minute_of, day_of, label_minute}
-use Rattle.history.specs.Hours.{Window, Hours, Special, Calendar, weekdays, calendar_width, calendar_of, weekday_of, covered, special_of, weekday_windows, open_cell, closed_cell, SomeClosed, calendar_taken, CalendarTaken}
+use Rattle.history.specs.Hours.{Window, Special, Calendar, weekdays, calendar_width, calendar_of, weekday_of, covered, special_of, weekday_windows, open_cell, closed_cell, SomeClosed, calendar_taken, CalendarTaken}
 
 -- ── days, while none is listed ──
 

@@ -1,6 +1,6 @@
 -- What the reads of a closed index give: block by number, find, read cells (01, "segment_tree.rs" and "Added: cells and clock"); touching, next and
 -- last (02, Item 1).
-use Rattle.std.specs.Prelude.{Bool, cond, ◌&&◌, ℕ, suc, ◌-◌, ◌+◌, ◌*◌, ◌/◌, ◌%◌, ◌^◌, min, max, leb, ltb, length, get_or}
+use Rattle.std.specs.Prelude.{Bool, cond, ◌&&◌, ℕ, suc, ◌-◌, ◌+◌, ◌*◌, ◌/◌, ◌%◌, min, max, leb, ltb, length, get_or}
 use Rattle.std.proofs.Math.Option.{Option, none, some}
 use mathlib.Core.List.{List, [], ◌∷◌, map, filter_map, head?}
 use Rattle.lists.specs.Lists.{count_from}

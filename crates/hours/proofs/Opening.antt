@@ -1,23 +1,27 @@
 -- Open cells: one step for each return of the reads. Assumes nothing.
 use mathlib.Core.Path.{◌≡◌, refl, sym, ap, ◌∙◌}
 use mathlib.Core.Logic.{◌⊎◌, inl, inr}
-use mathlib.Core.Bool.{Bool, true, false, ◌&&◌, ◌||◌, not}
+use mathlib.Core.Bool.{true, false, ◌||◌, not}
 use mathlib.Core.Option.{none}
-use mathlib.Core.List.{List, [], ◌∷◌}
+use mathlib.Core.List.{List, [], ◌∷◌, map}
 use Prim.Native.Nat.{ℕ, zero, suc, ◌+◌, ◌-◌, ◌*◌, ◌%◌, ◌^◌, ◌≤◌, ◌<◌, min}
 use native.Mathlib.Omega.{arith}
 use lib.ListN.{length, get_or, drop, drop_of_length-le}
 use lib.Seq.{drop-cons}
 use lib.Dec.{leb, ltb, eqb}
 use borrow.Author.Tests.{lt-ltb, le-leb, eq-eqb, ne_eqb, leb-true, ltb-true}
+use Rattle.std.proofs.Math.Bool.{and-false}
 use Rattle.lists.proofs.Numbers.{bool_cases, and_left, and_right, or_true}
 use Rattle.history.specs.Days.{Day, minute_of}
 use Rattle.history.specs.Hours.{Window, Calendar, window_at, hours_at, special_at, special_place, calendar_of, most_windows, most_special, special_count, covers, covered, special_of, windows_of, open_minute, open_cell, refused_on, closed_cell}
-use Rattle.std.specs.Prelude.{Some, None}
-use Rattle.hours.specs.Reach.{until_of, windows_from, special_from, StandsAt, OpenFor, Passes}
+use Rattle.std.specs.Prelude.{Option, Some, None, MatchOption, IsSomeAnd}
+use Rattle.hours.specs.Reach.{the_window, until_of, special_from, StandsAt, SpecialStands, OpenFor, Passes}
 use Rattle.history.proofs.HoursLaws.{weekday_at_lem}
 use Rattle.days.specs.Stretches.{Stretches}
-use Rattle.hours.proofs.Rows.{rows_more, rows_none, rows_all}
+use Rattle.std.specs.List.{AllWithin, HoldsAt, range_with_len}
+use Rattle.lists.specs.Lists.{count_from}
+use Rattle.hours.specs.declared.Window as code
+use Rattle.hours.proofs.Rows.{rows_more, rows_none, rows_all, rows_range}
 
 -- ── options ──
 
@@ -26,29 +30,47 @@ some_same e = cc
 
 -- ── the window that covers a minute ──
 
-pub record UntilRest (numbers : List ℕ) (at minute count j : ℕ) : Type 0 where
-  pub below : j ≤ count
-  pub rest : until_of minute (hours_at numbers at).windows ≡ until_of minute (windows_from numbers at j (count - j))
+-- so many windows of the hours that stand at a place
+abbrev pub windows_to : (numbers : List ℕ) (at count : ℕ) → List Window
+windows_to numbers at count = map (window_at numbers at) (range_with_len 0 (count - 0))
 
-module _ (numbers : List ℕ) (at minute count : ℕ) where
-  pub until_start : count ≡ min (get_or numbers at 0) most_windows → UntilRest numbers at minute count 0
-  unfolding hours_at
-  until_start m = record { below = omega arith; rest = rw (← m) (ap (until_of minute) (rows_all (window_at numbers at) count)) }
+abbrev pub Spares : (minute : ℕ) → Window → Type 0
+Spares minute w = covers minute w ≡ false
 
-  module _ (j : ℕ) (u : UntilRest numbers at minute count j) where
-    pub until_more : j < count → covers minute (window_at numbers at j) ≡ false → UntilRest numbers at minute count (j + 1)
-    unfolding until_of
-    until_more h n = record { below = omega arith; rest = u.rest ∙ rw (rows_more (window_at numbers at) j count h, n) }
+until_none : (minute : ℕ) (ws : List Window) → AllWithin (Spares minute) ws 0 (length ws) → None ≡ until_of minute ws
+unfolding until_of
+until_none minute [] spared = refl
+until_none minute (w ∷ ws) spared =
+    rw (spared 0 w (omega arith) (omega arith)) (until_none minute ws (λ k d a b. spared (suc k) d (omega arith) (omega arith)))
 
-    pub until_found : j < count → covers minute (window_at numbers at j) ≡ true → Some (window_at numbers at j).to ≡ until_of minute (hours_at numbers at).windows
-    unfolding until_of
-    until_found h n = sym (u.rest ∙ rw (rows_more (window_at numbers at) j count h, n))
+until_first : (minute : ℕ) (ws : List Window) (i : ℕ) (w : Window) → i < length ws → HoldsAt (λ y. y ≡ w) ws i → covers minute w ≡ true → AllWithin (Spares minute) ws 0 i
+    → Some w.to ≡ until_of minute ws
+unfolding until_of
+until_first minute [] i w l here covered spared = absurd (omega arith)
+until_first minute (x ∷ xs) zero w l here covered spared = rw (here w, covered)
+until_first minute (x ∷ xs) (suc i) w l here covered spared =
+    rw (spared 0 x (omega arith) (omega arith))
+    (until_first minute xs i w (omega arith) here covered (λ k d a b. spared (suc k) d (omega arith) (omega arith)))
 
-    pub until_none : count ≤ j → None ≡ until_of minute (hours_at numbers at).windows
-    unfolding until_of
-    until_none h = sym (u.rest ∙ rw (rows_none (window_at numbers at) j count h))
+-- the first that covers the minute was found, and its end told
+pub until_told : (numbers : List ℕ) (at minute count : ℕ) → count ≡ min (get_or numbers at 0) most_windows → (found : Option code.Window) (end : Option ℕ) (Gives : code.Window → ℕ → Type 0)
+    → MatchOption found (AllWithin (Spares minute) (windows_to numbers at count) 0 (length (windows_to numbers at count)))
+    (λ w. (covers minute (the_window w) ≡ true) × (i : ℕ) × (i < length (windows_to numbers at count)) × HoldsAt (λ y. y ≡ the_window w) (windows_to numbers at count) i
+    × AllWithin (Spares minute) (windows_to numbers at count) 0 i)
+    → MatchOption found (end ≡ None) (λ w. IsSomeAnd end (Gives w)) → ((w : code.Window) (y : ℕ) → Gives w y → y ≡ w.to) → end ≡ until_of minute (hours_at numbers at).windows
+unfolding hours_at
+until_told numbers at minute count m found end Gives first told gives = rw (← m) (tells found end first told ∙ ap (λ xs. until_of minute (map (window_at numbers at) xs)) (rows_range 0 (count - 0)) ∙ e)
+  where
+    e : until_of minute (map (window_at numbers at) (count_from 0 (count - 0))) ≡ until_of minute (map (window_at numbers at) (count_from 0 count))
+    e = sym (ap (until_of minute) (rows_all (window_at numbers at) count))
 
-pub ruleset waiting = (until_start, until_more, until_found, until_none)
+    tells : (found : Option code.Window) (end : Option ℕ) → MatchOption found (AllWithin (Spares minute) (windows_to numbers at count) 0 (length (windows_to numbers at count)))
+        (λ w. (covers minute (the_window w) ≡ true) × (i : ℕ) × (i < length (windows_to numbers at count)) × HoldsAt (λ y. y ≡ the_window w) (windows_to numbers at count) i
+        × AllWithin (Spares minute) (windows_to numbers at count) 0 i)
+        → MatchOption found (end ≡ None) (λ w. IsSomeAnd end (Gives w)) → end ≡ until_of minute (windows_to numbers at count)
+    tells None end first told = told ∙ until_none minute (windows_to numbers at count) first
+    tells (Some w) None first told = absurd told
+    tells (Some w) (Some y) first told = ap Some (gives w y told) ∙ until_first minute (windows_to numbers at count) first.1 (the_window w) first.2 first.3 first.0 first.4
 
 -- ── special days ──
 
@@ -84,7 +106,23 @@ module _ (numbers : List ℕ) (day count : ℕ) where
     unfolding special_of
     special_none h = s.rest ∙ rw (rows_none (special_at numbers) k count h)
 
-pub ruleset standing = (special_start, special_more, special_found, special_none)
+-- the special days below i are others
+special_upto : (numbers : List ℕ) (day count : ℕ) → count ≡ min (get_or numbers special_count 0) most_special → (i : ℕ) → i ≤ count
+    → ((k : ℕ) → 0 ≤ k → k < i → (special_at numbers k).day ≡ day → ⊥) → SpecialRest numbers day count i
+special_upto numbers day count m zero l other = special_start numbers day count m
+special_upto numbers day count m (suc i) l other =
+    let e : i + 1 ≡ suc i = omega arith in
+    rw e at (special_more numbers day count i (special_upto numbers day count m i (omega arith) (λ k a b. other k a (omega arith))) (omega arith) (other i (omega arith) (omega arith)))
+
+-- the first that is so was found, and its place told
+pub special_told : (numbers : List ℕ) (day count : ℕ) → count ≡ min (get_or numbers special_count 0) most_special → (found place : Option ℕ) (Gives : ℕ → ℕ → Type 0)
+    → MatchOption found ((k : ℕ) → 0 ≤ k → k < count → (special_at numbers k).day ≡ day → ⊥)
+    (λ i. (0 ≤ i) × (i < count) × ((special_at numbers i).day ≡ day) × ((k : ℕ) → 0 ≤ k → k < i → (special_at numbers k).day ≡ day → ⊥))
+    → MatchOption found (place ≡ None) (λ k. IsSomeAnd place (Gives k)) → ((k y : ℕ) → Gives k y → y ≡ special_place k + 1) → SpecialStands numbers day place
+special_told numbers day count m None place Gives first told gives = rw told (special_none numbers day count count (special_upto numbers day count m count (omega arith) first) (omega arith))
+special_told numbers day count m (Some k) None Gives first told gives = absurd told
+special_told numbers day count m (Some k) (Some y) Gives first told gives =
+    special_found numbers day count k (special_upto numbers day count m k (omega (arith, first.1)) first.3) y first.1 (gives k y told) first.2
 
 -- ── all windows of a day ──
 
@@ -183,17 +221,13 @@ one_more days c first bytes i h e s =
 by_minute : (days : List Day) (c : Calendar) (first i cell k : ℕ) → cell ≡ first % 2 ^ 32 + i % 2 ^ 32 → open_cell days c (cell + k) ≡ open_cell days c (first + i + k)
 by_minute days c first i cell k e = ap (open_minute days c) (omega arith)
 
-and_false : (t : Bool) → (t && false) ≡ false
-and_false true = refl
-and_false false = refl
-
 -- so are k more, all of them open
 more_open : (days : List Day) (c : Calendar) (first : ℕ) (bytes : List ℕ) (i k : ℕ) → i + k ≤ length bytes → OpenFor days c (first + i) k → ClosedRest days c first bytes i → ClosedRest days c first bytes (i + k)
 more_open days c first bytes i zero h o s = let z : i + 0 ≡ i = omega arith in rw z s
 more_open days c first bytes i (suc k) h o s =
     let e : i + suc k ≡ suc (i + k) = omega arith in
     let at : first + (i + k) ≡ first + i + k = omega arith in
-    rw e (one_more days c first bytes (i + k) (omega arith) (rw (at, o.each k (omega arith)) (and_false (not (eqb (get_or bytes (i + k) 0) 0))))
+    rw e (one_more days c first bytes (i + k) (omega arith) (rw (at, o.each k (omega arith)) (and-false (not (eqb (get_or bytes (i + k) 0) 0))))
     (more_open days c first bytes i k (omega arith) (record { each = λ j l. o.each j (omega arith) }) s))
 
 module _ (days : List Day) (c : Calendar) (first : ℕ) (bytes : List ℕ) (i cell byte : ℕ) (s : ClosedRest days c first bytes i) (h : i < length bytes)

@@ -28,6 +28,11 @@ rows_all f n =
     let e : n - 0 ≡ n = omega arith in
     rw e
 
+pub rows_range : (k n : ℕ) → range_with_len k n ≡ count_from k n
+unfolding count_from
+rows_range k zero = refl
+rows_range k (suc n) = rw (add-one, rows_range (suc k) n)
+
 -- ── a test of all ──
 
 pub every_rows : {A : Type 0} (t : A → Bool) (f : ℕ → A) (k n : ℕ) → every t (map f (count_from k n)) ≡ list_all (λ j. t (f j)) (range_with_len k n)

@@ -1,6 +1,6 @@
 -- Calendars that are taken: the hours of a day, days that ascend, and the calendar. Assumes nothing.
 use mathlib.Core.Path.{◌≡◌, refl}
-use mathlib.Core.Bool.{Bool, true, false, ◌&&◌}
+use mathlib.Core.Bool.{false, ◌&&◌}
 use mathlib.Core.List.{List, map}
 use Prim.Native.Nat.{ℕ, zero, suc, ◌-◌, ◌≤◌, ◌<◌, min}
 use native.Mathlib.Numerals.{add-one}
@@ -9,6 +9,7 @@ use lib.ListN.{get_or}
 use lib.Dec.{ltb}
 use borrow.Author.Tests.{le-leb, lt-leb}
 use Rattle.std.specs.List.{list_all, range_with_len}
+use Rattle.std.proofs.Math.Bool.{and-false}
 use Rattle.lists.specs.Lists.{count_from}
 use Rattle.history.specs.Rules.{every}
 use Rattle.history.specs.Hours.{window_at, hours_at, weekday_at, special_at, calendar_of, most_windows, most_special, special_count, window_taken, hours_taken, special_taken, rises, days_ascend, calendar_taken}
@@ -52,17 +53,13 @@ module _ (numbers : List ℕ) where
 
 -- ── calendars ──
 
-and_false : (a : Bool) → (a && false) ≡ false
-and_false true = refl
-and_false false = refl
-
 module _ (numbers : List ℕ) where
   abbrev stated : ℕ
   stated = get_or numbers special_count 0
 
   pub calendar_many : most_special < stated → calendar_taken (calendar_of numbers) ≡ false
   unfolding calendar_taken calendar_of
-  calendar_many h = rw (lt-leb stated most_special h) (and_false (every hours_taken (calendar_of numbers).week))
+  calendar_many h = rw (lt-leb stated most_special h) (and-false (every hours_taken (calendar_of numbers).week))
 
   -- few enough: the week, the special days, and their order decide
   pub calendar_few : stated ≤ most_special

@@ -8,7 +8,7 @@
 
 #![tactic(auto)]
 
-ghost use Rattle.std.specs.Prelude.{◌≡◌, ◌+◌, ◌-◌, ◌≤◌, ◌<◌, ltb};
+ghost use Rattle.std.specs.Prelude.{◌≡◌, ◌+◌, ◌-◌, ◌≤◌, ◌<◌, ltb, get_or};
 ghost use Rattle.std.specs.List.{list_all, range_with_len};
 ghost use Rattle.history.specs.Days.{days_of};
 ghost use Rattle.history.specs.Hours.{calendar_of, hours_at, window_at, weekday_at, special_at, special_place, calendar_width, most_windows, most_special, covers, windows_of, closed_cell, window_taken, hours_taken, special_taken, calendar_taken};
@@ -40,18 +40,6 @@ struct Window {
 impl Window {
     ghost use Rattle.hours.specs.Reach.{the_window};
 
-    // Window `j` of the hours that stand at `at`.
-    fn at(calendar: &[u64], at: usize, j: usize) -> Window
-        requires at { at ≤ calendar_width }
-        requires j { j < most_windows }
-        ensures { the_window result ≡ window_at calendar.now at j }
-    {
-        Window {
-            from: days::number(calendar, at + 1 + 2 * j),
-            to: days::number(calendar, at + 2 + 2 * j),
-        }
-    }
-
     fn covers(self, minute: u64) -> bool
         ensures { result ≡ covers minute (the_window self) }
     {
@@ -66,20 +54,70 @@ impl Window {
     }
 }
 
-// The end of the first window that covers the minute of the day, of the hours that stand at `at`, if one does.
-#[tactic(auto, using(crate::proofs::Opening::waiting))]
-fn until(calendar: &[u64], at: usize, minute: u64) -> Option<u64>
-    requires { at ≤ calendar_width }
-    ensures { result ≡ until_of minute (hours_at calendar.now at).windows }
-{
-    let count = days::number(calendar, at).min(WINDOWS) as usize;
-    for j in 0..count {
-        let window = Window::at(calendar, at, j);
-        if window.covers(minute) {
-            return Some(window.to);
+// The hours of a day: where they stand in a calendar.
+#[derive(Clone, Copy)]
+struct Hours<'a> {
+    calendar: &'a [u64],
+    at: usize,
+    ghost inside: { at ≤ calendar_width },
+}
+
+impl Hours<'_> {
+    ghost use Rattle.hours.specs.Reach.{the_window};
+
+    // A call, as a closure cannot say by itself that the hours of the `k` that it is handed stand inside.
+    fn new(calendar: &[u64], at: usize) -> Hours<'_>
+        requires { at ≤ calendar_width }
+        ensures calendar { result.calendar.now ≡ calendar.now }
+        ensures at { result.at ≡ at }
+    {
+        Hours { calendar, at }
+    }
+
+    // How many windows they say that they have.
+    fn stated(&self) -> u64
+        ensures { result ≡ get_or self.now.calendar.now self.now.at 0 }
+    {
+        days::number(self.calendar, self.at)
+    }
+
+    fn window(&self, j: usize) -> Window
+        requires { j < most_windows }
+        ensures { the_window result ≡ window_at self.now.calendar.now self.now.at j }
+    {
+        Window {
+            from: days::number(self.calendar, self.at + 1 + 2 * j),
+            to: days::number(self.calendar, self.at + 2 + 2 * j),
         }
     }
-    None
+
+    // The end of the first window that covers the minute of the day, if one does.
+    fn until(&self, minute: u64) -> Option<u64>
+        ensures { result ≡ until_of minute (hours_at self.now.calendar.now self.now.at).windows }
+    {
+        let count = self.stated().min(WINDOWS) as usize;
+        (0..count)
+            .map(|j| self.window(j))
+            .find(|window| window.covers(minute))
+            .map(|window| window.to)
+    }
+
+    // Whether the first `count` windows can be installed.
+    fn takes_windows(&self, count: usize) -> bool
+        requires { count ≤ most_windows }
+        ensures { result ≡ list_all (λ j. window_taken (window_at self.now.calendar.now self.now.at j)) (range_with_len 0 count) }
+    {
+        (0..count).all(|j| self.window(j).taken())
+    }
+
+    // Whether they can be installed.
+    #[tactic(auto, using(crate::proofs::Taking::hours_many, crate::proofs::Taking::hours_few))]
+    fn taken(&self) -> bool
+        ensures { result ≡ hours_taken (hours_at self.now.calendar.now self.now.at) }
+    {
+        let stated = self.stated();
+        stated <= WINDOWS && self.takes_windows(stated as usize)
+    }
 }
 
 // The number of special day `k`.
@@ -99,17 +137,14 @@ fn special_place(k: usize) -> usize
 }
 
 // Where the hours of the special day of this number stand, if there is such a day. At most 64 days are looked at.
-#[tactic(auto, using(crate::proofs::Opening::standing))]
+// One by one and not by halves: on a slice that install does not take they need not ascend.
 fn special_hours(calendar: &[u64], day: u64) -> Option<usize>
     ensures { SpecialStands calendar.now day result }
 {
     let count = days::number(calendar, SPECIAL_COUNT).min(SPECIAL) as usize;
-    for k in 0..count {
-        if special_day(calendar, k) == day {
-            return Some(special_place(k));
-        }
-    }
-    None
+    (0..count)
+        .find(|&k| special_day(calendar, k) == day)
+        .map(|k| special_place(k))
 }
 
 // The end of the first window that covers the minute of the day, of all that count on a day, if one does.
@@ -118,7 +153,7 @@ fn until_on(calendar: &[u64], day: u64, minute: u64) -> Option<u64>
     ensures { result ≡ until_of minute (windows_of (calendar_of calendar.now) day) }
 {
     let at = special_hours(calendar, day).unwrap_or(HOURS_WIDTH * (day % WEEKDAYS) as usize);
-    until(calendar, at, minute)
+    Hours::new(calendar, at).until(minute)
 }
 
 // How many cells from this one on a window keeps open, up to the end of its day or platform, or to where the label jumps; none where the cell is closed.
@@ -148,6 +183,7 @@ fn passing(calendar: &[u64], days: &[u64], cell: u64, byte: u8) -> Option<u64>
 
 // Whether some byte that is not 0 falls on a closed cell, where byte i is that of cell first + i. Day and label go by the list of days. The calendar is
 // looked up once for each window of a day, and the bytes in it are not read.
+// No `for` goes over the bytes: a turn takes as many as a window reaches.
 #[tactic(auto, using(crate::proofs::Opening::closed_start, crate::proofs::Opening::closed_none))]
 pub fn closed_cell(calendar: &[u64], days: &[u64], first: u64, bytes: &[u8]) -> bool
     ensures { result ≡ closed_cell (days_of days.now) (calendar_of calendar.now) first bytes.now }
@@ -163,30 +199,11 @@ pub fn closed_cell(calendar: &[u64], days: &[u64], first: u64, bytes: &[u8]) -> 
     false
 }
 
-// Whether the first `count` windows of the hours that stand at `at` can be installed.
-fn takes_windows(calendar: &[u64], at: usize, count: usize) -> bool
-    requires at { at ≤ calendar_width }
-    requires count { count ≤ most_windows }
-    ensures { result ≡ list_all (λ j. window_taken (window_at calendar.now at j)) (range_with_len 0 count) }
-{
-    (0..count).all(|j| Window::at(calendar, at, j).taken())
-}
-
-// Whether the hours that stand at `at` can be installed.
-#[tactic(auto, using(crate::proofs::Taking::hours_many, crate::proofs::Taking::hours_few))]
-fn takes_hours(calendar: &[u64], at: usize) -> bool
-    requires { at ≤ calendar_width }
-    ensures { result ≡ hours_taken (hours_at calendar.now at) }
-{
-    let stated = days::number(calendar, at);
-    stated <= WINDOWS && takes_windows(calendar, at, stated as usize)
-}
-
 // Whether the hours of all weekdays can be installed.
 fn takes_week(calendar: &[u64]) -> bool
     ensures { result ≡ list_all (λ k. hours_taken (weekday_at calendar.now k)) (range_with_len 0 7) }
 {
-    (0..WEEKDAYS as usize).all(|k| takes_hours(calendar, HOURS_WIDTH * k))
+    (0..WEEKDAYS as usize).all(|k| Hours::new(calendar, HOURS_WIDTH * k).taken())
 }
 
 // Whether the hours of `count` special days can be installed.
@@ -194,7 +211,7 @@ fn takes_special(calendar: &[u64], count: usize) -> bool
     requires { count ≤ most_special }
     ensures { result ≡ list_all (λ k. special_taken (special_at calendar.now k)) (range_with_len 0 count) }
 {
-    (0..count).all(|k| takes_hours(calendar, special_place(k)))
+    (0..count).all(|k| Hours::new(calendar, special_place(k)).taken())
 }
 
 // Whether `count` special days ascend.

@@ -21,7 +21,7 @@ use Rattle.index_read.specs.declared.Block.{Block}
 use Rattle.index_test.specs.Board.{Outcome}
 use Rattle.index_test.specs.declared.State.{State}
 use Rattle.index_test.specs.States.{when_closed}
-use Rattle.index_test.proofs.Told.{Refuses, read_not_closed, read_if_closed}
+use Rattle.index_test.proofs.Told.{Refuses, closed_taken, read_not_closed, closed_read}
 use Rattle.index.specs.Answers.{bytes_of, BytesGivenBy}
 
 -- ── block by number ──
@@ -36,7 +36,7 @@ module _ {pieces blocks store nodes entries : List ℕ} {k : ℕ} (r : State) {s
       record { read = read_not_closed (λ n. BlockHanded (tables pieces blocks store nodes entries) k (refused n)) r told (sym is ∙ q) (block_4 k) (λ n. block_refused) }
 
   pub block_given : {u : Unit} {a : Answer Fields} → s ≡ Ok u → BlockClosed blocks k a → BlockGivenBy (tables pieces blocks store nodes entries) k a
-  block_given q b = record { read = read_if_closed r told (sym is ∙ q) (b.given pieces store nodes entries) }
+  block_given q b = record { read = closed_read (closed_taken r told (sym is ∙ q)) (b.given pieces store nodes entries) }
 
 -- ── find ──
 
@@ -51,7 +51,7 @@ module _ {pieces blocks store nodes entries : List ℕ} {tick start stop : ℕ} 
 
   pub find_found : {u : Unit} {out' : List ℕ} {a : Answer Counts} → s ≡ Ok u → FindClosed blocks nodes entries tick start stop out out' a
       → FoundBy (tables pieces blocks store nodes entries) tick start stop out out' a
-  find_found q f = record { read = read_if_closed r told (sym is ∙ q) (f.found pieces store) }
+  find_found q f = record { read = closed_read (closed_taken r told (sym is ∙ q)) (f.found pieces store) }
 
 -- ── the bytes of a block ──
 

@@ -26,13 +26,15 @@ module _ (end kind : ℕ) (t : Tables) where
   unfolding open_refusals first_of left_by
   open_kind n h k = record { answered = simp (ne_eqb end 0 n, le-ltb max_end_tick end h, lt-ltb 4 kind k); left = refl }
 
-  pub open_done : {p b n e : List ℕ} → (end ≡ 0 → ⊥) → end ≤ max_end_tick → kind ≤ 4 → p ≡ replicate (length t.pieces) 0
-      → b ≡ set (set (set (replicate (length t.blocks) 0) (head_place head_state) open_state) (head_place head_end) end) (head_place head_kind) kind → n ≡ replicate (length t.nodes) 0 → e ≡ replicate (length t.entries) 0
+  pub open_done : {p b n e : List ℕ} {code : ℕ} → code ≡ kind → (end ≡ 0 → ⊥) → end ≤ max_end_tick → kind ≤ 4 → p ≡ replicate (length t.pieces) 0
+      → b ≡ set (set (set (replicate (length t.blocks) 0) (head_place head_state) open_state) (head_place head_end) end) (head_place head_kind) code → n ≡ replicate (length t.nodes) 0 → e ≡ replicate (length t.entries) 0
       → OpenedBy end kind t (tables p b t.store n e) (accepted tt)
   unfolding left_by opened_tables
-  open_done {p} {b} {n} {e} some most known ep eb en ee = record {
-    answered = sym (open_accepted (opening_of end kind t) (omega arith) most known);
-    left = λ i. tables (ep i) (eb i) t.store (en i) (ee i);
-  }
+  open_done {p} {b} {n} {e} same some most known ep eb en ee =
+      let told = rw same at eb in
+      record {
+        answered = sym (open_accepted (opening_of end kind t) (omega arith) most known);
+        left = λ i. tables (ep i) (told i) t.store (en i) (ee i);
+      }
 
 pub ruleset opening = (open_zero, open_above, open_kind, arith)

@@ -11,16 +11,20 @@
 ghost use Rattle.std.specs.Prelude.{◌≡◌, length};
 ghost use Rattle.history.specs.Results.{done};
 ghost use Rattle.refusals.specs.Numbers.{answer_by};
-ghost use Rattle.index_record.specs.Calls.{operation, recorded};
-ghost use Rattle.layout.specs.Tables.{tables};
+ghost use Rattle.index_record.specs.Calls.{lent_operation, recorded};
+ghost use Rattle.layout.specs.Tables.{tables, held};
 ghost use Rattle.layout.specs.Relations.{OpenedBy, RecordedBy, FinishedBy, FoundBy, BlockGivenBy};
 ghost use Rattle.index_read.specs.Answers.{counts_given, fields_given};
 ghost use Rattle.index.specs.Answers.{BytesGivenBy};
 
 pub use index_read::{Block, Found};
+pub use index_record::Operation;
 use index_test::State;
+use layout::Tables;
 use refusals::Refusal;
+use segment_table::lent::Closed;
 use tables::block;
+use tables::kind::Kind;
 
 // The type that the calls on an index belong to. It holds nothing: the state stands in the lent tables.
 #[derive(Clone, Copy)]
@@ -31,6 +35,7 @@ impl Index {
     pub const MAX_END_TICK: u64 = tables::block::MAX_END_TICK;
 
     // Opens an index of a kind with an end tick in the lent tables.
+    // They stand one by one, as in all calls that change them: of a struct of `&mut` slices each contract would have to say that every one stays lent.
     pub fn open(
         pieces: &mut [u64],
         blocks: &mut [u64],
@@ -50,16 +55,16 @@ impl Index {
         if Self::MAX_END_TICK < end_tick {
             return Err(Refusal::BadOpening);
         }
-        if 4 < kind {
+        let Ok(kind) = Kind::try_from(kind) else {
             return Err(Refusal::BadOpening);
-        }
+        };
         tables::zero(pieces);
         tables::zero(blocks);
         tables::zero(nodes);
         tables::zero(entries);
         block_table::set_state(blocks, block::OPEN);
         block_table::set_end(blocks, end_tick);
-        block_table::set_kind(blocks, kind as u64);
+        block_table::set_kind(blocks, u64::from(kind));
         Ok(())
     }
 }
@@ -76,20 +81,25 @@ pub fn record_op(
     nodes: &[u64],
     entries: &[u64],
     scratch: &[u64],
-    tick: u64,
-    first: u64,
-    bytes: &[u8],
+    op: Operation,
 ) -> Result<Option<u64>, Refusal>
-    ensures { RecordedBy (length scratch.now) (operation tick first bytes.now)
+    ensures { RecordedBy (length scratch.now) (lent_operation op.entry)
         (tables pieces.old blocks.old store.old nodes.now entries.now)
         (tables pieces.new blocks.new store.new nodes.now entries.now) (answer_by recorded result) }
 {
     if scratch.len() < LEAST_SCRATCH {
         return Err(Refusal::Malformed);
     }
-    let state = index_test::test(pieces, blocks, store, nodes, entries);
+    let lent = Tables {
+        pieces,
+        blocks,
+        store,
+        nodes,
+        entries,
+    };
+    let state = index_test::test(lent);
     state.open()?;
-    index_record::record_open(pieces, blocks, store, tick, first, bytes)
+    index_record::record_open(pieces, blocks, store, op)
 }
 
 // Finishes an index: the pieces become blocks, and the blocks get their tree.
@@ -103,45 +113,48 @@ pub fn finalize(
     ensures { FinishedBy (tables pieces.old blocks.old store.now nodes.old entries.old)
         (tables pieces.new blocks.new store.now nodes.new entries.new) (answer_by (λ _. done) result) }
 {
-    index_test::test(pieces, blocks, store, nodes, entries).open()?;
+    let lent = Tables {
+        pieces,
+        blocks,
+        store,
+        nodes,
+        entries,
+    };
+    index_test::test(lent).open()?;
     index_finish::finish_open(pieces, blocks, nodes, entries)
 }
 
 // The block of a number.
-pub fn block(
-    pieces: &[u64],
-    blocks: &[u64],
-    store: &[u8],
-    nodes: &[u64],
-    entries: &[u64],
-    number: u64,
-) -> Result<Block, Refusal>
-    ensures { BlockGivenBy (tables pieces.now blocks.now store.now nodes.now entries.now) number (answer_by fields_given result) }
+pub fn block(lent: Tables, number: u64) -> Result<Block, Refusal>
+    ensures { BlockGivenBy (held lent.entry) number (answer_by fields_given result) }
 {
-    index_test::test(pieces, blocks, store, nodes, entries).closed()?;
-    index_read::block_closed(blocks, number)
+    index_test::test(lent).closed()?;
+    index_read::block_closed(lent.blocks, number)
 }
 
-// The live blocks whose first cell is in [start, end) at a tick: their numbers go into the lent answer.
+// The live blocks whose first cell is in [start, end) at a tick: their numbers go into the lent answer. The window is three numbers here and in the other
+// reads, as callers pass them.
 pub fn find(
-    pieces: &[u64],
-    blocks: &[u64],
-    store: &[u8],
-    nodes: &[u64],
-    entries: &[u64],
+    lent: Tables,
     tick: u64,
     start: u64,
     end: u64,
     answer: &mut [u64],
 ) -> Result<Found, Refusal>
-    ensures { FoundBy (tables pieces.now blocks.now store.now nodes.now entries.now) tick start end
+    ensures { FoundBy (held lent.entry) tick start end
         answer.old answer.new (answer_by counts_given result) }
 {
-    index_test::test(pieces, blocks, store, nodes, entries).closed()?;
-    index_read::find_closed(blocks, nodes, entries, tick, start, end, answer)
+    index_test::test(lent).closed()?;
+    let closed = Closed {
+        blocks: lent.blocks,
+        nodes: lent.nodes,
+        entries: lent.entries,
+    };
+    index_read::find_closed(&closed, tick, start, end, answer)
 }
 
-// The bytes of the block of a number, as that part of the store; the empty part where `block` refuses.
+// The bytes of the block of a number, as that part of the store; the empty part where `block` refuses. The tables stand one by one, as the store alone is
+// lent for as long as the bytes.
 pub fn block_bytes<'a>(
     pieces: &[u64],
     blocks: &[u64],
@@ -152,7 +165,14 @@ pub fn block_bytes<'a>(
 ) -> &'a [u8]
     ensures { BytesGivenBy (tables pieces.now blocks.now store.now nodes.now entries.now) number result.now }
 {
-    match block(pieces, blocks, store, nodes, entries, number) {
+    let lent = Tables {
+        pieces,
+        blocks,
+        store,
+        nodes,
+        entries,
+    };
+    match block(lent, number) {
         Ok(given) => tables::part(store, given.offset, given.length),
         Err(_) => tables::part(store, 0, 0),
     }

@@ -6,6 +6,7 @@ use Prim.Native.Nat.{ℕ, suc, ◌+◌, ◌-◌, ◌*◌, ◌≤◌, ◌<◌, �
 use native.Mathlib.Omega.{arith}
 use lib.ListN.{length, get_or, set, take, replicate, length-set, length-replicate}
 use lib.Seq.{get_or-set_same, get_or-set_other}
+use Rattle.layout.proofs.ExistsPieces.{no_piece}
 use Rattle.lists.specs.Lists.{All, all_nil}
 use Rattle.lists.proofs.Lists.{all_at, all_of_map}
 use Rattle.lists.proofs.Maps.{length_of_map, get_d_of_map}
@@ -53,9 +54,6 @@ state_place = row_width * 0 + (block_base + head_state)
 -- the table with the blocks of the pieces rs, destroyed at e, and the state set
 abbrev grown : (e : ℕ) (rs : List PieceRow) (b : List ℕ) → List ℕ
 grown e rs b = set (recorded e rs b) state_place closed_state
-
-no_piece : PieceRow
-no_piece = record { first = 0; size = 0; written = 0; offset = 0; owner = 0 }
 
 module _ (e : ℕ) (rs : List PieceRow) (b : List ℕ) where
   grown-length : length (grown e rs b) ≡ length b

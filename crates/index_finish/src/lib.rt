@@ -27,6 +27,7 @@ ghost use Rattle.index_finish.specs.Finish.{TestedBlank, Prepared, SettledTables
 ghost use Rattle.index_finish.specs.Answers.{FinishesOpen};
 
 use refusals::Refusal;
+use segment_tree::build::Rows;
 use segment_tree::{build, close};
 use tables::{block, piece};
 
@@ -83,7 +84,15 @@ fn prepare(
     }
     let m = tables::get(pieces, 0, piece::COUNT);
     let Head { kind, end, count } = head;
-    build::count_tree(nodes, entries, blocks, count, pieces, m, end, kind)
+    let rows = Rows {
+        blocks,
+        n: count,
+        pieces,
+        m,
+        end,
+        kind,
+    };
+    build::count_tree(nodes, entries, &rows)
 }
 
 // Turns the pieces into blocks, and closes the tree that is counted already.
@@ -103,6 +112,7 @@ fn settle(pieces: &mut [u64], blocks: &mut [u64], nodes: &mut [u64], entries: &m
 
 // Finishes an index whose tables stand for an open ledger; or tells the refusal, and leaves everything as it was. To be called only after the test of
 // the tables: their counts are the numbers of steps.
+// The tables stand one by one: of a struct of `&mut` slices each contract would have to say that every one stays lent.
 pub fn finish_open(
     pieces: &mut [u64],
     blocks: &mut [u64],

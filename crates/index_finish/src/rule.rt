@@ -1,36 +1,29 @@
 // Rule 24 for finish: no two blocks share a cell at a tick, each piece counted as live up to the end.
-ghost use Rattle.std.specs.Prelude.{◌≡◌};
-ghost use Rattle.tables.specs.Columns.{column, piece_first, piece_length};
-ghost use Rattle.tables.specs.Sums.{plus_up_to};
 ghost use Rattle.index_finish.specs.Apart.{PiecesClear, BlockClear, BlocksClear};
 ghost use Rattle.index_finish.specs.Finish.{AllApart};
 
 use crate::Head;
-use tables::piece;
-
-// The cell behind the piece of `link`, or the largest number where that is passed.
-fn end_of(pieces: &[u64], link: u64) -> u64
-    ensures { result ≡ plus_up_to (column pieces.now link piece_first) (column pieces.now link piece_length) }
-{
-    tables::get(pieces, link, piece::FIRST).saturating_add(tables::get(pieces, link, piece::LENGTH))
-}
 
 // Whether no piece that ends after `first` and starts before `end` was written before the tick `destroyed`. A seek for the first of them, and one
 // for each that follows.
+// No `for` goes over them: the next place is where a piece ends.
 #[tactic(auto, using(crate::proofs::Clearing::seeking))]
 fn pieces_clear(pieces: &[u64], first: u64, end: u64, destroyed: u64) -> bool
     ensures { PiecesClear pieces.now first end destroyed result }
 {
     let mut place = first;
     while place < u64::MAX {
-        let link = piece_table::seek(pieces, place);
-        if link == 0 || !merge_set::starts_below(pieces, link, end) {
+        let Some(link) = piece_table::seek(pieces, place) else {
+            return true;
+        };
+        if !merge_set::starts_below(pieces, link, end) {
             return true;
         }
-        if tables::get(pieces, link, piece::WRITTEN) < destroyed {
+        let piece = piece_table::read(pieces, link);
+        if piece.written < destroyed {
             return false;
         }
-        let next = end_of(pieces, link);
+        let next = piece.end();
         // a piece that is sought ends after the place
         if next <= place {
             return true;
@@ -46,8 +39,7 @@ fn block_clear(pieces: &[u64], blocks: &[u64], link: u64) -> bool
     ensures { BlockClear pieces.now blocks.now link result }
 {
     let row = block_table::read(blocks, link);
-    let end = row.first.saturating_add(row.length);
-    row.destroyed <= row.created || pieces_clear(pieces, row.first, end, row.destroyed)
+    !row.lives() || pieces_clear(pieces, row.first, row.end(), row.destroyed)
 }
 
 // Whether none of the blocks 1 to `n` shares a cell at a tick with a piece.
@@ -76,11 +68,7 @@ pub fn all_apart(
     ensures { AllApart pieces.now blocks.old nodes.old entries.old head.kind head.end head.count
         blocks.new nodes.new entries.new result }
 {
-    if handed_rows::handed_on(pieces, blocks, head.count) {
-        return true;
-    }
-    if !crate::trial::blocks_apart(blocks, nodes, entries, head) {
-        return false;
-    }
-    blocks_clear(pieces, blocks, head.count)
+    handed_rows::handed_on(pieces, blocks, head.count)
+        || crate::trial::blocks_apart(blocks, nodes, entries, head)
+            && blocks_clear(pieces, blocks, head.count)
 }

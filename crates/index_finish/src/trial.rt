@@ -4,16 +4,17 @@ ghost use Rattle.segment_test.specs.Test.{lent};
 ghost use Rattle.index_finish.specs.Trial.{StandsApart, OrderApart, BlocksApart};
 
 use crate::Head;
+use segment_table::lent::{Claim, Closed};
+use segment_tree::build::Rows;
 use segment_tree::{build, close};
 
 // Whether a tree of the blocks stands in the tables and shows that no two of them share a cell at a tick.
 #[tactic(auto, using(crate::proofs::Trying::asking))]
-fn tree_apart(blocks: &[u64], nodes: &[u64], entries: &[u64], head: Head) -> bool
-    ensures { StandsApart (lent blocks.now nodes.now entries.now) head.kind head.end head.count result }
+fn tree_apart(claim: &Claim<'_>) -> bool
+    ensures { StandsApart (lent claim.now.tables.blocks.now claim.now.tables.nodes.now claim.now.tables.entries.now)
+        claim.now.kind claim.now.end claim.now.n result }
 {
-    let Head { kind, end, count } = head;
-    segment_test::test_tree(blocks, nodes, entries, kind, end, count)
-        && segment_apart::birth::all_clear(blocks, nodes, entries, kind, end, count)
+    segment_test::test_tree(claim) && segment_apart::birth::all_clear(claim)
 }
 
 // Whether no two of the n blocks share a cell at a tick, along their order by first cell, which is taken away again.
@@ -36,11 +37,28 @@ pub fn blocks_apart(blocks: &mut [u64], nodes: &mut [u64], entries: &mut [u64], 
 {
     let Head { kind, end, count } = head;
     let none = [0; 8];
-    if build::count_tree(nodes, entries, blocks, count, &none, 0, end, kind).is_err() {
+    let rows = Rows {
+        blocks,
+        n: count,
+        pieces: &none,
+        m: 0,
+        end,
+        kind,
+    };
+    if build::count_tree(nodes, entries, &rows).is_err() {
         return order_apart(blocks, count);
     }
     close::close_tree(nodes, entries, blocks, count, end, kind);
-    let apart = tree_apart(blocks, nodes, entries, head);
+    let apart = tree_apart(&Claim {
+        tables: Closed {
+            blocks,
+            nodes,
+            entries,
+        },
+        kind,
+        end,
+        n: count,
+    });
     tables::zero(nodes);
     tables::zero(entries);
     apart

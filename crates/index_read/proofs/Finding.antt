@@ -14,6 +14,7 @@ use Rattle.history.specs.Reads.{Found, find_by}
 use Rattle.history.specs.Refusals.{Answer, accepted, refused}
 use Rattle.history.specs.Sound.{Sound}
 use Rattle.tables.specs.Columns.{block_column, head_end, head_kind}
+use Rattle.segment_table.specs.Closed.{TreeOf}
 use Rattle.segment_find.specs.Listing.{Fills, Finds}
 use Rattle.segment_find.proofs.Agreeing.{find_model}
 use Rattle.segment_find.specs.declared.Found as listing
@@ -60,22 +61,27 @@ fills_handed f out out' r x = go (le_or_lt (length f.numbers) (length out))
 
 -- ── the returns ──
 
-module _ {blocks nodes entries : List ℕ} {tick start stop last : ℕ} (e : last ≡ block_column blocks 0 head_end) where
+-- in the tree that the head says
+finds_in : {blocks nodes entries ns es : List ℕ} {kind last tick start stop : ℕ} {out out' : List ℕ} {r : Option listing.Found} → TreeOf blocks nodes entries ns es kind last
+    → Finds ns es kind last tick start stop out out' r
+    → Finds nodes entries (block_column blocks 0 head_kind) (block_column blocks 0 head_end) tick start stop out out' r
+finds_in t f = rw (← t.in_nodes, ← t.in_entries, ← t.own_kind, ← t.end) f
+
+module _ {blocks nodes entries ns es : List ℕ} {tick start stop kind last : ℕ} (t : TreeOf blocks nodes entries ns es kind last) where
   pub find_14 : {out : List ℕ} → last ≤ tick → FindClosed blocks nodes entries tick start stop out out (refused 14)
-  find_14 h = record { found = λ pieces store. closed_refuses (λ l enc done. window_14 enc done _ _ tick start stop (omega arith)) into_refused }
+  find_14 h = record { found = λ pieces store. closed_refuses (λ l enc done. window_14 enc done _ _ tick start stop (omega (arith, t.end))) into_refused }
 
   pub find_15 : {out : List ℕ} → tick < last → stop < start → FindClosed blocks nodes entries tick start stop out out (refused 15)
-  find_15 h b = record { found = λ pieces store. closed_refuses (λ l enc done. window_15 enc done _ _ tick start stop (omega arith) b) into_refused }
+  find_15 h b = record { found = λ pieces store. closed_refuses (λ l enc done. window_15 enc done _ _ tick start stop (omega (arith, t.end)) b) into_refused }
 
-  module _ {kind : ℕ} {out out' : List ℕ} {r : Option listing.Found} (k : kind ≡ block_column blocks 0 head_kind) (h : tick < last) (b : start ≤ stop)
-      (f : Finds nodes entries kind last tick start stop out out' r) where
+  module _ {out out' : List ℕ} {r : Option listing.Found} (h : tick < last) (b : start ≤ stop)
+      (f : Finds ns es kind last tick start stop out out' r) where
     find_any : FindClosed blocks nodes entries tick start stop out out' (answer_of r)
     find_any = record {
       found = λ pieces store. record {
         closed = λ l enc s done.
-            let t = tables pieces blocks store nodes entries in
-            let handed = fills_handed (find_by l tick start stop) out out' r (fills_found t l enc s done tick start stop (rw (k, e) at f)) in
-            rw (window_rest enc done (find_by l tick start stop) (ltb (length out) (length (find_by l tick start stop).numbers)) tick start stop (omega arith) b) handed;
+            let handed = fills_handed (find_by l tick start stop) out out' r (fills_found (tables pieces blocks store nodes entries) l enc s done tick start stop (finds_in t f)) in
+            rw (window_rest enc done (find_by l tick start stop) (ltb (length out) (length (find_by l tick start stop).numbers)) tick start stop (omega (arith, t.end)) b) handed;
       };
     }
 

@@ -12,6 +12,8 @@ ghost use Rattle.index_read.specs.Answers.{counts_given, fields_given};
 ghost use Rattle.index_read.specs.Reads.{BlockClosed, FindClosed};
 
 use refusals::Refusal;
+use segment_table::lent::Closed;
+use segment_walk::walk::Query;
 use tables::block;
 
 // What find gives: how many block numbers it lists, and how many nodes it visited.
@@ -52,26 +54,28 @@ pub fn block_closed(blocks: &[u64], number: u64) -> Result<Block, Refusal>
 
 // The live blocks whose first cell is in [start, end): 14, 15 and 16 in their order.
 pub fn find_closed(
-    blocks: &[u64],
-    nodes: &[u64],
-    entries: &[u64],
+    closed: &Closed,
     tick: u64,
     start: u64,
     end: u64,
     answer: &mut [u64],
 ) -> Result<Found, Refusal>
-    ensures { FindClosed blocks.now nodes.now entries.now tick start end answer.old answer.new (answer_by counts_given result) }
+    ensures { FindClosed closed.now.blocks.now closed.now.nodes.now closed.now.entries.now tick start end
+        answer.old answer.new (answer_by counts_given result) }
 {
-    let last = block_table::end(blocks);
-    if last <= tick {
+    let tree = closed.tree();
+    if tree.end <= tick {
         return Err(Refusal::NoSuchTick);
     }
     if end < start {
         return Err(Refusal::OutOfRange);
     }
-    let kind = block_table::kind(blocks);
-    let found = segment_find::find(nodes, entries, kind, last, tick, start, end, answer);
-    match found {
+    let query = Query {
+        tick,
+        start,
+        stop: end,
+    };
+    match segment_find::find(&tree, query, answer) {
         Some(listed) => Ok(Found {
             count: listed.count as u64,
             visited: listed.visited as u64,

@@ -1,6 +1,5 @@
--- One step for each return of what reads: `exceeds`, `rows`, `call_refusal`, `space_refusal`, `refusal`. Assumes nothing.
-use mathlib.Core.Path.{◌≡◌, refl, sym, ap, ◌∙◌}
-use mathlib.Core.Logic.{◌⊎◌, inl, inr}
+-- One step for each return of what reads: `call_refusal`, `space_refusal`, `refusal`. Assumes nothing.
+use mathlib.Core.Path.{◌≡◌, sym, ap, ◌∙◌}
 use mathlib.Core.Bool.{Bool, true, false, not}
 use mathlib.Core.List.{List, map}
 use Prim.Native.Nat.{ℕ, ◌+◌, ◌-◌, ◌/◌, ◌^◌, ◌≤◌, ◌<◌}
@@ -10,7 +9,6 @@ use lib.ListN.{length, length-append}
 use borrow.Author.Tests.{lt-ltb, le-ltb, le-leb, lt-leb, eq-eqb, ne_eqb, ltb-true, ltb-false}
 use Rattle.lists.specs.Lists.{All}
 use Rattle.lists.proofs.Lists.{all_map, all_of_map}
-use Rattle.lists.proofs.Numbers.{lt_or_le}
 use Rattle.history.specs.Words.{Operation, stretch_of}
 use Rattle.history.specs.Hours.{closed_by}
 use Rattle.history.specs.Lent.{row_width, piece_head, block_head, too_short, piece_rows, block_rows}
@@ -36,20 +34,6 @@ use Rattle.refusals.specs.declared.Refusal.{Refusal}
 use Rattle.refusals.specs.declared.Refusal.TheVariants.{NoCells, EndTooHigh, TickTooHigh, TickTooLow, PiecesFull, BlocksFull, StoreFull, CellClosed}
 use Rattle.refusals.specs.Numbers.{number_of, answer_by}
 use Rattle.index_record.proofs.Refusing.{Sized, call_sized, answer_call, answer_closed, answer_read, answer_space, answer_update}
-
--- ── `exceeds` ──
-
-pub exceeds_at_once : (limit a b : ℕ) → limit < a → true ≡ ltb limit (a + b)
-exceeds_at_once limit a b h = sym (lt-ltb limit (a + b) (omega arith))
-
-pub exceeds_rest : (limit a b : ℕ) → a ≤ limit → ltb (limit - a) b ≡ ltb limit (a + b)
-exceeds_rest limit a b h = go (lt_or_le (limit - a) b)
-  where
-    go : (limit - a < b) ⊎ (b ≤ limit - a) → ltb (limit - a) b ≡ ltb limit (a + b)
-    go (inl k) = lt-ltb (limit - a) b k ∙ sym (lt-ltb limit (a + b) (omega arith))
-    go (inr k) = le-ltb (limit - a) b k ∙ sym (le-ltb limit (a + b) (omega arith))
-
-pub ruleset exceeding = (exceeds_at_once, exceeds_rest)
 
 -- ── `call_refusal` ──
 

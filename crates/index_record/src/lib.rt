@@ -12,13 +12,21 @@
 
 #![tactic(auto)]
 
-ghost use Rattle.std.specs.Prelude.{◌≡◌, ◌+◌, ◌-◌, ◌/◌, ltb};
+ghost use Rattle.std.specs.Prelude.{◌≡◌, ◌+◌, ◌-◌, ltb, length};
 ghost use Rattle.index_record.specs.Refusing.{CallTested, SpaceTested};
-ghost use Rattle.index_record.specs.Calls.{operation, Judged, ReadApplied, UpdateApplied, RecordedOpen};
+ghost use Rattle.index_record.specs.Calls.{lent_operation, Judged, ReadApplied, UpdateApplied, RecordedOpen};
 
 use piece_table::Piece;
 use refusals::Refusal;
 use tables::{block, piece};
+
+// What is recorded: at a tick, the bytes of the cells from the first on.
+#[derive(Clone, Copy)]
+pub struct Operation<'a> {
+    pub tick: u64,
+    pub first: u64,
+    pub bytes: &'a [u8],
+}
 
 // What an update changes: the lowest cell that was unknown or had another byte, and a guess for the link of the lowest piece that it meets.
 #[derive(Clone, Copy, PartialEq, Eq, Debug)]
@@ -33,27 +41,25 @@ pub struct Change {
 fn exceeds(limit: u64, a: u64, b: u64) -> bool
     ensures { result ≡ ltb limit (a + b) }
 {
-    if limit < a {
-        return true;
-    }
-    limit - a < b
+    a.checked_add(b).is_none_or(|sum| limit < sum)
 }
 
 // Which of 5 to 8 the call is refused for.
 #[tactic(auto, using(crate::proofs::Judging::calling))]
-fn call_refusal(blocks: &[u64], tick: u64, first: u64, size: u64) -> Result<(), Refusal>
-    ensures { CallTested blocks.now tick first size result }
+fn call_refusal(blocks: &[u64], op: Operation) -> Result<(), Refusal>
+    ensures { CallTested blocks.now op.entry.tick op.entry.first (length op.entry.bytes.now) result }
 {
+    let size = op.bytes.len() as u64;
     if size == 0 {
         return Err(Refusal::NoCells);
     }
-    if exceeds(u64::MAX, first, size) {
+    if exceeds(u64::MAX, op.first, size) {
         return Err(Refusal::EndTooHigh);
     }
-    if block_table::end(blocks) <= tick {
+    if block_table::end(blocks) <= op.tick {
         return Err(Refusal::TickTooHigh);
     }
-    if tick < block_table::last(blocks) {
+    if op.tick < block_table::last(blocks) {
         return Err(Refusal::TickTooLow);
     }
     Ok(())
@@ -94,18 +100,16 @@ pub fn refusal(
     pieces: &[u64],
     blocks: &[u64],
     store: &[u8],
-    tick: u64,
-    first: u64,
-    bytes: &[u8],
+    op: Operation,
 ) -> Result<Option<Change>, Refusal>
-    ensures { Judged pieces.now blocks.now store.now (operation tick first bytes.now) result }
+    ensures { Judged pieces.now blocks.now store.now (lent_operation op.entry) result }
 {
-    let size = bytes.len() as u64;
-    call_refusal(blocks, tick, first, size)?;
-    if calendar_table::closed(blocks, first, bytes) {
+    call_refusal(blocks, op)?;
+    if calendar_table::closed(blocks, op.first, op.bytes) {
         return Err(Refusal::CellClosed);
     }
-    let after = survey::survey(pieces, store, first, bytes);
+    let after = survey::survey(pieces, store, op.first, op.bytes);
+    let size = op.bytes.len() as u64;
     let same = after.same;
     let near = after.near;
     if size <= same {
@@ -114,7 +118,7 @@ pub fn refusal(
     let left = after.pieces;
     let made = after.blocks;
     space_refusal(pieces, blocks, store, left, made, size)?;
-    let cell = first + same;
+    let cell = op.first + same;
     Ok(Some(Change { cell, near }))
 }
 
@@ -134,54 +138,51 @@ pub fn enter_update(
     pieces: &mut [u64],
     blocks: &mut [u64],
     store: &mut [u8],
-    tick: u64,
-    first: u64,
-    bytes: &[u8],
+    op: Operation,
     near: u64,
 )
     ensures { UpdateApplied pieces.old blocks.old store.old pieces.new blocks.new store.new
-        (operation tick first bytes.now) }
+        (lent_operation op.entry) }
 {
     let used = block_table::used(blocks);
     let kind = block_table::kind(blocks);
-    let size = bytes.len() as u64;
-    if u64::MAX - used < size {
+    let size = op.bytes.len() as u64;
+    let Some(after) = used.checked_add(size) else {
         return;
-    }
-    tables::copy_in(store, used as usize, bytes);
+    };
+    tables::copy_in(store, used as usize, op.bytes);
     let piece = Piece {
-        first,
+        first: op.first,
         size,
-        written: tick,
+        written: op.tick,
         offset: used,
         owner: kind,
     };
     recording::apply_update(pieces, blocks, piece, near);
-    block_table::set_used(blocks, used + size);
-    block_table::set_last(blocks, tick);
+    block_table::set_used(blocks, after);
+    block_table::set_last(blocks, op.tick);
 }
 
 // Records an operation in the tables of an open index, and gives the lowest cell that it changes, none of a read. Nothing is written to a scratch, so
 // none is lent here.
+// The tables stand one by one: of a struct of `&mut` slices each contract would have to say that every one stays lent.
 #[tactic(auto, using(crate::proofs::Recording::opening))]
 pub fn record_open(
     pieces: &mut [u64],
     blocks: &mut [u64],
     store: &mut [u8],
-    tick: u64,
-    first: u64,
-    bytes: &[u8],
+    op: Operation,
 ) -> Result<Option<u64>, Refusal>
     ensures { RecordedOpen pieces.old blocks.old store.old pieces.new blocks.new store.new
-        (operation tick first bytes.now) result }
+        (lent_operation op.entry) result }
 {
-    match refusal(pieces, blocks, store, tick, first, bytes)? {
+    match refusal(pieces, blocks, store, op)? {
         None => {
-            enter_read(blocks, tick);
+            enter_read(blocks, op.tick);
             Ok(None)
         }
         Some(change) => {
-            enter_update(pieces, blocks, store, tick, first, bytes, change.near);
+            enter_update(pieces, blocks, store, op, change.near);
             Ok(Some(change.cell))
         }
     }

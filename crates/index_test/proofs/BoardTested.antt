@@ -7,7 +7,7 @@ use lib.ListN.{length}
 use borrow.Author.Tests.{not-true, not-false}
 use Rattle.lists.specs.Tests.{Decides}
 use Rattle.lists.proofs.Numbers.{confirm, refute, decides_iff}
-use Rattle.history.specs.Lent.{too_short, block_rows}
+use Rattle.history.specs.Lent.{Lent, too_short, block_rows, piece_head, block_head, node_head, entry_head}
 use Rattle.history.specs.Refusals.{max_end_tick}
 use Rattle.tables.specs.Columns.{column, pieces_count, head_end, head_kind, head_count, head_used, head_last}
 use Rattle.block_table.specs.Rows.{RowsSound}
@@ -15,28 +15,63 @@ use Rattle.piece_table.specs.Test as piece
 use Rattle.day_table.specs.DayLists.{DaysFormed}
 use Rattle.calendar_table.specs.Calendars.{CalendarFormed}
 use Rattle.layout.specs.Tables.{Tables, lengths_of, head_at}
+use Rattle.layout.proofs.Lengths.{heads_fit, fit_heads}
 use Rattle.index_test.specs.Board.{Numbers, HeadFormed, BoardFormed}
+
+-- ── lengths ──
+
+pub short_pieces : (n : Lent) → n.pieces < piece_head → Decides false (too_short n ≡ false)
+short_pieces n h = refute (λ e. omega (arith, (heads_fit n e).pieces))
+
+pub short_blocks : (n : Lent) → n.blocks < block_head → Decides false (too_short n ≡ false)
+short_blocks n h = refute (λ e. omega (arith, (heads_fit n e).blocks))
+
+pub short_nodes : (n : Lent) → n.nodes < node_head → Decides false (too_short n ≡ false)
+short_nodes n h = refute (λ e. omega (arith, (heads_fit n e).nodes))
+
+pub short_entries : (n : Lent) → n.entries < entry_head → Decides false (too_short n ≡ false)
+short_entries n h = refute (λ e. omega (arith, (heads_fit n e).entries))
+
+pub long_enough : (n : Lent) → piece_head ≤ n.pieces → block_head ≤ n.blocks → node_head ≤ n.nodes → entry_head ≤ n.entries → Decides true (too_short n ≡ false)
+long_enough n p b d e = confirm (fit_heads n (record { pieces = p; blocks = b; nodes = d; entries = e }))
+
+pub ruleset fitting = (short_pieces, short_blocks, short_nodes, short_entries, long_enough, arith)
 
 -- ── numbers ──
 
-pub numbers_rows : (t : Tables) (r : Bool) (count pieces : ℕ) → r ≡ false → count ≡ head_at t head_count → pieces ≡ column t.pieces 0 pieces_count
-    → Decides r (count + pieces ≤ block_rows (lengths_of t)) → Decides false (Numbers t)
-numbers_rows t r count pieces e p q d = refute (λ s. d.not e (rw (p, q) s.rows_fit))
+module _ (t : Tables) (end used kind last : ℕ) (a : end ≡ head_at t head_end) (b : used ≡ head_at t head_used) (c : kind ≡ head_at t head_kind)
+    (d : last ≡ head_at t head_last) where
+  pub numbers_rest : (r : Bool) (count pieces : ℕ) → count ≡ head_at t head_count → pieces ≡ column t.pieces 0 pieces_count
+      → (end ≡ 0 → ⊥) → end ≤ max_end_tick → kind ≤ 4 → last < end → used ≤ length t.store
+      → Decides r (count + pieces ≤ block_rows (lengths_of t)) → Decides r (Numbers t)
+  numbers_rest r count pieces p q some most known before fits k =
+      decides_iff r
+      (λ h. record {
+        some_tick = omega arith;
+        end_most = omega arith;
+        known_kind = omega arith;
+        last_below_end = omega arith;
+        used_fits = omega arith;
+        rows_fit = rw (← p, ← q) h;
+      })
+      (λ s. rw (p, q) s.rows_fit) k
 
-pub numbers_yes : (t : Tables) (r : Bool) (count pieces end used kind last : ℕ) → r ≡ true → count ≡ head_at t head_count → pieces ≡ column t.pieces 0 pieces_count
-    → end ≡ head_at t head_end → used ≡ head_at t head_used → kind ≡ head_at t head_kind → last ≡ head_at t head_last
-    → (end ≡ 0 → ⊥) → end ≤ max_end_tick → kind ≤ 4 → last < end → used ≤ length t.store
-    → Decides r (count + pieces ≤ block_rows (lengths_of t)) → Decides true (Numbers t)
-numbers_yes t r count pieces end used kind last e p q a b c d some most known before fits k = confirm (record {
-  some_tick = omega arith;
-  end_most = omega arith;
-  known_kind = omega arith;
-  last_below_end = omega arith;
-  used_fits = omega arith;
-  rows_fit = rw (← p, ← q) (k.yes e);
-})
+pub end_none : (t : Tables) (end : ℕ) → end ≡ head_at t head_end → end ≡ 0 → Decides false (Numbers t)
+end_none t end a e = refute (λ s. omega (arith, s.some_tick))
 
-pub ruleset numbering = (numbers_rows, numbers_yes, arith)
+pub end_high : (t : Tables) (end : ℕ) → end ≡ head_at t head_end → max_end_tick < end → Decides false (Numbers t)
+end_high t end a h = refute (λ s. omega (arith, s.end_most))
+
+pub kind_high : (t : Tables) (kind : ℕ) → kind ≡ head_at t head_kind → 4 < kind → Decides false (Numbers t)
+kind_high t kind a h = refute (λ s. omega (arith, s.known_kind))
+
+pub last_late : (t : Tables) (end last : ℕ) → end ≡ head_at t head_end → last ≡ head_at t head_last → end ≤ last → Decides false (Numbers t)
+last_late t end last a b h = refute (λ s. omega (arith, s.last_below_end))
+
+pub used_past : (t : Tables) (used : ℕ) → used ≡ head_at t head_used → length t.store < used → Decides false (Numbers t)
+used_past t used a h = refute (λ s. omega (arith, s.used_fits))
+
+pub ruleset numbering = (numbers_rest, end_none, end_high, kind_high, last_late, used_past, arith)
 
 -- ── the heads ──
 
@@ -67,21 +102,20 @@ module _ (t : Tables) (kind end used last count : ℕ) (a : kind ≡ head_at t h
   pub board_rows : (r : Bool) → not r ≡ true → Decides r (RowsSound t.blocks (record { kind = kind; end = end; used = used }) 0 count) → Decides false (BoardFormed t)
   board_rows r e k = refute (λ s. k.not (not-true r e) (rw (a, b, c, n) s.rows))
 
-  pub board_pieces : (r : Bool) → r ≡ false → Decides r (piece.WellFormed t.pieces kind used last) → Decides false (BoardFormed t)
-  board_pieces r e k = refute (λ s. k.not e (rw (a, c, d) s.pieces))
-
-  pub board_yes : (h r p : Bool) → not h ≡ false → not r ≡ false → p ≡ true → Decides h (HeadFormed t)
+  pub board_rest : (h r p : Bool) → not h ≡ false → not r ≡ false → Decides h (HeadFormed t)
       → Decides r (RowsSound t.blocks (record { kind = kind; end = end; used = used }) 0 count) → Decides p (piece.WellFormed t.pieces kind used last)
-      → Decides true (BoardFormed t)
-  board_yes h r p eh er ep dh dr dp =
+      → Decides p (BoardFormed t)
+  board_rest h r p eh er dh dr dp =
       let head = dh.yes (not-false h eh) in
-      confirm (record {
+      decides_iff p
+      (λ w. record {
         heads = head.heads;
         numbers = head.numbers;
         calendar = head.calendar;
         days = head.days;
         rows = rw (← a, ← b, ← c, ← n) (dr.yes (not-false r er));
-        pieces = rw (← a, ← c, ← d) (dp.yes ep);
+        pieces = rw (← a, ← c, ← d) w;
       })
+      (λ s. rw (a, c, d) s.pieces) dp
 
-pub ruleset boarding = (board_head, board_rows, board_pieces, board_yes)
+pub ruleset boarding = (board_head, board_rows, board_rest)

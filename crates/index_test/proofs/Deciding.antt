@@ -1,17 +1,16 @@
 -- The test behind refusal 2 decides exactly: tables that pass stand for a sound ledger, and the state in the head tells open from closed. Assumes nothing.
-use mathlib.Core.Path.{◌≡◌, refl, ap, sym, ◌∙◌}
+use mathlib.Core.Path.{◌≡◌, refl, ap, ◌∙◌}
 use mathlib.Core.Bool.{Bool, true, false, true≢false, false≢true}
 use mathlib.Core.Option.{Option, none, some}
-use Prim.Native.Nat.{ℕ}
 use native.Mathlib.Omega.{arith}
 use Rattle.history.specs.Tree.{Tree}
-use Rattle.history.specs.Ledger.{finished, is_some}
+use Rattle.history.specs.Ledger.{is_some}
 use Rattle.tables.specs.Columns.{head_state}
 use Rattle.layout.specs.Tables.{Tables, head_at}
 use Rattle.layout.specs.Encodes.{open_state, closed_state, state_of}
 use Rattle.layout.specs.Formed.{WellFormed}
-use Rattle.index_test.specs.Board.{Outcome}
 use Rattle.index_test.specs.Law.{FormedAs, TestDecides}
+use Rattle.index_test.specs.States.{number_of}
 use Rattle.index_test.specs.declared.State.{State}
 use Rattle.index_test.specs.declared.State.TheVariants.{Bad, Open, Closed}
 use Rattle.index_test.proofs.Tested.{Passes, open_passes, closed_passes}
@@ -19,13 +18,8 @@ use Rattle.index_test.proofs.Tested.{Passes, open_passes, closed_passes}
 -- ── three answers ──
 
 -- no two are the same
-abbrev number : State → ℕ
-number Bad = 0
-number Open = 1
-number Closed = 2
-
-other : {A : Type 0} (x y : State) → (number x ≡ number y → ⊥) → x ≡ y → A
-other x y differ e = absurd (differ (ap number e))
+other : {A : Type 0} (x y : State) → (number_of x ≡ number_of y → ⊥) → x ≡ y → A
+other x y differ e = absurd (differ (ap number_of e))
 
 -- ── tables of an open and of a closed index ──
 

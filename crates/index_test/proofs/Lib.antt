@@ -3,3 +3,4 @@ pub mod Ledgers
 pub mod Tested
 pub mod Told
 pub mod Deciding
+pub mod Numbers

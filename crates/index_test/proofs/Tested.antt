@@ -63,14 +63,14 @@ module _ (t : Tables) (n kind end : ℕ) (r : Bool) (e : n ≡ head_at t head_co
   tree_tested : Decides r (ClosedTree (tree_tables t) (head_at t head_kind) (head_at t head_end) (blocks_of t.store t.blocks (head_at t head_count)))
   tree_tested = rw (k, f) at (trees (blocks_of t.store t.blocks (head_at t head_count)) (rw e (block_rows_lem t)))
 
-  pub closed_tree : not r ≡ true → TestedClosed t false
-  closed_tree no-tree = record { decides = λ b. refute (λ p. tree_tested.not (not-true r no-tree) p.tree) }
+  pub closed_tree : r ≡ false → TestedClosed t r
+  closed_tree no-tree = record { decides = λ b. rw no-tree (refute (λ p. tree_tested.not no-tree p.tree)) }
 
-  pub closed_apart : (pieces : ℕ) {a : Bool} → pieces ≡ column t.pieces 0 pieces_count → pieces ≡ 0 → not r ≡ false → ClosedApart (tree_tables t) kind end n a
+  pub closed_apart : (pieces : ℕ) {a : Bool} → pieces ≡ column t.pieces 0 pieces_count → pieces ≡ 0 → r ≡ true → ClosedApart (tree_tables t) kind end n a
       → TestedClosed t a
   closed_apart pieces {a} p zero stands test = record {
     decides = λ b.
-        let tree = tree_tested.yes (not-false r stands) in
+        let tree = tree_tested.yes stands in
         let here : ClosedApart (tree_tables t) (head_at t head_kind) (head_at t head_end) (head_at t head_count) a = rw (e, k, f) at test in
         decides_iff a (λ x. record { no_pieces = sym p ∙ zero; apart = x; tree = tree }) (λ x. x.apart)
         (closed_decides (tree_tables t) (head_at t head_kind) (head_at t head_end) (head_at t head_count) t.store here (block_rows_lem t) tree (rows_bounded t b) (rows_stored t b));

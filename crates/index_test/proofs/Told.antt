@@ -1,6 +1,6 @@
 -- What the test found, turned into the answers 2, 3 and 4: one law for every call. Assumes nothing.
 use mathlib.Core.Logic.{◌⊎◌, inl, inr}
-use mathlib.Core.Path.{◌≡◌, refl, sym, ap, subst}
+use mathlib.Core.Path.{◌≡◌, refl, sym, subst}
 use mathlib.Core.Bool.{Bool, true, false}
 use Prim.Native.Nat.{ℕ}
 use Rattle.history.specs.Lent.{too_short}
@@ -15,7 +15,7 @@ use Rattle.index_test.specs.Board.{OpenFormed, ClosedFormed, Outcome}
 use Rattle.index_test.specs.declared.State.{State}
 use Rattle.index_test.specs.declared.State.TheVariants.{Bad, Open, Closed}
 use Rattle.index_test.proofs.Tested.{passes_formed, open_passes, closed_passes}
-use Rattle.std.specs.Prelude.{Result, Ok, Err}
+use Rattle.std.specs.Prelude.{Ok, Err}
 use Rattle.refusals.specs.declared.Refusal.{Refusal}
 use Rattle.refusals.specs.declared.Refusal.TheVariants.{Malformed, Finished, NotFinished}
 use Rattle.refusals.specs.Numbers.{number_of}
@@ -52,22 +52,6 @@ Refuses asked state n = (l : Ledger) → too_short l.opening.lent ≡ false → 
 pub stands_refuses : {A : Type 0} {asked : Ledger → Answer A} {t : Tables} {done : Bool} {n : ℕ} → Stands t done → Refuses asked done n → (l : Ledger) → Encodes t l
     → asked l ≡ refused n
 stands_refuses s refuses l e = refuses l (heads-held e) (s.state l e)
-
--- ── the reads ──
-
-module _ {A : Type 0} {asked : Ledger → Answer A} {Handed : Answer A → Type 0} {t : Tables} {r : State} (told : Outcome r t) where
-  pub read_2 : r ≡ Bad → Handed (refused 2) → ReadBy t asked Handed
-  read_2 e h = record { formed = λ l enc s. absurd (told_bad told e (record { ledger = l; encodes = enc; sound = s })); unformed = λ _. h }
-
-  pub read_4 : r ≡ Open → Refuses asked false 4 → Handed (refused 4) → ReadBy t asked Handed
-  read_4 e refuses h =
-      let s = told_open told e in
-      record { formed = λ l enc _. subst (λ (x : Answer A). Handed x) (sym (stands_refuses s refuses l enc)) h; unformed = λ n. absurd (n s.formed) }
-
-  pub read_on : r ≡ Closed → ClosedBy t asked Handed → ReadBy t asked Handed
-  read_on e inner =
-      let s = told_closed told e in
-      record { formed = λ l enc sound. inner.closed l enc sound (s.state l enc); unformed = λ n. absurd (n s.formed) }
 
 -- ── by the state alone ──
 
@@ -129,7 +113,3 @@ read_not_closed {e = e} Handed r told is refuses h = refused_read e Handed (clos
 -- And one of a closed index.
 pub closed_read : {A : Type 0} {asked : Ledger → Answer A} {Handed : Answer A → Type 0} {t : Tables} → Stands t true → ClosedBy t asked Handed → ReadBy t asked Handed
 closed_read s inner = record { formed = λ l enc sound. inner.closed l enc sound (s.state l enc); unformed = λ n. absurd (n s.formed) }
-
-pub read_if_closed : {A : Type 0} {asked : Ledger → Answer A} {Handed : Answer A → Type 0} {t : Tables} {u : Unit} (r : State) → Outcome r t → when_closed r ≡ Ok u
-    → ClosedBy t asked Handed → ReadBy t asked Handed
-read_if_closed r told is inner = closed_read (closed_taken r told is) inner

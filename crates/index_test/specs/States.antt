@@ -1,5 +1,5 @@
--- What a call is refused for by the state of its tables, before anything else. Definitions alone.
-use Rattle.std.specs.Prelude.{Result, Ok, Err}
+-- What a call is refused for by the state of its tables, before anything else; and the number of a state. Definitions alone.
+use Rattle.std.specs.Prelude.{Result, Ok, Err, ℕ, cond, eqb}
 use Rattle.refusals.specs.declared.Refusal.{Refusal}
 use Rattle.refusals.specs.declared.Refusal.TheVariants.{Malformed, Finished, NotFinished}
 use Rattle.index_test.specs.declared.State.{State}
@@ -22,3 +22,14 @@ abbrev pub when_closed : State → Result Unit Refusal
 when_closed Bad = Err Malformed
 when_closed Open = Err NotFinished
 when_closed Closed = Ok tt
+
+-- ── its number ──
+
+abbrev pub number_of : State → ℕ
+number_of Bad = 0
+number_of Open = 1
+number_of Closed = 2
+
+-- 1 open, 2 closed; any other number stands for tables that are not well formed
+unfoldable pub state_numbered : ℕ → State
+state_numbered n = cond (eqb n 1) Open (cond (eqb n 2) Closed Bad)

@@ -2,27 +2,28 @@
 ghost use Rattle.std.specs.Prelude.{◌≡◌, false, length, ◌+◌, ◌-◌, ◌/◌, ◌≤◌};
 ghost use Rattle.lists.specs.Tests.{Decides};
 ghost use Rattle.history.specs.Lent.{too_short, row_width, block_head};
-ghost use Rattle.layout.specs.Tables.{tables, lengths_of};
+ghost use Rattle.layout.specs.Tables.{held, lengths_of};
 ghost use Rattle.index_test.specs.Board.{Numbers, HeadFormed, BoardFormed};
 
+use layout::Tables;
+use tables::kind::Kind;
 use tables::{block, entry, node, piece};
 
-const MOST_KIND: u64 = 4;
-
 // Whether each table holds its head.
-fn test_heads(pieces: &[u64], blocks: &[u64], store: &[u8], nodes: &[u64], entries: &[u64]) -> bool
-    ensures { Decides result (too_short (lengths_of (tables pieces.now blocks.now store.now nodes.now entries.now)) ≡ false) }
+#[tactic(auto, using(crate::proofs::BoardTested::fitting))]
+fn test_heads(lent: Tables) -> bool
+    ensures { Decides result (too_short (lengths_of (held lent.entry)) ≡ false) }
 {
-    if pieces.len() < piece::HEAD {
+    if lent.pieces.len() < piece::HEAD {
         return false;
     }
-    if blocks.len() < block::HEAD {
+    if lent.blocks.len() < block::HEAD {
         return false;
     }
-    if nodes.len() < node::HEAD {
+    if lent.nodes.len() < node::HEAD {
         return false;
     }
-    if entries.len() < entry::HEAD {
+    if lent.entries.len() < entry::HEAD {
         return false;
     }
     true
@@ -33,90 +34,70 @@ fn rows_fit(blocks: &[u64], count: u64, pieces: u64) -> bool
     ensures { Decides result (count + pieces ≤ (length blocks.now - block_head) / row_width) }
 {
     let rows = tables::rows(blocks.len(), block::HEAD);
-    if rows < count {
-        return false;
-    }
-    if rows - count < pieces {
-        return false;
-    }
-    true
+    count <= rows && pieces <= rows - count
 }
 
 // Whether the numbers of the head are those of an index.
-fn test_numbers(
-    pieces: &[u64],
-    blocks: &[u64],
-    store: &[u8],
-    nodes: &[u64],
-    entries: &[u64],
-) -> bool
-    ensures { Decides result (Numbers (tables pieces.now blocks.now store.now nodes.now entries.now)) }
+#[tactic(auto, using(crate::proofs::BoardTested::numbering))]
+fn test_numbers(lent: Tables) -> bool
+    ensures { Decides result (Numbers (held lent.entry)) }
 {
-    let end = block_table::end(blocks);
+    let end = block_table::end(lent.blocks);
     if end == 0 {
         return false;
     }
     if block::MAX_END_TICK < end {
         return false;
     }
-    if MOST_KIND < block_table::kind(blocks) {
+    let Ok(_) = Kind::try_from(block_table::kind(lent.blocks)) else {
+        return false;
+    };
+    if end <= block_table::last(lent.blocks) {
         return false;
     }
-    if end <= block_table::last(blocks) {
+    if lent.store.len() < block_table::used(lent.blocks) as usize {
         return false;
     }
-    if store.len() < block_table::used(blocks) as usize {
-        return false;
-    }
-    if rows_fit(
-        blocks,
-        block_table::count(blocks),
-        tables::get(pieces, 0, piece::COUNT),
-    ) {
-        return true;
-    }
-    false
+    let count = block_table::count(lent.blocks);
+    rows_fit(
+        lent.blocks,
+        count,
+        tables::get(lent.pieces, 0, piece::COUNT),
+    )
 }
 
 // Whether the heads are those of an index: lengths, numbers, calendar, list of days.
-fn test_head(pieces: &[u64], blocks: &[u64], store: &[u8], nodes: &[u64], entries: &[u64]) -> bool
-    ensures { Decides result (HeadFormed (tables pieces.now blocks.now store.now nodes.now entries.now)) }
+#[tactic(auto, using(crate::proofs::BoardTested::heading))]
+fn test_head(lent: Tables) -> bool
+    ensures { Decides result (HeadFormed (held lent.entry)) }
 {
-    if !test_heads(pieces, blocks, store, nodes, entries) {
+    if !test_heads(lent) {
         return false;
     }
-    if !test_numbers(pieces, blocks, store, nodes, entries) {
+    if !test_numbers(lent) {
         return false;
     }
-    if !calendar_table::formed(blocks) {
+    if !calendar_table::formed(lent.blocks) {
         return false;
     }
-    day_table::formed(blocks)
+    day_table::formed(lent.blocks)
 }
 
 // Whether the tables have what any index has. Linear in the rows in use.
-pub fn test_board(
-    pieces: &[u64],
-    blocks: &[u64],
-    store: &[u8],
-    nodes: &[u64],
-    entries: &[u64],
-) -> bool
-    ensures { Decides result (BoardFormed (tables pieces.now blocks.now store.now nodes.now entries.now)) }
+#[tactic(auto, using(crate::proofs::BoardTested::boarding))]
+pub fn test_board(lent: Tables) -> bool
+    ensures { Decides result (BoardFormed (held lent.entry)) }
 {
-    if !test_head(pieces, blocks, store, nodes, entries) {
+    if !test_head(lent) {
         return false;
     }
-    let kind = block_table::kind(blocks);
-    let end = block_table::end(blocks);
-    let used = block_table::used(blocks);
-    let last = block_table::last(blocks);
-    let count = block_table::count(blocks);
-    if !block_table::rows::test_rows(blocks, count, kind, end, used) {
+    let kind = block_table::kind(lent.blocks);
+    let end = block_table::end(lent.blocks);
+    let used = block_table::used(lent.blocks);
+    let last = block_table::last(lent.blocks);
+    let count = block_table::count(lent.blocks);
+    if !block_table::rows::test_rows(lent.blocks, count, kind, end, used) {
         return false;
     }
-    if piece_table::test_pieces(pieces, kind, used, last) {
-        return true;
-    }
-    false
+    piece_table::test_pieces(lent.pieces, kind, used, last)
 }

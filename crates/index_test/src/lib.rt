@@ -4,6 +4,7 @@
 //   specs/Board     what is decided
 //   specs/Law       so the test is exact (proofs/Deciding)
 //   proofs/Ledgers  tables that pass stand for a ledger, and those of a sound ledger pass
+//   proofs/Numbers  the number of a state and back
 //   proofs/Told     what the test found turned into 2, 3 and 4, for every call
 //
 // How a read of a closed index is written, as find, read cells and write are:
@@ -12,27 +13,52 @@
 //      lent, and what is handed out: `HandedInto` for values and one slice, a record of its own for more. Its refusals are steps by `closed-refuses`
 //      and the laws of `ReadLaws` (`window-14`, `window-15`, `window-rest`).
 //   3. The relation of the public call is a record of one field, `read : ReadBy t (λ l. xAnswer l ..) (HandedInto ..)`.
-//   4. The public call asks `test(..).closed()?` and hands on the inner call. Its two returns are `read_not_closed` and `closed_read` (proofs/Told).
+//   4. The public call is lent `layout::Tables`, asks `test(lent).closed()?` and hands on the inner call. Its two returns are `read_not_closed` and
+//      `closed_read` (proofs/Told).
 
 #![tactic(auto)]
 
 ghost use Rattle.std.specs.Prelude.{◌≡◌};
-ghost use Rattle.layout.specs.Tables.{tables};
+ghost use Rattle.layout.specs.Tables.{held};
 ghost use Rattle.index_test.specs.Board.{Outcome, TestedClosed};
 ghost use Rattle.index_test.specs.Law.{TestDecides};
-ghost use Rattle.index_test.specs.States.{when_formed, when_open, when_closed};
+ghost use Rattle.index_test.specs.States.{when_formed, when_open, when_closed, number_of, state_numbered};
 
 mod board;
 
+use layout::Tables;
 use refusals::Refusal;
+use segment_table::lent::{Claim, Closed};
 use tables::{block, piece};
 
-// What tables are found to be.
+// What tables are found to be, with the numbers that C is given.
 #[derive(Clone, Copy)]
 pub enum State {
-    Bad,
-    Open,
-    Closed,
+    Bad = 0,
+    Open = 1,
+    Closed = 2,
+}
+
+// The state of a number; one that no test gives stands for tables that are not well formed.
+impl From<u64> for State {
+    ghost from_gives = { λ n state. state ≡ state_numbered n };
+
+    #[tactic(auto, using(crate::proofs::Numbers::states))]
+    fn from(number: u64) -> State {
+        match number {
+            1 => State::Open,
+            2 => State::Closed,
+            _ => State::Bad,
+        }
+    }
+}
+
+impl From<State> for u64 {
+    ghost from_gives = { λ state n. n ≡ number_of state };
+
+    fn from(state: State) -> u64 {
+        state as u64
+    }
 }
 
 // What a call is refused for by the state of its tables.
@@ -72,31 +98,37 @@ impl State {
 
 // Whether the tables that pass as a board are those of a closed index. Linear in the rows in use for whatever calls leave; rule 24 of other tables may take
 // O(n log E log n) steps. It is tested last, as it goes by the tree.
-fn test_closed(pieces: &[u64], blocks: &[u64], store: &[u8], nodes: &[u64], entries: &[u64]) -> bool
-    ensures { TestedClosed (tables pieces.now blocks.now store.now nodes.now entries.now) result }
+#[tactic(auto, using(crate::proofs::Tested::closing))]
+fn test_closed(lent: Tables) -> bool
+    ensures { TestedClosed (held lent.entry) result }
 {
-    if tables::get(pieces, 0, piece::COUNT) != 0 {
+    if tables::get(lent.pieces, 0, piece::COUNT) != 0 {
         return false;
     }
-    let count = block_table::count(blocks);
-    let kind = block_table::kind(blocks);
-    let end = block_table::end(blocks);
-    if !segment_test::test_tree(blocks, nodes, entries, kind, end, count) {
-        return false;
-    }
-    segment_apart::apart(blocks, nodes, entries, kind, end, count)
+    let claim = Claim {
+        tables: Closed {
+            blocks: lent.blocks,
+            nodes: lent.nodes,
+            entries: lent.entries,
+        },
+        kind: block_table::kind(lent.blocks),
+        end: block_table::end(lent.blocks),
+        n: block_table::count(lent.blocks),
+    };
+    segment_test::test_tree(&claim) && segment_apart::apart(&claim)
 }
 
 // What the tables are: of an open index, of a closed one, or not well formed.
-pub fn test(pieces: &[u64], blocks: &[u64], store: &[u8], nodes: &[u64], entries: &[u64]) -> State
-    ensures { Outcome result (tables pieces.now blocks.now store.now nodes.now entries.now) }
+#[tactic(auto, using(crate::proofs::Tested::testing))]
+pub fn test(lent: Tables) -> State
+    ensures { Outcome result (held lent.entry) }
 {
-    if !board::test_board(pieces, blocks, store, nodes, entries) {
+    if !board::test_board(lent) {
         return State::Bad;
     }
-    let state = block_table::state(blocks);
+    let state = block_table::state(lent.blocks);
     if state == block::OPEN {
-        if ordering::unordered(blocks, block_table::count(blocks)) {
+        if ordering::unordered(lent.blocks, block_table::count(lent.blocks)) {
             return State::Open;
         }
         return State::Bad;
@@ -104,13 +136,14 @@ pub fn test(pieces: &[u64], blocks: &[u64], store: &[u8], nodes: &[u64], entries
     if state != block::CLOSED {
         return State::Bad;
     }
-    if test_closed(pieces, blocks, store, nodes, entries) {
+    if test_closed(lent) {
         return State::Closed;
     }
     State::Bad
 }
 
 // The test decides exactly whether tables are well formed, and of which index.
+#[tactic(auto, using(crate::proofs::Deciding::test_decides))]
 pub fn test_decides()
     ensures { TestDecides }
 {}

@@ -10,14 +10,13 @@ use Rattle.lists.proofs.Numbers.{bool_cases}
 use Rattle.history.specs.Rules.{apart, Apart}
 use Rattle.history.specs.Ledger.{Ledger, finished, settled, finish_by}
 use Rattle.history.specs.Results.{Result}
-use Rattle.history.specs.Refusals.{Answer, accepted, refused, finish_answer}
+use Rattle.history.specs.Refusals.{Answer, accepted, refused}
 use Rattle.history.proofs.EveryList.{finish_sound}
 use Rattle.history.proofs.RulesLaws.{apart_decides}
 use Rattle.layout.specs.Tables.{Tables}
-use Rattle.layout.specs.Encodes.{state_of, open_state, closed_state}
+use Rattle.layout.specs.Encodes.{state_of, closed_state}
 use Rattle.layout.specs.Formed.{WellFormed, Blank, WellFormedForFinish}
 use Rattle.layout.specs.Relations.{FinishLeaves, FinishedBy}
-use Rattle.layout.proofs.ReadLaws.{still_open}
 use Rattle.layout.proofs.Unique.{unique}
 use Rattle.index_test.specs.declared.State.{State}
 use Rattle.index_test.specs.declared.State.TheVariants.{Bad, Open, Closed}

@@ -2,8 +2,8 @@
 use mathlib.Core.Logic.{◌⊎◌, inl, inr}
 use mathlib.Core.Path.{◌≡◌, refl, sym, ap, ◌∙◌, subst}
 use mathlib.Core.Bool.{Bool, true, false, not}
-use mathlib.Core.List.{List, map}
-use Prim.Native.Nat.{ℕ, ◌-◌, ◌/◌, ◌+◌, ◌≤◌, ◌<◌}
+use mathlib.Core.List.{List}
+use Prim.Native.Nat.{ℕ, ◌-◌, ◌/◌, ◌+◌, ◌≤◌}
 use native.Mathlib.Omega.{arith}
 use lib.ListN.{length}
 use lib.Dec.{leb}
@@ -11,26 +11,26 @@ use borrow.Author.Tests.{leb-true, leb-false, not-true, not-false}
 use Rattle.lists.specs.Tests.{Decides}
 use Rattle.lists.proofs.Maps.{length_of_map}
 use Rattle.lists.proofs.Numbers.{refute}
-use Rattle.history.specs.Lent.{Lent, row_width, piece_head, block_head, piece_rows, block_rows}
+use Rattle.history.specs.Lent.{row_width, piece_head, block_head}
 use Rattle.history.specs.Ledger.{Ledger}
 use Rattle.history.specs.Refusals.{Answer, refused}
 use Rattle.std.specs.Prelude.{Ok, Err}
 use Rattle.refusals.specs.declared.Refusal.{Refusal}
 use Rattle.refusals.specs.declared.Refusal.TheVariants.{Malformed, NotFinished}
 use Rattle.refusals.specs.Numbers.{number_of}
-use Rattle.index_test.specs.States.{when_formed, when_closed}
+use Rattle.index_test.specs.States.{when_formed, when_closed, number_of as state_number}
 use Rattle.tables.specs.Columns.{column, pieces_count, block_column, head_count}
 use Rattle.piece_table.specs.Piece.{piece_at}
 use Rattle.piece_table.specs.Shown.{shown}
 use Rattle.layout.specs.Tables.{Tables}
-use Rattle.layout.specs.Encodes.{Encodes, open_state, closed_state}
+use Rattle.layout.specs.Encodes.{open_state, closed_state}
 use Rattle.layout.specs.Formed.{WellFormed}
-use Rattle.layout.specs.Reads.{ReadBy, ClosedBy}
+use Rattle.layout.specs.Reads.{ReadBy}
 use Rattle.layout.proofs.ReadLaws.{still_open, is_closed}
 use Rattle.index_test.specs.Board.{OpenFormed, ClosedFormed, Outcome}
 use Rattle.index_test.specs.declared.State.{State}
 use Rattle.index_test.specs.declared.State.TheVariants.{Bad, Open, Closed}
-use Rattle.index_test.proofs.Told.{Stands, told_bad, Refuses, stands_refuses, refused_read, closed_read}
+use Rattle.index_test.proofs.Told.{Stands, told_bad, Refuses, refused_read}
 use Rattle.index_test.proofs.Tested.{passes_formed, open_passes, closed_passes}
 use Rattle.index_tested.specs.Kept.{StandsIn, Kept, BlocksFit, CountsFit}
 use Rattle.index_tested.specs.Law.{TestKeeps}
@@ -54,13 +54,8 @@ pub stands_closed : {t : Tables} → StandsIn closed_state t → Stands t true
 stands_closed h = record { formed = h.formed; state = λ l enc. is_closed enc h.state }
 
 -- no state is two
-abbrev number : State → ℕ
-number Bad = 0
-number Open = 1
-number Closed = 2
-
-other : {A : Type 0} {s : State} (x y : State) → (number x ≡ number y → ⊥) → s ≡ x → s ≡ y → A
-other x y differ e f = absurd (differ (ap number (sym e ∙ f)))
+other : {A : Type 0} {s : State} (x y : State) → (state_number x ≡ state_number y → ⊥) → s ≡ x → s ≡ y → A
+other x y differ e f = absurd (differ (ap state_number (sym e ∙ f)))
 
 pub kept_open : {s : State} {t : Tables} → s ≡ Open → StandsIn open_state t → Kept s t
 kept_open e h = record { unformed = other Open Bad (λ z. omega arith) e; opened = λ _. h; closed = other Open Closed (λ z. omega arith) e }
@@ -100,26 +95,6 @@ kept_closed_taken Closed k is = stands_closed (k.closed refl)
 pub kept_not_closed : {A : Type 0} {asked : Ledger → Answer A} {t : Tables} (e : Refusal) (s : State) → Kept s t → when_closed s ≡ Err e → (Handed : ℕ → Answer A → Type 0)
     → Refuses asked false 4 → ((n : ℕ) → Handed n (refused n)) → ReadBy t asked (Handed (number_of e))
 kept_not_closed e s k is Handed refuses h = refused_read e Handed (kept_closed_refused e s k is) refuses h
-
-pub kept_if_closed : {A : Type 0} {asked : Ledger → Answer A} {Handed : Answer A → Type 0} {t : Tables} {u : Unit} (s : State) → Kept s t → when_closed s ≡ Ok u
-    → ClosedBy t asked Handed → ReadBy t asked Handed
-kept_if_closed s k is inner = closed_read (kept_closed_taken s k is) inner
-
--- ── the reads ──
-
-module _ {A : Type 0} {asked : Ledger → Answer A} {Handed : Answer A → Type 0} {s : State} {t : Tables} (k : Kept s t) where
-  pub kept_2 : s ≡ Bad → Handed (refused 2) → ReadBy t asked Handed
-  kept_2 e h = record { formed = λ l enc sound. absurd (k.unformed e (record { ledger = l; encodes = enc; sound = sound })); unformed = λ _. h }
-
-  pub kept_4 : s ≡ Open → Refuses asked false 4 → Handed (refused 4) → ReadBy t asked Handed
-  kept_4 e refuses h =
-      let here = stands_open (k.opened e) in
-      record { formed = λ l enc _. subst (λ (x : Answer A). Handed x) (sym (stands_refuses here refuses l enc)) h; unformed = λ n. absurd (n here.formed) }
-
-  pub kept_on : s ≡ Closed → ClosedBy t asked Handed → ReadBy t asked Handed
-  kept_on e inner =
-      let here = stands_closed (k.closed e) in
-      record { formed = λ l enc sound. inner.closed l enc sound (here.state l enc); unformed = λ n. absurd (n here.formed) }
 
 -- ── guards ──
 

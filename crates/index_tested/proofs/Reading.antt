@@ -21,7 +21,8 @@ use Rattle.index.proofs.Answering.{block_4, find_4, bytes_some, bytes_none}
 use Rattle.index_test.specs.declared.State.{State}
 use Rattle.index_test.specs.States.{when_closed}
 use Rattle.index_tested.specs.Tested.{FoundTested, HeldInside, BlockTested, BytesTested}
-use Rattle.index_tested.proofs.Keeping.{kept_not_closed, kept_if_closed}
+use Rattle.index_test.proofs.Told.{closed_read}
+use Rattle.index_tested.proofs.Keeping.{kept_not_closed, kept_closed_taken}
 
 -- ── find ──
 
@@ -35,7 +36,7 @@ module _ (s : State) {x : Result Unit Refusal} {blocks nodes entries : List ℕ}
 
   pub found_closed : {u : Unit} {out' : List ℕ} {a : Answer Counts} → x ≡ Ok u → FindClosed blocks nodes entries tick start stop out out' a
       → FoundTested s blocks nodes entries tick start stop out out' a
-  found_closed q f = record { done = λ pieces store k. record { read = kept_if_closed s k (sym is ∙ q) (f.found pieces store) } }
+  found_closed q f = record { done = λ pieces store k. record { read = closed_read (kept_closed_taken s k (sym is ∙ q)) (f.found pieces store) } }
 
 -- ── in the store ──
 
@@ -77,7 +78,7 @@ module _ (s : State) {x : Result Unit Refusal} {blocks store : List ℕ} {k : �
     -- none of that number
     pub block_none : {e : Refusal} → given ≡ Err e → BlockTested s blocks store k (refused (number_of e))
     block_none g = record {
-      done = λ pieces nodes entries kept. record { read = kept_if_closed s kept (sym is ∙ q) (rw g at (b.given pieces store nodes entries)) };
+      done = λ pieces nodes entries kept. record { read = closed_read (kept_closed_taken s kept (sym is ∙ q)) (rw g at (b.given pieces store nodes entries)) };
       whole = λ f r. never r;
     }
 
@@ -87,7 +88,7 @@ module _ (s : State) {x : Result Unit Refusal} {blocks store : List ℕ} {k : �
       done = λ pieces nodes entries kept.
           let t = tables pieces blocks store nodes entries in
           record {
-            read = kept_if_closed s kept (sym is ∙ q) (record {
+            read = closed_read (kept_closed_taken s kept (sym is ∙ q)) (record {
               closed = λ l enc sound over.
                   let here : BlockHanded t k (accepted (fields_given block)) (block_answer l k) = rw g at ((b.given pieces store nodes entries).closed l enc sound over) in
                   subst (λ (y : Result Block Refusal). BlockHanded t k (answer_by fields_given y) (block_answer l k)) (sym (held.same (here.whole (fields_given block) refl))) here;

@@ -13,18 +13,20 @@
 ghost use Rattle.std.specs.Prelude.{◌≡◌, length};
 ghost use Rattle.lists.specs.Tests.{Decides};
 ghost use Rattle.refusals.specs.Numbers.{answer_by};
-ghost use Rattle.index_record.specs.Calls.{operation, recorded};
+ghost use Rattle.index_record.specs.Calls.{lent_operation, recorded};
 ghost use Rattle.index_read.specs.Answers.{counts_given, fields_given};
 ghost use Rattle.index_tested.specs.Kept.{BlocksFit, CountsFit};
 ghost use Rattle.index_tested.specs.Tested.{RecordedTested, FoundTested, HeldInside, BlockTested, BytesTested};
 ghost use Rattle.index_tested.specs.Law.{TestKeeps, FinishCloses};
 
-use index::{Block, Found};
+use index::{Block, Found, Operation};
 use index_test::State;
 use refusals::Refusal;
+use segment_table::lent::Closed;
 use tables::{block, piece};
 
 // Whether the block table has the rows that its head counts: loops run to that count.
+#[tactic(auto, using(crate::proofs::Keeping::counting))]
 pub fn blocks_fit(blocks: &[u64]) -> bool
     ensures { Decides result (BlocksFit blocks.now) }
 {
@@ -32,6 +34,7 @@ pub fn blocks_fit(blocks: &[u64]) -> bool
 }
 
 // Whether both tables have the rows that their heads count.
+#[tactic(auto, using(crate::proofs::Keeping::counting))]
 fn counts_fit(pieces: &[u64], blocks: &[u64]) -> bool
     ensures { Decides result (CountsFit pieces.now blocks.now) }
 {
@@ -41,19 +44,17 @@ fn counts_fit(pieces: &[u64], blocks: &[u64]) -> bool
     tables::get(pieces, 0, piece::COUNT) <= tables::rows(pieces.len(), piece::HEAD)
 }
 
-// Records an operation.
+// Records an operation. The tables stand one by one, as in `index`.
 pub fn record_tested(
     state: State,
     pieces: &mut [u64],
     blocks: &mut [u64],
     store: &mut [u8],
     scratch: &[u64],
-    tick: u64,
-    first: u64,
-    bytes: &[u8],
+    op: Operation,
 ) -> Result<Option<u64>, Refusal>
     ensures { RecordedTested state pieces.old blocks.old store.old pieces.new blocks.new store.new
-        (length scratch.now) (operation tick first bytes.now) (answer_by recorded result) }
+        (length scratch.now) (lent_operation op.entry) (answer_by recorded result) }
 {
     if scratch.len() < index::LEAST_SCRATCH {
         return Err(Refusal::Malformed);
@@ -62,24 +63,22 @@ pub fn record_tested(
     if !counts_fit(pieces, blocks) {
         return Err(Refusal::Malformed);
     }
-    index_record::record_open(pieces, blocks, store, tick, first, bytes)
+    index_record::record_open(pieces, blocks, store, op)
 }
 
 // The live blocks whose first cell is in [start, end) at a tick.
 pub fn find_tested(
     state: State,
-    blocks: &[u64],
-    nodes: &[u64],
-    entries: &[u64],
+    closed: &Closed<'_>,
     tick: u64,
     start: u64,
     end: u64,
     answer: &mut [u64],
 ) -> Result<Found, Refusal>
-    ensures { FoundTested state blocks.now nodes.now entries.now tick start end answer.old answer.new (answer_by counts_given result) }
+    ensures { FoundTested state closed.now.blocks.now closed.now.nodes.now closed.now.entries.now tick start end answer.old answer.new (answer_by counts_given result) }
 {
     state.closed()?;
-    index_read::find_closed(blocks, nodes, entries, tick, start, end, answer)
+    index_read::find_closed(closed, tick, start, end, answer)
 }
 
 // A block whose bytes lie in the store; any other is refused 2.
@@ -126,11 +125,13 @@ pub fn block_bytes_tested<'a>(
 }
 
 // What the test finds is true of the tables.
+#[tactic(auto, using(crate::proofs::Keeping::test_keeps))]
 pub fn test_keeps()
     ensures { TestKeeps }
 {}
 
 // An accepted finish of an open index leaves a closed one.
+#[tactic(auto, using(crate::proofs::Closing::finish_closes))]
 pub fn finish_closes()
     ensures { FinishCloses }
 {}

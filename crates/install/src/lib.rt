@@ -12,9 +12,11 @@ ghost use Rattle.refusals.specs.Numbers.{answer_by};
 ghost use Rattle.history.specs.Results.{done};
 ghost use Rattle.install.specs.Answers.{InstalledOpen, DaysInstalled};
 
+use layout::Tables;
 use refusals::Refusal;
 
 // Installs a calendar into the tables of an open index, in place of the one before.
+#[tactic(auto, using(crate::proofs::Installing::openings))]
 pub fn install_open(blocks: &mut [u64], calendar: &[u64]) -> Result<(), Refusal>
     ensures { InstalledOpen blocks.old blocks.new calendar.now result }
 {
@@ -26,7 +28,7 @@ pub fn install_open(blocks: &mut [u64], calendar: &[u64]) -> Result<(), Refusal>
 }
 
 // Installs a calendar: seven times a count and eight windows, a count, and as many special days, each with its number, a count and eight windows. A
-// number past the slice's end is 0.
+// number past the slice's end is 0. The tables stand one by one, as in `index`; so in `install_days`.
 pub fn install_calendar(
     pieces: &[u64],
     blocks: &mut [u64],
@@ -39,11 +41,19 @@ pub fn install_calendar(
         (tables pieces.now blocks.old store.now nodes.now entries.now)
         (tables pieces.now blocks.new store.now nodes.now entries.now) (answer_by (λ _. done) result) }
 {
-    index_test::test(pieces, blocks, store, nodes, entries).open()?;
+    let lent = Tables {
+        pieces,
+        blocks,
+        store,
+        nodes,
+        entries,
+    };
+    index_test::test(lent).open()?;
     install_open(blocks, calendar)
 }
 
 // Installs a list of days into the tables of an open or a closed index, in place of the one before.
+#[tactic(auto, using(crate::proofs::InstallingDays::formed))]
 pub fn install_days_formed(blocks: &mut [u64], days: &[u64]) -> Result<(), Refusal>
     ensures { DaysInstalled blocks.old blocks.new days.now result }
 {
@@ -67,6 +77,13 @@ pub fn install_days(
         (tables pieces.now blocks.old store.now nodes.now entries.now)
         (tables pieces.now blocks.new store.now nodes.now entries.now) (answer_by (λ _. done) result) }
 {
-    index_test::test(pieces, blocks, store, nodes, entries).formed()?;
+    let lent = Tables {
+        pieces,
+        blocks,
+        store,
+        nodes,
+        entries,
+    };
+    index_test::test(lent).formed()?;
     install_days_formed(blocks, days)
 }

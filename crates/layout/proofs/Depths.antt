@@ -1,7 +1,5 @@
 -- The tree of pieces is not deep: one tree stands in the table, and it is balanced. Assumes nothing.
 use mathlib.Core.Path.{◌≡◌, ap, sym, ◌∙◌, subst}
-use mathlib.Core.List.{map}
-use Prim.Native.Nat.{ℕ}
 use native.Mathlib.Omega.{arith}
 use lib.ListN.{length, length-map}
 use Rattle.history.specs.Ledger.{Ledger}
@@ -14,7 +12,7 @@ use Rattle.piece_table.specs.Shown.{shown}
 use Rattle.layout.specs.Tables.{Tables}
 use Rattle.layout.specs.Encodes.{Encodes}
 use Rattle.layout.specs.Law.{ShallowTrees}
-use Rattle.layout.proofs.Unique.{shape_one}
+use Rattle.piece_table.proofs.Testing.{shape_one}
 
 module _ (t : Tables) (l : Ledger) (e : Encodes t l) (tree : Tree) (stands : Shape t.pieces (column t.pieces 0 pieces_root) tree) where
   same : e.linked.tree ≡ tree

@@ -4,9 +4,9 @@ use mathlib.Core.Path.{◌≡◌, refl, ap, sym, ◌∙◌, subst}
 use mathlib.Core.Bool.{true, false, true≢false}
 use mathlib.Core.Option.{Option, none, some}
 use mathlib.Core.List.{List}
-use Prim.Native.Nat.{ℕ, suc, ◌+◌, ◌*◌, ◌^◌, ◌<◌}
+use Prim.Native.Nat.{ℕ, suc, ◌+◌, ◌*◌, ◌<◌}
 use native.Mathlib.Omega.{arith}
-use lib.ListN.{length, get_or, replicate, length-replicate}
+use lib.ListN.{length, replicate, length-replicate}
 use Rattle.lists.specs.Lists.{All}
 use Rattle.lists.proofs.Lists.{all_map}
 use Rattle.lists.proofs.Numbers.{and_left}
@@ -14,17 +14,16 @@ use Rattle.history.specs.Lent.{row_width}
 use Rattle.history.specs.Words.{Block}
 use Rattle.history.specs.Tree as segment
 use Rattle.history.specs.Tree.{entries_in}
-use Rattle.history.specs.Ledger.{Ledger, is_some, finished}
+use Rattle.history.specs.Ledger.{Ledger, is_some}
 use Rattle.history.specs.Rules.{numbered, rule23}
-use Rattle.history.specs.Sound.{SoundBoard, SoundClosed, SoundTree, Sound, SoundForFinish}
+use Rattle.history.specs.Sound.{SoundBoard, SoundClosed, SoundTree, Sound}
 use Rattle.history.proofs.RulesLaws.{numbered_decides}
 use Rattle.history.proofs.TreeCounts.{entry_count_in}
 use Rattle.history.proofs.ByKind.{closed_rule_23}
 use Rattle.tables.specs.Columns.{block_base, block_first}
-use Rattle.block_table.specs.Blocks.{BlockRow, no_row}
 use Rattle.segment_table.specs.Closed.{first_cell_in, Closed}
 use Rattle.layout.specs.Tables.{Tables, tree_tables}
-use Rattle.layout.specs.Encodes.{TreeIn, Encodes}
+use Rattle.layout.specs.Encodes.{TreeIn}
 use Rattle.layout.specs.Law.{Word, Lendable, Encoded, TablesExist}
 use Rattle.layout.proofs.Lengths.{Heads, heads_fit}
 use Rattle.layout.proofs.ExistsTable.{word_at}

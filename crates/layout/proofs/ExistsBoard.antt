@@ -1,5 +1,5 @@
 -- The tables of a sound board: pieces, blocks and store, with any order column, node and entry table. Assumes nothing.
-use mathlib.Core.Path.{◌≡◌, refl, ap, sym, ◌∙◌, subst}
+use mathlib.Core.Path.{◌≡◌, ap, sym, ◌∙◌, subst}
 use mathlib.Core.Bool.{false}
 use mathlib.Core.Logic.{inl}
 use mathlib.Core.Option.{Option, none, some}
@@ -31,7 +31,7 @@ use Rattle.calendar_table.specs.Calendars.{CalendarIn, calendar_numbers}
 use Rattle.calendar_table.proofs.Calendars.{calendar-none, calendar_kept, written-length, installed_in_lem}
 use Rattle.layout.specs.Tables.{Tables, tables, lengths_of, head_at}
 use Rattle.layout.specs.Encodes.{state_of, TreeIn, Encodes}
-use Rattle.layout.specs.Law.{Word, Byte, Fits, NoneOrOfWords, DaysOfWords, Lendable}
+use Rattle.layout.specs.Law.{Word, Fits, NoneOrOfWords, DaysOfWords, Lendable}
 use Rattle.layout.proofs.Lengths.{lent_same, Heads, heads_fit}
 use Rattle.layout.proofs.ExistsTable.{table_by, table_by_length, word_at}
 use Rattle.layout.proofs.ExistsPieces.{PieceRows, piece-rows, piece_table, piece_table_length, piece_links, pieces_shown, pieces_inside, PieceWords, piece_table_words}

@@ -5,8 +5,9 @@ use mathlib.Core.List.{List, [], ◌∷◌, ◌++◌, map}
 use Prim.Native.Nat.{ℕ, zero, suc, ◌+◌, ◌*◌, ◌^◌, ◌≤◌, ◌<◌}
 use native.Mathlib.Omega.{arith}
 use lib.Dec.{ltb, eqb}
-use lib.ListN.{length, get_or, length-append}
+use lib.ListN.{length, get_or}
 use borrow.Author.Tests.{eq-eqb, ne_eqb, lt-ltb, le-ltb}
+use Rattle.merge_set.proofs.Frame.{height-rows}
 use Rattle.lists.specs.Lists.{All, all_nil, all_cons, Mem, here, there, Ascending, count_from}
 use Rattle.lists.proofs.Lists.{all_left, all_right, all_mem, all_at, mem_left, mem_right, count_from_length, ascending_distinct}
 use Rattle.lists.proofs.Counting.{map_from_at, all_count_from}
@@ -272,12 +273,6 @@ part-height link (node l x r) = choose (eqb link x) (ltb link x) (part-height li
     choose false true p q = omega arith
     choose false false p q = omega arith
 
--- a tree is no higher than its links are many
-height-length : (T : Tree) → height T ≤ length (rows T)
-unfolding height rows
-height-length leaf = omega arith
-height-length (node l x r) = omega (arith, height-length l, height-length r, length-append (rows l) (x ∷ rows r))
-
 root_word : (T : Tree) → All Word (rows T) → root_of T < 2 ^ 64
 unfolding rows root_of
 root_word leaf a = omega arith
@@ -316,7 +311,7 @@ piece_table_words many ps few a = table_by_words 0 many (piece_row ps) words
     links = rw (tree_to_rows (length ps)) (all_count_from 1 (length ps) (λ k h l. omega arith))
 
     low : height (tree_to (length ps)) ≤ length ps
-    low = omega (arith, height-length (tree_to (length ps)), ap length (tree_to_rows (length ps)), count_from_length 1 (length ps))
+    low = omega (arith, height-rows (tree_to (length ps)), ap length (tree_to_rows (length ps)), count_from_length 1 (length ps))
 
     none : PieceWords no_piece
     none = record { first = omega arith; size = omega arith; written = omega arith; offset = omega arith; owner = omega arith }

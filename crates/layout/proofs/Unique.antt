@@ -4,11 +4,11 @@ use mathlib.Core.Option.{Option, none, some}
 use mathlib.Core.List.{List, map}
 use Prim.Native.Nat.{ℕ}
 use native.Mathlib.Omega.{arith}
+use Rattle.piece_table.proofs.Testing.{shape_one}
 use Rattle.history.specs.Tree as segment
 use Rattle.history.specs.Ledger.{Ledger}
-use Rattle.tables.specs.Columns.{column, piece_left, piece_right, pieces_root}
-use Rattle.merge_set.specs.Tree.{Tree, leaf, node, height, rows}
-use Rattle.merge_set.specs.Table.{Shape}
+use Rattle.tables.specs.Columns.{column, pieces_root}
+use Rattle.merge_set.specs.Tree.{rows}
 use Rattle.piece_table.specs.Piece.{piece_at}
 use Rattle.piece_table.specs.Rep.{Links}
 use Rattle.piece_table.specs.Shown.{shown}
@@ -20,19 +20,7 @@ use Rattle.layout.specs.Encodes.{state_of, TreeIn, Encodes}
 
 -- ── pieces ──
 
--- the tree below a link is told by the columns left and right
-pub shape_one : (t : List ℕ) (link : ℕ) (T T' : Tree) → Shape t link T → Shape t link T' → T ≡ T'
-unfolding Shape height
-shape_one t link leaf leaf h k = refl
-shape_one t link leaf (node a x b) h k = absurd (omega (arith, h, k.is, k.valid.some))
-shape_one t link (node a x b) leaf h k = absurd (omega (arith, k, h.is, h.valid.some))
-shape_one t link (node a x b) (node a' x' b') h k =
-    let x_same : x ≡ x' = sym h.is ∙ k.is in
-    let a_same : a ≡ a' = shape_one t (column t x piece_left) a a' h.left (rw x_same k.left) in
-    let b_same : b ≡ b' = shape_one t (column t x piece_right) b b' h.right (rw x_same k.right) in
-    rw (x_same, a_same, b_same)
-
--- so are the links, and the table has one list of them
+-- a table has one list of links
 pub links_one : (pieces xs ys : List ℕ) → Links pieces xs → Links pieces ys → xs ≡ ys
 links_one pieces xs ys h k = sym h.is ∙ ap rows (shape_one pieces (column pieces 0 pieces_root) h.tree k.tree h.shape k.shape) ∙ k.is
 

@@ -3,6 +3,7 @@ use Rattle.std.specs.Prelude.{List, ℕ, length}
 use Rattle.history.specs.Lent.{Lent}
 use Rattle.tables.specs.Columns.{block_column}
 use Rattle.segment_table.specs.Closed as closed
+use Rattle.layout.specs.declared.Tables.{Tables as LentTables}
 
 -- pieces, blocks, nodes and entries are tables of numbers; the store has bytes
 pub record Tables : Type 0 where
@@ -14,6 +15,10 @@ pub record Tables : Type 0 where
 
 abbrev pub tables : (pieces blocks store nodes entries : List ℕ) → Tables
 tables p b s n e = record { pieces = p; blocks = b; store = s; nodes = n; entries = e }
+
+-- what a call reads of the tables that it is lent
+abbrev pub held : LentTables → Tables
+held t = tables t.pieces.now t.blocks.now t.store.now t.nodes.now t.entries.now
 
 abbrev pub lengths_of : Tables → Lent
 lengths_of t =

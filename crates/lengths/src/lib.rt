@@ -9,6 +9,7 @@ ghost use Rattle.std.specs.Prelude.{◌≡◌, ◌+◌, ◌*◌, ◌^◌, ◌≤
 ghost use Rattle.lengths.specs.Lengths.{length_for, LengthsHold};
 
 // Table 0 pieces, 1 blocks, 2 store, 3 nodes, 4 entries, 5 scratch; 0 for any other, and where the length is no 64-bit number, as C asks.
+// C calls it, so that it has numbers alone; behind it the length is an Option.
 #[tactic(auto, unfolding(crate::specs::Lengths::length_for, crate::specs::Lengths::whole))]
 pub fn length_for(table: u64, rows: u64) -> u64
     ensures { result ≡ length_for table rows }

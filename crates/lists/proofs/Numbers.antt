@@ -1,5 +1,5 @@
 -- Two numbers compared, as a sum of cases; a test's two outcomes; a test turned into a decision. Assumes nothing.
-use mathlib.Core.Path.{◌≡◌, refl, sym}
+use mathlib.Core.Path.{◌≡◌, refl, sym, ◌∙◌}
 use mathlib.Core.Logic.{◌⊎◌, inl, inr, ⊎_elim}
 use mathlib.Core.Bool.{Bool, true, false, ◌&&◌, ◌||◌, not, cond, true≢false, false≢true}
 use Prim.Native.Nat.{ℕ, suc, ◌-◌, ◌≤◌, ◌<◌}
@@ -14,6 +14,11 @@ use Rattle.lists.specs.Tests.{Decides}
 pub bool_cases : (t : Bool) → (t ≡ true) ⊎ (t ≡ false)
 bool_cases true = inl refl
 bool_cases false = inr refl
+
+-- a test counts one at most
+pub counts_one : (t : Bool) → cond t 1 0 ≤ 1
+counts_one true = omega arith
+counts_one false = omega arith
 
 -- two numbers, in either order
 pub le_or_lt : (a b : ℕ) → (a ≤ b) ⊎ (b < a)
@@ -91,6 +96,10 @@ decides_and false b p q = refute (λ z. p.not refl z.0)
 pub decides_not : {P : Type 0} (a : Bool) → Decides a P → Decides (not a) (P → ⊥)
 decides_not true p = refute (λ f. f (p.yes refl))
 decides_not false p = confirm (p.not refl)
+
+-- a test decides that it is true
+pub decides_itself : (t : Bool) → Decides t (t ≡ true)
+decides_itself t = record { yes = λ e. e; not = λ e h. true≢false (sym h ∙ e) }
 
 -- what is decided to hold has a true test
 pub decided : {P : Type 0} (a : Bool) → Decides a P → P → a ≡ true

@@ -96,7 +96,7 @@ higher_by t l r n d e ed ee = record { says = λ A B sa sb. go (height A) (heigh
 -- ── `join` ──
 
 -- a store, read in its own column and in an earlier one
-column_put : (t : List ℕ) (x d v : ℕ) → d < row_width → Valid t x → column (set t (row_width * x + d) v) x d ≡ v
+pub column_put : (t : List ℕ) (x d v : ℕ) → d < row_width → Valid t x → column (set t (row_width * x + d) v) x d ≡ v
 column_put t x d v h w = get_or-set_same t (row_width * x + d) v 0 (omega arith)
 
 column-past : (t : List ℕ) (x c d v : ℕ) → c < d → column (set t (row_width * x + d) v) x c ≡ column t x c

@@ -1,5 +1,7 @@
 // The pieces in order: a balanced tree over the rows of a lent table. Ports merge_set.rs, whose merging of overlaps is `recording`'s work here.
 //
+// Links are numbers, 0 for no row, and no Options: what a function gives is stored in a column of the tree.
+//
 //   specs/Tree        the model: trees of links, each operation a function
 //   specs/Table       which tree stands in the table, and what each function ensures
 //   proofs/Links      lists of links: one put in, one left out, one exchanged
@@ -10,9 +12,9 @@
 
 #![tactic(auto)]
 
-ghost use Rattle.std.specs.Prelude.{◌≡◌, ℕ, ◌<◌};
+ghost use Rattle.std.specs.Prelude.{◌≡◌, ◌<◌};
 ghost use Rattle.tables.specs.Columns.{column, piece_left, piece_right};
-ghost use Rattle.merge_set.specs.Tree.{Tree, node, rotated_left, rotated_right, updated};
+ghost use Rattle.merge_set.specs.Tree.{node, rotated_left, rotated_right, updated};
 ghost use Rattle.merge_set.specs.Table.{StartsBelow, StartsBefore, deep_at, Made, Higher, Inserted, Least, WithoutLeast, Glued, Removed, Relinked, CopiedRow};
 
 use tables::piece::{DEPTH, FIRST, LEFT, RIGHT};
@@ -106,6 +108,7 @@ fn update(table: &mut [u64], left: u64, row: u64, right: u64, turns: u64) -> u64
 }
 
 // Turns left: the root of the tree at `right` becomes the root.
+// A function for each way: one over a side would ask at each step which columns are meant.
 #[tactic(auto, using(crate::proofs::Turns::turning))]
 #[cycle(rotate_left_rotate_right_update)]
 fn rotate_left(table: &mut [u64], left: u64, row: u64, right: u64, turns: u64) -> u64
@@ -221,6 +224,7 @@ pub fn remove(table: &mut [u64], link: u64, row: u64, fuel: u64) -> u64
 }
 
 // Makes the row `new` a copy of the row `old`, which is another.
+// Column by column: std copies within a slice only where both rows stand in it.
 pub fn copy_row(table: &mut [u64], old: u64, new: u64)
     requires { new ≡ old → ⊥ }
     ensures { CopiedRow table.old table.new old new }

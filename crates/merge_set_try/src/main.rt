@@ -90,8 +90,9 @@ fn build(table: &mut [u64], start: u64, step: u64)
 // Removes every second piece.
 fn thin(table: &mut [u64]) {
     for pair in 0..PIECES / 2 {
-        let link = piece_table::seek(table, APART * (2 * pair + 1));
-        piece_table::remove_piece(table, link);
+        if let Some(link) = piece_table::seek(table, APART * (2 * pair + 1)) {
+            piece_table::remove_piece(table, link);
+        }
     }
 }
 
@@ -102,8 +103,8 @@ fn found(table: &[u64]) -> usize {
 
 // Whether the lowest piece that ends after a cell starts there.
 fn starts_at(table: &[u64], cell: u64) -> bool {
-    let link = piece_table::seek(table, cell);
-    link != 0 && tables::get(table, link, piece::FIRST) == cell
+    piece_table::seek(table, cell).is_some_and(|link| tables::get(table, link, piece::FIRST)
+        == cell)
 }
 
 // Writes a row as it may stand in a table that nobody has tested.

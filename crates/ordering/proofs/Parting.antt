@@ -5,6 +5,7 @@ use mathlib.Core.List.{List, [], ◌∷◌}
 use Prim.Native.Nat.{ℕ, ◌-◌, ◌≤◌, ◌<◌, max, ◌^◌}
 use native.Mathlib.Omega.{arith}
 use borrow.Author.Tests.{ltb-true, ltb-false, not-true, not-false}
+use lib.Dec.{ltb}
 use lib.ListN.{length}
 use Rattle.lists.specs.Lists.{all_nil, all_cons, pairs_nil, pairs_cons, Mem, here, there}
 use Rattle.lists.specs.Tests.{Decides}
@@ -63,9 +64,11 @@ module _ {t : List ℕ} {j k fuel : ℕ} where
       go [] h = confirm all_nil
       go (x ∷ xs) h = absurd (omega arith)
 
-  pub followers_lifeless : {c d : ℕ} → c ≡ created_at t j → d ≡ destroyed_at t j → d ≤ c → FollowersApart t j k fuel true
-  followers_lifeless ec ed h = record {
-    decides = λ n links small f tr fits. confirm (all_of_mem links (λ y m c. omega (arith, c.one.born, c.one.alive)));
+  pub followers_lifeless : {c d : ℕ} {l : Bool} → c ≡ created_at t j → d ≡ destroyed_at t j → l ≡ ltb c d → l ≡ false → FollowersApart t j k fuel true
+  followers_lifeless {c} {d} ec ed el h = record {
+    decides = λ n links small f tr fits.
+        let ended : d ≤ c = ltb-false c d (sym el ∙ h) in
+        confirm (all_of_mem links (λ y m x. omega (arith, x.one.born, x.one.alive)));
   }
 
   pub followers_none : k ≡ 0 → FollowersApart t j k fuel true
@@ -119,12 +122,12 @@ module _ {t : List ℕ} {j k fuel : ℕ} where
 pub record FollowersAhead (t : List ℕ) (j k₀ fuel₀ k fuel : ℕ) : Type 0 where
   pub whole : (r : Bool) → FollowersApart t j k fuel r → FollowersApart t j k₀ fuel₀ r
 
-pub followers_start : {t : List ℕ} {j k fuel : ℕ} → FollowersAhead t j k fuel k fuel
-followers_start = record { whole = λ r a. a }
+pub followers_start : {t : List ℕ} {j k fuel left : ℕ} → left ≡ fuel → FollowersAhead t j k fuel k left
+followers_start e = record { whole = λ r a. rw e at a }
 
 pub followers_turn : {t : List ℕ} {j k₀ fuel₀ k fuel next : ℕ} {s : Bool} → FollowersAhead t j k₀ fuel₀ k fuel → (k ≡ 0 → ⊥)
-    → Decides s (LivesMeet t j k) → s ≡ false → next ≡ next_at t k → FollowersAhead t j k₀ fuel₀ next (fuel - 1)
-followers_turn a nz e g en = record { whole = λ r rest. a.whole r (followers_more nz e g en rest) }
+    → Decides s (LivesMeet t j k) → s ≡ false → next ≡ next_at t k → {left : ℕ} → left ≡ fuel - 1 → FollowersAhead t j k₀ fuel₀ next left
+followers_turn a nz e g en f = record { whole = λ r rest. a.whole r (followers_more nz e g en (rw f at rest)) }
 
 pub followers_end : {t : List ℕ} {j k₀ fuel₀ k fuel : ℕ} {r : Bool} → FollowersAhead t j k₀ fuel₀ k fuel → FollowersApart t j k fuel r
     → FollowersApart t j k₀ fuel₀ r
@@ -149,8 +152,8 @@ module _ {t : List ℕ} {k fuel : ℕ} where
       go n low [] (end e) = confirm pairs_nil
       go n low (x ∷ xs) (link e a b up r) = absurd (omega arith)
 
-  pub rows_clash : {next : ℕ} {q : Bool} → (k ≡ 0 → ⊥) → next ≡ next_at t k → FollowersApart t k next (fuel - 1) q → q ≡ false → RowsApart t k fuel false
-  rows_clash {next} {q} nz en d f = record { decides = go }
+  pub rows_clash : {next left : ℕ} {q : Bool} → (k ≡ 0 → ⊥) → next ≡ next_at t k → FollowersApart t k next left q → q ≡ false → left ≡ fuel - 1 → RowsApart t k fuel false
+  rows_clash {next} {left} {q} nz en d f is = record { decides = go }
     where
       go : (n low : ℕ) (xs : List ℕ) → n < 2 ^ 64 → Filled t n → Trail t 0 n low k xs → length xs ≤ fuel → Decides false (AllClear t xs)
       go n low [] small fill (end z) fits = absurd (nz z)
@@ -180,12 +183,12 @@ module _ {t : List ℕ} {k fuel : ℕ} where
 pub record RowsAhead (t : List ℕ) (k₀ fuel₀ k fuel : ℕ) : Type 0 where
   pub whole : (r : Bool) → RowsApart t k fuel r → RowsApart t k₀ fuel₀ r
 
-pub rows_start : {t : List ℕ} {k fuel : ℕ} → RowsAhead t k fuel k fuel
-rows_start = record { whole = λ r a. a }
+pub rows_start : {t : List ℕ} {k fuel left : ℕ} → left ≡ fuel → RowsAhead t k fuel k left
+rows_start e = record { whole = λ r a. rw e at a }
 
 pub rows_turn : {t : List ℕ} {k₀ fuel₀ k fuel next : ℕ} {q : Bool} → RowsAhead t k₀ fuel₀ k fuel → (k ≡ 0 → ⊥) → next ≡ next_at t k
-    → FollowersApart t k next (fuel - 1) q → q ≡ true → RowsAhead t k₀ fuel₀ next (fuel - 1)
-rows_turn a nz en d f = record { whole = λ r rest. a.whole r (rows_more nz en d f rest) }
+    → {left : ℕ} → FollowersApart t k next left q → q ≡ true → left ≡ fuel - 1 → RowsAhead t k₀ fuel₀ next left
+rows_turn a nz en d f e = record { whole = λ r rest. a.whole r (rows_more nz en (rw e at d) f (rw e at rest)) }
 
 pub rows_end : {t : List ℕ} {k₀ fuel₀ k fuel : ℕ} {r : Bool} → RowsAhead t k₀ fuel₀ k fuel → RowsApart t k fuel r → RowsApart t k₀ fuel₀ r
 rows_end {r = r} a b = a.whole r b

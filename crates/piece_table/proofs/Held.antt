@@ -3,6 +3,8 @@ use mathlib.Core.List.{List, [], ◌∷◌, ◌++◌, map, append-nil}
 use mathlib.Core.Path.{◌≡◌, refl, sym, ap, ap₂, subst, ◌∙◌}
 use Prim.Native.Nat.{ℕ, ◌≤◌, ◌<◌}
 use native.Mathlib.Omega.{arith}
+use Rattle.std.specs.Prelude.{Some}
+use Rattle.std.proofs.lemmas.Option.{same_Some}
 use Rattle.lists.proofs.Maps.{map-append}
 use Rattle.lists.specs.Lists.{here, all_cons}
 use Rattle.lists.proofs.Lists.{all_head, all_right}
@@ -66,10 +68,10 @@ past_once place (o ∷ os) (q ∷ qs) a p bs rs (all_cons _ l) (all_cons _ m) h 
     let s : (os ≡ qs) × (bs ≡ rs) = past_once place os qs a p bs rs l m h k w in
     (ap₂ ◌∷◌ z s.0, s.1)
 
-pub sought_around : {t : List ℕ} {place link : ℕ} (qs : List PieceRow) (p : PieceRow) (rs : List PieceRow) → Sought t place link → Rep t (qs ++ p ∷ rs) → Left place qs → place < row_end p → Around t link qs rs
+pub sought_around : {t : List ℕ} {place link : ℕ} (qs : List PieceRow) (p : PieceRow) (rs : List PieceRow) → Sought t place (Some link) → Rep t (qs ++ p ∷ rs) → Left place qs → place < row_end p → Around t link qs rs
 sought_around {t} {place} {link} qs p rs s r l h = go m.back refl
   where
-    m : Met t place link r.links
+    m : Met t place (Some link) r.links
     m = s.says r.links r.linked
 
     go : (back : List ℕ) → m.back ≡ back → Around t link qs rs
@@ -77,10 +79,11 @@ sought_around {t} {place} {link} qs p rs s r l h = go m.back refl
         let z : Left place (qs ++ p ∷ rs) = rw (← r.pieces, m.is, e, append-nil m.front) m.left in
         absurd (omega (arith, all_head (all_right qs (p ∷ rs) z)))
     go (x ∷ ys) e =
-        let k : (link ≡ x) × (place < end_at t x) = rw e at m.head in
-        let i : r.links ≡ m.front ++ link ∷ ys = subst (λ (z : ℕ). r.links ≡ m.front ++ z ∷ ys) (sym k.0) (rw e at m.is) in
+        let k : (Some link ≡ Some x) × (place < end_at t x) = rw e at m.head in
+        let same : link ≡ x = same_Some link x k.0 in
+        let i : r.links ≡ m.front ++ link ∷ ys = subst (λ (z : ℕ). r.links ≡ m.front ++ z ∷ ys) (sym same) (rw e at m.is) in
         let is : map (piece_at t) m.front ++ piece_at t link ∷ map (piece_at t) ys ≡ qs ++ p ∷ rs = sym (map-append (piece_at t) m.front (link ∷ ys)) ∙ ap (map (piece_at t)) (sym i) ∙ r.pieces in
-        let o : (map (piece_at t) m.front ≡ qs) × (map (piece_at t) ys ≡ rs) = past_once place (map (piece_at t) m.front) qs (piece_at t link) p (map (piece_at t) ys) rs m.left l (subst (λ (z : ℕ). place < end_at t z) (sym k.0) k.1) h is in
+        let o : (map (piece_at t) m.front ≡ qs) × (map (piece_at t) ys ≡ rs) = past_once place (map (piece_at t) m.front) qs (piece_at t link) p (map (piece_at t) ys) rs m.left l (subst (λ (z : ℕ). place < end_at t z) (sym same) k.1) h is in
         record { xs = m.front; ys = ys; linked = rw i at r.linked; front = o.0; back = o.1 }
 
 -- ── the contracts by pieces ──

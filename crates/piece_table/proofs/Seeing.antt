@@ -3,19 +3,18 @@
 use mathlib.Core.Path.{◌≡◌, refl, sym, ap, subst, ◌∙◌}
 use mathlib.Core.List.{List, [], ◌∷◌, ◌++◌, map, append-nil}
 use Prim.Native.Nat.{ℕ, ◌<◌}
-use native.Mathlib.Omega.{arith}
 use lib.ListN.{length, length-map}
-use Rattle.lists.specs.Lists.{Mem, here, All, all_nil}
+use Rattle.std.specs.Prelude.{Option, Some, None}
+use Rattle.std.proofs.lemmas.Option.{none-some, same_Some}
+use Rattle.lists.specs.Lists.{All, all_nil}
 use Rattle.lists.proofs.Lists.{all_left}
 use Rattle.lists.proofs.Maps.{map-append}
 use Rattle.tables.specs.Columns.{column, pieces_count}
-use Rattle.merge_set.proofs.Links.{put_at, mem_unput}
 use Rattle.piece_table.specs.Piece.{PieceRow, row_end, piece_at, rows_below, rows_above, Filled, Follow}
 use Rattle.piece_table.specs.Rep.{Linked, Rep, Becomes}
 use Rattle.piece_table.specs.Calls.{end_at, Met, Sought}
 use Rattle.piece_table.proofs.Order.{follow_filled, follow_from}
 use Rattle.piece_table.proofs.Parts.{Left, apart}
-use Rattle.piece_table.proofs.Removing.{linked_valid}
 
 -- ── what a search sees ──
 
@@ -38,32 +37,31 @@ pub record Seen (t : List ℕ) (place link : ℕ) (ps : List PieceRow) : Type 0 
   pub after : Follow (row_end (piece_at t link)) (map (piece_at t) ys)
   pub few : length (xs ++ link ∷ ys) ≡ length ps
 
-module _ {t : List ℕ} {place link : ℕ} {ps : List PieceRow} (s : Sought t place link) (r : Rep t ps) where
-  pub seen_none : link ≡ 0 → Left place ps
+module _ {t : List ℕ} {place : ℕ} {out : Option ℕ} {ps : List PieceRow} (s : Sought t place out) (r : Rep t ps) where
+  pub seen_none : out ≡ None → Left place ps
   seen_none z = go (s.says r.links r.linked).back refl
     where
-      m : Met t place link r.links
+      m : Met t place out r.links
       m = s.says r.links r.linked
 
       go : (back : List ℕ) → m.back ≡ back → Left place ps
       go [] e = rw (← r.pieces, m.is, e, append-nil m.front) m.left
       go (x ∷ ys) e =
-          let h : (link ≡ x) × (place < end_at t x) = rw e at m.head in
-          let i : r.links ≡ m.front ++ x ∷ ys = rw e at m.is in
-          let v : Mem x r.links = rw i (mem_unput (put_at x m.front ys) (here refl)) in
-          absurd (omega (arith, h.0, (linked_valid r.linked v).some))
+          let h : (out ≡ Some x) × (place < end_at t x) = rw e at m.head in
+          absurd (none-some x (sym z ∙ h.0))
 
-  pub seen-some : (link ≡ 0 → ⊥) → Seen t place link ps
-  seen-some nz = go (s.says r.links r.linked).back refl
+  pub seen-some : {link : ℕ} → out ≡ Some link → Seen t place link ps
+  seen-some {link} there = go (s.says r.links r.linked).back refl
     where
-      m : Met t place link r.links
+      m : Met t place out r.links
       m = s.says r.links r.linked
 
       go : (back : List ℕ) → m.back ≡ back → Seen t place link ps
-      go [] e = let h : link ≡ 0 = rw e at m.head in absurd (nz h)
+      go [] e = let h : out ≡ None = rw e at m.head in absurd (none-some link (sym h ∙ there))
       go (x ∷ ys) e =
-          let h : (link ≡ x) × (place < end_at t x) = rw e at m.head in
-          let i : r.links ≡ m.front ++ link ∷ ys = subst (λ (z : ℕ). r.links ≡ m.front ++ z ∷ ys) (sym h.0) (rw e at m.is) in
+          let h : (out ≡ Some x) × (place < end_at t x) = rw e at m.head in
+          let same : link ≡ x = same_Some link x (sym there ∙ h.0) in
+          let i : r.links ≡ m.front ++ link ∷ ys = subst (λ (z : ℕ). r.links ≡ m.front ++ z ∷ ys) (sym same) (rw e at m.is) in
           let is : ps ≡ map (piece_at t) m.front ++ piece_at t link ∷ map (piece_at t) ys = sym r.pieces ∙ ap (map (piece_at t)) i ∙ map-append (piece_at t) m.front (link ∷ ys) in
           let f : Follow 0 (map (piece_at t) m.front ++ piece_at t link ∷ map (piece_at t) ys) = rw is at (rep_follow r) in
           let g : Filled (piece_at t link) × Follow (row_end (piece_at t link)) (map (piece_at t) ys) = follow_from 0 (map (piece_at t) m.front) (piece_at t link) (map (piece_at t) ys) f in
@@ -73,7 +71,7 @@ module _ {t : List ℕ} {place link : ℕ} {ps : List PieceRow} (s : Sought t pl
             linked = rw i at r.linked;
             is = is;
             left = m.left;
-            past = subst (λ (z : ℕ). place < end_at t z) (sym h.0) h.1;
+            past = subst (λ (z : ℕ). place < end_at t z) (sym same) h.1;
             filled = all_left (map (piece_at t) m.front) (piece_at t link ∷ map (piece_at t) ys) (follow_filled 0 (map (piece_at t) m.front ++ piece_at t link ∷ map (piece_at t) ys) f);
             whole = g.0;
             after = g.1;

@@ -7,21 +7,24 @@ use Prim.Native.Nat.{ℕ, ◌-◌, ◌/◌, ◌≤◌, ◌<◌}
 use native.Mathlib.Omega.{arith}
 use lib.Dec.{ltb}
 use lib.ListN.{length}
-use borrow.Author.Tests.{le-ltb, ltb-true, ltb-false}
+use borrow.Author.Tests.{le-ltb, lt-ltb, ltb-true, ltb-false}
+use Rattle.std.specs.Prelude.{Option, Some, None}
+use Rattle.std.proofs.lemmas.Option.{none-some}
 use Rattle.lists.proofs.Lists.{all_append, mem_split}
 use Rattle.lists.proofs.Maps.{map-append}
 use Rattle.lists.specs.Lists.{All, all_nil, all_cons, Mem, here, there, Ascending}
 use Rattle.lists.specs.Tests.{Decides}
 use Rattle.tables.specs.Columns.{column, piece_length, piece_first, pieces_root, pieces_count, piece_right, piece_left}
-use Rattle.merge_set.proofs.Links.{Put, found}
+use Rattle.merge_set.proofs.Links.{Put, found, put_at, mem_unput}
 use Rattle.merge_set.proofs.Order.{ascending_left, ascending_right, ascending_across, ascending_tail}
 use Rattle.merge_set.specs.Table.{Shape, first_at}
 use Rattle.merge_set.specs.Tree.{Tree, leaf, node, height, rows}
 use Rattle.piece_table.proofs.Order.{follow_ends}
-use Rattle.piece_table.proofs.Removing.{linked_depth, linked_dense}
-use Rattle.piece_table.specs.Calls.{end_at, EndsPast, sought, first_past, SoughtFrom, Met, Sought, HasCell, HasEnded}
+use Rattle.piece_table.proofs.Removing.{linked_depth, linked_dense, linked_valid}
+use Rattle.piece_table.specs.Calls.{end_at, EndsPast, sought, first_past, SoughtFrom, Heads, Met, IfAny, link_of, Sought, HasCell, HasEnded}
 use Rattle.piece_table.specs.Piece.{PieceRow, row_end, piece_at, Follow}
 use Rattle.piece_table.specs.Rep.{Linked}
+use Rattle.piece_table.specs.declared.Found.{Found}
 
 -- ── the model ──
 
@@ -54,13 +57,25 @@ module _ (end : ℕ → ℕ) (place : ℕ) where
           past_next : ltb place (end x) ≡ false → first_past end place best (x ∷ rows B) ≡ first_past end place best (rows B)
           past_next e = rw e
 
+-- the search goes on bare links: where it found none, its number is 0
+abbrev HeadsAt : (t : List ℕ) (place out : ℕ) → List ℕ → Type 0
+HeadsAt t place out [] = out ≡ 0
+HeadsAt t place out (x ∷ xs) = (out ≡ x) × (place < end_at t x)
+
+record MetAt (t : List ℕ) (place out : ℕ) (links : List ℕ) : Type 0 where
+  front : List ℕ
+  back : List ℕ
+  is : links ≡ front ++ back
+  left : All (λ (p : PieceRow). row_end p ≤ place) (map (piece_at t) front)
+  head : HeadsAt t place out back
+
 -- the list splits where the first that ends past the place stands
-pub met : (t : List ℕ) (place : ℕ) (xs : List ℕ) → Met t place (first_past (end_at t) place 0 xs) xs
+met : (t : List ℕ) (place : ℕ) (xs : List ℕ) → MetAt t place (first_past (end_at t) place 0 xs) xs
 unfolding first_past
 met t place [] = record { front = []; back = []; is = refl; left = all_nil; head = refl }
 met t place (x ∷ xs) = go (ltb place (end_at t x)) refl (met t place xs)
   where
-    go : (q : Bool) → ltb place (end_at t x) ≡ q → Met t place (first_past (end_at t) place 0 xs) xs → Met t place (cond q x (first_past (end_at t) place 0 xs)) (x ∷ xs)
+    go : (q : Bool) → ltb place (end_at t x) ≡ q → MetAt t place (first_past (end_at t) place 0 xs) xs → MetAt t place (cond q x (first_past (end_at t) place 0 xs)) (x ∷ xs)
     go true e m = record { front = []; back = x ∷ xs; is = refl; left = all_nil; head = (refl, ltb-true place (end_at t x) e) }
     go false e m =
         record {
@@ -77,8 +92,8 @@ met t place (x ∷ xs) = go (ltb place (end_at t x)) refl (met t place xs)
 pub record Sinks (t : List ℕ) (link place best fuel at found left : ℕ) : Type 0 where
   pub rest : (o : ℕ) → SoughtFrom t at place found left o → SoughtFrom t link place best fuel o
 
-pub sinks_start : {t : List ℕ} {link place best fuel : ℕ} → Sinks t link place best fuel link best fuel
-sinks_start = record { rest = λ o s. s }
+pub sinks_start : {t : List ℕ} {link place best fuel left : ℕ} → left ≡ fuel → Sinks t link place best fuel link best left
+sinks_start e = record { rest = λ o s. rw e at s }
 
 module _ {t : List ℕ} {link place best fuel at found left : ℕ} (w : Sinks t link place best fuel at found left) where
   pub sinks_leaf : at ≡ 0 → SoughtFrom t link place best fuel found
@@ -106,9 +121,9 @@ module _ {t : List ℕ} {link place best fuel at found left : ℕ} (w : Sinks t 
       go (node a x b) s h = absurd (omega (arith, s.is, s.valid.room))
 
   module _ {q : Bool} {first size m : ℕ} (nz : at ≡ 0 → ⊥) (ef : first ≡ column t at piece_first) (es : size ≡ column t at piece_length) (eq : EndsPast first size place q) where
-    pub sinks_left : q ≡ true → m ≡ column t at piece_left → Sinks t link place best fuel m at (left - 1)
+    pub sinks_left : {after : ℕ} → q ≡ true → m ≡ column t at piece_left → after ≡ left - 1 → Sinks t link place best fuel m at after
     unfolding Shape height sought
-    sinks_left y em = record { rest = λ o p. w.rest o (record { says = go o p }) }
+    sinks_left y em less = record { rest = λ o p. w.rest o (record { says = go o (rw less at p) }) }
       where
         go : (o : ℕ) → SoughtFrom t m place at (left - 1) o → (T : Tree) → Shape t at T → height T ≤ left → o ≡ sought (end_at t) place found T
         go o p leaf s h = absurd (nz s)
@@ -117,9 +132,9 @@ module _ {t : List ℕ} {link place best fuel at found left : ℕ} (w : Sinks t 
             let p' : SoughtFrom t m place x (left - 1) o = rw s.is at p in
             rw test (p'.says A (rw (em, s.is) s.left) (omega arith))
 
-    pub sinks_right : q ≡ false → m ≡ column t at piece_right → Sinks t link place best fuel m found (left - 1)
+    pub sinks_right : {after : ℕ} → q ≡ false → m ≡ column t at piece_right → after ≡ left - 1 → Sinks t link place best fuel m found after
     unfolding Shape height sought
-    sinks_right n em = record { rest = λ o p. w.rest o (record { says = go o p }) }
+    sinks_right n em less = record { rest = λ o p. w.rest o (record { says = go o (rw less at p) }) }
       where
         go : (o : ℕ) → SoughtFrom t m place found (left - 1) o → (T : Tree) → Shape t at T → height T ≤ left → o ≡ sought (end_at t) place found T
         go o p leaf s h = absurd (nz s)
@@ -129,14 +144,34 @@ module _ {t : List ℕ} {link place best fuel at found left : ℕ} (w : Sinks t 
 
 -- ── `search` ──
 
-pub search_done : {t : List ℕ} {root place o : ℕ} → root ≡ column t 0 pieces_root → SoughtFrom t root place 0 92 o → Sought t place o
-search_done {t} {root} {place} {o} er p = record { says = go }
+-- what is found, of the number that the search ends with
+module _ {f : Found} {out : Option Found} (any : IfAny f out) where
+  told_none : f.link ≡ 0 → link_of out ≡ None
+  told_none z = let e : ltb 0 f.link ≡ false = rw z refl in rw (any.is, e) refl
+
+  told-some : {x : ℕ} → f.link ≡ x → 0 < x → link_of out ≡ Some x
+  told-some {x} e lt = let y : ltb 0 f.link ≡ true = rw e (lt-ltb 0 x lt) in rw (any.is, y) (ap Some e)
+
+  met_told : {t : List ℕ} {place : ℕ} {xs : List ℕ} → Linked t xs → MetAt t place f.link xs → Met t place (link_of out) xs
+  met_told {t} {place} {xs} r m = record { front = m.front; back = m.back; is = m.is; left = m.left; head = go m.back refl }
+    where
+      go : (back : List ℕ) → m.back ≡ back → Heads t place (link_of out) back
+      go [] e = let h : f.link ≡ 0 = rw e at m.head in told_none h
+      go (x ∷ ys) e =
+          let h : (f.link ≡ x) × (place < end_at t x) = rw e at m.head in
+          let i : xs ≡ m.front ++ x ∷ ys = rw e at m.is in
+          let v : Mem x xs = rw i (mem_unput (put_at x m.front ys) (here refl)) in
+          (told-some h.0 (linked_valid r v).some, h.1)
+
+pub search_done : {t : List ℕ} {root place : ℕ} {f : Found} {out : Option Found} → root ≡ column t 0 pieces_root → IfAny f out → SoughtFrom t root place 0 92 f.link
+    → Sought t place (link_of out)
+search_done {t} {root} {place} {f} {out} er any p = record { says = go }
   where
-    go : (xs : List ℕ) → Linked t xs → Met t place o xs
+    go : (xs : List ℕ) → Linked t xs → Met t place (link_of out) xs
     go xs r =
         let asc : Ascending (end_at t) (rows r.dense.tree) = rw r.dense.is (follow_ends (piece_at t) 0 xs r.order) in
-        let e : o ≡ first_past (end_at t) place 0 xs = p.says r.dense.tree (rw er r.dense.shape) (linked_depth r) ∙ sought-rows (end_at t) place 0 r.dense.tree asc ∙ ap (first_past (end_at t) place 0) r.dense.is in
-        rw e (met t place xs)
+        let e : f.link ≡ first_past (end_at t) place 0 xs = p.says r.dense.tree (rw er r.dense.shape) (linked_depth r) ∙ sought-rows (end_at t) place 0 r.dense.tree asc ∙ ap (first_past (end_at t) place 0) r.dense.is in
+        met_told any r (rw e (met t place xs))
 
 -- ── `search_next` ──
 
@@ -163,10 +198,10 @@ standing {t} {xs} {link} r some within =
     record { front = us; back = bs; is = put.1.with_it; before = λ place h. (before_first (map (piece_at t) us) (piece_at t link) (map (piece_at t) bs) 0 place f h).1 }
 
 -- the piece that has the place is the lowest that ends past it
-pub search_next_here : {t : List ℕ} {place near : ℕ} {q : Bool} → Decides q (HasCell t near place) → q ≡ true → Sought t place near
+pub search_next_here : {t : List ℕ} {place near : ℕ} {q : Bool} → Decides q (HasCell t near place) → q ≡ true → Sought t place (Some near)
 search_next_here {t} {place} {near} d y = record { says = go }
   where
-    go : (xs : List ℕ) → Linked t xs → Met t place near xs
+    go : (xs : List ℕ) → Linked t xs → Met t place (Some near) xs
     go xs r =
         let h : HasCell t near place = d.yes y in
         let s : Standing t near xs = standing r h.some h.within in
@@ -210,11 +245,17 @@ behind t x k (node A y B) s m = go (behind t x (column t y piece_left) A s.left)
         }
 
 -- where the piece of `near` ends before the place, the lowest right below it that ends past the place is the lowest of all
-pub search_next_below : {t : List ℕ} {place near right o : ℕ} {q : Bool} → Decides q (HasEnded t near place) → q ≡ true → right ≡ column t near piece_right → SoughtFrom t right place 0 92 o → (o ≡ 0 → ⊥)
-    → Sought t place o
-search_next_below {t} {place} {near} {right} {o} d y er p nz = record { says = go }
+pub search_next_below : {t : List ℕ} {place near right : ℕ} {f g : Found} {out : Option Found} {q : Bool} → Decides q (HasEnded t near place) → q ≡ true → right ≡ column t near piece_right
+    → IfAny f out → SoughtFrom t right place 0 92 f.link → out ≡ Some g → Sought t place (Some g.link)
+search_next_below {t} {place} {near} {right} {f} {g} {out} d y er any p is-some = record { says = λ xs r. rw (← told) (met_told any r (go xs r)) }
   where
-    go : (xs : List ℕ) → Linked t xs → Met t place o xs
+    told : link_of out ≡ Some g.link
+    told = rw is-some refl
+
+    nz : f.link ≡ 0 → ⊥
+    nz z = none-some g.link (sym (told_none any z) ∙ told)
+
+    go : (xs : List ℕ) → Linked t xs → MetAt t place f.link xs
     go xs r = split m.back refl
       where
         h : HasEnded t near place
@@ -232,16 +273,16 @@ search_next_below {t} {place} {near} {right} {o} d y er p nz = record { says = g
         asc : Ascending (end_at t) (rows b.right)
         asc = ascending_left (end_at t) (rows b.right) b.rest (ascending_tail (end_at t) (ascending_right (end_at t) b.front (near ∷ (rows b.right ++ b.rest)) (rw is at (follow_ends (piece_at t) 0 xs r.order))))
 
-        m : Met t place (first_past (end_at t) place 0 (rows b.right)) (rows b.right)
+        m : MetAt t place (first_past (end_at t) place 0 (rows b.right)) (rows b.right)
         m = met t place (rows b.right)
 
-        e : o ≡ first_past (end_at t) place 0 (rows b.right)
+        e : f.link ≡ first_past (end_at t) place 0 (rows b.right)
         e = p.says b.right (rw er b.shape) (omega (arith, b.low, linked_depth r)) ∙ sought-rows (end_at t) place 0 b.right asc
 
         before : All (λ (p : PieceRow). row_end p ≤ place) (map (piece_at t) b.front)
         before = (before_first (map (piece_at t) b.front) (piece_at t near) (map (piece_at t) (rows b.right ++ b.rest)) 0 place order (omega (arith, h.to))).1
 
-        split : (back : List ℕ) → m.back ≡ back → Met t place o xs
+        split : (back : List ℕ) → m.back ≡ back → MetAt t place f.link xs
         split [] z = let head : first_past (end_at t) place 0 (rows b.right) ≡ 0 = rw z at m.head in absurd (nz (e ∙ head))
         split (x ∷ ys) z =
             let head : (first_past (end_at t) place 0 (rows b.right) ≡ x) × (place < end_at t x) = rw z at m.head in

@@ -6,14 +6,14 @@ use Prim.Native.Nat.{ℕ, ◌+◌, ◌-◌, ◌*◌, ◌≤◌, ◌<◌}
 use native.Mathlib.Omega.{arith}
 use lib.Dec.{ltb}
 use lib.ListN.{length, set, length-set, length-map}
-use lib.Seq.{get_or-set_same, get_or-set_other}
+use lib.Seq.{get_or-set_other}
 use Rattle.lists.proofs.Lists.{all_of_mem, mem_left, mem_right}
 use Rattle.lists.proofs.Maps.{map-append, map_all}
 use Rattle.lists.specs.Lists.{Mem, here, there, Distinct, Ascending}
 use Rattle.history.specs.Lent.{row_width}
 use Rattle.tables.specs.Columns.{column, piece_offset, piece_first, pieces_count, pieces_root, piece_depth, piece_left, piece_written, piece_owner}
 use Rattle.merge_set.proofs.Balance.{Grown, inserted_balanced}
-use Rattle.merge_set.proofs.Frame.{column_eq, stays}
+use Rattle.merge_set.proofs.Frame.{column_eq, stays, column_put}
 use Rattle.merge_set.proofs.Links.{Put, put_at, mem_put, mem_unput, distinct_put, put_length}
 use Rattle.merge_set.proofs.Order.{inserted_put, inserted-rows}
 use Rattle.merge_set.specs.Table.{Good, Valid, Shape, Result, Inserted}
@@ -27,9 +27,6 @@ use Rattle.piece_table.specs.Piece.{PieceRow, piece_at, part, Filled, Follow, pl
 use Rattle.piece_table.specs.Rep.{Linked, Rep, Becomes}
 
 -- ── one store ──
-
-column-set_same : (t : List ℕ) (k d v : ℕ) → d < row_width → Valid t k → column (set t (row_width * k + d) v) k d ≡ v
-column-set_same t k d v h w = get_or-set_same t (row_width * k + d) v 0 (omega (arith, w.room))
 
 column-set_other : (t : List ℕ) (k j c d v : ℕ) → c < row_width → d < row_width → (j ≡ k → c ≡ d → ⊥) → column (set t (row_width * k + d) v) j c ≡ column t j c
 column-set_other t k j c d v hc hd n = get_or-set_other t (row_width * k + d) (row_width * j + c) v 0 (λ e. let s : (j ≡ k) × (c ≡ d) = column_eq j c k d hc hd e in n s.0 s.1)
@@ -93,7 +90,7 @@ trim_back_done {t} {t₁} {k} {end} {first} e le e₁ = record { done = go }
           len = rw e₁ (length-set t (row_width * k + 1) (end - first));
           there = λ v. piece_eq
               (rw e₁ (column-set_other t k k 0 1 (end - first) (omega arith) (omega arith) (λ z w. omega arith)))
-              (rw (e₁, ← e) (column-set_same t k 1 (end - first) (omega arith) v))
+              (rw (e₁, ← e) (column_put t k 1 (end - first) (omega arith) v))
               (rw e₁ (column-set_other t k k 2 1 (end - first) (omega arith) (omega arith) (λ z w. omega arith)))
               (rw e₁ (column-set_other t k k 3 1 (end - first) (omega arith) (omega arith) (λ z w. omega arith)) ∙ here_again (column t k piece_offset) (column t k piece_first))
               (rw e₁ (column-set_other t k k 7 1 (end - first) (omega arith) (omega arith) (λ z w. omega arith)));
@@ -119,10 +116,10 @@ moved {t} {t₁} {t₂} {t₃} {k} q ew eo e₁ e₂ e₃ =
     record {
       len = rw e₃ (length-set t₂ (row_width * k + 3) q.offset) ∙ len₂;
       there = λ v. piece_eq
-          (rw (e₃, column-set_other t₂ k k 0 3 q.offset (omega arith) (omega arith) (λ z w. omega arith), e₂, column-set_other t₁ k k 0 1 q.size (omega arith) (omega arith) (λ z w. omega arith), e₁) (column-set_same t k 0 q.first (omega arith) v))
-          (rw (e₃, column-set_other t₂ k k 1 3 q.offset (omega arith) (omega arith) (λ z w. omega arith), e₂) (column-set_same t₁ k 1 q.size (omega arith) (record { some = v.some; room = omega (arith, v.room, len₁) })))
+          (rw (e₃, column-set_other t₂ k k 0 3 q.offset (omega arith) (omega arith) (λ z w. omega arith), e₂, column-set_other t₁ k k 0 1 q.size (omega arith) (omega arith) (λ z w. omega arith), e₁) (column_put t k 0 q.first (omega arith) v))
+          (rw (e₃, column-set_other t₂ k k 1 3 q.offset (omega arith) (omega arith) (λ z w. omega arith), e₂) (column_put t₁ k 1 q.size (omega arith) (record { some = v.some; room = omega (arith, v.room, len₁) })))
           (other k 2 (omega arith) (λ z w. omega arith) (λ z w. omega arith) (λ z w. omega arith) ∙ ew)
-          (rw e₃ (column-set_same t₂ k 3 q.offset (omega arith) (record { some = v.some; room = omega (arith, v.room, len₂) })))
+          (rw e₃ (column_put t₂ k 3 q.offset (omega arith) (record { some = v.some; room = omega (arith, v.room, len₂) })))
           (other k 7 (omega arith) (λ z w. omega arith) (λ z w. omega arith) (λ z w. omega arith) ∙ eo);
       rest = λ j c h n. other j c h (λ z w. let b : (piece_left ≤ c) × (c ≤ piece_depth) = n z in omega arith) (λ z w. let b : (piece_left ≤ c) × (c ≤ piece_depth) = n z in omega arith) (λ z w. let b : (piece_left ≤ c) × (c ≤ piece_depth) = n z in omega arith);
     }

@@ -1,5 +1,5 @@
 -- What the functions ensure: `t` is the table at entry, `t'` at exit; `link` is the link of a row. Definitions alone.
-use Rattle.std.specs.Prelude.{◌≡◌, Bool, cond, ◌&&◌, List, [], ◌∷◌, ◌++◌, map, ℕ, ◌+◌, ◌-◌, ◌*◌, ◌^◌, ◌≤◌, ◌<◌, min, max, length, ltb, Option}
+use Rattle.std.specs.Prelude.{◌≡◌, Bool, cond, ◌&&◌, List, [], ◌∷◌, ◌++◌, map, ℕ, ◌+◌, ◌-◌, ◌*◌, ◌^◌, ◌≤◌, ◌<◌, min, max, length, ltb, Option, Some, None}
 use Rattle.std.specs.Bool.{then_some}
 use Rattle.lists.specs.Lists.{All}
 use Rattle.history.specs.Lent.{row_width}
@@ -9,6 +9,7 @@ use Rattle.merge_set.specs.Tree.{Tree, leaf, node, height}
 use Rattle.merge_set.specs.Table.{first_at, Valid, Shape}
 use Rattle.piece_table.specs.Piece.{PieceRow, row_end, piece_at, part, Follow, placed}
 use Rattle.piece_table.specs.Rep.{Linked, Rep, Becomes}
+use Rattle.piece_table.specs.declared.Found.{Found}
 
 -- ── a piece ──
 
@@ -59,21 +60,30 @@ first_past end place best (x ∷ xs) = cond (ltb place (end x)) x (first_past en
 pub record SoughtFrom (t : List ℕ) (link place best fuel out : ℕ) : Type 0 where
   pub says : (T : Tree) → Shape t link T → height T ≤ fuel → out ≡ sought (end_at t) place best T
 
--- `out` is the first of the links, and its piece ends past the place; or 0, and there are none
-abbrev pub Heads : (t : List ℕ) (place out : ℕ) → List ℕ → Type 0
-Heads t place out [] = out ≡ 0
-Heads t place out (x ∷ xs) = (out ≡ x) × (place < end_at t x)
+-- `out` is the first of the links, and its piece ends past the place; or it is none, and there are none
+abbrev pub Heads : (t : List ℕ) (place : ℕ) (out : Option ℕ) → List ℕ → Type 0
+Heads t place out [] = out ≡ None
+Heads t place out (x ∷ xs) = (out ≡ Some x) × (place < end_at t x)
 
 -- the links are those whose pieces end at or before the place, and the rest
-pub record Met (t : List ℕ) (place out : ℕ) (links : List ℕ) : Type 0 where
+pub record Met (t : List ℕ) (place : ℕ) (out : Option ℕ) (links : List ℕ) : Type 0 where
   pub front : List ℕ
   pub back : List ℕ
   pub is : links ≡ front ++ back
   pub left : All (λ (p : PieceRow). row_end p ≤ place) (map (piece_at t) front)
   pub head : Heads t place out back
 
--- `seek`: the link of the lowest piece that ends past the place, or 0
-pub record Sought (t : List ℕ) (place out : ℕ) : Type 0 where
+-- `if_any`: none where the link is 0
+pub record IfAny (f : Found) (out : Option Found) : Type 0 where
+  pub is : out ≡ then_some (ltb 0 f.link) f
+
+-- the link of what is found
+abbrev pub link_of : Option Found → Option ℕ
+link_of None = None
+link_of (Some f) = Some f.link
+
+-- `seek`: the link of the lowest piece that ends past the place, if there is one
+pub record Sought (t : List ℕ) (place : ℕ) (out : Option ℕ) : Type 0 where
   pub says : (links : List ℕ) → Linked t links → Met t place out links
 
 -- `has_cell`: the row is in use, and its piece has the cell

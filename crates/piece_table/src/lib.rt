@@ -18,7 +18,7 @@
 ghost use Rattle.std.specs.Prelude.{◌≡◌};
 ghost use Rattle.tables.specs.Sums.{plus_up_to};
 ghost use Rattle.piece_table.specs.Piece.{piece_at};
-ghost use Rattle.piece_table.specs.Calls.{Clipped, HeadSet, WroteRow, EndsPast, EndsAfter, SoughtFrom, Sought, HasCell, HasEnded, RemovedPiece, ReplacedPiece, InsertedPiece, TrimmedBack, TrimmedFront};
+ghost use Rattle.piece_table.specs.Calls.{Clipped, HeadSet, WroteRow, EndsPast, EndsAfter, SoughtFrom, IfAny, link_of, Sought, HasCell, HasEnded, RemovedPiece, ReplacedPiece, InsertedPiece, TrimmedBack, TrimmedFront};
 ghost use Rattle.lists.specs.Tests.{Decides};
 ghost use Rattle.piece_table.specs.Test.{RowStands, RowFits, Walked, WellFormed};
 
@@ -130,16 +130,25 @@ pub fn ends_after(table: &[u64], link: u64, place: u64) -> bool
     ends_past(first, length, place)
 }
 
-// What a search finds: the link of the lowest piece that ends after a place; 0, as in the tables, if there is none. `after` is a guess for `search_next`:
-// the next piece's, where the found one has none right below it; any number.
+// What a search finds: the link of the lowest piece that ends after a place. `after` is a guess for `search_next`: the next piece's link, where the found
+// one has none right below it; any number.
 #[derive(Clone, Copy)]
 pub struct Found {
     pub link: u64,
     pub after: u64,
 }
 
-// The link of the lowest piece of the tree at `link`, at most `fuel` deep, that ends after `place`; 0 if there is none. One test a row: this is where
-// record spends most of its time.
+impl Found {
+    // None where the link is 0, as in the tables.
+    fn if_any(self) -> Option<Found>
+        ensures { IfAny self result }
+    {
+        (0 < self.link).then_some(self)
+    }
+}
+
+// The link of the lowest piece of the tree at `link`, at most `fuel` deep, that ends after `place`; 0, as in the tables, if there is none. One test a row:
+// this is where record spends most of its time.
 #[tactic(auto, using(crate::proofs::Seeking::sinking))]
 fn seek_from(table: &[u64], link: u64, place: u64, fuel: u64) -> Found
     ensures { SoughtFrom table.now link place 0 fuel result.link }
@@ -148,8 +157,7 @@ fn seek_from(table: &[u64], link: u64, place: u64, fuel: u64) -> Found
     let mut at = link;
     let mut found: u64 = 0;
     let mut after: u64 = 0;
-    let mut left = fuel;
-    while left > 0 {
+    for _turn in 0..fuel {
         let row = at as usize;
         if row == 0 || rows <= row {
             break;
@@ -158,7 +166,6 @@ fn seek_from(table: &[u64], link: u64, place: u64, fuel: u64) -> Found
         let length = table[tables::ROW * row + LENGTH];
         let below = table[tables::ROW * row + LEFT];
         let above = table[tables::ROW * row + RIGHT];
-        left -= 1;
         if ends_past(first, length, place) {
             after = found;
             found = at;
@@ -172,18 +179,18 @@ fn seek_from(table: &[u64], link: u64, place: u64, fuel: u64) -> Found
 
 // Searches the lowest piece that ends after `place`.
 #[tactic(auto, using(crate::proofs::Seeking::search_done))]
-pub fn search(table: &[u64], place: u64) -> Found
-    ensures { Sought table.now place result.link }
+pub fn search(table: &[u64], place: u64) -> Option<Found>
+    ensures { Sought table.now place (link_of result) }
 {
     let root = tables::get(table, 0, ROOT);
-    seek_from(table, root, place, DEEPEST)
+    seek_from(table, root, place, DEEPEST).if_any()
 }
 
-// The link of the lowest piece that ends after `place`; 0 if there is none.
-pub fn seek(table: &[u64], place: u64) -> u64
+// The link of the lowest piece that ends after `place`.
+pub fn seek(table: &[u64], place: u64) -> Option<u64>
     ensures { Sought table.now place result }
 {
-    search(table, place).link
+    Some(search(table, place)?.link)
 }
 
 // Whether the row of a link is in use, and its piece has the cell.
@@ -206,29 +213,29 @@ fn has_ended(table: &[u64], link: u64, place: u64) -> bool
 // The same as `search`, by guesses that may be any numbers: where `near` or `after` is the link of the piece that has the place, or the piece stands
 // right below that of `near`, which ends before it, no way down from the root is needed.
 #[tactic(auto, using(crate::proofs::Seeking::seeking))]
-pub fn search_next(table: &[u64], place: u64, near: u64, after: u64) -> Found
-    ensures { Sought table.now place result.link }
+pub fn search_next(table: &[u64], place: u64, near: u64, after: u64) -> Option<Found>
+    ensures { Sought table.now place (link_of result) }
 {
     if has_cell(table, after, place) {
-        return Found {
+        return Some(Found {
             link: after,
             after: 0,
-        };
+        });
     }
     if has_ended(table, near, place) {
         let found = seek_from(table, tables::get(table, near, RIGHT), place, DEEPEST);
-        if found.link != 0 {
-            return found;
+        if let Some(found) = found.if_any() {
+            return Some(found);
         }
     }
     search(table, place)
 }
 
 // The same as `seek`, where the link of the piece that has the place, or of the one before it, may be known: `near` is any number.
-pub fn seek_near(table: &[u64], place: u64, near: u64) -> u64
+pub fn seek_near(table: &[u64], place: u64, near: u64) -> Option<u64>
     ensures { Sought table.now place result }
 {
-    search_next(table, place, near, near).link
+    Some(search_next(table, place, near, near)?.link)
 }
 
 // Writes a piece to the row of a link, and leaves its place in the tree.

@@ -14,8 +14,7 @@ contracts = record {
   block_bytes_lem = record { free = λ κs a g. tt; says = λ κs a g x e h. h; whole = λ κs a g x e h. h };
   find = record { free = λ κs a g. tt; says = λ κs a g x e h. h; whole = λ κs a g x e h. h };
   touching = record { free = λ κs a g. tt; says = λ κs a g x e h. h; whole = λ κs a g x e h. h };
-  next = record { free = λ κs a g. tt; says = λ κs a g x e h. h; whole = λ κs a g x e h. h };
-  last = record { free = λ κs a g. tt; says = λ κs a g x e h. h; whole = λ κs a g x e h. h };
+  near = record { free = λ κs a g. tt; says = λ κs a g x e h. h; whole = λ κs a g x e h. h };
   read_cells = record { free = λ κs a g. tt; says = λ κs a g x e h. h; whole = λ κs a g x e h. h };
   clock = record { free = λ κs a g. tt; says = λ κs a g x e h. h; whole = λ κs a g x e h. h };
   serialize_to = record { free = λ κs a g. tt; says = λ κs a g x e h. h; whole = λ κs a g x e h. h };

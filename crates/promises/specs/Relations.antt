@@ -7,15 +7,17 @@ use borrow.Fn.World.{Pr, w₀, ArgsD, ResD}
 use contract.Lifetimes.{Lfts}
 use denote.Triple.Clauses.{Ended, AtExit, Clauses}
 use Rattle.std.specs.Borrow.{Bor, MutBor}
-use Rattle.layout.specs.Tables.{Tables, tables}
-use Rattle.layout.specs.Relations.{OpenedBy, RecordedBy, FinishedBy, InstalledBy, DaysInstalledBy, ClockGivenBy, FoundBy, TouchedBy, NextGivenBy, LastGivenBy, BlockGivenBy}
+use Rattle.layout.specs.Tables.{Tables, tables, held as read_of}
+use Rattle.layout.specs.declared.Tables.{Tables as LentTables}
+use Rattle.layout.specs.Relations.{OpenedBy, RecordedBy, FinishedBy, InstalledBy, DaysInstalledBy, ClockGivenBy, FoundBy, TouchedBy, BlockGivenBy}
 use Rattle.layout.specs.Files.{WrittenBy, LoadedBy}
-use Rattle.index_record.specs.Calls.{operation, recorded}
+use Rattle.index_record.specs.Calls.{lent_operation, recorded}
 use Rattle.index_read.specs.Answers.{counts_given, fields_given}
 use Rattle.index.specs.Answers.{BytesGivenBy}
 use Rattle.history.specs.Results.{done}
 use Rattle.refusals.specs.Numbers.{answer_by}
 use Rattle.touching_read.specs.Answers.{near_told}
+use Rattle.touching.specs.Sides.{NearGivenBy}
 use Rattle.cells.specs.Answers.{CellsReadBy}
 use Rattle.record_all.specs.Many.{RecordedAll}
 use Rattle.find_all.specs.Many.{FoundAll}
@@ -29,8 +31,7 @@ use Rattle.index.specs.contracts.find as find-contract
 use Rattle.install.specs.contracts.install_calendar as install-contract
 use Rattle.install.specs.contracts.install_days as days-contract
 use Rattle.touching.specs.contracts.touching as touching-contract
-use Rattle.touching.specs.contracts.next as next-contract
-use Rattle.touching.specs.contracts.last as last-contract
+use Rattle.touching.specs.contracts.near as near-contract
 use Rattle.cells.specs.contracts.read_cells as cells-contract
 use Rattle.clock.specs.contracts.clock as clock-contract
 use Rattle.spacetime_file.specs.contracts.serialize_to as write-contract
@@ -65,6 +66,10 @@ LentMut = MutBor (List ℕ)
 abbrev pub held : {X : Type 0} → Lent × (Lent × (Lent × (Lent × (Lent × X)))) → Tables
 held a = tables a.0.now a.1.0.now a.1.1.0.now a.1.1.1.0.now a.1.1.1.1.0.now
 
+-- of a call behind that reads: its tables come as one value
+abbrev pub held_read : {X : Type 0} → LentTables × X → Tables
+held_read a = read_of a.0
+
 -- of a call that opens or finishes an index
 abbrev pub held_open : {X : Type 0} → LentMut × (LentMut × (Lent × (LentMut × (LentMut × X)))) → Tables
 held_open a = tables a.0.now a.1.0.now a.1.1.0.now a.1.1.1.0.now a.1.1.1.1.0.now
@@ -93,7 +98,7 @@ pub record Contracts : Type 0 where
       (λ κs a x e. OpenedBy (behind a).0 (behind a).1.0 (held_open a)
       (tables (held_open e).pieces (held_open e).blocks (held_open a).store (held_open e).nodes (held_open e).entries) (answer_by (λ u. u) x))
   pub record_op : Says record-contract.ended (record-contract.clauses w₀.𝓛 w₀.𝓜.mem w₀.𝓡.returns) (λ κs a g. r_top) (λ κs a g x e. r_last _)
-      (λ κs a x e. RecordedBy (length (behind a).0.now) (operation (behind a).1.0 (behind a).1.1.0 (behind a).1.1.1.0.now) (held_record a)
+      (λ κs a x e. RecordedBy (length (behind a).0.now) (lent_operation (behind a).1.0) (held_record a)
       (tables (held_record e).pieces (held_record e).blocks (held_record e).store (held_record a).nodes (held_record a).entries) (answer_by recorded x))
   pub finalize : Says finish-contract.ended (finish-contract.clauses w₀.𝓛 w₀.𝓜.mem w₀.𝓡.returns) (λ κs a g. r_top) (λ κs a g x e. r_last _)
       (λ κs a x e. FinishedBy (held_open a) (tables (held_open e).pieces (held_open e).blocks (held_open a).store (held_open e).nodes (held_open e).entries) (answer_by (λ _. done) x))
@@ -102,30 +107,29 @@ pub record Contracts : Type 0 where
   pub install_days : Says days-contract.ended (days-contract.clauses w₀.𝓛 w₀.𝓜.mem w₀.𝓡.returns) (λ κs a g. r_top) (λ κs a g x e. r_last _)
       (λ κs a x e. DaysInstalledBy (behind a).0.now (held_install a) (tables (held_install a).pieces (held_install e).blocks (held_install a).store (held_install a).nodes (held_install a).entries) (answer_by (λ _. done) x))
   pub block : Says block-contract.ended (block-contract.clauses w₀.𝓛 w₀.𝓜.mem w₀.𝓡.returns) (λ κs a g. r_top) (λ κs a g x e. r_last _)
-      (λ κs a x e. BlockGivenBy (held a) (behind a).0 (answer_by fields_given x))
+      (λ κs a x e. BlockGivenBy (held_read a) a.1.0 (answer_by fields_given x))
   pub block_bytes_lem : Says bytes-contract.ended (bytes-contract.clauses w₀.𝓛 w₀.𝓜.mem w₀.𝓡.returns) (λ κs a g. r_top) (λ κs a g x e. r_last _)
       (λ κs a x e. BytesGivenBy (held a) (behind a).0 x.now)
   pub find : Says find-contract.ended (find-contract.clauses w₀.𝓛 w₀.𝓜.mem w₀.𝓡.returns) (λ κs a g. r_top) (λ κs a g x e. r_last _)
-      (λ κs a x e. FoundBy (held a) (behind a).0 (behind a).1.0 (behind a).1.1.0 (behind a).1.1.1.0.now (behind e).1.1.1.0.now (answer_by counts_given x))
+      (λ κs a x e. FoundBy (held_read a) a.1.0 a.1.1.0 a.1.1.1.0 a.1.1.1.1.0.now e.1.1.1.1.0.now (answer_by counts_given x))
   pub touching : Says touching-contract.ended (touching-contract.clauses w₀.𝓛 w₀.𝓜.mem w₀.𝓡.returns) (λ κs a g. r_top) (λ κs a g x e. r_last _)
-      (λ κs a x e. TouchedBy (held a) (behind a).0 (behind a).1.0 (behind a).1.1.0 (behind a).1.1.1.0.now (behind e).1.1.1.0.now (answer_by (λ n. n) x))
-  pub next : Says next-contract.ended (next-contract.clauses w₀.𝓛 w₀.𝓜.mem w₀.𝓡.returns) (λ κs a g. r_top) (λ κs a g x e. r_last _)
-      (λ κs a x e. NextGivenBy (held a) (behind a).0 (behind a).1.0 (answer_by near_told x))
-  pub last : Says last-contract.ended (last-contract.clauses w₀.𝓛 w₀.𝓜.mem w₀.𝓡.returns) (λ κs a g. r_top) (λ κs a g x e. r_last _)
-      (λ κs a x e. LastGivenBy (held a) (behind a).0 (behind a).1.0 (answer_by near_told x))
+      (λ κs a x e. TouchedBy (held_read a) a.1.0 a.1.1.0 a.1.1.1.0 a.1.1.1.1.0.now e.1.1.1.1.0.now (answer_by (λ n. n) x))
+  -- next and last
+  pub near : Says near-contract.ended (near-contract.clauses w₀.𝓛 w₀.𝓜.mem w₀.𝓡.returns) (λ κs a g. r_top) (λ κs a g x e. r_last _)
+      (λ κs a x e. NearGivenBy a.1.0 (held_read a) a.1.1.0 a.1.1.1.0 (answer_by near_told x))
   pub read_cells : Says cells-contract.ended (cells-contract.clauses w₀.𝓛 w₀.𝓜.mem w₀.𝓡.returns) (λ κs a g. r_top) (λ κs a g x e. r_last _)
-      (λ κs a x e. CellsReadBy (held a) (behind a).0 (behind a).1.0 (behind a).1.1.0 (behind a).1.1.1.0.now (behind e).1.1.1.0.now
-      (behind a).1.1.1.1.0.now (behind e).1.1.1.1.0.now (answer_by (λ _. tt) x))
+      (λ κs a x e. CellsReadBy (held_read a) a.1.0 a.1.1.0 a.1.1.1.0 a.1.1.1.1.0.now e.1.1.1.1.0.now
+      a.1.1.1.1.1.0.now e.1.1.1.1.1.0.now (answer_by (λ _. tt) x))
   pub clock : Says clock-contract.ended (clock-contract.clauses w₀.𝓛 w₀.𝓜.mem w₀.𝓡.returns) (λ κs a g. r_top) (λ κs a g x e. r_last _)
-      (λ κs a x e. ClockGivenBy (held a) (behind a).0 (answer_by (λ n. n) x))
+      (λ κs a x e. ClockGivenBy (held_read a) a.1.0 (answer_by (λ n. n) x))
   pub serialize_to : Says write-contract.ended (write-contract.clauses w₀.𝓛 w₀.𝓜.mem w₀.𝓡.returns) (λ κs a g. r_top) (λ κs a g x e. r_last _)
-      (λ κs a x e. WrittenBy (held a) (behind a).0.now (behind e).0.now (answer_by (λ n. n) x))
+      (λ κs a x e. WrittenBy (held_read a) a.1.0.now e.1.0.now (answer_by (λ n. n) x))
   pub deserialize : Says load-contract.ended (load-contract.clauses w₀.𝓛 w₀.𝓜.mem w₀.𝓡.returns) (λ κs a g. r_top) (λ κs a g x e. r_last _)
       (λ κs a x e. LoadedBy (behind a).0.now (behind a).1.0 (held_load a) (held_load e) (answer_by (λ n. n) x))
   pub record_all : Says all-contract.ended (all-contract.clauses w₀.𝓛 w₀.𝓜.mem w₀.𝓡.returns) (λ κs a g. r_top) (λ κs a g x e. r_last _)
       (λ κs a x e. RecordedAll (length (behind a).0.now) (behind a).1.0.now (held_record a)
       (tables (held_record e).pieces (held_record e).blocks (held_record e).store (held_record a).nodes (held_record a).entries) (behind a).1.1.0.now (behind e).1.1.0.now x.count x.next)
   pub find_all : Says finds-contract.ended (finds-contract.clauses w₀.𝓛 w₀.𝓜.mem w₀.𝓡.returns) (λ κs a g. r_top) (λ κs a g x e. r_last _)
-      (λ κs a x e. FoundAll (held a) (behind a).0.now (behind a).1.0.now (behind e).1.0.now (behind a).1.1.0.now (behind e).1.1.0.now x)
+      (λ κs a x e. FoundAll (held_read a) a.1.0.now a.1.1.0.now e.1.1.0.now a.1.1.1.0.now e.1.1.1.0.now x)
   -- and the program `board`, but for reading and writing
   pub run : Says run-contract.ended (run-contract.clauses w₀.𝓛 w₀.𝓜.mem w₀.𝓡.returns) (λ κs a g. r_top) (λ κs a g x e. r_last _) (λ κs a x e. PrintsBoard a.0.now a.1.0.now e.1.0.now x)

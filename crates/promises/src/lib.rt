@@ -15,21 +15,25 @@ ghost use Rattle.promises.specs.Meanings.{Meanings};
 ghost use Rattle.promises.specs.Promises.{OfCalls, OfTables, OfHistory, OfTested, OfFiles, OfPrograms};
 
 // The contract of each public call is its relation, and asks nothing of the caller.
+#[tactic(auto, using(crate::proofs::Citing::contracts))]
 pub fn contracts_are_relations()
     ensures { Contracts }
 {}
 
 // So is that of each call for Rust and C, at the answer that its number and values stand for.
+#[tactic(auto, using(crate::proofs::Citing::exported))]
 pub fn exported_calls()
     ensures { Exported }
 {}
 
 // Each call after one test has that of the public call of its name, wherever the state is true.
+#[tactic(auto, using(crate::proofs::Citing::exported_tested))]
 pub fn tested_calls()
     ensures { ExportedTested }
 {}
 
 // Each answer can be told from its meaning.
+#[tactic(auto, using(crate::proofs::Telling::meanings))]
 pub fn answers_told()
     ensures { Meanings }
 {}

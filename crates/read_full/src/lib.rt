@@ -7,6 +7,7 @@ ghost use Rattle.std.specs.Io.{ReadsAtMost};
 use std::io::{self, Read};
 
 // Reads until the buffer is full or the input ends, and answers how many bytes stand at the buffer's start.
+// How many bytes a turn reads is for the input to say, so no `for` counts the turns.
 pub fn read_full<R: Read>(input: &mut R, buffer: &mut [u8]) -> io::Result<usize>
     ensures { ReadsAtMost result buffer.new }
 {

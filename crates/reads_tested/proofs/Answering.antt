@@ -16,22 +16,22 @@ use Rattle.index_test.specs.States.{when_formed}
 use lib.ListN.{length}
 use Rattle.layout.specs.Reads.{HandedInto}
 use Rattle.layout.specs.Relations.{near_of}
-use Rattle.refusals.specs.declared.Refusal.TheVariants.{Malformed, NotFinished}
 use Rattle.index_test.specs.States.{when_closed}
 use Rattle.index_test.proofs.Told.{closed_read}
 use Rattle.index_tested.proofs.Keeping.{kept_not_closed, kept_closed_taken}
 use Rattle.cells_read.specs.Answers.{CellsHanded}
-use Rattle.touching_read.specs.Reads.{TouchingClosed, NextClosed, LastClosed}
+use Rattle.segment_near.specs.declared.Side.{Side}
+use Rattle.segment_near.specs.declared.Side.TheVariants.{From, Before}
+use Rattle.touching_read.specs.Reads.{TouchingClosed, NearClosed}
 use Rattle.cells_read.specs.Answers.{ReadClosed}
 use Rattle.cells_read.proofs.Reading.{cells_refused}
 use Rattle.file_write.specs.Answers.{WrittenClosed}
 use Rattle.clock.specs.Answers.{ClockTold}
 use Rattle.clock.proofs.Telling.{formed_told}
 use Rattle.index_test.specs.declared.State.{State}
-use Rattle.index_test.specs.declared.State.TheVariants.{Bad, Open, Closed}
 use Rattle.index_tested.specs.Kept.{BlocksFit}
-use Rattle.index_tested.proofs.Keeping.{kept_2, kept_4, kept_on, kept_formed, kept_not_formed, formed_fits}
-use Rattle.reads_tested.specs.Tested.{TouchedTested, NextTested, LastTested, CellsTested, WrittenTested, ClockTested}
+use Rattle.index_tested.proofs.Keeping.{kept_formed, kept_not_formed, formed_fits}
+use Rattle.reads_tested.specs.Tested.{TouchedTested, NearTested, CellsTested, WrittenTested, ClockTested}
 
 -- ── touching, next, last and read cells ──
 
@@ -48,24 +48,19 @@ module _ (s : State) {x : Result Unit Refusal} (is : x ≡ when_closed s) where
         → TouchedTested s blocks nodes entries tick start stop out out' a
     touching_taken q f = record { done = λ pieces store k. record { read = closed_read (kept_closed_taken s k (sym is ∙ q)) (f.touched pieces store) } }
 
-  module _ {blocks nodes entries : List ℕ} {tick cell : ℕ} where
-    pub next_refused : {e : Refusal} → x ≡ Err e → NextTested s blocks nodes entries tick cell (refused (number_of e))
+  module _ (blocks nodes entries : List ℕ) (tick cell : ℕ) where
+    pub near_refused : {e : Refusal} (side : Side) → x ≡ Err e → NearTested side s blocks nodes entries tick cell (refused (number_of e))
     unfolding neighbour_refusals first_of
-    next_refused {e} q = record {
+    near_refused {e} From q = record {
+      done = λ pieces store k. record { read = kept_not_closed e s k (sym is ∙ q) (λ n. HandedOut near_of (refused n)) (λ l heads still. rw (heads, still)) (λ n. out_refused) };
+    }
+    near_refused {e} Before q = record {
       done = λ pieces store k. record { read = kept_not_closed e s k (sym is ∙ q) (λ n. HandedOut near_of (refused n)) (λ l heads still. rw (heads, still)) (λ n. out_refused) };
     }
 
-    pub next_taken : {u : Unit} {a : Answer Near} → x ≡ Ok u → NextClosed blocks nodes entries tick cell a → NextTested s blocks nodes entries tick cell a
-    next_taken q f = record { done = λ pieces store k. record { read = closed_read (kept_closed_taken s k (sym is ∙ q)) (f.given pieces store) } }
-
-    pub last_refused : {e : Refusal} → x ≡ Err e → LastTested s blocks nodes entries tick cell (refused (number_of e))
-    unfolding neighbour_refusals first_of
-    last_refused {e} q = record {
-      done = λ pieces store k. record { read = kept_not_closed e s k (sym is ∙ q) (λ n. HandedOut near_of (refused n)) (λ l heads still. rw (heads, still)) (λ n. out_refused) };
-    }
-
-    pub last_taken : {u : Unit} {a : Answer Near} → x ≡ Ok u → LastClosed blocks nodes entries tick cell a → LastTested s blocks nodes entries tick cell a
-    last_taken q f = record { done = λ pieces store k. record { read = closed_read (kept_closed_taken s k (sym is ∙ q)) (f.given pieces store) } }
+    pub near_taken : {u : Unit} (a : Answer Near) (side : Side) → x ≡ Ok u → NearClosed side blocks nodes entries tick cell a → NearTested side s blocks nodes entries tick cell a
+    near_taken a From q f = record { done = λ pieces store k. record { read = closed_read (kept_closed_taken s k (sym is ∙ q)) (f.given pieces store) } }
+    near_taken a Before q f = record { done = λ pieces store k. record { read = closed_read (kept_closed_taken s k (sym is ∙ q)) (f.given pieces store) } }
 
   module _ {blocks store nodes entries : List ℕ} {tick start stop : ℕ} {bytes held : List ℕ} where
     pub cells_not_closed : {e : Refusal} → x ≡ Err e → CellsTested s blocks store nodes entries tick start stop bytes bytes held held (refused (number_of e))
@@ -81,33 +76,21 @@ module _ (s : State) {x : Result Unit Refusal} (is : x ≡ when_closed s) where
 
 -- ── write ──
 
-write_in_state : {u : Unit} (s : State) → when_closed s ≡ Ok u → s ≡ Closed
-write_in_state Bad is = cc
-write_in_state Open is = cc
-write_in_state Closed is = refl
-
-module _ {blocks store nodes entries out : List ℕ} where
-  write_by_state : {e : Refusal} (s : State) → when_closed s ≡ Err e → WrittenTested s blocks store nodes entries out out (refused (number_of e))
+module _ (s : State) {x : Result Unit Refusal} {blocks store nodes entries out : List ℕ} (is : x ≡ when_closed s) where
+  pub write_refused : {e : Refusal} → x ≡ Err e → WrittenTested s blocks store nodes entries out out (refused (number_of e))
   unfolding write_refusals first_of
-  write_by_state {e} Bad is =
-      let q : e ≡ Malformed = cc in
-      rw q (record { done = λ pieces k. record { read = kept_2 k refl into_refused } })
-  write_by_state {e} Open is =
-      let q : e ≡ NotFinished = cc in
-      rw q (record { done = λ pieces k. record { read = kept_4 k refl (λ l heads still. rw (heads, still)) into_refused } })
-  write_by_state Closed is = cc
+  write_refused {e} q = record {
+    done = λ pieces k.
+        record { read = kept_not_closed e s k (sym is ∙ q) (λ n. HandedInto length (λ file. file) out out (refused n)) (λ l heads still. rw (heads, still)) (λ n. into_refused) };
+  }
 
-  module _ (s : State) {x : Result Unit Refusal} (is : x ≡ when_closed s) where
-    pub write_refused : {e : Refusal} → x ≡ Err e → WrittenTested s blocks store nodes entries out out (refused (number_of e))
-    write_refused q = write_by_state s (sym is ∙ q)
+  -- no true state has a count that does not fit
+  pub write_unfit : {u : Unit} {b : Bool} → x ≡ Ok u → Decides b (BlocksFit blocks) → b ≡ false → WrittenTested s blocks store nodes entries out out (refused 2)
+  write_unfit q d unfit = record { done = λ pieces k. absurd (d.not unfit (formed_fits (kept_closed_taken s k (sym is ∙ q)).formed).blocks_fit) }
 
-    -- no true state has a count that does not fit
-    pub write_unfit : {u : Unit} {b : Bool} → x ≡ Ok u → Decides b (BlocksFit blocks) → b ≡ false → WrittenTested s blocks store nodes entries out out (refused 2)
-    write_unfit q d unfit = record { done = λ pieces k. absurd (d.not unfit (formed_fits (k.closed (write_in_state s (sym is ∙ q))).formed).blocks_fit) }
-
-    pub write_closed : {u : Unit} {out' : List ℕ} {a : Answer ℕ} → x ≡ Ok u → WrittenClosed blocks store nodes entries out out' a
-        → WrittenTested s blocks store nodes entries out out' a
-    write_closed q f = record { done = λ pieces k. record { read = kept_on k (write_in_state s (sym is ∙ q)) (f.written pieces) } }
+  pub write_closed : {u : Unit} {out' : List ℕ} {a : Answer ℕ} → x ≡ Ok u → WrittenClosed blocks store nodes entries out out' a
+      → WrittenTested s blocks store nodes entries out out' a
+  write_closed q f = record { done = λ pieces k. record { read = closed_read (kept_closed_taken s k (sym is ∙ q)) (f.written pieces) } }
 
 -- ── clock ──
 

@@ -5,6 +5,8 @@ use Rattle.layout.specs.Tables.{tables}
 use Rattle.layout.specs.Relations.{TouchedBy, Near, NextGivenBy, LastGivenBy, ClockGivenBy}
 use Rattle.layout.specs.Files.{WrittenBy}
 use Rattle.cells.specs.Answers.{CellsReadBy}
+use Rattle.segment_near.specs.declared.Side.{Side}
+use Rattle.segment_near.specs.declared.Side.TheVariants.{From, Before}
 use Rattle.index_test.specs.declared.State.{State}
 use Rattle.index_tested.specs.Kept.{Kept}
 
@@ -12,12 +14,17 @@ use Rattle.index_tested.specs.Kept.{Kept}
 pub record TouchedTested (s : State) (blocks nodes entries : List ℕ) (tick start stop : ℕ) (out out' : List ℕ) (answer : Answer ℕ) : Type 0 where
   pub done : (pieces store : List ℕ) → Kept s (tables pieces blocks store nodes entries) → TouchedBy (tables pieces blocks store nodes entries) tick start stop out out' answer
 
--- `next_tested` and `last_tested`
+-- next and last
 pub record NextTested (s : State) (blocks nodes entries : List ℕ) (tick cell : ℕ) (answer : Answer Near) : Type 0 where
   pub done : (pieces store : List ℕ) → Kept s (tables pieces blocks store nodes entries) → NextGivenBy (tables pieces blocks store nodes entries) tick cell answer
 
 pub record LastTested (s : State) (blocks nodes entries : List ℕ) (tick cell : ℕ) (answer : Answer Near) : Type 0 where
   pub done : (pieces store : List ℕ) → Kept s (tables pieces blocks store nodes entries) → LastGivenBy (tables pieces blocks store nodes entries) tick cell answer
+
+-- `near_tested`: one of them, by the side
+abbrev pub NearTested : Side → (s : State) (blocks nodes entries : List ℕ) (tick cell : ℕ) (answer : Answer Near) → Type 0
+NearTested From s blocks nodes entries tick cell answer = NextTested s blocks nodes entries tick cell answer
+NearTested Before s blocks nodes entries tick cell answer = LastTested s blocks nodes entries tick cell answer
 
 -- `cells_tested`
 pub record CellsTested (s : State) (blocks store nodes entries : List ℕ) (tick start stop : ℕ) (bytes bytes' held held' : List ℕ) (answer : Answer Unit) : Type 0 where

@@ -9,96 +9,76 @@
 
 ghost use Rattle.touching_read.specs.Answers.{near_told};
 ghost use Rattle.refusals.specs.Numbers.{answer_by};
-ghost use Rattle.reads_tested.specs.Tested.{TouchedTested, NextTested, LastTested, CellsTested, WrittenTested, ClockTested};
+ghost use Rattle.reads_tested.specs.Tested.{TouchedTested, NearTested, CellsTested, WrittenTested, ClockTested};
 
 use index_test::State;
 use refusals::Refusal;
+use segment_near::Side;
+use segment_table::lent::Closed;
 
 // The live blocks that hold a cell of [start, end) at a tick, ascending by first cell.
 pub fn touching_tested(
     state: State,
-    blocks: &[u64],
-    nodes: &[u64],
-    entries: &[u64],
+    closed: &Closed<'_>,
     tick: u64,
     start: u64,
     end: u64,
     answer: &mut [u64],
 ) -> Result<u64, Refusal>
-    ensures { TouchedTested state blocks.now nodes.now entries.now tick start end
+    ensures { TouchedTested state closed.now.blocks.now closed.now.nodes.now closed.now.entries.now tick start end
         answer.old answer.new (answer_by (λ n. n) result) }
 {
     state.closed()?;
-    touching_read::touching_closed(blocks, nodes, entries, tick, start, end, answer)
+    touching_read::touching_closed(closed, tick, start, end, answer)
 }
 
-// The first live block that starts at the cell or after it.
-pub fn next_tested(
+// The live block next to a cell on one side: the first that starts at it or after it, or the last whose cells are all below it.
+pub fn near_tested(
     state: State,
-    blocks: &[u64],
-    nodes: &[u64],
-    entries: &[u64],
+    closed: &Closed<'_>,
+    side: Side,
     tick: u64,
     cell: u64,
 ) -> Result<Option<u64>, Refusal>
-    ensures { NextTested state blocks.now nodes.now entries.now tick cell (answer_by near_told result) }
+    ensures { NearTested side state closed.now.blocks.now closed.now.nodes.now closed.now.entries.now tick cell (answer_by near_told result) }
 {
     state.closed()?;
-    touching_read::next_closed(blocks, nodes, entries, tick, cell)
-}
-
-// The last live block whose cells are all below the cell.
-pub fn last_tested(
-    state: State,
-    blocks: &[u64],
-    nodes: &[u64],
-    entries: &[u64],
-    tick: u64,
-    cell: u64,
-) -> Result<Option<u64>, Refusal>
-    ensures { LastTested state blocks.now nodes.now entries.now tick cell (answer_by near_told result) }
-{
-    state.closed()?;
-    touching_read::last_closed(blocks, nodes, entries, tick, cell)
+    touching_read::near_closed(closed, side, tick, cell)
 }
 
 // The cells of [start, end) at a tick, into two lent slices.
 pub fn cells_tested(
     state: State,
-    blocks: &[u64],
+    closed: &Closed<'_>,
     store: &[u8],
-    nodes: &[u64],
-    entries: &[u64],
     tick: u64,
     start: u64,
     end: u64,
     bytes: &mut [u8],
     held: &mut [u8],
 ) -> Result<(), Refusal>
-    ensures { CellsTested state blocks.now store.now nodes.now entries.now tick start end
+    ensures { CellsTested state closed.now.blocks.now store.now closed.now.nodes.now closed.now.entries.now tick start end
         bytes.old bytes.new held.old held.new (answer_by (λ _. tt) result) }
 {
     state.closed()?;
-    cells_read::read_closed(blocks, store, nodes, entries, tick, start, end, bytes, held)
+    cells_read::read_closed(closed, store, tick, start, end, bytes, held)
 }
 
 // Writes the file of a closed index from the slice's start on. Its loops run to the count of blocks.
 pub fn write_tested(
     state: State,
-    blocks: &[u64],
+    closed: &Closed<'_>,
     store: &[u8],
-    nodes: &[u64],
-    entries: &[u64],
     out: &mut [u8],
 ) -> Result<u64, Refusal>
-    ensures { WrittenTested state blocks.now store.now nodes.now entries.now
+    ensures { WrittenTested state closed.now.blocks.now store.now closed.now.nodes.now closed.now.entries.now
         out.old out.new (answer_by (λ n. n) result) }
 {
     state.closed()?;
-    if !index_tested::blocks_fit(blocks) {
+    if !index_tested::blocks_fit(closed.blocks) {
         return Err(Refusal::Malformed);
     }
-    file_write::write_closed(blocks, store, nodes, entries, out)
+    file_write::write_closed(closed, store, out)
 }
 
 // The clock label of a cell, of an open or a closed index.

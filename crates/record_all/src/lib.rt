@@ -9,12 +9,14 @@
 
 ghost use Rattle.std.specs.Prelude.{◌+◌, ◌*◌, ◌≤◌, length};
 ghost use Rattle.layout.specs.Tables.{tables};
-ghost use Rattle.index_record.specs.Calls.{operation};
+ghost use Rattle.index_record.specs.Calls.{lent_operation};
 ghost use Rattle.record_all.specs.Many.{AnswerPut, RecordedOne, RecordedAll};
 ghost use Rattle.record_all.specs.Law.{WrittenOut};
 
 use call_lists::Item;
+use index::Operation;
 use index_test::State;
+use layout::Tables;
 use refusals::Refusal;
 
 // How many operations were played, and the position behind them.
@@ -43,23 +45,19 @@ fn record_one(
     blocks: &mut [u64],
     store: &mut [u8],
     scratch: &[u64],
-    tick: u64,
-    first: u64,
-    bytes: &[u8],
+    op: Operation,
     answers: &mut [u64],
     count: usize,
 )
     requires { 3 * count + 3 ≤ length answers.old }
     ensures { RecordedOne state pieces.old blocks.old store.old pieces.new blocks.new store.new
-        (length scratch.now) (operation tick first bytes.now) answers.old (3 * count) answers.new }
+        (length scratch.now) (lent_operation op.entry) answers.old (3 * count) answers.new }
 {
-    let recorded = index_tested::record_tested(
-        state, pieces, blocks, store, scratch, tick, first, bytes,
-    );
+    let recorded = index_tested::record_tested(state, pieces, blocks, store, scratch, op);
     put_answer(answers, 3 * count, recorded);
 }
 
-// Records the operations of the list as long as there are whole ones and places for their answers.
+// Records the operations of the list as long as there are whole ones and places for their answers. The tables stand one by one, as in `index`.
 pub fn record_all(
     pieces: &mut [u64],
     blocks: &mut [u64],
@@ -75,7 +73,14 @@ pub fn record_all(
         (tables pieces.new blocks.new store.new nodes.now entries.now)
         answers.old answers.new result.count result.next }
 {
-    let state = index_test::test(pieces, blocks, store, nodes, entries);
+    let lent = Tables {
+        pieces,
+        blocks,
+        store,
+        nodes,
+        entries,
+    };
+    let state = index_test::test(lent);
     let most = answers.len() / 3;
     let mut at = 0;
     for count in 0..most {
@@ -90,18 +95,12 @@ pub fn record_all(
         else {
             return Played { count, next: at };
         };
-        record_one(
-            state,
-            pieces,
-            blocks,
-            store,
-            scratch,
+        let op = Operation {
             tick,
             first,
-            &list[start..next],
-            answers,
-            count,
-        );
+            bytes: &list[start..next],
+        };
+        record_one(state, pieces, blocks, store, scratch, op, answers, count);
         at = next;
     }
     Played {
@@ -111,6 +110,7 @@ pub fn record_all(
 }
 
 // Every list of calls with `record_all` is the list with its record calls written out.
+#[tactic(auto, using(crate::proofs::Written::written_out_lem))]
 pub fn records_written_out()
     ensures { WrittenOut }
 {}

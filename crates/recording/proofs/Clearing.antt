@@ -11,7 +11,7 @@ use Rattle.lists.specs.Lists.{all_nil, all_cons}
 use Rattle.lists.proofs.Lists.{all_append, all_left, all_right, all_tail}
 use Rattle.lists.proofs.Maps.{map-append}
 use Rattle.tables.specs.Columns.{column, pieces_count}
-use Rattle.std.specs.Prelude.{Some, None}
+use Rattle.std.specs.Prelude.{Option, Some, None}
 use Rattle.std.proofs.lemmas.Option.{none-some, same_Some}
 use Rattle.block_table.specs.Appended.{AppendedRow}
 use Rattle.block_table.proofs.Appending.{appended-none, countable_less}
@@ -61,17 +61,17 @@ pub inside-seen : {t : List ℕ} {f link : ℕ} {ps : List PieceRow} (e : ℕ) (
     → rows_inside f e ps ≡ inner_part t link f e ∷ rows_inside f e (map (piece_at t) v.ys)
 inside-seen {t} {f} {link} e v h lt = ap (rows_inside f e) v.is ∙ inside_here f e (map (piece_at t) v.xs) (piece_at t link) (map (piece_at t) v.ys) v.left h v.whole.some lt v.past
 
-pub meet_one-none : {t b : List ℕ} {tick f e link : ℕ} → Sought t f link → link ≡ 0 → MetOne t t b b tick f e None
-meet_one-none {t} {b} {tick} {f} {e} {link} s z =
+pub meet_one-none : {t b : List ℕ} {tick f e : ℕ} {out : Option ℕ} → Sought t f out → out ≡ None → MetOne t t b b tick f e None
+meet_one-none {t} {b} {tick} {f} {e} s z =
     stops (λ ps g u.
     let l : Left f ps = seen_none s g.rep z in
     record { becomes = becomes_same g.rep (left_alone f e g.some l (rep_follow g.rep)); blocks = nothing_inside tick (inside_left f e l) })
 
-module _ {t b : List ℕ} {tick f e link was : ℕ} (s : Sought t f link) (nz : link ≡ 0 → ⊥) (ew : was ≡ first_at t link) where
+module _ {t b : List ℕ} {tick f e link was : ℕ} {out : Option ℕ} (s : Sought t f out) (is : out ≡ Some link) (ew : was ≡ first_at t link) where
   right_of : e ≤ was → MetOne t t b b tick f e None
   right_of le =
       stops (λ ps g u.
-      let v : Seen t f link ps = seen-some s g.rep nz in
+      let v : Seen t f link ps = seen-some s g.rep is in
       let p : PieceRow = piece_at t link in
       let A : List PieceRow = map (piece_at t) v.xs in
       let B : List PieceRow = map (piece_at t) v.ys in
@@ -86,14 +86,14 @@ module _ {t b : List ℕ} {tick f e link was : ℕ} (s : Sought t f link) (nz : 
   pub recorded-seen : {b₁ : List ℕ} {ps : List PieceRow} → RecordedPart t b b₁ link tick f e → (g : Given t b f e ps) → first_at t link < e
       → b₁ ≡ recorded tick (inner_part t link f e ∷ []) b
   recorded-seen rec g lt =
-      let v : Seen t f link _ = seen-some s g.rep nz in
+      let v : Seen t f link _ = seen-some s g.rep is in
       rec.done v.whole g.some lt v.past (countable_less (omega (arith, ap length (inside-seen e v g.some lt))) g.space)
 
   module _ {q : Bool} {b₁ : List ℕ} (lt : was < e) (rec : RecordedPart t b b₁ link tick f e) (eq : EndsAfter t link e q) where
     front_met : {t₁ : List ℕ} → q ≡ true → TrimmedFront t t₁ link e → MetOne t t₁ b b₁ tick f e None
     front_met y trim =
         stops (λ ps g u.
-        let v : Seen t f link ps = seen-some s g.rep nz in
+        let v : Seen t f link ps = seen-some s g.rep is in
         let p : PieceRow = piece_at t link in
         let A : List PieceRow = map (piece_at t) v.xs in
         let B : List PieceRow = map (piece_at t) v.ys in
@@ -113,10 +113,9 @@ module _ {t b : List ℕ} {tick f e link was : ℕ} (s : Sought t f link) (nz : 
           covers = λ at y ps g u.
               rw (← same_Some link at y)
               (record {
-                some = nz;
                 same = refl;
-                sought = s;
-                from = uncrossed_here (seen-some s g.rep nz) u;
+                sought = rw is at s;
+                from = uncrossed_here (seen-some s g.rep is) u;
                 to = ltb-false e (end_at t link) (sym eq.is ∙ n);
                 blocks = recorded-seen rec g (omega arith);
               });
@@ -124,16 +123,16 @@ module _ {t b : List ℕ} {tick f e link was : ℕ} (s : Sought t f link) (nz : 
         }
 
 -- by the test whether the piece starts before the end
-module _ {t b : List ℕ} {tick f e link : ℕ} {starts : Bool} (s : Sought t f link) (nz : link ≡ 0 → ⊥) (tested : StartsBelow t link e starts) where
+module _ {t b : List ℕ} {tick f e link : ℕ} {starts : Bool} {out : Option ℕ} (s : Sought t f out) (is : out ≡ Some link) (tested : StartsBelow t link e starts) where
   pub meet_one_right : starts ≡ false → MetOne t t b b tick f e None
-  meet_one_right h = right_of s nz refl (ltb-false (first_at t link) e (sym tested.is ∙ h))
+  meet_one_right h = right_of s is refl (ltb-false (first_at t link) e (sym tested.is ∙ h))
 
   module _ {q : Bool} {b₁ : List ℕ} (h : starts ≡ true) (rec : RecordedPart t b b₁ link tick f e) (eq : EndsAfter t link e q) where
     pub meet_one_front : {t₁ : List ℕ} → q ≡ true → TrimmedFront t t₁ link e → MetOne t t₁ b b₁ tick f e None
-    meet_one_front = front_met s nz refl (ltb-true (first_at t link) e (sym tested.is ∙ h)) rec eq
+    meet_one_front = front_met s is refl (ltb-true (first_at t link) e (sym tested.is ∙ h)) rec eq
 
     pub meet_one-whole : q ≡ false → MetOne t t b b₁ tick f e (Some link)
-    meet_one-whole = whole-met s nz refl (ltb-true (first_at t link) e (sym tested.is ∙ h)) rec eq
+    meet_one-whole = whole-met s is refl (ltb-true (first_at t link) e (sym tested.is ∙ h)) rec eq
 
 -- ── `clear_one` ──
 
@@ -147,7 +146,7 @@ module _ {t t₁ b b₁ : List ℕ} {tick f e : ℕ} where
       go : (ps : List PieceRow) → Given t b f e ps → Uncrossed f ps → Clearing t t₂ b b₁ tick f e (length ps - 1) ps
       go ps g u =
           let k : Covered t t₁ b b₁ tick f e link = met.covers link refl ps g u in
-          let v : Seen t f link ps = seen-some k.sought g.rep k.some in
+          let v : Seen t f link ps = seen-some k.sought g.rep refl in
           let p : PieceRow = piece_at t link in
           let A : List PieceRow = map (piece_at t) v.xs in
           let B : List PieceRow = map (piece_at t) v.ys in

@@ -1,5 +1,5 @@
 -- `clear_after` and `take_place`: one step for each return. Assumes nothing.
-use Rattle.std.specs.Prelude.{Some, None}
+use Rattle.std.specs.Prelude.{Option, Some, None}
 use mathlib.Core.Path.{◌≡◌, refl, sym, ap, ap₂, subst, ◌∙◌}
 use mathlib.Core.Logic.{inl, inr}
 use mathlib.Core.List.{List, [], ◌∷◌, ◌++◌, map, append_assoc}
@@ -7,7 +7,7 @@ use Prim.Native.Nat.{ℕ, suc, ◌+◌, ◌*◌, ◌≤◌, ◌<◌}
 use native.Mathlib.Omega.{arith}
 use lib.ListN.{length, length-append}
 use Rattle.lists.specs.Lists.{All, all_nil, all_cons}
-use Rattle.lists.proofs.Lists.{all_append, all_left, all_map}
+use Rattle.lists.proofs.Lists.{all_append, all_left, all_right, all_map, all_head}
 use Rattle.lists.proofs.Maps.{map-append}
 use Rattle.history.specs.Lent.{row_width}
 use Rattle.tables.specs.Columns.{column, piece_first, piece_length}
@@ -19,7 +19,7 @@ use Rattle.piece_table.specs.Rep.{Linked, Rep, Becomes}
 use Rattle.piece_table.specs.Calls.{end_at, Sought, ReplacedPiece, InsertedPiece}
 use Rattle.piece_table.proofs.Order.{follow_filled, follow_right, follow_from, follow_without, follow_between, placed-between}
 use Rattle.piece_table.proofs.Parts.{Left, Right, below-within, above_within, above_right, below_front, above_skip, inside_right, inside_skip, inside_from}
-use Rattle.piece_table.proofs.Seeing.{rep_follow, Seen, seen-some, becomes_same, becomes_eq, becomes_then}
+use Rattle.piece_table.proofs.Seeing.{rep_follow, Seen, seen_none, seen-some, becomes_same, becomes_eq, becomes_then}
 use Rattle.piece_table.proofs.Held.{Around, sought_around, replaced_around}
 use Rattle.recording.specs.Recorded.{recorded}
 use Rattle.recording.specs.Calls.{inner_part, Uncrossed, Clear, Given, Covered, MetOne, Cleared, After, ClearedAfter, Updated, TookPlace}
@@ -124,28 +124,59 @@ module _ {t t₁ b b₁ : List ℕ} (p : PieceRow) where
   pub take_place_free : {t₂ : List ℕ} → MetOne t t₁ b b₁ p.written p.first (p.first + p.size) None → InsertedPiece t₁ t₂ p → TookPlace t t₂ b b₁ p
   take_place_free met ins = record { done = λ ps g u k space. inserted_clear p ins (met.stop refl ps g u) k space }
 
-  -- the row of a covered piece: those left of it stay, and what of those behind it lies above
-  pub take_place_over : {t₂ t₃ b₂ : List ℕ} {link was row : ℕ} → MetOne t t₁ b b₁ p.written p.first (p.first + p.size) (Some link) → was ≡ column t₁ link piece_first → ClearedAfter t₁ t₂ b₁ b₂ p.written link (p.first + p.size)
-      → Sought t₂ was row → ReplacedPiece t₂ t₃ row p → TookPlace t t₃ b b₂ p
-  take_place_over {t₂} {t₃} {b₂} {link} {was} {row} met ew clear sought put = record { done = go }
+  -- a covered piece and those behind it
+  module _ {link : ℕ} {ps : List PieceRow} (c : Covered t t₁ b b₁ p.written p.first (row_end p) link) (g : Given t b p.first (row_end p) ps) (v : Seen t p.first link ps) where
+    over_parts : rows_inside p.first (row_end p) ps ≡ (inner_part t link p.first (row_end p) ∷ []) ++ rows_inside (end_at t link) (row_end p) (map (piece_at t) v.ys)
+    over_parts =
+        let q : PieceRow = piece_at t link in
+        let B : List PieceRow = map (piece_at t) v.ys in
+        let here : rows_inside p.first (row_end p) ps ≡ inner_part t link p.first (row_end p) ∷ rows_inside p.first (row_end p) B = inside-seen (row_end p) v g.some (omega (arith, v.whole.some, c.to)) in
+        let from : rows_inside p.first (row_end p) B ≡ rows_inside (row_end q) (row_end p) B = inside_from p.first (row_end q) (row_end p) (omega (arith, c.from)) (follow_right (row_end q) (row_end q) B (omega arith) v.after) in
+        here ∙ ap (λ (l : List PieceRow). inner_part t link p.first (row_end p) ∷ l) from
+
+    over_after : {t₂ b₂ : List ℕ} → ClearedAfter t₁ t₂ b₁ b₂ p.written link (row_end p) → After t t₂ b₁ b₂ p.written link (row_end p) v.xs v.ys
+    over_after {t₂} {b₂} clear =
+        let rows : List PieceRow = rows_inside (end_at t link) (row_end p) (map (piece_at t) v.ys) in
+        let clear' : ClearedAfter t t₂ b₁ b₂ p.written link (row_end p) = rw c.same at clear in
+        let rest : Countable b₁ (length rows) = rw c.blocks (recorded_more p.written (inner_part t link p.first (row_end p) ∷ []) rows b (rw over_parts at g.space)) in
+        clear'.done v.xs v.ys v.linked c.to rest
+
+  -- its row is found again
+  pub take_place_lost : {t₂ b₂ : List ℕ} {link was : ℕ} {out : Option ℕ} → MetOne t t₁ b b₁ p.written p.first (p.first + p.size) (Some link) → was ≡ column t₁ link piece_first
+      → ClearedAfter t₁ t₂ b₁ b₂ p.written link (p.first + p.size) → Sought t₂ was out → out ≡ None → TookPlace t t₂ b b₂ p
+  take_place_lost {t₂} {b₂} {link} {was} met ew clear sought none = record { done = λ ps g u k space. absurd (go ps g u) }
     where
+      go : (ps : List PieceRow) → Given t b p.first (row_end p) ps → Uncrossed p.first ps → ⊥
+      go ps g u =
+          let c : Covered t t₁ b b₁ p.written p.first (row_end p) link = met.covers link refl ps g u in
+          let v : Seen t p.first link ps = seen-some c.sought g.rep refl in
+          let q : PieceRow = piece_at t link in
+          let ew' : was ≡ q.first = rw c.same at ew in
+          let z : After t t₂ b₁ b₂ p.written link (row_end p) v.xs v.ys = over_after c g v clear in
+          let left : Left was (map (piece_at t) v.xs ++ q ∷ rows_above (row_end p) (map (piece_at t) v.ys)) = seen_none sought z.becomes.rep none in
+          omega (arith, ew', v.whole.some, all_head (all_right (map (piece_at t) v.xs) (q ∷ rows_above (row_end p) (map (piece_at t) v.ys)) left))
+
+  -- the row of a covered piece: those left of it stay, and what of those behind it lies above
+  pub take_place_over : {t₂ t₃ b₂ : List ℕ} {link was row : ℕ} {out : Option ℕ} → MetOne t t₁ b b₁ p.written p.first (p.first + p.size) (Some link) → was ≡ column t₁ link piece_first
+      → ClearedAfter t₁ t₂ b₁ b₂ p.written link (p.first + p.size) → Sought t₂ was out → out ≡ Some row → ReplacedPiece t₂ t₃ row p → TookPlace t t₃ b b₂ p
+  take_place_over {t₂} {t₃} {b₂} {link} {was} {row} met ew clear out-sought is put = record { done = go }
+    where
+      sought : Sought t₂ was (Some row)
+      sought = rw is at out-sought
+
       go : (ps : List PieceRow) → Given t b p.first (row_end p) ps → Uncrossed p.first ps → Filled p
           → row_width * length (rows_below p.first ps ++ p ∷ rows_above (row_end p) ps) + row_width ≤ length t → Updated t t₃ b b₂ p ps
       go ps g u k space =
           let f : ℕ = p.first in
           let e : ℕ = row_end p in
           let c : Covered t t₁ b b₁ p.written f e link = met.covers link refl ps g u in
-          let v : Seen t f link ps = seen-some c.sought g.rep c.some in
+          let v : Seen t f link ps = seen-some c.sought g.rep refl in
           let q : PieceRow = piece_at t link in
           let A : List PieceRow = map (piece_at t) v.xs in
           let B : List PieceRow = map (piece_at t) v.ys in
-          let clear' : ClearedAfter t t₂ b₁ b₂ p.written link e = rw c.same at clear in
           let ew' : was ≡ q.first = rw c.same at ew in
-          let here : rows_inside f e ps ≡ inner_part t link f e ∷ rows_inside f e B = inside-seen e v g.some (omega (arith, v.whole.some, c.to)) in
-          let from : rows_inside f e B ≡ rows_inside (row_end q) e B = inside_from f (row_end q) e (omega (arith, c.from)) (follow_right (row_end q) (row_end q) B (omega arith) v.after) in
-          let all : rows_inside f e ps ≡ (inner_part t link f e ∷ []) ++ rows_inside (row_end q) e B = here ∙ ap (λ (l : List PieceRow). inner_part t link f e ∷ l) from in
-          let rest : Countable b₁ (length (rows_inside (row_end q) e B)) = rw c.blocks (recorded_more p.written (inner_part t link f e ∷ []) (rows_inside (row_end q) e B) b (rw all at g.space)) in
-          let z : After t t₂ b₁ b₂ p.written link e v.xs v.ys = clear'.done v.xs v.ys v.linked c.to rest in
+          let all : rows_inside f e ps ≡ (inner_part t link f e ∷ []) ++ rows_inside (row_end q) e B = over_parts c g v in
+          let z : After t t₂ b₁ b₂ p.written link e v.xs v.ys = over_after c g v clear in
           let left : Left q.first A = all_map (λ o l. omega (arith, c.from)) v.left in
           let at : Around t₂ row A (rows_above e B) = sought_around A q (rows_above e B) sought z.becomes.rep (rw ew' left) (omega (arith, v.whole.some)) in
           let follow : Follow 0 (A ++ p ∷ rows_above e B)
@@ -162,4 +193,4 @@ module _ {t t₁ b b₁ : List ℕ} (p : PieceRow) where
 -- the steps, one for each return
 pub ruleset clearing_after = (clear_after-none, clear_after_done)
 
-pub ruleset placing = (take_place_free, take_place_over)
+pub ruleset placing = (take_place_free, take_place_lost, take_place_over)

@@ -16,7 +16,7 @@ use Rattle.block_table.specs.Appended.{Countable}
 use Rattle.merge_set.specs.Table.{first_at, StartsBelow}
 use Rattle.piece_table.specs.Piece.{PieceRow, row_end, piece_at, part, rows_below, rows_inside, rows_above, Filled, Follow, placed}
 use Rattle.piece_table.specs.Rep.{Linked, Rep, Becomes}
-use Rattle.std.specs.Prelude.{Some, None}
+use Rattle.std.specs.Prelude.{Option, Some, None}
 use Rattle.piece_table.proofs.Clipping.{clip_some, clip_is}
 use Rattle.piece_table.specs.Calls.{Clipped, end_at, EndsAfter, Sought, TrimmedBack, InsertedPiece}
 use Rattle.piece_table.proofs.Order.{follow_filled, follow_right, follow_from, follow_between, placed-between}
@@ -84,17 +84,17 @@ stops g = record { step = λ z. absurd (false≢true z); stop = λ _. g }
 goes_on : {t t' b b' : List ℕ} {tick f e : ℕ} → ((ps : List PieceRow) → Given t b f e ps → Clearing t t' b b' tick f e (length ps) ps) → CutFirst t t' b b' tick f e true
 goes_on g = record { step = λ _. g; stop = λ z. absurd (true≢false z) }
 
-pub cut_first_none : {t b : List ℕ} {tick f e link : ℕ} → Sought t f link → link ≡ 0 → CutFirst t t b b tick f e false
+pub cut_first_none : {t b : List ℕ} {tick f e : ℕ} {out : Option ℕ} → Sought t f out → out ≡ None → CutFirst t t b b tick f e false
 cut_first_none {t} {b} {tick} {f} {e} s z =
     stops (λ ps g space.
     let l : Left f ps = seen_none s g.rep z in
     record { becomes = becomes_same g.rep (left_alone f e g.some l (rep_follow g.rep)); blocks = nothing_inside tick (inside_left f e l) })
 
-module _ {t b : List ℕ} {tick f e link was : ℕ} (s : Sought t f link) (nz : link ≡ 0 → ⊥) (ew : was ≡ first_at t link) where
+module _ {t b : List ℕ} {tick f e link was : ℕ} {out : Option ℕ} (s : Sought t f out) (told : out ≡ Some link) (ew : was ≡ first_at t link) where
   uncut : f ≤ was → CutFirst t t b b tick f e true
   uncut le =
       goes_on (λ ps g.
-      let v : Seen t f link ps = seen-some s g.rep nz in
+      let v : Seen t f link ps = seen-some s g.rep told in
       let p : PieceRow = piece_at t link in
       let B : List PieceRow = map (piece_at t) v.ys in
       let u : Uncrossed f (map (piece_at t) v.xs ++ p ∷ B)
@@ -107,7 +107,7 @@ module _ {t b : List ℕ} {tick f e link was : ℕ} (s : Sought t f link) (nz : 
       where
         go : (ps : List PieceRow) → Given t b f e ps → row_width * length (rows_below f ps ++ rows_above e ps) + row_width ≤ length t → Clear t t₁ b b₁ tick f e ps
         go ps g space =
-            let v : Seen t f link ps = seen-some s g.rep nz in
+            let v : Seen t f link ps = seen-some s g.rep told in
             let h : f < e = g.some in
             let p : PieceRow = piece_at t link in
             let A : List PieceRow = map (piece_at t) v.xs in
@@ -123,7 +123,7 @@ module _ {t b : List ℕ} {tick f e link was : ℕ} (s : Sought t f link) (nz : 
             let none : rows_inside f e B ≡ [] = inside_right f e (follow_right e (row_end p) B (omega arith) v.after) in
             record {
               becomes = becomes_eq (cut.done v.xs v.ys v.linked (omega arith) h over room) is;
-              blocks = recorded-seen s nz ew rec g (omega arith) ∙ ap (λ (l : List PieceRow). recorded tick l b) (sym (inside-seen e v h (omega arith) ∙ ap (λ (l : List PieceRow). inner_part t link f e ∷ l) none));
+              blocks = recorded-seen s told ew rec g (omega arith) ∙ ap (λ (l : List PieceRow). recorded tick l b) (sym (inside-seen e v h (omega arith) ∙ ap (λ (l : List PieceRow). inner_part t link f e ∷ l) none));
             }
 
     cut_back : q ≡ false → TrimmedBack t t₁ link f → CutFirst t t₁ b b₁ tick f e true
@@ -131,7 +131,7 @@ module _ {t b : List ℕ} {tick f e link was : ℕ} (s : Sought t f link) (nz : 
       where
         go : (ps : List PieceRow) → Given t b f e ps → Clearing t t₁ b b₁ tick f e (length ps) ps
         go ps g =
-            let v : Seen t f link ps = seen-some s g.rep nz in
+            let v : Seen t f link ps = seen-some s g.rep told in
             let h : f < e = g.some in
             let p : PieceRow = piece_at t link in
             let A : List PieceRow = map (piece_at t) v.xs in
@@ -145,7 +145,7 @@ module _ {t b : List ℕ} {tick f e link was : ℕ} (s : Sought t f link) (nz : 
               now = A ++ p₁ ∷ B;
               gone = inner_part t link f e ∷ [];
               becomes = trim.done v.xs v.ys v.linked (omega arith) (omega arith);
-              blocks = recorded-seen s nz ew rec g (omega arith);
+              blocks = recorded-seen s told ew rec g (omega arith);
               inside = inside-seen e v h (omega arith) ∙ ap (λ (l : List PieceRow). inner_part t link f e ∷ l) (sym rest);
               same_below = back_below f e h A p B (omega arith) (omega arith) ∙ ap (rows_below f) (sym v.is);
               same_above = back_above f e h A p B (omega arith) under ∙ ap (rows_above e) (sym v.is);
@@ -154,16 +154,16 @@ module _ {t b : List ℕ} {tick f e link was : ℕ} (s : Sought t f link) (nz : 
             }
 
 -- by the test whether the piece starts before the first cell
-module _ {t b : List ℕ} {tick f e link : ℕ} {starts : Bool} (s : Sought t f link) (nz : link ≡ 0 → ⊥) (tested : StartsBelow t link f starts) where
+module _ {t b : List ℕ} {tick f e link : ℕ} {starts : Bool} {out : Option ℕ} (s : Sought t f out) (told : out ≡ Some link) (tested : StartsBelow t link f starts) where
   pub cut_first_uncut : starts ≡ false → CutFirst t t b b tick f e true
-  cut_first_uncut h = uncut s nz refl (ltb-false (first_at t link) f (sym tested.is ∙ h))
+  cut_first_uncut h = uncut s told refl (ltb-false (first_at t link) f (sym tested.is ∙ h))
 
   module _ {q : Bool} {t₁ b₁ : List ℕ} (h : starts ≡ true) (rec : RecordedPart t b b₁ link tick f e) (eq : EndsAfter t link e q) where
     pub cut_first_middle : q ≡ true → SplitPiece t t₁ link f e → CutFirst t t₁ b b₁ tick f e false
-    cut_first_middle = cut-middle s nz refl (ltb-true (first_at t link) f (sym tested.is ∙ h)) rec eq
+    cut_first_middle = cut-middle s told refl (ltb-true (first_at t link) f (sym tested.is ∙ h)) rec eq
 
     pub cut_first_back : q ≡ false → TrimmedBack t t₁ link f → CutFirst t t₁ b b₁ tick f e true
-    cut_first_back = cut_back s nz refl (ltb-true (first_at t link) f (sym tested.is ∙ h)) rec eq
+    cut_first_back = cut_back s told refl (ltb-true (first_at t link) f (sym tested.is ∙ h)) rec eq
 
 -- ── `apply_update` ──
 

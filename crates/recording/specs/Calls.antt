@@ -62,9 +62,8 @@ pub record Given (t b : List ℕ) (first end : ℕ) (ps : List PieceRow) : Type 
 
 -- the link's piece is the lowest in [first, end) and lies in there wholly; it is recorded
 pub record Covered (t t' b b' : List ℕ) (tick first end link : ℕ) : Type 0 where
-  pub some : link ≡ 0 → ⊥
   pub same : t' ≡ t
-  pub sought : Sought t first link
+  pub sought : Sought t first (Some link)
   pub from : first ≤ first_at t link
   pub to : end_at t link ≤ end
   pub blocks : b' ≡ recorded tick (inner_part t link first end ∷ []) b

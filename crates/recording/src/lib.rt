@@ -69,10 +69,7 @@ fn split(pieces: &mut [u64], link: u64, from: u64, to: u64)
 fn meet_one(pieces: &mut [u64], blocks: &mut [u64], cells: Cells) -> Option<u64>
     ensures { MetOne pieces.old pieces.new blocks.old blocks.new cells.tick cells.first cells.end result }
 {
-    let link = piece_table::seek_near(pieces, cells.first, cells.near);
-    if link == 0 {
-        return None;
-    }
+    let link = piece_table::seek_near(pieces, cells.first, cells.near)?;
     if !merge_set::starts_below(pieces, link, cells.end) {
         return None;
     }
@@ -97,6 +94,7 @@ fn clear_one(pieces: &mut [u64], blocks: &mut [u64], cells: Cells) -> bool
 }
 
 // Takes out and records all that the pieces have in the cells, where none reaches over the first one.
+// The first one is sought anew in each round, as the tree has changed; there are no more rounds than pieces, so that it ends on any table.
 #[tactic(auto, using(crate::proofs::Clearing::rounds))]
 fn clear(pieces: &mut [u64], blocks: &mut [u64], cells: Cells)
     ensures { Cleared pieces.old pieces.new blocks.old blocks.new cells.tick cells.first cells.end }
@@ -132,10 +130,9 @@ fn clear_after(pieces: &mut [u64], blocks: &mut [u64], tick: u64, link: u64, end
 fn cut_first(pieces: &mut [u64], blocks: &mut [u64], cells: Cells) -> bool
     ensures { CutFirst pieces.old pieces.new blocks.old blocks.new cells.tick cells.first cells.end result }
 {
-    let link = piece_table::seek_near(pieces, cells.first, cells.near);
-    if link == 0 {
+    let Some(link) = piece_table::seek_near(pieces, cells.first, cells.near) else {
         return false;
-    }
+    };
     if !merge_set::starts_below(pieces, link, cells.first) {
         return true;
     }
@@ -167,7 +164,9 @@ fn take_place(pieces: &mut [u64], blocks: &mut [u64], piece: Piece, near: u64)
     };
     let was = tables::get(pieces, link, piece::FIRST);
     clear_after(pieces, blocks, cells.tick, link, cells.end);
-    let row = piece_table::seek_near(pieces, was, link);
+    let Some(row) = piece_table::seek_near(pieces, was, link) else {
+        return;
+    };
     piece_table::replace_piece(pieces, row, piece);
 }
 

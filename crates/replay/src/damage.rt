@@ -24,7 +24,7 @@ pub const FILE: usize = 16384;
 // Whether writing the index gives the bytes of a file from a place up to the next.
 fn is_written(t: &Tables<'_>, file: &[u8], at: usize, next: usize) -> bool {
     let mut out = [alike::UNTOUCHED; FILE];
-    match spacetime_file::serialize_to(t.pieces, t.blocks, t.store, t.nodes, t.entries, &mut out) {
+    match spacetime_file::serialize_to(t.lent(), &mut out) {
         Ok(many) => {
             tally::skip(file, at, many) == next
                 && alike::is_filled(&out, tables::part(file, at as u64, many))

@@ -20,6 +20,17 @@ pub struct Tables<'a> {
 }
 
 impl Tables<'_> {
+    // For a call that reads them.
+    pub fn lent(&self) -> layout::Tables<'_> {
+        layout::Tables {
+            pieces: self.pieces,
+            blocks: self.blocks,
+            store: self.store,
+            nodes: self.nodes,
+            entries: self.entries,
+        }
+    }
+
     pub fn spoil(&mut self) {
         self.pieces.fill(GARBAGE);
         self.blocks.fill(GARBAGE);

@@ -3,6 +3,7 @@ use crate::lent::Tables;
 use crate::rows::{Call, Row};
 use crate::{alike, read};
 use refusals::Refusal;
+use touching::Side;
 
 const CELL: usize = 3;
 
@@ -18,11 +19,7 @@ pub fn touching(t: &Tables<'_>, call: Call<'_>, told: &mut Row) {
         return;
     }
     let touched = touching::touching(
-        t.pieces,
-        t.blocks,
-        t.store,
-        t.nodes,
-        t.entries,
+        t.lent(),
         call.get(read::TICK),
         call.get(read::START),
         call.get(read::END),
@@ -49,14 +46,8 @@ fn tell_nearest(told: &mut Row, nearest: Result<Option<u64>, Refusal>) {
     }
 }
 
-pub fn next(t: &Tables<'_>, call: Call<'_>, told: &mut Row) {
+pub fn near(t: &Tables<'_>, side: Side, call: Call<'_>, told: &mut Row) {
     let (tick, cell) = (call.get(read::TICK), call.get(CELL));
-    let nearest = touching::next(t.pieces, t.blocks, t.store, t.nodes, t.entries, tick, cell);
-    tell_nearest(told, nearest);
-}
-
-pub fn last(t: &Tables<'_>, call: Call<'_>, told: &mut Row) {
-    let (tick, cell) = (call.get(read::TICK), call.get(CELL));
-    let nearest = touching::last(t.pieces, t.blocks, t.store, t.nodes, t.entries, tick, cell);
+    let nearest = touching::near(t.lent(), side, tick, cell);
     tell_nearest(told, nearest);
 }

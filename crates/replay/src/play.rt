@@ -5,6 +5,7 @@ use crate::lent::Tables;
 use crate::rows::{self, Call, Code, NoCode, Row};
 use crate::{damage, installs, near, read, update};
 use std::io::Stdout;
+use touching::Side;
 
 // As many rows as a part can have.
 const ROWS: usize = 65536;
@@ -17,8 +18,8 @@ fn tell_read(t: &Tables<'_>, code: Code, call: Call<'_>, told: &mut Row) {
         Code::Write => read::write(t, call, told),
         Code::Clock => read::clock(t, call, told),
         Code::Touching => near::touching(t, call, told),
-        Code::Next => near::next(t, call, told),
-        Code::Last => near::last(t, call, told),
+        Code::Next => near::near(t, Side::From, call, told),
+        Code::Last => near::near(t, Side::Before, call, told),
         _ => told.must(false),
     }
 }

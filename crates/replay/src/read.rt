@@ -58,7 +58,7 @@ const WINDOW: usize = 64;
 // After a refusal the block's bytes are none, and so are those of the row.
 pub fn block(t: &Tables<'_>, call: Call<'_>, told: &mut Row) {
     let number = call.get(BLOCK_NUMBER);
-    match index::block(t.pieces, t.blocks, t.store, t.nodes, t.entries, number) {
+    match index::block(t.lent(), number) {
         Ok(given) => {
             told.tell(BLOCK_KIND, given.kind);
             told.tell(BLOCK_FIRST, given.first);
@@ -80,11 +80,7 @@ pub fn find(t: &Tables<'_>, call: Call<'_>, told: &mut Row) {
         return;
     }
     let asked = index::find(
-        t.pieces,
-        t.blocks,
-        t.store,
-        t.nodes,
-        t.entries,
+        t.lent(),
         call.get(TICK),
         call.get(START),
         call.get(END),
@@ -118,11 +114,7 @@ pub fn cells(t: &Tables<'_>, call: Call<'_>, told: &mut Row) {
         return;
     }
     let read = cells::read_cells(
-        t.pieces,
-        t.blocks,
-        t.store,
-        t.nodes,
-        t.entries,
+        t.lent(),
         call.get(TICK),
         call.get(START),
         call.get(END),
@@ -148,7 +140,7 @@ pub fn write(t: &Tables<'_>, call: Call<'_>, told: &mut Row) {
         return;
     }
     let lent = &mut out[..room];
-    match spacetime_file::serialize_to(t.pieces, t.blocks, t.store, t.nodes, t.entries, lent) {
+    match spacetime_file::serialize_to(t.lent(), lent) {
         Ok(many) => told.tell(WRITE_LENGTH, many),
         Err(refusal) => told.refuse(u64::from(refusal)),
     }
@@ -157,7 +149,7 @@ pub fn write(t: &Tables<'_>, call: Call<'_>, told: &mut Row) {
 
 pub fn clock(t: &Tables<'_>, call: Call<'_>, told: &mut Row) {
     let cell = call.get(CLOCK_CELL);
-    match clock::clock(t.pieces, t.blocks, t.store, t.nodes, t.entries, cell) {
+    match clock::clock(t.lent(), cell) {
         Ok(label) => told.tell(CLOCK_LABEL, label),
         Err(refusal) => told.refuse(u64::from(refusal)),
     }

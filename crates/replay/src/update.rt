@@ -1,7 +1,7 @@
 // The calls that change an index: open, record, finish, load.
 use crate::lent::Tables;
 use crate::rows::{self, Call, Row};
-use index::Index;
+use index::{Index, Operation};
 use tables::{entry, node};
 
 const OPEN_END: usize = 2;
@@ -60,6 +60,11 @@ pub fn record(t: &mut Tables<'_>, lent: u64, call: Call<'_>, told: &mut Row) {
     let scratch = [0; SCRATCH];
     let nodes = &mut *t.nodes;
     let entries = &mut *t.entries;
+    let op = Operation {
+        tick: call.get(RECORD_TICK),
+        first: call.get(RECORD_FIRST),
+        bytes: call.part(RECORD_START, RECORD_LENGTH),
+    };
     let answer = index::record_op(
         t.pieces,
         t.blocks,
@@ -67,9 +72,7 @@ pub fn record(t: &mut Tables<'_>, lent: u64, call: Call<'_>, told: &mut Row) {
         nodes,
         entries,
         &scratch[..rows::at_most(lent, SCRATCH)],
-        call.get(RECORD_TICK),
-        call.get(RECORD_FIRST),
-        call.part(RECORD_START, RECORD_LENGTH),
+        op,
     );
     match answer {
         Ok(None) => {

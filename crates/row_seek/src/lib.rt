@@ -12,13 +12,14 @@ ghost use Rattle.row_seek.specs.Marks.{Marked};
 use block_table::Row;
 
 // How many rows are marked.
+// They stand in an array, as nothing is allocated.
 pub const MARKS: usize = 64;
 
 // How often a place is guessed by the tick before ranges are halved.
 const GUESSES: u64 = 8;
 
 // A place along the rows, and a destroyed tick that stands there.
-#[derive(Clone, Copy)]
+#[derive(Clone, Copy, Default)]
 pub struct Mark {
     pub row: u64,
     pub tick: u64,
@@ -57,10 +58,11 @@ fn between(lo: Mark, hi: Mark, tick: u64, guesses: u64) -> u64
 
 // Whether the row is destroyed before the tick, or at it and ends at the cell or before.
 fn comes_before(row: Row, tick: u64, cell: u64) -> bool {
-    row.destroyed < tick || row.destroyed == tick && row.first.saturating_add(row.length) <= cell
+    row.destroyed < tick || row.destroyed == tick && row.end() <= cell
 }
 
 // How many rows come before the tick and the cell, of those above `from` up to `to`, and those up to `from` besides.
+// No `for`, and no `partition_point` of std: where to look next is guessed by the ticks of both ends.
 pub fn search(blocks: &[u64], from: Mark, to: u64, tick: u64, cell: u64, tries: u64) -> u64
     ensures onward { from.row ≤ result }
     ensures within { result ≤ max from.row to }
@@ -94,7 +96,7 @@ pub fn search(blocks: &[u64], from: Mark, to: u64, tick: u64, cell: u64, tries: 
 pub fn mark_rows(blocks: &[u64], n: u64) -> [Mark; MARKS]
     ensures { Marked blocks.now n result }
 {
-    let mut marks = [Mark { row: 0, tick: 0 }; MARKS];
+    let mut marks = [Mark::default(); MARKS];
     let mut row: u64 = 0;
     for i in 1..MARKS {
         row = n.min(row.saturating_add(n / 64 + 1));

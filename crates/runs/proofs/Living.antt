@@ -16,9 +16,10 @@ use Rattle.history.specs.Find.{path}
 use Rattle.history.specs.Rules.{Apart}
 use Rattle.history.specs.Ledger.{Ledger, finished}
 use Rattle.history.specs.Sound.{Sound}
-use Rattle.tables.specs.Columns.{block_column, head_end, head_count}
+use Rattle.tables.specs.Columns.{block_column, head_end, head_kind, head_count}
 use Rattle.block_table.specs.Blocks.{first_cell_at, block_of_row, length_at, offset_at}
 use Rattle.block_table.proofs.Blocks.{blocks_at, bytes_length}
+use Rattle.segment_table.specs.Closed.{TreeOf}
 use Rattle.segment_near.specs.declared.Side.{Side}
 use Rattle.segment_near.specs.declared.Neighbour.{Neighbour}
 use Rattle.segment_near.specs.Neighbours.{Neighbours, NearestLive}
@@ -28,6 +29,13 @@ use Rattle.layout.specs.Encodes.{Encodes}
 use Rattle.layout.proofs.Pieces.{used_fits}
 use Rattle.layout.proofs.Trees.{tree_known}
 use Rattle.runs.specs.Runs.{ClosedAt}
+
+-- ── the tree by the head ──
+
+-- the neighbour in the tree that the head says
+pub near_in : {blocks nodes entries ns es : List ℕ} {kind end tick : ℕ} {side : Side} {place : ℕ} {r : Option Neighbour} → TreeOf blocks nodes entries ns es kind end
+    → NearestLive ns es kind end tick side place r → NearestLive nodes entries (block_column blocks 0 head_kind) (block_column blocks 0 head_end) tick side place r
+near_in t n = rw (← t.in_nodes, ← t.in_entries, ← t.own_kind, ← t.end) n
 
 -- ── what the tables say of a block ──
 

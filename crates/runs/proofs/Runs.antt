@@ -11,15 +11,16 @@ use Rattle.lists.proofs.Numbers.{le_or_lt}
 use Rattle.history.specs.Words.{Block, ends, live}
 use Rattle.history.specs.Tree.{block_at, key_in}
 use Rattle.history.specs.Ledger.{Ledger}
-use Rattle.tables.specs.Columns.{block_column, head_end}
+use Rattle.tables.specs.Columns.{block_column, head_kind}
 use Rattle.block_table.specs.Blocks.{offset_at}
+use Rattle.segment_table.specs.Closed.{TreeOf}
 use Rattle.segment_near.specs.declared.Side.TheVariants.{From, Before}
 use Rattle.segment_near.specs.declared.Neighbour.{Neighbour}
 use Rattle.segment_near.specs.Neighbours.{NearestLive}
 use Rattle.runs.specs.declared.Run.{Run}
 use Rattle.runs.specs.Runs.{ClosedAt, Laid, Passed, RunShown, PartOf, FirstRun, NextRun}
 use Rattle.runs.proofs.Seeing.{passed_behind, passed_last, passed_first, free_between, held_by, live-number, some_cell}
-use Rattle.runs.proofs.Living.{Living, living}
+use Rattle.runs.proofs.Living.{near_in, Living, living}
 
 -- free cells up to a place, and none behind them
 abbrev free_to : (until : ℕ) → Run
@@ -62,28 +63,28 @@ module _ {blocks store nodes entries : List ℕ} {kind tick : ℕ} {bs : List Bl
 
 -- ── the returns of `first_run` ──
 
-module _ {blocks store nodes entries : List ℕ} {kind tick start stop last : ℕ} {found : Option Neighbour} {r : Run} where
-  pub first_block : {b : Neighbour} → last ≡ block_column blocks 0 head_end
-      → NearestLive nodes entries kind last tick Before start found → found ≡ Some b → PartOf blocks store b.number start stop r
-      → FirstRun blocks store nodes entries kind tick start stop r
-  first_block {b} e n is p = record { laid = p.laid; stops = p.stops; shown = shown }
+module _ {blocks store nodes entries ns es : List ℕ} {kind tick start stop last : ℕ} {found : Option Neighbour} {r : Run} where
+  pub first_block : {b : Neighbour} → TreeOf blocks nodes entries ns es kind last
+      → NearestLive ns es kind last tick Before start found → found ≡ Some b → PartOf blocks store b.number start stop r
+      → FirstRun blocks store nodes entries (block_column blocks 0 head_kind) tick start stop r
+  first_block {b} t n is p = record { laid = p.laid; stops = p.stops; shown = shown }
     where
-      shown : (l : Ledger) → ClosedAt blocks store nodes entries kind tick l → start ≤ stop → RunShown l.now.blocks tick store start stop r
+      shown : (l : Ledger) → ClosedAt blocks store nodes entries (block_column blocks 0 head_kind) tick l → start ≤ stop → RunShown l.now.blocks tick store start stop r
       shown l c room =
           let v = living c in
-          let m = (v.near Before start (rw e at n)).block b is in
+          let m = (v.near Before start (near_in t n)).block b is in
           let a = v.lives b.number m.listed in
           part-shown v b.number start stop a p (omega (arith, m.beside)) room
           (λ ended. passed_last l.now.blocks tick v.apart v.filled b.number start a (λ j l h. all_mem m.nearest (v.met j l) h) ended)
 
-  pub first_none : last ≡ block_column blocks 0 head_end → NearestLive nodes entries kind last tick Before start found
-      → found ≡ None → r ≡ free_to start → FirstRun blocks store nodes entries kind tick start stop r
-  first_none e n is q = rw q (record { laid = free_laid store start start (omega arith); stops = λ h. h; shown = shown })
+  pub first_none : TreeOf blocks nodes entries ns es kind last → NearestLive ns es kind last tick Before start found
+      → found ≡ None → r ≡ free_to start → FirstRun blocks store nodes entries (block_column blocks 0 head_kind) tick start stop r
+  first_none t n is q = rw q (record { laid = free_laid store start start (omega arith); stops = λ h. h; shown = shown })
     where
-      shown : (l : Ledger) → ClosedAt blocks store nodes entries kind tick l → start ≤ stop → RunShown l.now.blocks tick store start stop (free_to start)
+      shown : (l : Ledger) → ClosedAt blocks store nodes entries (block_column blocks 0 head_kind) tick l → start ≤ stop → RunShown l.now.blocks tick store start stop (free_to start)
       shown l c room =
           let v = living c in
-          let without = (v.near Before start (rw e at n)).nothing is in
+          let without = (v.near Before start (near_in t n)).nothing is in
           record {
             free = λ c from below. absurd (omega arith);
             held = λ c from below. absurd (omega arith);
@@ -95,51 +96,51 @@ pub ruleset beginning = (first_block, first_none)
 -- ── the returns of `next_run` ──
 
 -- nothing more is shown in the window: free cells up to its end
-rest_run : {blocks store nodes entries : List ℕ} {kind tick place stop : ℕ}
-    → ((l : Ledger) → ClosedAt blocks store nodes entries kind tick l → (j : ℕ) → live tick (block_at l.now.blocks j) ≡ true → place ≤ key_in l.now.blocks j → stop ≤ key_in l.now.blocks j)
-    → NextRun blocks store nodes entries kind tick place stop (free_to stop)
-rest_run {blocks} {store} {nodes} {entries} {kind} {tick} {place} {stop} later = record {
+rest_run : {blocks store nodes entries : List ℕ} {tick place stop : ℕ}
+    → ((l : Ledger) → ClosedAt blocks store nodes entries (block_column blocks 0 head_kind) tick l → (j : ℕ) → live tick (block_at l.now.blocks j) ≡ true → place ≤ key_in l.now.blocks j → stop ≤ key_in l.now.blocks j)
+    → NextRun blocks store nodes entries (block_column blocks 0 head_kind) tick place stop (free_to stop)
+rest_run {blocks} {store} {nodes} {entries} {tick} {place} {stop} later = record {
   laid = λ h. free_laid store place stop h;
   stops = λ h. omega arith;
   onward = λ h. h;
   shown = λ l c room p. rest_free (living c) place stop room p (later l c);
 }
 
-module _ {blocks store nodes entries : List ℕ} {kind tick place stop last : ℕ} {found : Option Neighbour} {r : Run} where
-  pub next_none : last ≡ block_column blocks 0 head_end → NearestLive nodes entries kind last tick From place found
-      → found ≡ None → r ≡ free_to stop → NextRun blocks store nodes entries kind tick place stop r
-  next_none e n is q =
-      rw q (rest_run (λ l c j b h. let v = living c in absurd (all_mem ((v.near From place (rw e at n)).nothing is) (v.met j b) h)))
+module _ {blocks store nodes entries ns es : List ℕ} {kind tick place stop last : ℕ} {found : Option Neighbour} {r : Run} where
+  pub next_none : TreeOf blocks nodes entries ns es kind last → NearestLive ns es kind last tick From place found
+      → found ≡ None → r ≡ free_to stop → NextRun blocks store nodes entries (block_column blocks 0 head_kind) tick place stop r
+  next_none t n is q =
+      rw q (rest_run (λ l c j b h. let v = living c in absurd (all_mem ((v.near From place (near_in t n)).nothing is) (v.met j b) h)))
 
-  module _ {b : Neighbour} (e : last ≡ block_column blocks 0 head_end)
-      (n : NearestLive nodes entries kind last tick From place found) (is : found ≡ Some b) where
-    pub next_past : stop ≤ b.first → r ≡ free_to stop → NextRun blocks store nodes entries kind tick place stop r
+  module _ {b : Neighbour} (t : TreeOf blocks nodes entries ns es kind last)
+      (n : NearestLive ns es kind last tick From place found) (is : found ≡ Some b) where
+    pub next_past : stop ≤ b.first → r ≡ free_to stop → NextRun blocks store nodes entries (block_column blocks 0 head_kind) tick place stop r
     next_past h q =
         rw q (rest_run (λ l c j x g.
         let v = living c in
-        let m = (v.near From place (rw e at n)).block b is in
+        let m = (v.near From place (near_in t n)).block b is in
         omega (arith, m.starts, all_mem m.nearest (v.met j x) g)))
 
-    pub next_back : b.first < place → r ≡ free_to stop → NextRun blocks store nodes entries kind tick place stop r
+    pub next_back : b.first < place → r ≡ free_to stop → NextRun blocks store nodes entries (block_column blocks 0 head_kind) tick place stop r
     next_back h q =
         rw q (rest_run (λ l c j x g.
         let v = living c in
-        let m = (v.near From place (rw e at n)).block b is in
+        let m = (v.near From place (near_in t n)).block b is in
         absurd (omega (arith, m.starts, m.beside))))
 
     pub next_stuck : {run : Run} → place ≤ b.first → b.first < stop → PartOf blocks store b.number b.first stop run → run.past ≤ place → r ≡ free_to stop
-        → NextRun blocks store nodes entries kind tick place stop r
+        → NextRun blocks store nodes entries (block_column blocks 0 head_kind) tick place stop r
     next_stuck {run} after room p stuck q =
         rw q (rest_run (λ l c j x g.
         let v = living c in
-        let m = (v.near From place (rw e at n)).block b is in
+        let m = (v.near From place (near_in t n)).block b is in
         let a = v.lives b.number m.listed in
         let row = v.row b.number (live-number l.now.blocks tick v.apart v.filled b.number a) in
         let past = p.reaches row.known (omega (arith, row.first, m.starts)) row.inside in
         absurd (omega (arith, row.first, row.ended, m.starts, some_cell l.now.blocks tick v.apart v.filled b.number a))))
 
     pub next_given : place ≤ b.first → b.first < stop → PartOf blocks store b.number b.first stop r → place < r.past
-        → NextRun blocks store nodes entries kind tick place stop r
+        → NextRun blocks store nodes entries (block_column blocks 0 head_kind) tick place stop r
     next_given after room p onward = record {
       laid = λ h. record { goes_on = omega (arith, p.starts); forward = p.laid.forward; stored = p.laid.stored };
       stops = λ h. p.stops (omega arith);
@@ -147,11 +148,11 @@ module _ {blocks store nodes entries : List ℕ} {kind tick place stop last : �
       shown = shown;
     }
       where
-        shown : (l : Ledger) → ClosedAt blocks store nodes entries kind tick l → place ≤ stop → Passed l.now.blocks tick place
+        shown : (l : Ledger) → ClosedAt blocks store nodes entries (block_column blocks 0 head_kind) tick l → place ≤ stop → Passed l.now.blocks tick place
             → RunShown l.now.blocks tick store place stop r
         shown l c room' q =
             let v = living c in
-            let m = (v.near From place (rw e at n)).block b is in
+            let m = (v.near From place (near_in t n)).block b is in
             let a = v.lives b.number m.listed in
             let s = part-shown v b.number b.first stop a p (omega (arith, m.starts)) (omega arith) (λ ended. absurd (omega (arith, m.starts, some_cell l.now.blocks tick v.apart v.filled b.number a))) in
             record {

@@ -9,9 +9,11 @@
 #![tactic(auto)]
 
 ghost use Rattle.std.specs.Prelude.{◌≡◌};
+ghost use Rattle.tables.specs.Columns.{block_column, head_kind};
 ghost use Rattle.runs.specs.Runs.{PartOf, FirstRun, NextRun};
 
 use segment_near::Side;
+use segment_table::lent::Closed;
 use tables::block;
 
 // From the place asked for on, the cells below `until` are free; those from there to below `past` have the store's bytes from place `from` on.
@@ -61,49 +63,33 @@ fn part(blocks: &[u64], store: &[u8], number: u64, place: u64, end: u64) -> Run
     }
 }
 
-// The first cells of a window, for blocks of a kind: those of the block that starts before it and reaches into it, if there is one.
-pub fn first_run(
-    blocks: &[u64],
-    store: &[u8],
-    nodes: &[u64],
-    entries: &[u64],
-    kind: u64,
-    tick: u64,
-    start: u64,
-    end: u64,
-) -> Run
-    ensures { FirstRun blocks.now store.now nodes.now entries.now kind tick start end result }
+// The first cells of a window: those of the block that starts before it and reaches into it, if there is one.
+pub fn first_run(closed: &Closed, store: &[u8], tick: u64, start: u64, end: u64) -> Run
+    ensures { FirstRun closed.now.blocks.now store.now closed.now.nodes.now closed.now.entries.now
+        (block_column closed.now.blocks.now 0 head_kind) tick start end result }
 {
-    let last = block_table::end(blocks);
-    let before = segment_near::nearest_live(nodes, entries, kind, last, tick, Side::Before, start);
+    let tree = closed.tree();
+    let before = segment_near::nearest_live(&tree, tick, Side::Before, start);
     match before {
-        Some(block) => part(blocks, store, block.number, start, end),
+        Some(block) => part(closed.blocks, store, block.number, start, end),
         None => free(start),
     }
 }
 
 // The cells from a place on that no block before it reaches: free ones up to the next block, then that block's.
-pub fn next_run(
-    blocks: &[u64],
-    store: &[u8],
-    nodes: &[u64],
-    entries: &[u64],
-    kind: u64,
-    tick: u64,
-    place: u64,
-    end: u64,
-) -> Run
-    ensures { NextRun blocks.now store.now nodes.now entries.now kind tick place end result }
+pub fn next_run(closed: &Closed, store: &[u8], tick: u64, place: u64, end: u64) -> Run
+    ensures { NextRun closed.now.blocks.now store.now closed.now.nodes.now closed.now.entries.now
+        (block_column closed.now.blocks.now 0 head_kind) tick place end result }
 {
-    let last = block_table::end(blocks);
-    let next = segment_near::nearest_live(nodes, entries, kind, last, tick, Side::From, place);
+    let tree = closed.tree();
+    let next = segment_near::nearest_live(&tree, tick, Side::From, place);
     let Some(block) = next else {
         return free(end);
     };
     if end <= block.first || block.first < place {
         return free(end);
     }
-    let run = part(blocks, store, block.number, block.first, end);
+    let run = part(closed.blocks, store, block.number, block.first, end);
     if run.past <= place {
         return free(end);
     }

@@ -13,11 +13,13 @@ ghost use Rattle.segment_apart.specs.Apart.{ClosedApart};
 
 pub mod birth;
 
+use segment_table::lent::Claim;
+
 // Rule 24 for the tables of a closed index: whether no two of its n blocks share a cell at a tick. Linear in the entries where cells are handed on from block to
 // block, O(n log E log n) for any: see `birth`. To be called only where the table has n rows and the tree was tested.
-pub fn apart(blocks: &[u64], nodes: &[u64], entries: &[u64], kind: u64, end: u64, n: u64) -> bool
-    ensures { ClosedApart (lent blocks.now nodes.now entries.now) kind end n result }
+pub fn apart(claim: &Claim<'_>) -> bool
+    ensures { ClosedApart (lent claim.now.tables.blocks.now claim.now.tables.nodes.now claim.now.tables.entries.now)
+        claim.now.kind claim.now.end claim.now.n result }
 {
-    segment_handed::handed_on(blocks, nodes, entries, kind, end)
-        || birth::all_clear(blocks, nodes, entries, kind, end, n)
+    segment_handed::handed_on(claim) || birth::all_clear(claim)
 }

@@ -8,6 +8,7 @@ use lib.Seq.{sets, length-sets}
 use Rattle.lists.proofs.Stores.{sets-append}
 use Rattle.segment_table.specs.Closed.{run, block_in}
 use Rattle.segment_table.proofs.Closed.{run_length, run-append}
+use Rattle.segment_walk.specs.declared.rows.Rows.{Rows}
 use Rattle.segment_walk.specs.Rowing.{blocks_in}
 use Rattle.segment_find.specs.Notes.{rows_in, noted, Fitting, Room}
 use Rattle.segment_find.proofs.Noting.{noted_next, noted-count, noted_grows}
@@ -36,17 +37,17 @@ extended_more {entries} {before} {at} {from} {answer} {i} s =
 -- ── all rows noted ──
 
 -- the rows at the first k places stand in the answer
-pub record Writing (entries notes before : List ℕ) (count : ℕ) (answer : List ℕ) (k place : ℕ) : Type 0 where
+pub record Writing (entries : List ℕ) (notes : List Rows) (before : List ℕ) (count : ℕ) (answer : List ℕ) (k place : ℕ) : Type 0 where
   pub inside : k ≤ count
   pub kept : length answer ≡ length before
   pub many : place ≡ length (noted entries notes k)
   pub left : answer ≡ sets before 0 (noted entries notes k)
 
-pub writing_none : {entries notes answer : List ℕ} {count : ℕ} → Writing entries notes answer count answer 0 0
+pub writing_none : {entries answer : List ℕ} {notes : List Rows} {count : ℕ} → Writing entries notes answer count answer 0 0
 unfolding noted
 writing_none = record { inside = omega arith; kept = refl; many = refl; left = refl }
 
-module _ {entries notes before : List ℕ} {count : ℕ} {answer : List ℕ} {k place : ℕ} (s : Writing entries notes before count answer k place) where
+module _ {entries : List ℕ} {notes : List Rows} {before : List ℕ} {count : ℕ} {answer : List ℕ} {k place : ℕ} (s : Writing entries notes before count answer k place) where
   module _ (some : k < count) where
     pub writing_room : Fitting entries notes count (length before) → Room entries (rows_in notes k) answer place
     writing_room f =

@@ -6,29 +6,30 @@ use Prim.Native.Nat.{ℕ, ◌+◌, ◌≤◌, ◌<◌}
 use native.Mathlib.Omega.{arith}
 use lib.ListN.{length}
 use borrow.Author.Tests.{le-leb, lt-leb}
-use Rattle.lists.proofs.Stores.{get_d_sets_in}
 use Rattle.history.specs.Tree.{Tree}
 use Rattle.history.specs.Find.{path, visited, window}
 use Rattle.segment_table.specs.Closed.{first_cell_in}
+use Rattle.segment_walk.specs.declared.rows.Rows.{Rows}
 use Rattle.segment_walk.specs.declared.walk.Node.{Node}
 use Rattle.segment_walk.specs.Walking.{Stands, Rooted, root_at}
 use Rattle.segment_find.specs.Notes.{most, Deep, Searched, noted, Fitting, Links, Windowed, Written}
 use Rattle.segment_find.specs.Listing.{Fills, Finds}
+use Rattle.segment_find.proofs.Noting.{links_in}
 use Rattle.segment_find.proofs.Searching.{deep_root}
 
 -- the links noted are those of the way
-links : {nodes notes notes₁ : List ℕ} {link min max tick v : ℕ} → length notes ≡ most + most → (down : Searched nodes link min max tick notes 0 notes₁ v)
+links : {nodes : List ℕ} {notes notes₁ : List Rows} {link min max tick v : ℕ} → length notes ≡ most → (down : Searched nodes link min max tick notes 0 notes₁ v)
     → Links notes₁ v down.way
 links {notes = notes} all down =
     record {
       many = omega (arith, down.count);
       same = λ i h.
           let z : 0 + i ≡ i = omega arith in
-          rw down.written (rw z at (get_d_sets_in down.way notes 0 i (omega (arith, down.count, down.room)) (omega (arith, down.count))));
+          rw down.written (rw z at (links_in down.way notes 0 i (omega (arith, down.count, down.room)) (omega (arith, down.count))));
     }
 
-module _ {nodes entries answer notes notes₁ notes₂ : List ℕ} {kind end tick start stop v : ℕ} {root : Node} {found : Option ℕ}
-    (at_root : root ≡ root_at nodes kind end) (all : length notes ≡ most + most)
+module _ {nodes entries answer : List ℕ} {notes notes₁ notes₂ : List Rows} {kind end tick start stop v : ℕ} {root : Node} {found : Option ℕ}
+    (at_root : root ≡ root_at nodes kind end) (all : length notes ≡ most)
     (down : Searched nodes root.link root.min root.max tick notes 0 notes₁ v)
     (rows : Windowed nodes entries notes₁ v start stop (length answer) notes₂ found) where
   pub find-listed : {answer' : List ℕ} {count listed : ℕ} → found ≡ Some count → Written entries notes₂ count answer answer' listed
@@ -65,6 +66,6 @@ pub find_deep : {link end : ℕ} {root : Node} → root ≡ record { link = link
     → Deep root.min root.max 0
 find_deep e h = rw e (deep_root h)
 
-pub find_fitting : {nodes entries notes notes₁ : List ℕ} {depth start stop places count : ℕ} {found : Option ℕ}
+pub find_fitting : {nodes entries : List ℕ} {notes notes₁ : List Rows} {depth start stop places count : ℕ} {found : Option ℕ}
     → Windowed nodes entries notes depth start stop places notes₁ found → found ≡ Some count → Fitting entries notes₁ count places
 find_fitting rows e = rows.fitting _ e

@@ -1,7 +1,7 @@
--- Laws of the block numbers in the rows noted: one place more, fewer places, other notes that agree. Assumes nothing.
+-- Laws of what is noted: the block numbers in the rows, one place more, fewer places, other notes that agree; and the links. Assumes nothing.
 use mathlib.Core.Path.{◌≡◌, refl, ◌∙◌, ap}
 use mathlib.Core.Logic.{⊎_elim}
-use mathlib.Core.List.{List, ◌++◌}
+use mathlib.Core.List.{List, [], ◌∷◌, ◌++◌}
 use Prim.Native.Nat.{ℕ, zero, suc, ◌+◌, ◌-◌, ◌≤◌, ◌<◌}
 use native.Mathlib.Omega.{arith}
 use lib.ListN.{length, get_or, set, length-append, length-set}
@@ -10,20 +10,20 @@ use Rattle.lists.proofs.Numbers.{le_or_lt}
 use Rattle.segment_table.proofs.Closed.{run_length}
 use Rattle.segment_walk.specs.declared.rows.Rows.{Rows}
 use Rattle.segment_walk.specs.Rowing.{blocks_in}
-use Rattle.segment_find.specs.Notes.{most, rows_in, noted}
+use Rattle.segment_find.specs.Notes.{no_rows, rows_in, links_noted, noted}
 
 module _ (entries : List ℕ) where
-  pub noted_next : (notes : List ℕ) (k : ℕ) → noted entries notes (k + 1) ≡ noted entries notes k ++ blocks_in entries (rows_in notes k)
+  pub noted_next : (notes : List Rows) (k : ℕ) → noted entries notes (k + 1) ≡ noted entries notes k ++ blocks_in entries (rows_in notes k)
   unfolding noted
   noted_next notes k = let e : k + 1 ≡ suc k = omega arith in rw e
 
-  pub noted-count : (notes : List ℕ) (k : ℕ)
+  pub noted-count : (notes : List Rows) (k : ℕ)
       → length (noted entries notes (k + 1)) ≡ length (noted entries notes k) + ((rows_in notes k).to - (rows_in notes k).from)
   noted-count notes k =
       ap length (noted_next notes k) ∙ length-append (noted entries notes k) (blocks_in entries (rows_in notes k))
       ∙ ap (λ (n : ℕ). length (noted entries notes k) + n) (run_length entries (rows_in notes k).from ((rows_in notes k).to - (rows_in notes k).from))
 
-  pub noted_grows : (notes : List ℕ) (j k : ℕ) → j ≤ k → length (noted entries notes j) ≤ length (noted entries notes k)
+  pub noted_grows : (notes : List Rows) (j k : ℕ) → j ≤ k → length (noted entries notes j) ≤ length (noted entries notes k)
   noted_grows notes j zero h = let e : j ≡ zero = omega arith in rw e (omega arith)
   noted_grows notes j (suc k) h =
       ⊎_elim
@@ -31,30 +31,31 @@ module _ (entries : List ℕ) where
       (λ (l : k < j). let e : j ≡ suc k = omega arith in rw e (omega arith))
       (le_or_lt j k)
 
-  pub noted_agree : (notes notes' : List ℕ) (k : ℕ) → ((i : ℕ) → i < k → rows_in notes' i ≡ rows_in notes i) → noted entries notes' k ≡ noted entries notes k
+  pub noted_agree : (notes notes' : List Rows) (k : ℕ) → ((i : ℕ) → i < k → rows_in notes' i ≡ rows_in notes i) → noted entries notes' k ≡ noted entries notes k
   unfolding noted
   noted_agree notes notes' zero same = refl
   noted_agree notes notes' (suc k) same =
       rw (noted_agree notes notes' k (λ i h. same i (omega arith))) (ap (λ (r : Rows). noted entries notes k ++ blocks_in entries r) (same k (omega arith)))
 
--- ── rows stored at a place ──
+-- ── links noted ──
 
-module _ (notes : List ℕ) (place a b : ℕ) (all : length notes ≡ most + most) (inside : place < most) where
-  -- the notes with the rows [a, b) at a place
-  abbrev pub stored : List ℕ
-  stored = set (set notes place a) (most + place) b
+-- what stands in front of the links is as it was
+links_out : (links : List ℕ) (notes : List Rows) (at i : ℕ) → i < at → rows_in (links_noted notes at links) i ≡ rows_in notes i
+unfolding links_noted
+links_out [] notes at i h = refl
+links_out (k ∷ ks) notes at i h =
+    let r : Rows = record { from = k; to = (rows_in notes at).to } in
+    links_out ks (set notes at r) (suc at) i (omega arith) ∙ get_or-set_other notes at i r no_rows (omega arith)
 
-  pub stored_same : rows_in stored place ≡ record { from = a; to = b }
-  stored_same =
-      let low : get_or stored place 0 ≡ a =
-      get_or-set_other (set notes place a) (most + place) place b 0 (λ e. omega arith) ∙ get_or-set_same notes place a 0 (omega arith) in
-      let high : get_or stored (most + place) 0 ≡ b =
-      get_or-set_same (set notes place a) (most + place) b 0 (omega (arith, length-set notes place a)) in
-      rw (low, high)
-
-  pub stored_other : (i : ℕ) → i < most + most → (i ≡ place → ⊥) → (i ≡ most + place → ⊥) → get_or stored i 0 ≡ get_or notes i 0
-  stored_other i h low high = get_or-set_other (set notes place a) (most + place) i b 0 high ∙ get_or-set_other notes place i a 0 low
-
-  pub stored_before : (i : ℕ) → i < place → rows_in stored i ≡ rows_in notes i
-  stored_before i h =
-      rw (stored_other i (omega arith) (λ e. omega arith) (λ e. omega arith), stored_other (most + i) (omega arith) (λ e. omega arith) (λ e. omega arith))
+pub links_in : (links : List ℕ) (notes : List Rows) (at j : ℕ) → at + length links ≤ length notes → j < length links
+    → (rows_in (links_noted notes at links) (at + j)).from ≡ get_or links j 0
+unfolding links_noted
+links_in [] notes at j h z = absurd (omega arith)
+links_in (k ∷ ks) notes at zero h z =
+    let e : at + 0 ≡ at = omega arith in
+    let r : Rows = record { from = k; to = (rows_in notes at).to } in
+    rw e (ap (λ (q : Rows). q.from) (links_out ks (set notes at r) (suc at) at (omega arith) ∙ get_or-set_same notes at r no_rows (omega arith)))
+links_in (k ∷ ks) notes at (suc j) h z =
+    let e : at + suc j ≡ suc at + j = omega arith in
+    let r : Rows = record { from = k; to = (rows_in notes at).to } in
+    rw e (links_in ks (set notes at r) (suc at) j (rw (length-set notes at r) (omega arith)) (omega arith))

@@ -5,7 +5,7 @@ use mathlib.Core.List.{List, [], ◌∷◌, ◌++◌, append-nil, append_assoc}
 use Prim.Native.Nat.{ℕ, suc, ◌+◌, ◌-◌, ◌≤◌, ◌<◌}
 use native.Mathlib.Omega.{arith}
 use lib.ListN.{length, drop, get_or, set, length-append, length-set}
-use lib.Seq.{drop-cons, drop-length}
+use lib.Seq.{drop-cons, drop-length, get_or-set_same, get_or-set_other}
 use Rattle.lists.proofs.Numbers.{lt_or_le}
 use Rattle.history.specs.Find.{window}
 use Rattle.history.proofs.FindOrder.{window-append}
@@ -14,8 +14,8 @@ use Rattle.segment_table.proofs.Closed.{run_length}
 use Rattle.segment_walk.specs.declared.rows.Rows.{Rows}
 use Rattle.segment_walk.specs.Rowing.{blocks_in, InWindow}
 use Rattle.std.specs.Prelude.{Some, None}
-use Rattle.segment_find.specs.Notes.{most, OnWay, way_end, way_on, rows_in, noted, InTable, Places, Links, Windowed}
-use Rattle.segment_find.proofs.Noting.{noted_next, noted-count, noted_agree, stored, stored_same, stored_other, stored_before}
+use Rattle.segment_find.specs.Notes.{most, no_rows, OnWay, way_end, way_on, rows_in, noted, InTable, Places, Links, Windowed}
+use Rattle.segment_find.proofs.Noting.{noted_next, noted-count, noted_agree}
 
 -- ── the rest of a way ──
 
@@ -67,17 +67,17 @@ rest_more {nodes} {entries} {blocks} {way} {listed} {start} {stop} {k} {link} {d
 -- ── the loop ──
 
 -- after k nodes, with the rows of `count` of them noted, and room for so many block numbers left
-pub record Windows (nodes entries before : List ℕ) (depth start stop places : ℕ) (notes : List ℕ) (k count room : ℕ) : Type 0 where
+pub record Windows (nodes entries : List ℕ) (before : List Rows) (depth start stop places : ℕ) (notes : List Rows) (k count room : ℕ) : Type 0 where
   pub few : count ≤ k
   pub inside : k ≤ depth
-  pub kept : length notes ≡ most + most
-  pub later : (i : ℕ) → k ≤ i → i < most → get_or notes i 0 ≡ get_or before i 0
+  pub kept : length notes ≡ most
+  pub later : (i : ℕ) → k ≤ i → i < most → rows_in notes i ≡ rows_in before i
   pub rows : (i : ℕ) → i < count → InTable entries (rows_in notes i)
   pub used : length (noted entries notes count) + room ≡ places
   pub rest : (blocks way listed : List ℕ) → Links before depth way → OnWay blocks nodes entries way listed
       → Rest nodes entries blocks way listed start stop k (noted entries notes count)
 
-pub windows_none : {nodes entries notes : List ℕ} {depth start stop places : ℕ} → Places notes depth
+pub windows_none : {nodes entries : List ℕ} {notes : List Rows} {depth start stop places : ℕ} → Places notes depth
     → Windows nodes entries notes depth start stop places notes 0 0 places
 unfolding noted
 windows_none p =
@@ -91,13 +91,13 @@ windows_none p =
       rest = λ blocks way listed l on. rest_none on;
     }
 
-module _ {nodes entries before : List ℕ} {depth start stop places : ℕ} {notes : List ℕ} {k count room : ℕ}
+module _ {nodes entries : List ℕ} {before : List Rows} {depth start stop places : ℕ} {notes : List Rows} {k count room : ℕ}
     (s : Windows nodes entries before depth start stop places notes k count room) where
-  module _ {rows : Rows} (p : Places before depth) (some : k < depth) (w : InWindow nodes entries (get_or notes k 0) start stop rows) where
+  module _ {rows : Rows} (p : Places before depth) (some : k < depth) (w : InWindow nodes entries (rows_in notes k).from start stop rows) where
     more : (blocks way listed : List ℕ) → Links before depth way → OnWay blocks nodes entries way listed
         → Rest nodes entries blocks way listed start stop (k + 1) (noted entries notes count ++ blocks_in entries rows)
     more blocks way listed l on =
-        rest_more (omega (arith, l.many)) (s.later k (omega arith) (omega (arith, p.few)) ∙ l.same k some) w (s.rest blocks way listed l on)
+        rest_more (omega (arith, l.many)) (ap (λ (r : Rows). r.from) (s.later k (omega arith) (omega (arith, p.few))) ∙ l.same k some) w (s.rest blocks way listed l on)
 
     pub windows_empty : rows.to - rows.from ≡ 0 → Windows nodes entries before depth start stop places notes (k + 1) count room
     unfolding run
@@ -114,15 +114,15 @@ module _ {nodes entries before : List ℕ} {depth start stop places : ℕ} {note
         }
 
     pub windows_more : rows.to - rows.from ≤ room
-        → Windows nodes entries before depth start stop places (set (set notes count rows.from) (most + count) rows.to) (k + 1) (count + 1)
+        → Windows nodes entries before depth start stop places (set notes count rows) (k + 1) (count + 1)
         (room - (rows.to - rows.from))
     windows_more fits =
-        let all : length notes ≡ most + most = s.kept in
-        let place : count < most = omega (arith, s.few, p.few) in
-        let notes' : List ℕ = stored notes count rows.from rows.to all place in
-        let same : noted entries notes' count ≡ noted entries notes count =
-        noted_agree entries notes notes' count (stored_before notes count rows.from rows.to all place) in
-        let here : rows_in notes' count ≡ rows = stored_same notes count rows.from rows.to all place in
+        let place : count < length notes = omega (arith, s.few, p.few, s.kept) in
+        let notes' : List Rows = set notes count rows in
+        let before : (i : ℕ) → i < count → rows_in notes' i ≡ rows_in notes i =
+        λ i h. get_or-set_other notes count i rows no_rows (omega arith) in
+        let same : noted entries notes' count ≡ noted entries notes count = noted_agree entries notes notes' count before in
+        let here : rows_in notes' count ≡ rows = get_or-set_same notes count rows no_rows place in
         let now : noted entries notes' (count + 1) ≡ noted entries notes count ++ blocks_in entries rows =
         rw (noted_next entries notes' count, same) (ap (λ (r : Rows). noted entries notes count ++ blocks_in entries r) here) in
         let long : length (noted entries notes' (count + 1)) ≡ length (noted entries notes count) + (rows.to - rows.from) =
@@ -131,11 +131,9 @@ module _ {nodes entries before : List ℕ} {depth start stop places : ℕ} {note
           few = omega (arith, s.few);
           inside = omega arith;
           kept = simp length-set s.kept;
-          later = λ i a b.
-              stored_other notes count rows.from rows.to all place i (omega arith) (λ e. omega (arith, s.few)) (λ e. omega arith)
-              ∙ s.later i (omega arith) b;
+          later = λ i a b. get_or-set_other notes count i rows no_rows (omega (arith, s.few)) ∙ s.later i (omega arith) b;
           rows = λ i a.
-              ⊎_elim (λ (h : i < count). subst (λ (r : Rows). InTable entries r) (sym (stored_before notes count rows.from rows.to all place i h)) (s.rows i h))
+              ⊎_elim (λ (h : i < count). subst (λ (r : Rows). InTable entries r) (sym (before i h)) (s.rows i h))
               (λ (h : count ≤ i).
               let e : i ≡ count = omega arith in
               rw e (subst (λ (r : Rows). InTable entries r) (sym here) (record { order = w.order; room = w.room })))

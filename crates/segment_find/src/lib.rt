@@ -15,8 +15,9 @@ ghost use Rattle.segment_walk.specs.Rowing.{blocks_in};
 ghost use Rattle.segment_find.specs.Notes.{Deep, Searched, Places, Windowed, Room, Fitting, Written};
 ghost use Rattle.segment_find.specs.Listing.{Finds};
 
+use segment_table::Tree;
 use segment_walk::rows::Rows;
-use segment_walk::walk::Node;
+use segment_walk::walk::{Node, Query};
 use segment_walk::{rows, walk};
 
 // How many blocks are listed, and how many nodes were visited.
@@ -26,11 +27,8 @@ pub struct Found {
     pub visited: usize,
 }
 
-// More nodes than these are on no way down.
+// More nodes than these are on no way down. Each has a place in the notes, where its link stands as `from` until rows stand there.
 const MOST: usize = 66;
-
-// A place for each node's link, in its stead later for the first row, and behind these a place for each row after the last.
-const PLACES: usize = 132;
 
 // Goes down to the tick from a node and notes the links of the nodes met, from place `depth` on; gives the place after the last one. It calls itself at
 // its end, with the node as three numbers, and leaves the rows to loops, so that a call is short. The node's width falls at each call.
@@ -41,7 +39,7 @@ fn search(
     min: u64,
     max: u64,
     tick: u64,
-    notes: &mut [u64; PLACES],
+    notes: &mut [Rows; MOST],
     depth: usize,
 ) -> usize
     requires { Deep min max depth }
@@ -51,7 +49,7 @@ fn search(
     if walk::absent(node) {
         return depth;
     }
-    notes[depth] = link;
+    notes[depth].from = link as usize;
     let below = walk::half(nodes, node, tick);
     search(
         nodes,
@@ -67,21 +65,21 @@ fn search(
 // Notes the rows in [start, stop) of the first `depth` nodes noted, of each that has any, over the links that it has read: how many nodes have some.
 // None where so many places do not hold the rows.
 fn windows(
-    nodes: &[u64],
-    entries: &[u64],
-    notes: &mut [u64; PLACES],
+    tree: &Tree,
+    notes: &mut [Rows; MOST],
     depth: usize,
-    start: u64,
-    stop: u64,
+    query: Query,
     places: usize,
 ) -> Option<usize>
     requires { Places notes.old depth }
-    ensures { Windowed nodes.now entries.now notes.old depth start stop places notes.new result }
+    ensures { Windowed tree.now.nodes.now tree.now.entries.now notes.old depth query.start query.stop places notes.new result }
 {
+    let Tree { nodes, entries, .. } = *tree;
+    let Query { start, stop, .. } = query;
     let mut count = 0;
     let mut room = places;
     for k in 0..depth {
-        let rows = rows::in_small_window(nodes, entries, notes[k], start, stop);
+        let rows = rows::in_window::<true>(nodes, entries, notes[k].from as u64, start, stop);
         let many = rows.to - rows.from;
         if room < many {
             return None;
@@ -89,8 +87,7 @@ fn windows(
         if many == 0 {
             continue;
         }
-        notes[count] = rows.from as u64;
-        notes[MOST + count] = rows.to as u64;
+        notes[count] = rows;
         count += 1;
         room -= many;
     }
@@ -110,46 +107,30 @@ fn extend_from_self(entries: &[u64], rows: Rows, answer: &mut [u64], at: usize)
 }
 
 // Writes the block numbers of the rows noted to the answer: how many.
-fn write(entries: &[u64], notes: &[u64; PLACES], count: usize, answer: &mut [u64]) -> usize
+fn write(entries: &[u64], notes: &[Rows; MOST], count: usize, answer: &mut [u64]) -> usize
     requires { Fitting entries.now notes.now count (length answer.old) }
     ensures { Written entries.now notes.now count answer.old answer.new result }
 {
     let mut at = 0;
     for k in 0..count {
-        let from = notes[k] as usize;
-        let to = notes[MOST + k] as usize;
-        extend_from_self(entries, Rows { from, to }, answer, at);
-        at += to - from;
+        let rows = notes[k];
+        extend_from_self(entries, rows, answer, at);
+        at += rows.to - rows.from;
     }
     at
 }
 
-// Lists the blocks of a kind that are live at the tick and have their first cell in [start, stop): root first, ascending in each node.
+// Lists the blocks of a tree that are live at the tick and have their first cell in [start, stop): root first, ascending in each node.
 // None where the answer is too small for them: it is left as it is.
-pub fn find(
-    nodes: &[u64],
-    entries: &[u64],
-    kind: u64,
-    end: u64,
-    tick: u64,
-    start: u64,
-    stop: u64,
-    answer: &mut [u64],
-) -> Option<Found>
-    ensures { Finds nodes.now entries.now kind end tick start stop answer.old answer.new result }
+pub fn find(tree: &Tree, query: Query, answer: &mut [u64]) -> Option<Found>
+    ensures { Finds tree.now.nodes.now tree.now.entries.now tree.now.kind tree.now.end query.tick query.start query.stop answer.old answer.new result }
 {
-    let root = walk::root(nodes, kind, end);
-    let mut notes: [u64; PLACES] = [0; PLACES];
-    let visited = search(nodes, root.link, root.min, root.max, tick, &mut notes, 0);
-    let runs = windows(
-        nodes,
-        entries,
-        &mut notes,
-        visited,
-        start,
-        stop,
-        answer.len(),
-    )?;
-    let count = write(entries, &notes, runs, answer);
+    let root = walk::root(tree.nodes, tree.kind, tree.end);
+    let mut notes = [Rows { from: 0, to: 0 }; MOST];
+    let visited = search(
+        tree.nodes, root.link, root.min, root.max, query.tick, &mut notes, 0,
+    );
+    let runs = windows(tree, &mut notes, visited, query, answer.len())?;
+    let count = write(tree.entries, &notes, runs, answer);
     Some(Found { count, visited })
 }

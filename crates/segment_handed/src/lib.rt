@@ -20,7 +20,8 @@ ghost use Rattle.segment_handed.specs.Tree.{Owed, BlockHeld, RunHeld, TreeHeld};
 ghost use Rattle.segment_handed.specs.Handed.{HandedOn};
 
 use block_table::Row;
-use segment_clear::{Lent, Own};
+use segment_clear::Own;
+use segment_table::lent::{Claim, Closed};
 use segment_walk::walk::Node;
 use segment_walk::{rows, walk};
 use slots::Slots;
@@ -30,7 +31,7 @@ use tables::entry;
 // slots for max.
 #[derive(Clone, Copy)]
 struct Walk<'a> {
-    lent: Lent<'a>,
+    lent: Closed<'a>,
     root: Node,
 }
 
@@ -45,10 +46,10 @@ impl Walk<'_> {
         if destroyed != node.max {
             return true;
         }
-        self.lent.above_clear(top, node.min, node.max - 1, own)
+        own.above_clear(&self.lent, top, node.min, node.max - 1)
             && (self.root.max <= node.max
                 || after.hold(own.first, own.end)
-                || self.lent.way_clear(self.root, node.max - 1, own))
+                || own.way_clear(&self.lent, self.root, node.max - 1))
     }
 
     // The slots for min when a block in the rows of the node was held: if it is created then, it is counted; if it is destroyed at max, nothing may be owed for it.
@@ -83,11 +84,11 @@ impl Walk<'_> {
         let mut place = 0;
         for row in rows.from..rows.to {
             let k = entry::get(self.lent.entries, row as u64, entry::BLOCK);
-            let read = self.lent.row(k);
+            let read = segment_clear::row(self.lent.blocks, k);
             if read.first < place {
                 return None;
             }
-            place = read.first.saturating_add(read.length);
+            place = read.end();
             if read.created != node.min && read.destroyed != node.max {
                 continue;
             }
@@ -119,15 +120,12 @@ impl Walk<'_> {
 // Whether the blocks of a closed index are seen to share no cell at a tick. If they are not, nothing is said. Linear in the entries, but for blocks that no slot
 // holds. To be called only where the tree was tested: in other tables many ways may lead to one row.
 #[tactic(auto, using(crate::proofs::Showing::handed_told))]
-pub fn handed_on(blocks: &[u64], nodes: &[u64], entries: &[u64], kind: u64, end: u64) -> bool
-    ensures { HandedOn (lent blocks.now nodes.now entries.now) kind end result }
+pub fn handed_on(claim: &Claim<'_>) -> bool
+    ensures { HandedOn (lent claim.now.tables.blocks.now claim.now.tables.nodes.now claim.now.tables.entries.now)
+        claim.now.kind claim.now.end result }
 {
-    let root = walk::root(nodes, kind, end);
-    let lent = Lent {
-        blocks,
-        nodes,
-        entries,
-    };
+    let lent = claim.tables;
+    let root = walk::root(lent.nodes, claim.kind, claim.end);
     let walk = Walk { lent, root };
     let none = Slots::unused();
     walk.hold_tree(root, root, &none, none).is_some()

@@ -11,6 +11,7 @@ ghost use Rattle.segment_table.specs.Closed.{block_in};
 ghost use Rattle.segment_walk.specs.Rowing.{key_at};
 ghost use Rattle.segment_near.specs.Neighbours.{OwnNeighbour, Nearer, NearestBelow, NearestLive};
 
+use segment_table::Tree;
 use segment_walk::rows::Rows;
 use segment_walk::walk::Node;
 use segment_walk::{rows, walk};
@@ -69,38 +70,23 @@ fn nearer(side: Side, own: Option<Neighbour>, below: Option<Neighbour>) -> Optio
 }
 
 // The neighbour of a place on the way down to the tick from a node. The node's width falls at each call.
-fn nearest(
-    nodes: &[u64],
-    entries: &[u64],
-    node: Node,
-    tick: u64,
-    side: Side,
-    place: u64,
-) -> Option<Neighbour>
-    ensures { NearestBelow nodes.now entries.now node tick side place result }
+fn nearest(tree: &Tree, node: Node, tick: u64, side: Side, place: u64) -> Option<Neighbour>
+    ensures { NearestBelow tree.now.nodes.now tree.now.entries.now node tick side place result }
 {
     if walk::absent(node) {
         return None;
     }
-    let rows = rows::rows_of(nodes, entries, node.link);
-    let own = own_neighbour(entries, rows, side, place);
-    let half = walk::half(nodes, node, tick);
-    let below = nearest(nodes, entries, half, tick, side, place);
+    let rows = rows::rows_of(tree.nodes, tree.entries, node.link);
+    let own = own_neighbour(tree.entries, rows, side, place);
+    let half = walk::half(tree.nodes, node, tick);
+    let below = nearest(tree, half, tick, side, place);
     nearer(side, own, below)
 }
 
-// The block of a kind that is live at the tick and next to the place on one side: the first that starts at it or after it, or the last that starts before it.
-pub fn nearest_live(
-    nodes: &[u64],
-    entries: &[u64],
-    kind: u64,
-    end: u64,
-    tick: u64,
-    side: Side,
-    place: u64,
-) -> Option<Neighbour>
-    ensures { NearestLive nodes.now entries.now kind end tick side place result }
+// The block of a tree that is live at the tick and next to the place on one side: the first that starts at it or after it, or the last that starts before it.
+pub fn nearest_live(tree: &Tree, tick: u64, side: Side, place: u64) -> Option<Neighbour>
+    ensures { NearestLive tree.now.nodes.now tree.now.entries.now tree.now.kind tree.now.end tick side place result }
 {
-    let root = walk::root(nodes, kind, end);
-    nearest(nodes, entries, root, tick, side, place)
+    let root = walk::root(tree.nodes, tree.kind, tree.end);
+    nearest(tree, root, tick, side, place)
 }

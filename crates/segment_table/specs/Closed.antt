@@ -2,7 +2,7 @@
 use Rattle.std.specs.Prelude.{◌≡◌, List, [], ◌∷◌, ℕ, zero, suc, ◌+◌, ◌*◌, ◌≤◌, ◌<◌, length, get_or}
 use Rattle.history.specs.Lent.{row_width, entry_width, entry_head}
 use Rattle.history.specs.Tree.{Tree, hole, node, mid, node_count, entry_count}
-use Rattle.tables.specs.Columns.{column, block_column, entry_column, block_first, node_min, node_max, node_left, node_right, node_first, node_entries, node_kind, nodes_count, entry_block, entry_key, entries_count}
+use Rattle.tables.specs.Columns.{column, block_column, entry_column, block_first, node_min, node_max, node_left, node_right, node_first, node_entries, node_kind, nodes_count, entry_block, entry_key, entries_count, head_kind, head_end}
 
 -- ── what is lent ──
 
@@ -91,3 +91,10 @@ pub record Closed (t : Tables) (kind e : ℕ) (tree : Tree) : Type 0 where
   pub room : row_width * nodes_used t.nodes + row_width ≤ length t.nodes
   pub all_entries_lem : entries_used t.entries ≡ entry_count tree
   pub consecutive : Consecutive t.nodes
+
+-- which tree it is, as the head of the blocks says it: of its kind, up to its end tick
+pub record TreeOf (blocks nodes entries : List ℕ) (its_nodes its_entries : List ℕ) (kind e : ℕ) : Type 0 where
+  pub in_nodes : its_nodes ≡ nodes
+  pub in_entries : its_entries ≡ entries
+  pub own_kind : kind ≡ block_column blocks 0 head_kind
+  pub end : e ≡ block_column blocks 0 head_end

@@ -1,5 +1,5 @@
 -- The parts of the test, each of which an inner test decides; they speak of the tables alone. Definitions alone: laws stand in proofs/.
-use Rattle.std.specs.Prelude.{◌≡◌, Bool, true, false, ◌&&◌, List, ℕ, suc, ◌+◌, ◌*◌, ◌≤◌, ◌<◌, length, ltb}
+use Rattle.std.specs.Prelude.{◌≡◌, Bool, true, false, ◌&&◌, Option, Some, None, List, ℕ, suc, ◌+◌, ◌*◌, ◌≤◌, ◌<◌, length, ltb}
 use Rattle.history.specs.Lent.{row_width, entry_width, block_head, node_head, entry_head}
 use Rattle.history.specs.Tree.{Tree, hole, node, mid, covers, node_count}
 use Rattle.tables.specs.Columns.{column, entry_column, node_min, node_max, node_kind, nodes_count, entry_key}
@@ -92,10 +92,10 @@ TreeStands t n kind link lo hi from to (node xs l r) =
     × TreeStands t n kind (left_at t.nodes link) lo (mid lo hi) lo hi l
     × TreeStands t n kind (right_at t.nodes link) (mid lo hi) hi lo hi r
 
--- What is left of a budget of node rows after a walk: each node takes one. None is left where the tree is wrong, or takes all.
-pub record Walked (t : Tables) (n kind link lo hi from to budget rest : ℕ) : Type 0 where
-  pub stood : 0 < rest → (tree : Tree) × TreeStands t n kind link lo hi from to tree × (budget ≡ rest + node_count tree)
-  pub wrong : rest ≡ 0 → (tree : Tree) → TreeStands t n kind link lo hi from to tree → node_count tree < budget → ⊥
+-- What is left of a budget of node rows after a walk: each node takes one. Nothing is said to be left where the tree is wrong, or takes more.
+pub record Walked (t : Tables) (n kind link lo hi from to budget : ℕ) (left : Option ℕ) : Type 0 where
+  pub stood : (rest : ℕ) → left ≡ Some rest → (tree : Tree) × TreeStands t n kind link lo hi from to tree × (budget ≡ rest + node_count tree)
+  pub wrong : left ≡ None → (tree : Tree) → TreeStands t n kind link lo hi from to tree → node_count tree ≤ budget → ⊥
 
 -- a tree stands from the root of the kind on, and takes every row in use
 pub record AllRows (t : Tables) (n kind e : ℕ) : Type 0 where

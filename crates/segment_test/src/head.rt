@@ -4,6 +4,8 @@ ghost use Rattle.tables.specs.Columns.{nodes_count};
 ghost use Rattle.segment_test.specs.Test.{lent};
 ghost use Rattle.segment_test.specs.Parts.{Room, Inside, Unrooted, OtherKinds, Rooted, Heads};
 
+use segment_table::lent::{Claim, Closed};
+
 // Whether a table has room for its head and this many rows. Constant time.
 fn room(table: &[u64], head: usize, rows: u64) -> bool
     ensures { Decides result (Room table.now head rows) }
@@ -44,15 +46,21 @@ fn rooted(root: u64, n: u64) -> bool
 }
 
 // Whether the counts are inside the tables, and there is a root of this kind alone, if there are blocks. Constant time.
-pub fn test_heads(blocks: &[u64], nodes: &[u64], entries: &[u64], kind: u64, n: u64) -> bool
-    ensures { Decides result (Heads (lent blocks.now nodes.now entries.now) n kind) }
+pub fn test_heads(claim: &Claim<'_>) -> bool
+    ensures { Decides result
+        (Heads (lent claim.now.tables.blocks.now claim.now.tables.nodes.now claim.now.tables.entries.now) claim.now.n claim.now.kind) }
 {
+    let Closed {
+        blocks,
+        nodes,
+        entries,
+    } = claim.tables;
     let used = tables::get(nodes, 0, tables::node::COUNT);
     let listed = tables::get(entries, 0, tables::entry::COUNT);
-    let root = tables::get(nodes, 0, kind as usize);
-    room(blocks, tables::block::HEAD, n)
+    let root = tables::get(nodes, 0, claim.kind as usize);
+    room(blocks, tables::block::HEAD, claim.n)
         && room(nodes, tables::node::HEAD, used)
         && inside(entries, 0, listed)
-        && other_kinds(nodes, kind)
-        && rooted(root, n)
+        && other_kinds(nodes, claim.kind)
+        && rooted(root, claim.n)
 }

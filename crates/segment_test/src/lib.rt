@@ -26,32 +26,27 @@ mod total;
 mod walk;
 
 use read::Tested;
+use segment_table::lent::Claim;
 
-// Whether the tables hold the tree of a closed index of the kind with the end tick `end`, whose blocks are the first n rows of the block table.
+// Whether the claim holds: the tables hold the tree of a closed index of the kind with the end tick, whose blocks are the first n rows of the block table.
 // Linear in the rows of the three tables, of malformed ones too: counts are tested to lie inside, and runs to follow one another, before any row is
 // read by them, and the walk meets no row twice. At most 64 frames deep up to the largest end tick, 2^63.
-pub fn test_tree(
-    blocks: &[u64],
-    nodes: &[u64],
-    entries: &[u64],
-    kind: u64,
-    end: u64,
-    n: u64,
-) -> bool
-    ensures { (bs : List Block) → BlockRows blocks.now n bs → Decides result (ClosedTree (lent blocks.now nodes.now entries.now) kind end bs) }
+pub fn test_tree(claim: &Claim<'_>) -> bool
+    ensures { (bs : List Block) → BlockRows claim.now.tables.blocks.now claim.now.n bs → Decides result
+        (ClosedTree (lent claim.now.tables.blocks.now claim.now.tables.nodes.now claim.now.tables.entries.now) claim.now.kind claim.now.end bs) }
 {
-    if !head::test_heads(blocks, nodes, entries, kind, n) {
+    if !head::test_heads(claim) {
         return false;
     }
     let t = Tested {
-        blocks,
-        nodes,
-        entries,
-        n,
-        kind,
+        blocks: claim.tables.blocks,
+        nodes: claim.tables.nodes,
+        entries: claim.tables.entries,
+        n: claim.n,
+        kind: claim.kind,
     };
     if !total::test_runs(&t) {
         return false;
     }
-    walk::test_nodes(&t, end) && total::entry_widths(&t) == total::lives(&t)
+    walk::test_nodes(&t, claim.end) && total::entry_widths(&t) == total::lives(&t)
 }

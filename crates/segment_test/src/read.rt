@@ -5,6 +5,7 @@ ghost use Rattle.tables.specs.Columns.{column, block_column, entry_column};
 ghost use Rattle.segment_table.specs.Closed.{nodes_used};
 
 // The lent tables, of n blocks and of a kind, when their heads are tested: all counts lie inside.
+// The three slices stand here, not a Closed: in a struct within one, the check did not find that row numbers are in range.
 #[derive(Clone, Copy)]
 pub struct Tested<'a> {
     pub blocks: &'a [u64],

@@ -32,6 +32,7 @@ fn follows(t: &Tested<'_>, first: u64, j: u64) -> bool
 }
 
 // Whether each of `many` entry rows from `first` on is right for the node below the node above, and keys ascend strictly. Linear in `many`.
+// A `for` and not `.all(..)`: with that the proof did not close.
 #[tactic(auto, using(crate::proofs::Running::run_more))]
 pub fn test_run(t: &Tested<'_>, at: Place, first: u64, many: u64) -> bool
     requires { Inside t.now.entries.now first many }

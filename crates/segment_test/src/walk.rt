@@ -42,21 +42,21 @@ fn test_node(t: &Tested<'_>, link: u64, at: Place) -> bool
     head::inside(t.entries, first, many) && run::test_run(t, at, first, many)
 }
 
-// What is left of a budget of node rows after every node at or below a link took one; none where a node is wrong, or the nodes take all.
+// What is left of a budget of node rows after every node at or below a link took one; none where a node is wrong, or there are more nodes.
 // Linear in the rows and entries met; at most 64 frames deep up to the largest end tick, 2^63.
 #[tactic(auto, using(crate::proofs::Walking::walking))]
-fn walk(t: &Tested<'_>, link: u64, at: Place, budget: u64) -> u64
+fn walk(t: &Tested<'_>, link: u64, at: Place, budget: u64) -> Option<u64>
     ensures { Walked (lent t.now.blocks.now t.now.nodes.now t.now.entries.now) t.now.n t.now.kind link at.min at.max at.from at.to budget result }
 {
     if link == 0 {
-        return budget;
+        return Some(budget);
     }
-    if budget <= 1 || !test_node(t, link, at) {
-        return 0;
+    if budget == 0 || !test_node(t, link, at) {
+        return None;
     }
     let Place { min, max, .. } = at;
     if max - min <= 1 {
-        return budget - 1;
+        return Some(budget - 1);
     }
     let mid = min + (max - min) / 2;
     let lower = Place {
@@ -71,7 +71,7 @@ fn walk(t: &Tested<'_>, link: u64, at: Place, budget: u64) -> u64
         from: min,
         to: max,
     };
-    let rest = walk(t, t.node(link, node::LEFT), lower, budget - 1);
+    let rest = walk(t, t.node(link, node::LEFT), lower, budget - 1)?;
     walk(t, t.node(link, node::RIGHT), upper, rest)
 }
 
@@ -87,5 +87,5 @@ pub fn test_nodes(t: &Tested<'_>, end: u64) -> bool
         from: 0,
         to: 0,
     };
-    walk(t, root, all, t.used() + 1) == 1
+    walk(t, root, all, t.used()) == Some(0)
 }

@@ -2,11 +2,11 @@
 use mathlib.Core.Path.{◌≡◌, refl, sym, ◌∙◌}
 use mathlib.Core.Bool.{Bool, true, false, true≢false, false≢true, cond, not}
 use mathlib.Core.List.{List, []}
-use Prim.Native.Nat.{ℕ, zero, suc, ◌+◌, ◌-◌, ◌*◌, ◌/◌, ◌^◌, ◌≤◌, ◌<◌}
+use Prim.Native.Nat.{ℕ, zero, suc, ◌+◌, ◌-◌, ◌*◌, ◌^◌, ◌≤◌, ◌<◌}
 use native.Mathlib.Omega.{arith}
 use lib.ListN.{length, set}
 use lib.Dec.{ltb}
-use borrow.Author.Tests.{lt-ltb, le-ltb, not-true, not-false}
+use borrow.Author.Tests.{lt-ltb, le-ltb}
 use Rattle.history.specs.Lent.{row_width}
 use Rattle.history.specs.Tree.{Tree, hole, node, mid, covers, entries_of, left_of, right_of, insert, add_location, node_count}
 use Rattle.history.proofs.TreeAdding.{made, listed, half_left, half_right, add_here, add_below, add_narrow, Half, went, kept, add_by}
@@ -15,7 +15,7 @@ use Rattle.history.proofs.TreeCounts.{node_count_add}
 use Rattle.tables.specs.Columns.{node_left, node_right, node_entries}
 use Rattle.tables.specs.Sums.{most, plus_up_to}
 use Rattle.segment_table.specs.Closed.{nodes_used, count_at}
-use Rattle.segment_tree.specs.Count.{rows_in, fullest, CountAt, Life, Spot, spot, link_at, Standing, Grown, Outcome, Added, Reached, was_there, new_row, no_row_lem}
+use Rattle.segment_tree.specs.Count.{rows_in, fullest, CountAt, Life, Spot, spot, spot_in, half_on, link_at, Standing, Grown, Outcome, Added, Reached, was_there, new_row, no_row_lem}
 use Rattle.segment_tree.proofs.Presence.{new_hole}
 use Rattle.segment_tree.proofs.Growing.{grown-none, standing_grown, grown_trans, made_link, grown_new, grown_entry, left_stands, right_stands, grown_left, grown_right}
 
@@ -142,16 +142,30 @@ add_narrowest {t} {t₁} {s} {life} {link} reached some uncovered small = record
 
 -- ── its halves ──
 
--- the middle, as the code computes it
-abbrev pub middle : (lo hi : ℕ) → ℕ
-middle lo hi = lo + (hi - lo) / 2
-
 -- the node is reached, has halves, and is not covered
 pub record Parted (t t₁ : List ℕ) (s : Spot) (life : Life) (link : ℕ) : Type 0 where
   pub reached : Reached t t₁ s link
   pub some : link ≡ 0 → ⊥
   pub uncovered : covers life.created life.destroyed s.lo s.hi ≡ false
   pub wide : s.lo + 1 < s.hi
+
+-- whether a life goes to the half on that side of m, or stays out of it
+abbrev pub Goes : (right : Bool) (life : Life) (m : ℕ) → Type 0
+Goes right life m = cond right (m < life.destroyed) (life.created < m)
+
+abbrev pub Stays : (right : Bool) (life : Life) (m : ℕ) → Type 0
+Stays right life m = cond right (life.destroyed ≤ m) (m ≤ life.created)
+
+-- a node by the half on that side and the other one
+abbrev pub joined : (right : Bool) (xs : List ℕ) (half other : Tree) → Tree
+joined right xs half other = cond right (node xs other half) (node xs half other)
+
+abbrev half_of : (right : Bool) → Tree → Tree
+half_of right T = cond right (right_of T) (left_of T)
+
+-- the half of the node at a spot on that side
+abbrev half_spot : (right : Bool) (s : Spot) (link : ℕ) → Spot
+half_spot right s link = spot_in s.kind link (half_on right (record { lo = s.lo; hi = s.hi }))
 
 module _ (t t₁ : List ℕ) (s : Spot) (life : Life) (link : ℕ) (p : Parted t t₁ s life link) (key : ℕ → ℕ) (n b : ℕ) (T : Tree) (w : s.hi - s.lo ≤ 2 ^ n)
     (few : fullest T < most) (stands : Standing t s T) where
@@ -167,175 +181,126 @@ module _ (t t₁ : List ℕ) (s : Spot) (life : Life) (link : ℕ) (p : Parted t
   wider : s.lo + 1 < s.hi
   wider = p.wide
 
-  is_mid : middle s.lo s.hi ≡ m
-  is_mid = omega (arith, wider)
-
   deep : Deeper key n b c d s.lo s.hi T
   deep = deeper_of key n b c d s.lo s.hi T p.uncovered wider w
 
   node_reached : Entered t t₁ s link T
   node_reached = entered t t₁ s link T p.some p.reached stands
 
-  new_left : Tree
-  new_left = add_location key deep.less b c d s.lo m (left_of T)
+  new_half : (right : Bool) → Tree
+  new_half true = add_location key deep.less b c d m s.hi (right_of T)
+  new_half false = add_location key deep.less b c d s.lo m (left_of T)
 
-  new_right : Tree
-  new_right = add_location key deep.less b c d m s.hi (right_of T)
-
-  -- the left half, whatever the right one is by then
-  left_outcome : (t₂ t₃ : List ℕ) (R : Tree) (r : Bool) → Standing t₂ s (node (entries_of T) (left_of T) R) → link_at t₂ s ≡ link
-      → Added t₂ t₃ (spot s.kind link node_left s.lo (middle s.lo s.hi)) life r
-      → (r ≡ true → link_at t₃ s ≡ link) × Outcome t₂ t₃ s r (node (entries_of T) (left_of T) R) (node (entries_of T) new_left R)
-  unfolding new_left node_count
-  left_outcome t₂ t₃ R r there it a =
-      let o : Outcome t₂ t₃ (spot s.kind link node_left s.lo m) r (left_of T) new_left =
-      (rw is_mid at a).done key deep.less b (left_of T) deep.left_width (omega (arith, fewer_in T))
-      (left_stands t₂ t₃ s link m (entries_of T) (left_of T) R there it wider refl) in (
-        λ y. (grown_left t₂ t₃ s link m (entries_of T) (left_of T) R there it wider refl new_left (o.added y)).0,
+  -- a half, whatever the other one is by then
+  half_outcome : (right : Bool) (t₂ t₃ : List ℕ) (O : Tree) (r : Bool) → Standing t₂ s (joined right (entries_of T) (half_of right T) O) → link_at t₂ s ≡ link
+      → Added t₂ t₃ (half_spot right s link) life r
+      → (r ≡ true → link_at t₃ s ≡ link) × Outcome t₂ t₃ s r (joined right (entries_of T) (half_of right T) O) (joined right (entries_of T) (new_half right) O)
+  unfolding new_half node_count
+  half_outcome false t₂ t₃ R r there it a =
+      let o : Outcome t₂ t₃ (spot s.kind link node_left s.lo m) r (left_of T) (new_half false) =
+      a.done key deep.less b (left_of T) deep.left_width (omega (arith, fewer_in T))
+      (left_stands t₂ t₃ s link (entries_of T) (left_of T) R there it wider) in (
+        λ y. (grown_left t₂ t₃ s link (entries_of T) (left_of T) R there it wider (new_half false) (o.added y)).0,
         record {
-          added = λ y. (grown_left t₂ t₃ s link m (entries_of T) (left_of T) R there it wider refl new_left (o.added y)).1;
+          added = λ y. (grown_left t₂ t₃ s link (entries_of T) (left_of T) R there it wider (new_half false) (o.added y)).1;
+          spent = λ z. omega (arith, o.spent z);
+        },
+      )
+  half_outcome true t₂ t₃ L r there it a =
+      let o : Outcome t₂ t₃ (spot s.kind link node_right m s.hi) r (right_of T) (new_half true) =
+      a.done key deep.less b (right_of T) deep.right_width (omega (arith, fewer_in T))
+      (right_stands t₂ t₃ s link (entries_of T) L (right_of T) there it wider) in (
+        λ y. (grown_right t₂ t₃ s link (entries_of T) L (right_of T) there it wider (new_half true) (o.added y)).0,
+        record {
+          added = λ y. (grown_right t₂ t₃ s link (entries_of T) L (right_of T) there it wider (new_half true) (o.added y)).1;
           spent = λ z. omega (arith, o.spent z);
         },
       )
 
-  -- the right half, whatever the left one is by then
-  right_outcome : (t₂ t₃ : List ℕ) (L : Tree) (r : Bool) → Standing t₂ s (node (entries_of T) L (right_of T)) → link_at t₂ s ≡ link
-      → Added t₂ t₃ (spot s.kind link node_right (middle s.lo s.hi) s.hi) life r
-      → (r ≡ true → link_at t₃ s ≡ link) × Outcome t₂ t₃ s r (node (entries_of T) L (right_of T)) (node (entries_of T) L new_right)
-  unfolding new_right node_count
-  right_outcome t₂ t₃ L r there it a =
-      let o : Outcome t₂ t₃ (spot s.kind link node_right m s.hi) r (right_of T) new_right =
-      (rw is_mid at a).done key deep.less b (right_of T) deep.right_width (omega (arith, fewer_in T))
-      (right_stands t₂ t₃ s link m (entries_of T) L (right_of T) there it wider refl) in (
-        λ y. (grown_right t₂ t₃ s link m (entries_of T) L (right_of T) there it wider refl new_right (o.added y)).0,
-        record {
-          added = λ y. (grown_right t₂ t₃ s link m (entries_of T) L (right_of T) there it wider refl new_right (o.added y)).1;
-          spent = λ z. omega (arith, o.spent z);
-        },
-      )
+  -- the other half after that one
+  other_outcome : (right : Bool) (t₂ t₃ : List ℕ) (r : Bool) → Standing t₂ s (joined right (entries_of T) (new_half right) (half_of (not right) T)) → link_at t₂ s ≡ link
+      → Added t₂ t₃ (half_spot (not right) s link) life r
+      → Outcome t₂ t₃ s r (joined right (entries_of T) (new_half right) (half_of (not right) T)) (joined right (entries_of T) (new_half right) (new_half (not right)))
+  other_outcome true t₂ t₃ r there it a = (half_outcome false t₂ t₃ (new_half true) r there it a).1
+  other_outcome false t₂ t₃ r there it a = (half_outcome true t₂ t₃ (new_half false) r there it a).1
 
   -- what the model makes of the node, by where the life begins and ends
   added_neither : m ≤ c → d ≤ m → add_location key n b c d s.lo s.hi T ≡ made T
   added_neither x y = deep.is ∙ rw (le-ltb c m x, le-ltb m d y)
 
-  added_left : c < m → d ≤ m → add_location key n b c d s.lo s.hi T ≡ node (entries_of T) new_left (right_of T)
-  unfolding new_left
-  added_left x y = deep.is ∙ rw (lt-ltb c m x, le-ltb m d y)
+  added_one : (right : Bool) → Goes right life m → Stays (not right) life m
+      → add_location key n b c d s.lo s.hi T ≡ joined right (entries_of T) (new_half right) (half_of (not right) T)
+  unfolding new_half
+  added_one true y x = deep.is ∙ rw (le-ltb c m x, lt-ltb m d y)
+  added_one false x y = deep.is ∙ rw (lt-ltb c m x, le-ltb m d y)
 
-  added_right : m ≤ c → m < d → add_location key n b c d s.lo s.hi T ≡ node (entries_of T) (left_of T) new_right
-  unfolding new_right
-  added_right x y = deep.is ∙ rw (le-ltb c m x, lt-ltb m d y)
-
-  added_both : c < m → m < d → add_location key n b c d s.lo s.hi T ≡ node (entries_of T) new_left new_right
-  unfolding new_left new_right
-  added_both x y = deep.is ∙ rw (lt-ltb c m x, lt-ltb m d y)
+  added_both : (right : Bool) → Goes right life m → Goes (not right) life m
+      → add_location key n b c d s.lo s.hi T ≡ joined right (entries_of T) (new_half right) (new_half (not right))
+  unfolding new_half
+  added_both true y x = deep.is ∙ rw (lt-ltb c m x, lt-ltb m d y)
+  added_both false x y = deep.is ∙ rw (lt-ltb c m x, lt-ltb m d y)
 
   -- the nodes of either half are needed, whatever the other one needs
-  nodes_left : c < m → m < d → node_count (node (entries_of T) new_left (right_of T)) ≤ node_count (add_location key n b c d s.lo s.hi T)
-  unfolding node_count new_right
-  nodes_left x y = rw (added_both x y) (omega (arith, nodes_kept key b c d deep.less m s.hi (right_of T)))
+  nodes_half : (right : Bool) → Goes right life m → Goes (not right) life m
+      → node_count (joined right (entries_of T) (new_half right) (half_of (not right) T)) ≤ node_count (add_location key n b c d s.lo s.hi T)
+  unfolding node_count new_half
+  nodes_half true y x = rw (added_both true y x) (omega (arith, nodes_kept key b c d deep.less s.lo m (left_of T)))
+  nodes_half false x y = rw (added_both false x y) (omega (arith, nodes_kept key b c d deep.less m s.hi (right_of T)))
 
-  nodes_right : c < m → m < d → node_count (node (entries_of T) (left_of T) new_right) ≤ node_count (add_location key n b c d s.lo s.hi T)
-  unfolding node_count new_left
-  nodes_right x y = rw (added_both x y) (omega (arith, nodes_kept key b c d deep.less s.lo m (left_of T)))
+  -- the node as it was reached
+  made_there : (right : Bool) → Grown t t₁ s T (joined right (entries_of T) (half_of right T) (half_of (not right) T))
+      × Standing t₁ s (joined right (entries_of T) (half_of right T) (half_of (not right) T))
+  made_there true = (node_reached.grown, node_reached.stands)
+  made_there false = (node_reached.grown, node_reached.stands)
 
-  -- one half, of the node as it was reached
-  left_first : (t₂ : List ℕ) (r : Bool) → Added t₁ t₂ (spot s.kind link node_left s.lo (middle s.lo s.hi)) life r
-      → (r ≡ true → link_at t₂ s ≡ link) × Outcome t t₂ s r T (node (entries_of T) new_left (right_of T))
-  left_first t₂ r a =
-      let e : Entered t t₁ s link T = node_reached in
-      let o = left_outcome t₁ t₂ (right_of T) r e.stands e.it a in (o.0, outcome_after t t₁ t₂ s T (made T) _ r stands e.grown o.1)
-
-  right_first : (t₂ : List ℕ) (r : Bool) → Added t₁ t₂ (spot s.kind link node_right (middle s.lo s.hi) s.hi) life r
-      → (r ≡ true → link_at t₂ s ≡ link) × Outcome t t₂ s r T (node (entries_of T) (left_of T) new_right)
-  right_first t₂ r a =
-      let e : Entered t t₁ s link T = node_reached in
-      let o = right_outcome t₁ t₂ (left_of T) r e.stands e.it a in (o.0, outcome_after t t₁ t₂ s T (made T) _ r stands e.grown o.1)
+  half_first : (right : Bool) (t₂ : List ℕ) (r : Bool) → Added t₁ t₂ (half_spot right s link) life r
+      → (r ≡ true → link_at t₂ s ≡ link) × Outcome t t₂ s r T (joined right (entries_of T) (new_half right) (half_of (not right) T))
+  half_first right t₂ r a =
+      let e = made_there right in
+      let o = half_outcome right t₁ t₂ (half_of (not right) T) r e.1 node_reached.it a in (o.0, outcome_after t t₁ t₂ s T _ _ r stands e.0 o.1)
 
   done_neither : m ≤ c → d ≤ m → Outcome t t₁ s true T (add_location key n b c d s.lo s.hi T)
   done_neither x y = rw (added_neither x y) (enough node_reached.grown)
 
-  done_right : (t₂ : List ℕ) (r : Bool) → m ≤ c → m < d → Added t₁ t₂ (spot s.kind link node_right (middle s.lo s.hi) s.hi) life r
+  done_one : (right : Bool) (t₂ : List ℕ) (r : Bool) → Goes right life m → Stays (not right) life m → Added t₁ t₂ (half_spot right s link) life r
       → Outcome t t₂ s r T (add_location key n b c d s.lo s.hi T)
-  done_right t₂ r x y a = rw (added_right x y) (right_first t₂ r a).1
-
-  done_left : (t₂ : List ℕ) (r : Bool) → c < m → d ≤ m → Added t₁ t₂ (spot s.kind link node_left s.lo (middle s.lo s.hi)) life r
-      → Outcome t t₂ s r T (add_location key n b c d s.lo s.hi T)
-  done_left t₂ r x y a = rw (added_left x y) (left_first t₂ r a).1
+  done_one right t₂ r x y a = rw (added_one right x y) (half_first right t₂ r a).1
 
   -- both halves: the first one takes the rows that are left, or the second follows
-  done_left_spent : (t₂ : List ℕ) → c < m → m < d → Added t₁ t₂ (spot s.kind link node_left s.lo (middle s.lo s.hi)) life false
+  done_spent : (right : Bool) (t₂ : List ℕ) → Goes right life m → Goes (not right) life m → Added t₁ t₂ (half_spot right s link) life false
       → Outcome t t₂ s false T (add_location key n b c d s.lo s.hi T)
-  done_left_spent t₂ x y a = short (omega (arith, (left_first t₂ false a).1.spent refl, nodes_left x y))
+  done_spent right t₂ x y a = short (omega (arith, (half_first right t₂ false a).1.spent refl, nodes_half right x y))
 
-  done_right_spent : (t₂ : List ℕ) → c < m → m < d → Added t₁ t₂ (spot s.kind link node_right (middle s.lo s.hi) s.hi) life false
-      → Outcome t t₂ s false T (add_location key n b c d s.lo s.hi T)
-  done_right_spent t₂ x y a = short (omega (arith, (right_first t₂ false a).1.spent refl, nodes_right x y))
-
-  done_left_right : (t₂ t₃ : List ℕ) (r : Bool) → c < m → m < d → Added t₁ t₂ (spot s.kind link node_left s.lo (middle s.lo s.hi)) life true
-      → Added t₂ t₃ (spot s.kind link node_right (middle s.lo s.hi) s.hi) life r
-      → Outcome t t₃ s r T (add_location key n b c d s.lo s.hi T)
-  done_left_right t₂ t₃ r x y a z =
-      let l = left_first t₂ true a in
-      let half : Tree = node (entries_of T) new_left (right_of T) in
-      let g : Grown t t₂ s T half = l.1.added refl in
-      rw (added_both x y) (outcome_after t t₂ t₃ s T half _ r stands g (right_outcome t₂ t₃ new_left r (standing_grown t s T stands t₂ half g) (l.0 refl) z).1)
-
-  done_right_left : (t₂ t₃ : List ℕ) (r : Bool) → c < m → m < d → Added t₁ t₂ (spot s.kind link node_right (middle s.lo s.hi) s.hi) life true
-      → Added t₂ t₃ (spot s.kind link node_left s.lo (middle s.lo s.hi)) life r
-      → Outcome t t₃ s r T (add_location key n b c d s.lo s.hi T)
-  done_right_left t₂ t₃ r x y a z =
-      let l = right_first t₂ true a in
-      let half : Tree = node (entries_of T) (left_of T) new_right in
-      let g : Grown t t₂ s T half = l.1.added refl in
-      rw (added_both x y) (outcome_after t t₂ t₃ s T half _ r stands g (left_outcome t₂ t₃ new_right r (standing_grown t s T stands t₂ half g) (l.0 refl) z).1)
+  done_both : (right : Bool) (t₂ t₃ : List ℕ) (r : Bool) → Goes right life m → Goes (not right) life m → Added t₁ t₂ (half_spot right s link) life true
+      → Added t₂ t₃ (half_spot (not right) s link) life r → Outcome t t₃ s r T (add_location key n b c d s.lo s.hi T)
+  done_both right t₂ t₃ r x y a z =
+      let l = half_first right t₂ true a in
+      let one : Tree = joined right (entries_of T) (new_half right) (half_of (not right) T) in
+      let g : Grown t t₂ s T one = l.1.added refl in
+      rw (added_both right x y)
+      (outcome_after t t₂ t₃ s T one _ r stands g (other_outcome right t₂ t₃ r (standing_grown t s T stands t₂ one g) (l.0 refl) z))
 
 -- ── below the node ──
 
 module _ {t t₁ : List ℕ} {s : Spot} {life : Life} {link : ℕ} (p : Parted t t₁ s life link) where
-  mid_is : middle s.lo s.hi ≡ mid s.lo s.hi
-  mid_is = omega (arith, p.wide)
-
-  pub add_neither : middle s.lo s.hi ≤ life.created → life.destroyed ≤ middle s.lo s.hi → Added t t₁ s life true
+  pub add_neither : mid s.lo s.hi ≤ life.created → life.destroyed ≤ mid s.lo s.hi → Added t t₁ s life true
   add_neither x y = record {
-    done = λ key n b T w few stands. done_neither t t₁ s life link p key n b T w few stands (omega (arith, mid_is)) (omega (arith, mid_is));
+    done = λ key n b T w few stands. done_neither t t₁ s life link p key n b T w few stands x y;
   }
 
-  pub add_right : {t₂ : List ℕ} {r : Bool} → middle s.lo s.hi ≤ life.created → middle s.lo s.hi < life.destroyed
-      → Added t₁ t₂ (spot s.kind link node_right (middle s.lo s.hi) s.hi) life r → Added t t₂ s life r
-  add_right {t₂} {r} x y a = record {
-    done = λ key n b T w few stands. done_right t t₁ s life link p key n b T w few stands t₂ r (omega (arith, mid_is)) (omega (arith, mid_is)) a;
-  }
+  module _ (right : Bool) (x : Goes right life (mid s.lo s.hi)) {t₂ : List ℕ} {q : Bool} (a : Added t₁ t₂ (half_spot right s link) life q) where
+    pub add_one : Stays (not right) life (mid s.lo s.hi) → Added t t₂ s life q
+    add_one y = record {
+      done = λ key n b T w few stands. done_one t t₁ s life link p key n b T w few stands right t₂ q x y a;
+    }
 
-  pub add_left : {t₂ : List ℕ} {r : Bool} → life.created < middle s.lo s.hi → life.destroyed ≤ middle s.lo s.hi
-      → Added t₁ t₂ (spot s.kind link node_left s.lo (middle s.lo s.hi)) life r → Added t t₂ s life r
-  add_left {t₂} {r} x y a = record {
-    done = λ key n b T w few stands. done_left t t₁ s life link p key n b T w few stands t₂ r (omega (arith, mid_is)) (omega (arith, mid_is)) a;
-  }
-
-  module _ (x : life.created < middle s.lo s.hi) (y : middle s.lo s.hi < life.destroyed) {t₂ : List ℕ} {q : Bool} where
-    module _ (a : Added t₁ t₂ (spot s.kind link node_left s.lo (middle s.lo s.hi)) life q) where
-      pub add_left_spent : not q ≡ true → Added t t₂ s life false
-      add_left_spent e = record {
-        done = λ key n b T w few stands.
-            done_left_spent t t₁ s life link p key n b T w few stands t₂ (omega (arith, mid_is)) (omega (arith, mid_is)) (rw (not-true q e) at a);
+    module _ (y : Goes (not right) life (mid s.lo s.hi)) where
+      pub add_one_spent : q ≡ false → Added t t₂ s life false
+      add_one_spent e = record {
+        done = λ key n b T w few stands. done_spent t t₁ s life link p key n b T w few stands right t₂ x y (rw e at a);
       }
 
-      pub add_left_right : {t₃ : List ℕ} {r : Bool} → not q ≡ false → Added t₂ t₃ (spot s.kind link node_right (middle s.lo s.hi) s.hi) life r → Added t t₃ s life r
-      add_left_right {t₃} {r} e z = record {
-        done = λ key n b T w few stands.
-            done_left_right t t₁ s life link p key n b T w few stands t₂ t₃ r (omega (arith, mid_is)) (omega (arith, mid_is)) (rw (not-false q e) at a) z;
-      }
-
-    module _ (a : Added t₁ t₂ (spot s.kind link node_right (middle s.lo s.hi) s.hi) life q) where
-      pub add_right_spent : not q ≡ true → Added t t₂ s life false
-      add_right_spent e = record {
-        done = λ key n b T w few stands.
-            done_right_spent t t₁ s life link p key n b T w few stands t₂ (omega (arith, mid_is)) (omega (arith, mid_is)) (rw (not-true q e) at a);
-      }
-
-      pub add_right_left : {t₃ : List ℕ} {r : Bool} → not q ≡ false → Added t₂ t₃ (spot s.kind link node_left s.lo (middle s.lo s.hi)) life r → Added t t₃ s life r
-      add_right_left {t₃} {r} e z = record {
-        done = λ key n b T w few stands.
-            done_right_left t t₁ s life link p key n b T w few stands t₂ t₃ r (omega (arith, mid_is)) (omega (arith, mid_is)) (rw (not-false q e) at a) z;
+      pub add_both : q ≡ true → {t₃ : List ℕ} {r : Bool} → Added t₂ t₃ (half_spot (not right) s link) life r → Added t t₃ s life r
+      add_both e {t₃} {r} z = record {
+        done = λ key n b T w few stands. done_both t t₁ s life link p key n b T w few stands right t₂ t₃ r x y (rw e at a) z;
       }

@@ -1,16 +1,14 @@
 -- Steps of `build::add_blocks` and `build::add_pieces`: what the rest of the rows gives from here on, all give from the start. Assumes nothing.
 use mathlib.Core.Path.{◌≡◌}
-use mathlib.Core.Bool.{Bool, true, false, true≢false, false≢true, not}
+use mathlib.Core.Bool.{Bool, true, false, true≢false, false≢true}
 use mathlib.Core.List.{List, [], ◌∷◌, map}
 use Prim.Native.Nat.{ℕ, suc, ◌+◌, ◌-◌, ◌≤◌, ◌<◌}
 use native.Mathlib.Omega.{arith}
-use borrow.Author.Tests.{not-true, not-false}
 use Rattle.lists.specs.Lists.{count_from}
 use Rattle.history.specs.Tree.{Tree, node_count}
 use Rattle.history.proofs.TreeCounts.{node_count_add}
-use Rattle.tables.specs.Columns.{column, block_column, block_created, block_destroyed, piece_written}
-use Rattle.segment_tree.specs.Count.{fullest, Life, a_life, Spot, Grown, Added}
-use Rattle.segment_tree.specs.Lives.{block_life, piece_life, add_life, add_lives, root_spot, AddedRows}
+use Rattle.segment_tree.specs.Count.{fullest, Life, Spot, Grown, Added}
+use Rattle.segment_tree.specs.Lives.{add_life, add_lives, root_spot, AddedRows}
 use Rattle.segment_tree.proofs.Growing.{grown-none, standing_grown}
 use Rattle.segment_tree.proofs.Adding.{fullest_grows, outcome_after}
 
@@ -31,24 +29,24 @@ module _ {t : List ℕ} {kind e : ℕ} where
   }
 
   module _ {t₁ : List ℕ} {life : Life} {lives : List Life} {q : Bool} (a : Added t t₁ (root_spot kind e) life q) where
-    pub rows_more : {t₂ : List ℕ} {r : Bool} → not q ≡ false → AddedRows t₁ t₂ kind e lives r → AddedRows t t₂ kind e (life ∷ lives) r
+    pub rows_more : {t₂ : List ℕ} {r : Bool} → q ≡ true → AddedRows t₁ t₂ kind e lives r → AddedRows t t₂ kind e (life ∷ lives) r
     unfolding add_lives
     rows_more {t₂} {r} y b = record {
       done = λ T w few stands.
           let s : Spot = root_spot kind e in
           let X : Tree = add_life e life T in
-          let g : Grown t t₁ s T X = (a.done (λ _. 0) 63 0 T (omega arith) (omega arith) stands).added (not-false q y) in
+          let g : Grown t t₁ s T X = (a.done (λ _. 0) 63 0 T (omega arith) (omega arith) stands).added y in
           let full : fullest X ≤ suc (fullest T) = fullest_grows (λ _. 0) 0 life.created life.destroyed 63 0 e T (omega arith) (omega arith) in
           outcome_after t t₁ t₂ s T X (add_lives e lives X) r stands g (b.done X w (omega arith) (standing_grown t s T stands t₁ X g));
     }
 
-    pub rows_spent : not q ≡ true → AddedRows t t₁ kind e (life ∷ lives) false
+    pub rows_spent : q ≡ false → AddedRows t t₁ kind e (life ∷ lives) false
     unfolding add_lives
     rows_spent n = record {
       done = λ T w few stands. record {
         added = λ y. absurd (false≢true y);
         spent = λ _.
-            omega (arith, (a.done (λ _. 0) 63 0 T (omega arith) (omega arith) stands).spent (not-true q n), nodes_lives e lives (add_life e life T));
+            omega (arith, (a.done (λ _. 0) 63 0 T (omega arith) (omega arith) stands).spent n, nodes_lives e lives (add_life e life T));
       };
     }
 
@@ -69,21 +67,14 @@ module _ {start : List ℕ} {kind e : ℕ} {life : ℕ → Life} {n : ℕ} where
         rw (p, q)
 
     module _ {t₁ : List ℕ} {q : Bool} {l : Life} (h : j < n) (is : l ≡ life (j + 1)) (a : Added t t₁ (root_spot kind e) l q) where
-      pub onward_more : not q ≡ false → Onward start t₁ kind e life n (j + 1)
+      pub onward_more : q ≡ true → Onward start t₁ kind e life n (j + 1)
       onward_more y = record { rest = λ t' room b. o.rest t' room (rw (next_row h) (rows_more (rw is at a) y b)) }
 
-      pub onward_spent : not q ≡ true → AddedRows start t₁ kind e (map life (count_from 1 n)) false
+      pub onward_spent : q ≡ false → AddedRows start t₁ kind e (map life (count_from 1 n)) false
       onward_spent y = o.rest t₁ false (rw (next_row h) (rows_spent (rw is at a) y))
 
     pub onward_end : n ≤ j → AddedRows start t kind e (map life (count_from 1 n)) true
     unfolding count_from
     onward_end h = let z : n - j ≡ 0 = omega arith in o.rest t true (rw z rows_none)
 
--- ── the lives read ──
-
-pub block_life_lem : (blocks : List ℕ) (link : ℕ) {created destroyed : ℕ} → created ≡ block_column blocks link block_created → destroyed ≡ block_column blocks link block_destroyed
-    → a_life created destroyed ≡ block_life blocks link
-block_life_lem blocks link a b = rw (a, b)
-
-pub piece-life : (pieces : List ℕ) (e link : ℕ) {created : ℕ} → created ≡ column pieces link piece_written → a_life created e ≡ piece_life pieces e link
-piece-life pieces e link a = rw a
+pub ruleset onward = (onward_more, onward_spent, onward_end)

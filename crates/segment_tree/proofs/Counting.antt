@@ -1,12 +1,12 @@
 -- Steps of `build::count_tree`: from a table of zeros the rows' lives make the counts of the tree of all blocks. Assumes nothing.
 use mathlib.Core.Path.{◌≡◌, refl, ap, sym, ◌∙◌}
 use mathlib.Core.Logic.{inl, inr}
-use mathlib.Core.Bool.{Bool, true, false, not}
+use mathlib.Core.Bool.{Bool, true, false}
 use mathlib.Core.List.{List, [], ◌∷◌, ◌++◌, map}
 use Prim.Native.Nat.{ℕ, suc, ◌+◌, ◌*◌, ◌^◌, ◌≤◌, ◌<◌}
 use native.Mathlib.Omega.{arith}
 use lib.ListN.{length, get_or, replicate, get_or-replicate, length-replicate, get_or-eq_default}
-use borrow.Author.Tests.{lt-ltb, le-ltb, not-true, not-false}
+use borrow.Author.Tests.{lt-ltb, le-ltb}
 use Rattle.lists.specs.Lists.{count_from}
 use Rattle.lists.proofs.Numbers.{lt_or_le}
 use Rattle.lists.proofs.Lists.{count_from_length}
@@ -111,35 +111,35 @@ module _ (t blocks pieces : List ℕ) (n m e kind : ℕ) (bs ps : List Block) (l
   -- ── the blocks ──
 
   module _ (t₁ : List ℕ) (q : Bool) (a : AddedRows t t₁ kind e (map (block_life blocks) (count_from 1 n)) q) (long : length t₁ ≡ length t) where
-    spent_blocks : (t₂ entries : List ℕ) → not q ≡ true → t₂ ≡ replicate (length t₁) 0 → CountedAs t entries t₂ kind e (tree_of e (bs ++ ps)) (Err NodesFull)
+    spent_blocks : (t₂ entries : List ℕ) → q ≡ false → t₂ ≡ replicate (length t₁) 0 → CountedAs t entries t₂ kind e (tree_of e (bs ++ ps)) (Err NodesFull)
     unfolding recorded whole block_lives node_count fullest
     spent_blocks t₂ entries z wrote = record {
       answer = answer_nodes entries
-          (omega (arith, (a.done hole g.small (omega (arith, few_blocks, g.few)) zero_stands).spent (not-true q z), zero_at nodes_count, nodes_lives e piece_lives recorded, whole_nodes));
+          (omega (arith, (a.done hole g.small (omega (arith, few_blocks, g.few)) zero_stands).spent z, zero_at nodes_count, nodes_lives e piece_lives recorded, whole_nodes));
       counted = λ e. absurd (cc);
       refused = λ _. zeroed t₁ t₂ long wrote;
     }
 
-    module _ (y : not q ≡ false) where
+    module _ (y : q ≡ true) where
       grown_blocks : Grown t t₁ (root_spot kind e) hole recorded
       unfolding recorded block_lives fullest
-      grown_blocks = (a.done hole g.small (omega (arith, few_blocks, g.few)) zero_stands).added (not-false q y)
+      grown_blocks = (a.done hole g.small (omega (arith, few_blocks, g.few)) zero_stands).added y
 
       -- ── the pieces ──
 
       module _ (t₂ : List ℕ) (p : Bool) (b : AddedRows t₁ t₂ kind e (map (piece_life pieces e) (count_from 1 m)) p) (long₂ : length t₂ ≡ length t₁) where
-        spent_pieces : (t₃ entries : List ℕ) → not p ≡ true → t₃ ≡ replicate (length t₂) 0 → CountedAs t entries t₃ kind e (tree_of e (bs ++ ps)) (Err NodesFull)
+        spent_pieces : (t₃ entries : List ℕ) → p ≡ false → t₃ ≡ replicate (length t₂) 0 → CountedAs t entries t₃ kind e (tree_of e (bs ++ ps)) (Err NodesFull)
         unfolding whole piece_lives node_count
         spent_pieces t₃ entries z wrote =
             let s₁ : Standing t₁ (root_spot kind e) recorded = standing_grown t (root_spot kind e) hole zero_stands t₁ recorded grown_blocks in
             record {
               answer = answer_nodes entries
-                  (omega (arith, (b.done recorded g.small fullest-recorded s₁).spent (not-true p z), grown_blocks.rows, zero_at nodes_count, whole_nodes, long));
+                  (omega (arith, (b.done recorded g.small fullest-recorded s₁).spent z, grown_blocks.rows, zero_at nodes_count, whole_nodes, long));
               counted = λ e. absurd (cc);
               refused = λ _. zeroed t₂ t₃ (long₂ ∙ long) wrote;
             }
 
-        module _ (z : not p ≡ false) where
+        module _ (z : p ≡ true) where
           abbrev counts : Tree
           counts = add_lives e piece_lives recorded
 
@@ -147,7 +147,7 @@ module _ (t blocks pieces : List ℕ) (n m e kind : ℕ) (bs ps : List Block) (l
           unfolding piece_lives
           grown_all =
               let s₁ : Standing t₁ (root_spot kind e) recorded = standing_grown t (root_spot kind e) hole zero_stands t₁ recorded grown_blocks in
-              grown_trans t (root_spot kind e) hole zero_stands t₁ recorded grown_blocks t₂ counts ((b.done recorded g.small fullest-recorded s₁).added (not-false p z))
+              grown_trans t (root_spot kind e) hole zero_stands t₁ recorded grown_blocks t₂ counts ((b.done recorded g.small fullest-recorded s₁).added z)
 
           used_all : nodes_used t₂ ≡ node_count whole
           unfolding node_count
@@ -235,14 +235,14 @@ module _ (t blocks pieces : List ℕ) (n m e kind : ℕ) (bs ps : List Block) (l
 -- ── the returns ──
 
 module _ {t t₁ entries blocks pieces : List ℕ} {n m e kind : ℕ} {q : Bool} (a : AddedRows t t₁ kind e (map (block_life blocks) (count_from 1 n)) q) (long : length t₁ ≡ length t) where
-  pub count_spent_blocks : {t₂ : List ℕ} → not q ≡ true → t₂ ≡ replicate (length t₁) 0 → CountedTree (rows_to_count blocks n pieces m e kind) t entries t₂ (Err NodesFull)
+  pub count_spent_blocks : {t₂ : List ℕ} → q ≡ false → t₂ ≡ replicate (length t₁) 0 → CountedTree (rows_to_count blocks n pieces m e kind) t entries t₂ (Err NodesFull)
   count_spent_blocks {t₂} z wrote = record { done = λ bs ps links g. spent_blocks t blocks pieces n m e kind bs ps links g t₁ q a long t₂ entries z wrote }
 
-  module _ (y : not q ≡ false) {t₂ : List ℕ} {p : Bool} (b : AddedRows t₁ t₂ kind e (map (piece_life pieces e) (count_from 1 m)) p) (long₂ : length t₂ ≡ length t₁) where
-    pub count_spent_pieces : {t₃ : List ℕ} → not p ≡ true → t₃ ≡ replicate (length t₂) 0 → CountedTree (rows_to_count blocks n pieces m e kind) t entries t₃ (Err NodesFull)
+  module _ (y : q ≡ true) {t₂ : List ℕ} {p : Bool} (b : AddedRows t₁ t₂ kind e (map (piece_life pieces e) (count_from 1 m)) p) (long₂ : length t₂ ≡ length t₁) where
+    pub count_spent_pieces : {t₃ : List ℕ} → p ≡ false → t₃ ≡ replicate (length t₂) 0 → CountedTree (rows_to_count blocks n pieces m e kind) t entries t₃ (Err NodesFull)
     count_spent_pieces {t₃} z wrote = record { done = λ bs ps links g. spent_pieces t blocks pieces n m e kind bs ps links g t₁ q a long y t₂ p b long₂ t₃ entries z wrote }
 
-    module _ (z : not p ≡ false) {used total rows : ℕ} {t₃ : List ℕ} (read : used ≡ nodes_used t₂) (runs : AssignedRuns t₂ t₃ used total) (lent : entry_rows_in entries < most)
+    module _ (z : p ≡ true) {used total rows : ℕ} {t₃ : List ℕ} (read : used ≡ nodes_used t₂) (runs : AssignedRuns t₂ t₃ used total) (lent : entry_rows_in entries < most)
         (have : rows ≡ entry_rows_in entries) where
       pub count_spent_entries : {t₄ : List ℕ} → rows < total → t₄ ≡ replicate (length t₃) 0 → CountedTree (rows_to_count blocks n pieces m e kind) t entries t₄ (Err EntriesFull)
       count_spent_entries {t₄} short wrote = record {
@@ -253,3 +253,5 @@ module _ {t t₁ entries blocks pieces : List ℕ} {n m e kind : ℕ} {q : Bool}
       count_all fits = record {
         done = λ bs ps links g. all_counted t blocks pieces n m e kind bs ps links g t₁ q a long y t₂ p b long₂ z used total t₃ entries read runs lent rows have fits;
       }
+
+pub ruleset counting = (count_spent_blocks, count_spent_pieces, count_spent_entries, count_all)

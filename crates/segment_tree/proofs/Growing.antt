@@ -367,13 +367,13 @@ module _ (t t' : List ℕ) (s h : Spot) (link : ℕ) (xs : List ℕ) (L R : Tree
       tree_stays t t' s.kind more (λ i. Outside t h i × (i ≡ link → ⊥)) (λ i j a b z o. kept.rows i j a b z o.0 (λ e _. o.1 (e ∙ sym p.hangs)))
       k lo hi T (λ i z a b c. (out i a b c, apart i a c)) g
 
-module _ (t t' : List ℕ) (s : Spot) (link m : ℕ) (xs : List ℕ) (L R : Tree) (stands : Standing t s (node xs L R)) (at : link_at t s ≡ link)
-    (wide : s.lo + 1 < s.hi) (is : m ≡ mid s.lo s.hi) where
+module _ (t t' : List ℕ) (s : Spot) (link : ℕ) (xs : List ℕ) (L R : Tree) (stands : Standing t s (node xs L R)) (at : link_at t s ≡ link)
+    (wide : s.lo + 1 < s.hi) where
   abbrev left_spot : Spot
-  left_spot = spot s.kind link node_left s.lo m
+  left_spot = spot s.kind link node_left s.lo (mid s.lo s.hi)
 
   abbrev right_spot : Spot
-  right_spot = spot s.kind link node_right m s.hi
+  right_spot = spot s.kind link node_right (mid s.lo s.hi) s.hi
 
   left_half_lem : HalfOf t s left_spot link xs L R
   left_half_lem = record {
@@ -408,7 +408,7 @@ module _ (t t' : List ℕ) (s : Spot) (link m : ℕ) (xs : List ℕ) (L R : Tree
   left_stands =
       let tree : CountAt t s.kind link s.lo s.hi (node xs L R) = rw at at stands.here in
       record {
-        here = rw is tree.1;
+        here = tree.1;
         wide = omega arith;
         parent_used = tree.0.used;
         at_root = λ e. omega arith;
@@ -423,7 +423,7 @@ module _ (t t' : List ℕ) (s : Spot) (link m : ℕ) (xs : List ℕ) (L R : Tree
   right_stands =
       let tree : CountAt t s.kind link s.lo s.hi (node xs L R) = rw at at stands.here in
       record {
-        here = rw is tree.2;
+        here = tree.2;
         wide = omega arith;
         parent_used = tree.0.used;
         at_root = λ e. omega arith;
@@ -447,7 +447,7 @@ module _ (t t' : List ℕ) (s : Spot) (link m : ℕ) (xs : List ℕ) (L R : Tree
           long = g.long;
           here = rw there (
             row_after t t' s left_spot link xs L R left_half_lem g.kept g.more,
-            rw (← is) g.here,
+            g.here,
             rw rights right,
           );
           rows = omega (arith, g.rows);
@@ -475,7 +475,7 @@ module _ (t t' : List ℕ) (s : Spot) (link m : ℕ) (xs : List ℕ) (L R : Tree
           here = rw there (
             row_after t t' s right_spot link xs L R right_half_lem g.kept g.more,
             rw lefts left,
-            rw (← is) g.here,
+            g.here,
           );
           rows = omega (arith, g.rows);
           more = g.more;

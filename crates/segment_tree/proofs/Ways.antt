@@ -1,87 +1,77 @@
 -- Steps of the loops of `build`: a life's way down the node table. What adding at the node that is reached leaves, adding at the first one leaves.
 -- Assumes nothing.
-use mathlib.Core.Path.{◌≡◌, refl, sym, ◌∙◌}
+use mathlib.Core.Path.{◌≡◌, ap, sym, ◌∙◌}
 use mathlib.Core.Logic.{◌⊎◌, inl, inr}
-use mathlib.Core.Bool.{Bool, true, false, not}
+use mathlib.Core.Bool.{Bool, true, false, true≢false, cond, not}
 use mathlib.Core.List.{List}
 use Prim.Native.Nat.{ℕ, ◌+◌, ◌*◌, ◌≤◌, ◌<◌}
 use native.Mathlib.Omega.{arith}
 use lib.ListN.{set}
-use borrow.Author.Tests.{ltb-true, ltb-false, not-true, not-false}
+use borrow.Author.Tests.{ltb-true, ltb-false}
 use Rattle.history.specs.Lent.{row_width}
-use Rattle.history.specs.Tree.{halves, covers}
+use Rattle.history.specs.Tree.{mid, halves, covers}
 use Rattle.history.proofs.TreeAdding.{covers_yes, covering, all, part}
-use Rattle.tables.specs.Columns.{node_left, node_right, node_entries}
+use Rattle.tables.specs.Columns.{node_left, node_entries}
 use Rattle.tables.specs.Sums.{plus_up_to}
 use Rattle.segment_table.specs.Closed.{count_at}
-use Rattle.segment_tree.specs.Count.{Life, Spot, spot, Added, AddedAt, AddedFor, AddedWhole, Suffix, Prefix, Splits, Reached}
-use Rattle.segment_tree.proofs.Adding.{middle, Parted, add_spent, add_covered, add_narrowest, add_neither, add_left, add_right, add_left_spent, add_left_right, add_right_spent, add_right_left}
+use Rattle.segment_tree.specs.Count.{Life, Spot, spot, spot_in, left_half, right_half, half_on, meets, Added, AddedAt, Whole, AddedWhole, Lasts, Splits, Reached}
+use Rattle.segment_tree.specs.declared.Span.{Span}
+use Rattle.segment_tree.specs.declared.Place.{Place}
+use Rattle.segment_tree.proofs.Adding.{Parted, Goes, Stays, add_spent, add_covered, add_narrowest, add_neither, add_one, add_one_spent, add_both}
 
 -- ── lives and nodes ──
 
--- a life that begins later or ends earlier does not cover the node
-pub uncovered : (c d lo hi : ℕ) → (lo < c) ⊎ (d < hi) → covers c d lo hi ≡ false
-uncovered c d lo hi o =
-    elim (covering c d lo hi) [
-      | all p q e ↦ absurd (elim o [ inl h ↦ omega arith | inr h ↦ omega arith ])
-      | part _ e ↦ e
-    ]
-
 -- what the test of halves tells
-pub wide_of : {h : Bool} (lo hi : ℕ) → h ≡ halves lo hi → not h ≡ false → lo + 1 < hi
-wide_of {h} lo hi asked split = ltb-true (lo + 1) hi (sym asked ∙ not-false h split)
+pub wide_of : {h : Bool} (lo hi : ℕ) → h ≡ halves lo hi → h ≡ true → lo + 1 < hi
+wide_of {h} lo hi asked split = ltb-true (lo + 1) hi (sym asked ∙ split)
 
-pub narrow_of : {h : Bool} (lo hi : ℕ) → h ≡ halves lo hi → not h ≡ true → hi ≤ lo + 1
-narrow_of {h} lo hi asked none = ltb-false (lo + 1) hi (sym asked ∙ not-true h none)
+pub narrow_of : {h : Bool} (lo hi : ℕ) → h ≡ halves lo hi → h ≡ false → hi ≤ lo + 1
+narrow_of {h} lo hi asked none = ltb-false (lo + 1) hi (sym asked ∙ none)
+
+-- and its halves
+module _ {span : Span} {pair : Place × Place} (in_two : pair ≡ (left_half span, right_half span)) where
+  pub middle_is : pair.1.span.lo ≡ mid span.lo span.hi
+  middle_is = ap (λ (p : Place × Place). p.1.span.lo) in_two
+
+  pub half_is : (right : Bool) → cond right pair.1 pair.0 ≡ half_on right span
+  half_is true = ap (λ (p : Place × Place). p.1) in_two
+  half_is false = ap (λ (p : Place × Place). p.0) in_two
 
 -- ── the node that is reached ──
 
-module _ {t : List ℕ} {kind link lo hi : ℕ} {life : Life} where
-  pub at_spent : link ≡ 0 → AddedAt t t kind link lo hi life false
+module _ {t : List ℕ} {kind link : ℕ} {span : Span} {life : Life} where
+  pub at_spent : link ≡ 0 → AddedAt t t kind link span.lo span.hi life false
   at_spent z = record { from = λ before parent col r. add_spent r z }
 
   module _ (some : link ≡ 0 → ⊥) where
-    pub at_covered : {t₂ : List ℕ} → covers life.created life.destroyed lo hi ≡ true → t₂ ≡ set t (row_width * link + node_entries) (plus_up_to (count_at t link) 1)
-        → AddedAt t t₂ kind link lo hi life true
+    pub at_covered : {t₂ : List ℕ} → covers life.created life.destroyed span.lo span.hi ≡ true → t₂ ≡ set t (row_width * link + node_entries) (plus_up_to (count_at t link) 1)
+        → AddedAt t t₂ kind link span.lo span.hi life true
     at_covered e is = record { from = λ before parent col r. add_covered r some e is }
 
-    module _ (e : covers life.created life.destroyed lo hi ≡ false) where
-      pub at_narrow : hi ≤ lo + 1 → AddedAt t t kind link lo hi life true
+    module _ (e : covers life.created life.destroyed span.lo span.hi ≡ false) where
+      pub at_narrow : span.hi ≤ span.lo + 1 → AddedAt t t kind link span.lo span.hi life true
       at_narrow w = record { from = λ before parent col r. add_narrowest r some e w }
 
-      module _ (w : lo + 1 < hi) where
-        here : {before : List ℕ} {parent col : ℕ} → Reached before t (spot kind parent col lo hi) link → Parted before t (spot kind parent col lo hi) life link
+      module _ (w : span.lo + 1 < span.hi) where
+        here : {before : List ℕ} {parent col : ℕ} → Reached before t (spot kind parent col span.lo span.hi) link → Parted before t (spot kind parent col span.lo span.hi) life link
         here r = record { reached = r; some = some; uncovered = e; wide = w }
 
-        pub at_neither : middle lo hi ≤ life.created → life.destroyed ≤ middle lo hi → AddedAt t t kind link lo hi life true
+        pub at_neither : mid span.lo span.hi ≤ life.created → life.destroyed ≤ mid span.lo span.hi → AddedAt t t kind link span.lo span.hi life true
         at_neither x y = record { from = λ before parent col r. add_neither (here r) x y }
 
-        pub at_left : {t₂ t₃ : List ℕ} {next : ℕ} {room : Bool} → life.created < middle lo hi → life.destroyed ≤ middle lo hi
-            → Reached t t₂ (spot kind link node_left lo (middle lo hi)) next → AddedAt t₂ t₃ kind next lo (middle lo hi) life room → AddedAt t t₃ kind link lo hi life room
-        at_left x y z a = record { from = λ before parent col r. add_left (here r) x y (a.from t link node_left z) }
+        -- one half, or both
+        module _ (right : Bool) (x : Goes right life (mid span.lo span.hi)) where
+          pub at_one : Stays (not right) life (mid span.lo span.hi) → {t₂ t₃ : List ℕ} {next : ℕ} {room : Bool} → Reached t t₂ (spot_in kind link (half_on right span)) next
+              → AddedAt t₂ t₃ kind next (half_on right span).span.lo (half_on right span).span.hi life room → AddedAt t t₃ kind link span.lo span.hi life room
+          at_one y z a = record { from = λ before parent col r. add_one (here r) right x (a.from t link (half_on right span).col z) y }
 
-        pub at_right : {t₂ t₃ : List ℕ} {next : ℕ} {room : Bool} → middle lo hi ≤ life.created → middle lo hi < life.destroyed
-            → Reached t t₂ (spot kind link node_right (middle lo hi) hi) next → AddedAt t₂ t₃ kind next (middle lo hi) hi life room → AddedAt t t₃ kind link lo hi life room
-        at_right x y z a = record { from = λ before parent col r. add_right (here r) x y (a.from t link node_right z) }
+          module _ (y : Goes (not right) life (mid span.lo span.hi)) {t₂ : List ℕ} {q : Bool} (a : Added t t₂ (spot_in kind link (half_on right span)) life q) where
+            pub at_one_spent : q ≡ false → AddedAt t t₂ kind link span.lo span.hi life false
+            at_one_spent z = record { from = λ before parent col r. add_one_spent (here r) right x a y z }
 
-        module _ (x : life.created < middle lo hi) (y : middle lo hi < life.destroyed) {t₂ : List ℕ} {q : Bool} where
-          -- the left half first
-          module _ (a : Added t t₂ (spot kind link node_left lo (middle lo hi)) life q) where
-            pub at_left_spent : not q ≡ true → AddedAt t t₂ kind link lo hi life false
-            at_left_spent z = record { from = λ before parent col r. add_left_spent (here r) x y a z }
-
-            pub at_left_right : {t₃ t₄ : List ℕ} {next : ℕ} {room : Bool} → not q ≡ false → Reached t₂ t₃ (spot kind link node_right (middle lo hi) hi) next
-                → AddedAt t₃ t₄ kind next (middle lo hi) hi life room → AddedAt t t₄ kind link lo hi life room
-            at_left_right n z b = record { from = λ before parent col r. add_left_right (here r) x y a n (b.from t₂ link node_right z) }
-
-          -- the right half first
-          module _ (a : Added t t₂ (spot kind link node_right (middle lo hi) hi) life q) where
-            pub at_right_spent : not q ≡ true → AddedAt t t₂ kind link lo hi life false
-            at_right_spent z = record { from = λ before parent col r. add_right_spent (here r) x y a z }
-
-            pub at_right_left : {t₃ t₄ : List ℕ} {next : ℕ} {room : Bool} → not q ≡ false → Reached t₂ t₃ (spot kind link node_left lo (middle lo hi)) next
-                → AddedAt t₃ t₄ kind next lo (middle lo hi) life room → AddedAt t t₄ kind link lo hi life room
-            at_right_left n z b = record { from = λ before parent col r. add_right_left (here r) x y a n (b.from t₂ link node_left z) }
+            pub at_both : q ≡ true → {t₃ t₄ : List ℕ} {next : ℕ} {room : Bool} → Reached t₂ t₃ (spot_in kind link (half_on (not right) span)) next
+                → AddedAt t₃ t₄ kind next (half_on (not right) span).span.lo (half_on (not right) span).span.hi life room → AddedAt t t₄ kind link span.lo span.hi life room
+            at_both n z b = record { from = λ before parent col r. add_both (here r) right x a y n (b.from t₂ link (half_on (not right) span).col z) }
 
 -- ── a node that the life covers ──
 
@@ -102,160 +92,163 @@ pub ruleset whole_node = (whole_spent, whole_more)
 pub record Down (t₀ t : List ℕ) (kind top lo₀ hi₀ link lo hi : ℕ) (life : Life) : Type 0 where
   pub rest : (t' : List ℕ) (room : Bool) → AddedAt t t' kind link lo hi life room → AddedAt t₀ t' kind top lo₀ hi₀ life room
 
-module _ {t₀ t : List ℕ} {kind top lo₀ hi₀ link lo hi : ℕ} {life : Life} (u : Down t₀ t kind top lo₀ hi₀ link lo hi life) where
-  pub down_end : {t' : List ℕ} {room : Bool} → AddedAt t t' kind link lo hi life room → AddedAt t₀ t' kind top lo₀ hi₀ life room
-  down_end {t'} {room} a = u.rest t' room a
+module _ {t₀ t : List ℕ} {kind top lo₀ hi₀ link : ℕ} {span : Span} {life : Life} (u : Down t₀ t kind top lo₀ hi₀ link span.lo span.hi life) where
+  pub down_none : link ≡ 0 → AddedAt t₀ t kind top lo₀ hi₀ life false
+  down_none z = u.rest t false (at_spent z)
 
-  module _ (some : link ≡ 0 → ⊥) {q h : Bool} (asked : q ≡ covers life.created life.destroyed lo hi) (misses : q ≡ false) (split : h ≡ halves lo hi)
-      (wide : not h ≡ false) where
-    pub down_left : {t₂ : List ℕ} {next : ℕ} → life.created < middle lo hi → life.destroyed ≤ middle lo hi
-        → Reached t t₂ (spot kind link node_left lo (middle lo hi)) next → Down t₀ t₂ kind top lo₀ hi₀ next lo (middle lo hi) life
-    down_left x y r = record { rest = λ t' room a. u.rest t' room (at_left some (sym asked ∙ misses) (wide_of lo hi split wide) x y r a) }
+  module _ (some : link ≡ 0 → ⊥) {q : Bool} (asked : q ≡ covers life.created life.destroyed span.lo span.hi) where
+    pub down_covered : q ≡ true → {t₂ : List ℕ} → t₂ ≡ set t (row_width * link + node_entries) (plus_up_to (count_at t link) 1) → AddedAt t₀ t₂ kind top lo₀ hi₀ life true
+    down_covered e {t₂} is = u.rest t₂ true (at_covered some (sym asked ∙ e) is)
 
-    pub down_right : {t₂ : List ℕ} {next : ℕ} → middle lo hi ≤ life.created → middle lo hi < life.destroyed
-        → Reached t t₂ (spot kind link node_right (middle lo hi) hi) next → Down t₀ t₂ kind top lo₀ hi₀ next (middle lo hi) hi life
-    down_right x y r = record { rest = λ t' room a. u.rest t' room (at_right some (sym asked ∙ misses) (wide_of lo hi split wide) x y r a) }
+    module _ (misses : q ≡ false) {h : Bool} (split : h ≡ halves span.lo span.hi) where
+      pub down_narrow : h ≡ false → AddedAt t₀ t kind top lo₀ hi₀ life true
+      down_narrow n = u.rest t true (at_narrow some (sym asked ∙ misses) (narrow_of span.lo span.hi split n))
 
-    pub down_neither : middle lo hi ≤ life.created → life.destroyed ≤ middle lo hi → AddedAt t₀ t kind top lo₀ hi₀ life true
-    down_neither x y = u.rest t true (at_neither some (sym asked ∙ misses) (wide_of lo hi split wide) x y)
+      module _ (halved : h ≡ true) {pair : Place × Place} (in_two : pair ≡ (left_half span, right_half span)) where
+        parted : span.lo + 1 < span.hi
+        parted = wide_of span.lo span.hi split halved
 
--- ── a life that lasts to the end of the node ──
+        pub down_both : life.created < pair.1.span.lo → pair.1.span.lo < life.destroyed → {t' : List ℕ} {room : Bool} → AddedAt t t' kind link span.lo span.hi life room
+            → AddedAt t₀ t' kind top lo₀ hi₀ life room
+        down_both x y {t'} {room} a = u.rest t' room a
 
--- The life begins inside the node [lo, hi) of `link`.
-pub record OnSuffix (t₀ t : List ℕ) (kind top lo₀ hi₀ c link lo hi : ℕ) : Type 0 where
-  pub begins : c < hi
-  pub inside : hi ≤ hi₀
-  pub way : (life : Life) → Suffix c hi₀ life → Down t₀ t kind top lo₀ hi₀ link lo hi life
-
-module _ {t₀ t : List ℕ} {kind top lo₀ hi₀ c link lo hi : ℕ} (u : OnSuffix t₀ t kind top lo₀ hi₀ c link lo hi) where
-  pub suffix_spent : link ≡ 0 → AddedFor t₀ t kind top lo₀ hi₀ false (Suffix c hi₀)
-  suffix_spent z = record { each = λ life o. (u.way life o).rest t false (at_spent z) }
-
-  module _ (some : link ≡ 0 → ⊥) where
-    pub suffix_covered : {t₂ : List ℕ} → c ≤ lo → t₂ ≡ set t (row_width * link + node_entries) (plus_up_to (count_at t link) 1) → AddedFor t₀ t₂ kind top lo₀ hi₀ true (Suffix c hi₀)
-    suffix_covered {t₂} h is = record {
-      each = λ life o.
-          (u.way life o).rest t₂ true (at_covered some (covers_yes life.created life.destroyed lo hi (omega (arith, o.from)) (omega (arith, o.to, u.inside))) is);
-    }
-
-    module _ (late : lo < c) where
-      late_misses : (life : Life) → Suffix c hi₀ life → covers life.created life.destroyed lo hi ≡ false
-      late_misses life o = uncovered life.created life.destroyed lo hi (inl (omega (arith, o.from)))
-
-      late_wide : lo + 1 < hi
-      late_wide = omega (arith, u.begins)
-
-      pub suffix_right : {t₂ : List ℕ} {next : ℕ} → middle lo hi ≤ c → Reached t t₂ (spot kind link node_right (middle lo hi) hi) next
-          → OnSuffix t₀ t₂ kind top lo₀ hi₀ c next (middle lo hi) hi
-      suffix_right x r = record {
-        begins = u.begins;
-        inside = u.inside;
-        way = λ life o. record {
+        pub down_one : (right : Bool) → Goes right life pair.1.span.lo → Stays (not right) life pair.1.span.lo → {t₂ : List ℕ} {next : ℕ}
+            → Reached t t₂ (spot_in kind link (cond right pair.1 pair.0)) next
+            → Down t₀ t₂ kind top lo₀ hi₀ next (cond right pair.1 pair.0).span.lo (cond right pair.1 pair.0).span.hi life
+        down_one right x y r = rw (half_is in_two right) (record {
           rest = λ t' room a.
-              (u.way life o).rest t' room (at_right some (late_misses life o) late_wide (omega (arith, o.from)) (omega (arith, o.to, u.inside, u.begins)) r a);
-        };
-      }
+              u.rest t' room
+              (at_one some (sym asked ∙ misses) parted right (rw (middle_is in_two) at x) (rw (middle_is in_two) at y) (rw (half_is in_two right) at r) a);
+        })
 
-      module _ (x : c < middle lo hi) {t₂ : List ℕ} {q : Bool} (a : AddedWhole t t₂ (spot kind link node_right (middle lo hi) hi) q) where
-        right_half_lem : (life : Life) → Suffix c hi₀ life → Added t t₂ (spot kind link node_right (middle lo hi) hi) life q
-        right_half_lem life o = a.each life (record { from = omega (arith, o.from); to = omega (arith, o.to, u.inside) })
+        pub down_neither : pair.1.span.lo ≤ life.created → life.destroyed ≤ pair.1.span.lo → AddedAt t₀ t kind top lo₀ hi₀ life true
+        down_neither x y = u.rest t true (at_neither some (sym asked ∙ misses) parted (rw (middle_is in_two) at x) (rw (middle_is in_two) at y))
 
-        pub suffix_half_spent : not q ≡ true → AddedFor t₀ t₂ kind top lo₀ hi₀ false (Suffix c hi₀)
-        suffix_half_spent z = record {
-          each = λ life o.
-              (u.way life o).rest t₂ false
-              (at_right_spent some (late_misses life o) late_wide (omega (arith, o.from)) (omega (arith, o.to, u.inside, late_wide)) (right_half_lem life o) z);
-        }
+pub ruleset way_down = (down_none, down_covered, down_narrow, down_both)
 
-        pub suffix_left : {t₃ : List ℕ} {next : ℕ} → not q ≡ false → Reached t₂ t₃ (spot kind link node_left lo (middle lo hi)) next
-            → OnSuffix t₀ t₃ kind top lo₀ hi₀ c next lo (middle lo hi)
-        suffix_left z r = record {
-          begins = x;
-          inside = omega (arith, u.inside, late_wide);
-          way = λ life o. record {
-            rest = λ t' room b.
-                (u.way life o).rest t' room
-                (at_right_left some (late_misses life o) late_wide (omega (arith, o.from)) (omega (arith, o.to, u.inside, late_wide)) (right_half_lem life o) z r b);
-          };
-        }
+-- ── a life that lasts over one end of the node ──
 
--- ── a life that lasts from the beginning of the node ──
+-- a node of which it covers a part has halves
+pub part_wide : {to_end q : Bool} {lo hi : ℕ} {life : Life} → Lasts to_end lo hi life → q ≡ covers life.created life.destroyed lo hi → q ≡ false → lo + 1 < hi
+part_wide {to_end} {q} {lo} {hi} {life} l asked misses =
+    elim (covering life.created life.destroyed lo hi) [
+      | all _ _ e ↦ absurd (true≢false (sym e ∙ sym asked ∙ misses))
+      | part o _ ↦ late to_end l o
+    ]
+  where
+    late : (to_end : Bool) → Lasts to_end lo hi life → (lo < life.created) ⊎ (life.destroyed < hi) → lo + 1 < hi
+    late true l (inl h) = omega (arith, l.begins)
+    late true l (inr h) = absurd (omega (arith, l.over))
+    late false l (inl h) = absurd (omega (arith, l.over))
+    late false l (inr h) = omega (arith, l.ends)
 
--- The life ends inside the node [lo, hi) of `link`.
-pub record OnPrefix (t₀ t : List ℕ) (kind top lo₀ hi₀ d link lo hi : ℕ) : Type 0 where
-  pub ends : lo < d
-  pub inside : lo₀ ≤ lo
-  pub within : hi ≤ hi₀
-  pub way : (life : Life) → Prefix lo₀ d life → Down t₀ t kind top lo₀ hi₀ link lo hi life
+-- what it goes to and what it covers
+pub other_goes : (to_end : Bool) (life : Life) (span : Span) → meets to_end life (half_on (not to_end) span).span ≡ true → Goes (not to_end) life (mid span.lo span.hi)
+other_goes true life span m = ltb-true life.created (mid span.lo span.hi) m
+other_goes false life span m = ltb-true (mid span.lo span.hi) life.destroyed m
 
-module _ {t₀ t : List ℕ} {kind top lo₀ hi₀ d link lo hi : ℕ} (u : OnPrefix t₀ t kind top lo₀ hi₀ d link lo hi) where
-  pub prefix_spent : link ≡ 0 → AddedFor t₀ t kind top lo₀ hi₀ false (Prefix lo₀ d)
-  prefix_spent z = record { each = λ life o. (u.way life o).rest t false (at_spent z) }
+pub other_stays : (to_end : Bool) (life : Life) (span : Span) → meets to_end life (half_on (not to_end) span).span ≡ false → Stays (not to_end) life (mid span.lo span.hi)
+other_stays true life span m = ltb-false life.created (mid span.lo span.hi) m
+other_stays false life span m = ltb-false (mid span.lo span.hi) life.destroyed m
 
-  module _ (some : link ≡ 0 → ⊥) where
-    pub prefix_covered : {t₂ : List ℕ} → hi ≤ d → t₂ ≡ set t (row_width * link + node_entries) (plus_up_to (count_at t link) 1) → AddedFor t₀ t₂ kind top lo₀ hi₀ true (Prefix lo₀ d)
-    prefix_covered {t₂} h is = record {
-      each = λ life o.
-          (u.way life o).rest t₂ true (at_covered some (covers_yes life.created life.destroyed lo hi (omega (arith, o.from, u.inside)) (omega (arith, o.to))) is);
-    }
+module _ {span : Span} {life : Life} where
+  pub sure_goes : (to_end : Bool) → Lasts to_end span.lo span.hi life → span.lo + 1 < span.hi → Goes to_end life (mid span.lo span.hi)
+  sure_goes true l w = omega (arith, l.over)
+  sure_goes false l w = omega (arith, l.over)
 
-    module _ (early : d < hi) where
-      early_misses : (life : Life) → Prefix lo₀ d life → covers life.created life.destroyed lo hi ≡ false
-      early_misses life o = uncovered life.created life.destroyed lo hi (inr (omega (arith, o.to)))
+  pub sure_whole : (to_end : Bool) → Lasts to_end span.lo span.hi life → Goes (not to_end) life (mid span.lo span.hi)
+      → Whole (half_on to_end span).span.lo (half_on to_end span).span.hi life
+  sure_whole true l g = record { from = omega (arith, g); to = l.over }
+  sure_whole false l g = record { from = l.over; to = omega (arith, g) }
 
-      early_wide : lo + 1 < hi
-      early_wide = omega (arith, u.ends)
+  pub lasts_sure : (to_end : Bool) → Lasts to_end span.lo span.hi life → span.lo + 1 < span.hi
+      → Lasts to_end (half_on to_end span).span.lo (half_on to_end span).span.hi life
+  lasts_sure true l w = record { wide = omega arith; begins = l.begins; ends = omega (arith, l.over); over = l.over }
+  lasts_sure false l w = record { wide = omega arith; begins = omega (arith, l.over); ends = l.ends; over = l.over }
 
-      pub prefix_left : {t₂ : List ℕ} {next : ℕ} → d ≤ middle lo hi → Reached t t₂ (spot kind link node_left lo (middle lo hi)) next
-          → OnPrefix t₀ t₂ kind top lo₀ hi₀ d next lo (middle lo hi)
-      prefix_left x r = record {
-        ends = u.ends;
-        inside = u.inside;
-        within = omega (arith, u.within, early_wide);
-        way = λ life o. record {
+  pub lasts_other : (to_end : Bool) → Lasts to_end span.lo span.hi life → span.lo + 1 < span.hi → Goes (not to_end) life (mid span.lo span.hi)
+      → Lasts to_end (half_on (not to_end) span).span.lo (half_on (not to_end) span).span.hi life
+  lasts_other true l w g = record { wide = omega arith; begins = g; ends = l.ends; over = omega (arith, l.over) }
+  lasts_other false l w g = record { wide = omega arith; begins = l.begins; ends = g; over = omega (arith, l.over) }
+
+-- The way stands at a node that the life meets, lasting over that end.
+pub record OneWay (to_end : Bool) (t₀ t : List ℕ) (kind top : ℕ) (whole : Span) (link : ℕ) (span : Span) (life : Life) : Type 0 where
+  pub lasts : Lasts to_end span.lo span.hi life
+  pub down : Down t₀ t kind top whole.lo whole.hi link span.lo span.hi life
+
+module _ {to_end : Bool} {t₀ t : List ℕ} {kind top : ℕ} {whole : Span} {link : ℕ} {span : Span} {life : Life} (u : OneWay to_end t₀ t kind top whole link span life) where
+  pub way_none : link ≡ 0 → AddedAt t₀ t kind top whole.lo whole.hi life false
+  way_none z = u.down.rest t false (at_spent z)
+
+  module _ (some : link ≡ 0 → ⊥) {q : Bool} (asked : q ≡ covers life.created life.destroyed span.lo span.hi) where
+    pub way_covered : q ≡ true → {t₂ : List ℕ} → t₂ ≡ set t (row_width * link + node_entries) (plus_up_to (count_at t link) 1) → AddedAt t₀ t₂ kind top whole.lo whole.hi life true
+    way_covered e {t₂} is = u.down.rest t₂ true (at_covered some (sym asked ∙ e) is)
+
+    module _ (misses : q ≡ false) {pair : Place × Place} (halved : pair ≡ (half_on to_end span, half_on (not to_end) span)) {m : Bool} (meet : m ≡ meets to_end life pair.1.span) where
+      uncovers : covers life.created life.destroyed span.lo span.hi ≡ false
+      uncovers = sym asked ∙ misses
+
+      wide : span.lo + 1 < span.hi
+      wide = part_wide u.lasts asked misses
+
+      sure_is : pair.0 ≡ half_on to_end span
+      sure_is = ap (λ (p : Place × Place). p.0) halved
+
+      other_is : pair.1 ≡ half_on (not to_end) span
+      other_is = ap (λ (p : Place × Place). p.1) halved
+
+      met : {v : Bool} → m ≡ v → meets to_end life (half_on (not to_end) span).span ≡ v
+      met y = rw other_is at (sym meet ∙ y)
+
+      pub way_sure : m ≡ false → {t₂ : List ℕ} {next : ℕ} → Reached t t₂ (spot_in kind link pair.0) next → OneWay to_end t₀ t₂ kind top whole next pair.0.span life
+      way_sure y {t₂} {next} r = rw sure_is (record {
+        lasts = lasts_sure to_end u.lasts wide;
+        down = record {
           rest = λ t' room a.
-              (u.way life o).rest t' room (at_left some (early_misses life o) early_wide (omega (arith, o.from, u.inside, early_wide)) (omega (arith, o.to)) r a);
+              u.down.rest t' room (at_one some uncovers wide to_end (sure_goes to_end u.lasts wide) (other_stays to_end life span (met y)) (rw sure_is at r) a);
         };
-      }
+      })
 
-      module _ (x : middle lo hi < d) {t₂ : List ℕ} {q : Bool} (a : AddedWhole t t₂ (spot kind link node_left lo (middle lo hi)) q) where
-        left_half_lem : (life : Life) → Prefix lo₀ d life → Added t t₂ (spot kind link node_left lo (middle lo hi)) life q
-        left_half_lem life o = a.each life (record { from = omega (arith, o.from, u.inside); to = omega (arith, o.to) })
+      module _ (y : m ≡ true) {t₂ : List ℕ} {full : Bool} (a : AddedWhole t t₂ (spot_in kind link pair.0) full) where
+        goes : Goes (not to_end) life (mid span.lo span.hi)
+        goes = other_goes to_end life span (met y)
 
-        pub prefix_half_spent : not q ≡ true → AddedFor t₀ t₂ kind top lo₀ hi₀ false (Prefix lo₀ d)
-        prefix_half_spent z = record {
-          each = λ life o.
-              (u.way life o).rest t₂ false
-              (at_left_spent some (early_misses life o) early_wide (omega (arith, o.from, u.inside, early_wide)) (omega (arith, o.to)) (left_half_lem life o) z);
-        }
+        sure_added : Added t t₂ (spot_in kind link (half_on to_end span)) life full
+        sure_added = (rw sure_is at a).each life (sure_whole to_end u.lasts goes)
 
-        pub prefix_right : {t₃ : List ℕ} {next : ℕ} → not q ≡ false → Reached t₂ t₃ (spot kind link node_right (middle lo hi) hi) next
-            → OnPrefix t₀ t₃ kind top lo₀ hi₀ d next (middle lo hi) hi
-        prefix_right z r = record {
-          ends = x;
-          inside = omega (arith, u.inside, early_wide);
-          within = u.within;
-          way = λ life o. record {
+        pub way_spent : full ≡ false → AddedAt t₀ t₂ kind top whole.lo whole.hi life false
+        way_spent n = u.down.rest t₂ false (at_one_spent some uncovers wide to_end (sure_goes to_end u.lasts wide) goes sure_added n)
+
+        pub way_other : full ≡ true → {t₃ : List ℕ} {next : ℕ} → Reached t₂ t₃ (spot_in kind link pair.1) next → OneWay to_end t₀ t₃ kind top whole next pair.1.span life
+        way_other n {t₃} {next} r = rw other_is (record {
+          lasts = lasts_other to_end u.lasts wide goes;
+          down = record {
             rest = λ t' room b.
-                (u.way life o).rest t' room
-                (at_left_right some (early_misses life o) early_wide (omega (arith, o.from, u.inside, early_wide)) (omega (arith, o.to)) (left_half_lem life o) z r b);
+                u.down.rest t' room (at_both some uncovers wide to_end (sure_goes to_end u.lasts wide) goes sure_added n (rw other_is at r) b);
           };
-        }
+        })
+
+pub ruleset one_way = (way_none, way_covered, way_spent)
 
 -- ── both halves ──
 
-module _ {t t₁ t₂ : List ℕ} {kind link lo m hi left : ℕ} {life : Life} {q : Bool} (p : Splits link lo m hi life) (reached : Reached t t₁ (spot kind link node_left lo m) left)
-    (a : AddedFor t₁ t₂ kind left lo m q (Suffix life.created m)) where
-  left_added : Added t t₂ (spot kind link node_left lo (middle lo hi)) life q
-  left_added = rw (← p.middle) ((a.each life (record { from = refl; to = omega (arith, p.ends) })).from t link node_left reached)
+module _ {t t₁ t₂ : List ℕ} {kind link first : ℕ} {span : Span} {life : Life} {q : Bool} {pair : Place × Place} (p : Splits link span.lo span.hi life)
+    (in_two : pair ≡ (left_half span, right_half span)) (reached : Reached t t₁ (spot_in kind link pair.0) first)
+    (a : AddedAt t₁ t₂ kind first pair.0.span.lo pair.0.span.hi life q) where
+  left_is : pair.0 ≡ left_half span
+  left_is = half_is in_two false
 
-  pub both_spent : not q ≡ true → AddedAt t t₂ kind link lo hi life false
-  both_spent z = at_left_spent p.some p.uncovered p.wide (rw p.middle at p.begins) (rw p.middle at p.ends) left_added z
+  right_is : pair.1 ≡ right_half span
+  right_is = half_is in_two true
 
-  pub both_done : {t₃ t₄ : List ℕ} {right : ℕ} {r : Bool} → not q ≡ false → Reached t₂ t₃ (spot kind link node_right m hi) right
-      → AddedFor t₃ t₄ kind right m hi r (Prefix m life.destroyed) → AddedAt t t₄ kind link lo hi life r
-  both_done z reached₂ b =
-      at_left_right p.some p.uncovered p.wide (rw p.middle at p.begins) (rw p.middle at p.ends) left_added z (rw p.middle at reached₂)
-      (rw p.middle at (b.each life (record { from = omega (arith, p.begins); to = refl })))
+  left_added : Added t t₂ (spot_in kind link (left_half span)) life q
+  left_added = (rw left_is at a).from t link node_left (rw left_is at reached)
+
+  pub both_spent : q ≡ false → AddedAt t t₂ kind link span.lo span.hi life false
+  both_spent z = at_one_spent p.some p.uncovered p.wide false p.begins p.ends left_added z
+
+  pub both_done : q ≡ true → {t₃ t₄ : List ℕ} {second : ℕ} {r : Bool} → Reached t₂ t₃ (spot_in kind link pair.1) second
+      → AddedAt t₃ t₄ kind second pair.1.span.lo pair.1.span.hi life r → AddedAt t t₄ kind link span.lo span.hi life r
+  both_done z reached₂ b = at_both p.some p.uncovered p.wide false p.begins p.ends left_added z (rw right_is at reached₂) (rw right_is at b)
 
 pub ruleset both_halves = (both_spent, both_done)

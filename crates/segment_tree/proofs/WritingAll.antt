@@ -12,9 +12,9 @@ use Rattle.lists.proofs.Lists.{all_map}
 use Rattle.history.specs.Tree.{Tree, hole, node, mid, halves, covers, insert, add_location}
 use Rattle.history.proofs.TreeInserting.{insert-length}
 use Rattle.history.proofs.TreeAdding.{add_here, add_last, add_below}
-use Rattle.tables.specs.Columns.{block_column, block_first, block_created, block_destroyed}
+use Rattle.tables.specs.Columns.{block_column, block_first}
 use Rattle.segment_table.specs.Closed.{left_at, right_at, first_cell_in}
-use Rattle.segment_tree.specs.Count.{Life, a_life}
+use Rattle.segment_tree.specs.Count.{Life}
 use Rattle.segment_tree.specs.Lives.{block_life}
 use Rattle.segment_tree.specs.Fill.{Fillable, FillAt, Roomy, FindsNodes, Filled, Written, append_block, append_each, WrittenAll}
 use Rattle.segment_tree.proofs.Presence.{none_new, new_none-count, new_keep}
@@ -65,11 +65,10 @@ module _ {blocks t es : List ℕ} {root e first : ℕ} where
     done = λ s kind T w f g there room. unchanged blocks s t es kind root 0 e T T refl g;
   }
 
-  module _ {t₁ es₁ t₂ es₂ : List ℕ} {cell created destroyed less : ℕ} (begins : created ≡ block_column blocks (suc first) block_created)
-      (ends : destroyed ≡ block_column blocks (suc first) block_destroyed) (cells : cell ≡ first_cell_in blocks first)
-      (a : Written t es t₁ es₁ root 0 e (a_life created destroyed) first cell) (b : WrittenAll blocks t₁ es₁ t₂ es₂ root e (suc first) less) where
+  module _ {t₁ es₁ t₂ es₂ : List ℕ} {cell less : ℕ} {life : Life} (is : life ≡ block_life blocks (suc first)) (cells : cell ≡ first_cell_in blocks first)
+      (a : Written t es t₁ es₁ root 0 e life first cell) (b : WrittenAll blocks t₁ es₁ t₂ es₂ root e (suc first) less) where
     this : Written t es t₁ es₁ root 0 e (block_life blocks (suc first)) first (first_cell_in blocks first)
-    this = rw (← begins, ← ends, ← cells) a
+    this = rw (← is, ← cells) a
 
     written_more : WrittenAll blocks t es t₂ es₂ root e first (suc less)
     unfolding append_each count_from
@@ -110,12 +109,13 @@ module _ {blocks start entries : List ℕ} {root e n : ℕ} where
     pub onward_spent : n ≤ j → WrittenAll blocks start entries t es root e 0 n
     onward_spent h = o.rest t es (let z : n - j ≡ 0 = omega arith in rw z written_none)
 
-    pub onward_more : {t₁ es₁ : List ℕ} {cell created destroyed : ℕ} → j < n → cell ≡ block_column blocks (j + 1) block_first
-        → created ≡ block_column blocks (j + 1) block_created → destroyed ≡ block_column blocks (j + 1) block_destroyed
-        → Written t es t₁ es₁ root 0 e (a_life created destroyed) j cell → OnwardFrom blocks start entries t₁ es₁ root e n (j + 1)
-    onward_more h cells begins ends a = record {
+    pub onward_more : {t₁ es₁ : List ℕ} {cell : ℕ} {life : Life} → j < n → life ≡ block_life blocks (j + 1) → cell ≡ block_column blocks (j + 1) block_first
+        → Written t es t₁ es₁ root 0 e life j cell → OnwardFrom blocks start entries t₁ es₁ root e n (j + 1)
+    onward_more h is cells a = record {
       rest = λ t' es' b.
           let i : j + 1 ≡ suc j = omega arith in
           let left : n - j ≡ suc (n - suc j) = omega arith in
-          o.rest t' es' (rw left (written_more (rw i at begins) (rw i at ends) (rw i at cells) a (rw i at b)));
+          o.rest t' es' (rw left (written_more (rw i at is) (rw i at cells) a (rw i at b)));
     }
+
+pub ruleset onward = (onward_spent, onward_more)

@@ -1,7 +1,7 @@
 -- Writing a block at a node, by where its life begins and ends there: the way of add_location through nodes that are all there. Assumes nothing.
 use mathlib.Core.Path.{◌≡◌, refl, ◌∙◌}
 use mathlib.Core.Logic.{inr}
-use mathlib.Core.Bool.{true, false, ◌&&◌}
+use mathlib.Core.Bool.{Bool, true, false, cond, not, ◌&&◌}
 use mathlib.Core.List.{List}
 use Prim.Native.Nat.{ℕ, ◌+◌, ◌-◌, ◌^◌, ◌≤◌, ◌<◌}
 use native.Mathlib.Omega.{arith}
@@ -13,12 +13,14 @@ use Rattle.history.specs.Tree.{Tree, hole, node, mid, halves, covers, insert, ad
 use Rattle.history.proofs.TreeInserting.{insert-length}
 use Rattle.history.proofs.TreeAdding.{add_here, add_narrow}
 use Rattle.history.proofs.TreeCounts.{new_nodes}
-use Rattle.tables.specs.Columns.{node_left, node_right}
+use Rattle.tables.specs.Columns.{column, node_left, node_right}
 use Rattle.segment_table.specs.Closed.{left_at, right_at, first_cell_in}
-use Rattle.segment_tree.specs.Count.{Life, spot, Outside}
+use Rattle.segment_tree.specs.declared.Span.{Span}
+use Rattle.segment_tree.specs.declared.Place.{Place}
+use Rattle.segment_tree.specs.Count.{Life, spot, half_on, Outside}
 use Rattle.segment_tree.specs.Runs.{LikeButRuns}
 use Rattle.segment_tree.specs.Fill.{Fillable, FillAt, Roomy, FindsNodes, Filled, Written, WroteEntry}
-use Rattle.segment_tree.proofs.Adding.{middle, Deeper, deeper_of}
+use Rattle.segment_tree.proofs.Adding.{Deeper, deeper_of, Goes, Stays, joined}
 use Rattle.segment_tree.proofs.Presence.{new_hole, none_new, new_none-count, Below, new_below}
 use Rattle.segment_tree.proofs.Writing.{untouched_all, beyond_all, like_self, like_trans, fillable_like, wrote_like, wrote_long, filled_entry, filled_left, filled_right, filled_trans}
 
@@ -77,6 +79,10 @@ module _ {t es : List ℕ} {link lo hi b cell : ℕ} {life : Life} where
 
 -- ── its halves ──
 
+-- the link at a place in the row of `link`
+abbrev pub half_at : (t : List ℕ) (link : ℕ) (p : Place) → ℕ
+half_at t link p = column t link p.col
+
 -- the node has halves, and is not covered
 pub record Split (link lo hi : ℕ) (life : Life) : Type 0 where
   pub uncovered : covers life.created life.destroyed lo hi ≡ false
@@ -96,114 +102,106 @@ module _ (link lo hi : ℕ) (life : Life) (b cell : ℕ) (p : Split link lo hi l
   wider : lo + 1 < hi
   wider = p.wide
 
-  is_mid : middle lo hi ≡ m
-  is_mid = omega (arith, wider)
-
   deep : Deeper (λ _. 0) n b c d lo hi (node xs l r)
   deep = deeper_of (λ _. 0) n b c d lo hi (node xs l r) p.uncovered wider w
 
   there : Below deep.less c d lo hi (node xs l r)
   there = new_below deep.less c d lo hi (node xs l r) p.uncovered (rw deep.levels_are at none)
 
-  new_left : Tree
-  new_left = add_location (λ _. 0) deep.less b c d lo m l
+  abbrev half_tree : (right : Bool) → Tree
+  half_tree right = cond right r l
 
-  new_right : Tree
-  new_right = add_location (λ _. 0) deep.less b c d m hi r
+  new_half : (right : Bool) → Tree
+  new_half true = add_location (λ _. 0) deep.less b c d m hi r
+  new_half false = add_location (λ _. 0) deep.less b c d lo m l
+
+  abbrev place : (right : Bool) → Place
+  place right = half_on right (record { lo = lo; hi = hi })
 
   -- a half, whatever the other one is by then
-  left_filled : (t es t₁ es₁ : List ℕ) (X : Tree) (q : ℕ) → Fillable s t es → FillAt blocks s t es kind link lo hi (node xs l X) → q ≡ left_at t link → c < m
-      → Written t es t₁ es₁ q lo (middle lo hi) life b cell → Roomy s (left_at s link) new_left
-      → Filled blocks s t es t₁ es₁ kind link lo hi (node xs l X) (node xs new_left X)
-  unfolding new_left FillAt
-  left_filled t es t₁ es₁ X q f g read go a room =
+  half_filled : (right : Bool) (t es t₁ es₁ : List ℕ) (X : Tree) (q : ℕ) → Fillable s t es → FillAt blocks s t es kind link lo hi (joined right xs (half_tree right) X)
+      → q ≡ half_at t link (place right) → Goes right life m → Written t es t₁ es₁ q (place right).span.lo (place right).span.hi life b cell
+      → Roomy s (half_at s link (place right)) (new_half right)
+      → Filled blocks s t es t₁ es₁ kind link lo hi (joined right xs (half_tree right) X) (joined right xs (new_half right) X)
+  unfolding new_half FillAt
+  half_filled false t es t₁ es₁ X q f g read go a room =
       let at : q ≡ left_at s link = read ∙ f.like.same link node_left (omega arith) (inr (omega arith)) in
       let both : (halves lo hi && ltb c m) ≡ true = and_both (halves lo hi) (ltb c m) (lt-ltb (lo + 1) hi wider) (lt-ltb c m go) in
-      let done : Filled blocks s t es t₁ es₁ kind q lo m l new_left =
-      (rw is_mid at a).done blocks s kind deep.less l deep.left_width f is (rw at g.1) (new_none-count b deep.less c d lo m l (there.left both)) (rw at room) in
-      filled_left blocks s t es t₁ es₁ kind link lo hi xs l X wider g new_left (rw at at done)
-
-  right_filled : (t es t₁ es₁ : List ℕ) (X : Tree) (q : ℕ) → Fillable s t es → FillAt blocks s t es kind link lo hi (node xs X r) → q ≡ right_at t link → m < d
-      → Written t es t₁ es₁ q (middle lo hi) hi life b cell → Roomy s (right_at s link) new_right
-      → Filled blocks s t es t₁ es₁ kind link lo hi (node xs X r) (node xs X new_right)
-  unfolding new_right FillAt
-  right_filled t es t₁ es₁ X q f g read go a room =
+      let done : Filled blocks s t es t₁ es₁ kind q lo m l (new_half false) =
+      a.done blocks s kind deep.less l deep.left_width f is (rw at g.1) (new_none-count b deep.less c d lo m l (there.left both)) (rw at room) in
+      filled_left blocks s t es t₁ es₁ kind link lo hi xs l X wider g (new_half false) (rw at at done)
+  half_filled true t es t₁ es₁ X q f g read go a room =
       let at : q ≡ right_at s link = read ∙ f.like.same link node_right (omega arith) (inr (omega arith)) in
       let both : (halves lo hi && ltb m d) ≡ true = and_both (halves lo hi) (ltb m d) (lt-ltb (lo + 1) hi wider) (lt-ltb m d go) in
-      let done : Filled blocks s t es t₁ es₁ kind q m hi r new_right =
-      (rw is_mid at a).done blocks s kind deep.less r deep.right_width f is (rw at g.2) (new_none-count b deep.less c d m hi r (there.right both)) (rw at room) in
-      filled_right blocks s t es t₁ es₁ kind link lo hi xs X r wider g new_right (rw at at done)
+      let done : Filled blocks s t es t₁ es₁ kind q m hi r (new_half true) =
+      a.done blocks s kind deep.less r deep.right_width f is (rw at g.2) (new_none-count b deep.less c d m hi r (there.right both)) (rw at room) in
+      filled_right blocks s t es t₁ es₁ kind link lo hi xs X r wider g (new_half true) (rw at at done)
+
+  -- one half of the node
+  first_filled : (right : Bool) (t es t₁ es₁ : List ℕ) (q : ℕ) → Fillable s t es → FillAt blocks s t es kind link lo hi (node xs l r)
+      → q ≡ half_at t link (place right) → Goes right life m → Written t es t₁ es₁ q (place right).span.lo (place right).span.hi life b cell
+      → Roomy s (half_at s link (place right)) (new_half right)
+      → Filled blocks s t es t₁ es₁ kind link lo hi (node xs l r) (joined right xs (new_half right) (half_tree (not right)))
+  first_filled true t es t₁ es₁ q f g read go a room = half_filled true t es t₁ es₁ l q f g read go a room
+  first_filled false t es t₁ es₁ q f g read go a room = half_filled false t es t₁ es₁ r q f g read go a room
+
+  -- and the other one after it
+  other_filled : (right : Bool) (t es t₁ es₁ : List ℕ) (q : ℕ) → Fillable s t es
+      → FillAt blocks s t es kind link lo hi (joined right xs (new_half right) (half_tree (not right))) → q ≡ half_at t link (place (not right))
+      → Goes (not right) life m → Written t es t₁ es₁ q (place (not right)).span.lo (place (not right)).span.hi life b cell
+      → Roomy s (half_at s link (place (not right))) (new_half (not right))
+      → Filled blocks s t es t₁ es₁ kind link lo hi (joined right xs (new_half right) (half_tree (not right))) (joined right xs (new_half right) (new_half (not right)))
+  other_filled true t es t₁ es₁ q f g read go a room = half_filled false t es t₁ es₁ (new_half true) q f g read go a room
+  other_filled false t es t₁ es₁ q f g read go a room = half_filled true t es t₁ es₁ (new_half false) q f g read go a room
+
+  -- there is room in each
+  roomy_halves : (right : Bool) (X Y : Tree) → Roomy s link (joined right xs X Y) → Roomy s (half_at s link (place right)) X × Roomy s (half_at s link (place (not right))) Y
+  unfolding Roomy
+  roomy_halves true X Y z = (z.2, z.1)
+  roomy_halves false X Y z = (z.1, z.2)
 
   -- what the model makes of the node
   is_neither : m ≤ c → d ≤ m → add_location (λ _. 0) n b c d lo hi (node xs l r) ≡ node xs l r
   is_neither x y = deep.is ∙ rw (le-ltb c m x, le-ltb m d y)
 
-  is_left : c < m → d ≤ m → add_location (λ _. 0) n b c d lo hi (node xs l r) ≡ node xs new_left r
-  unfolding new_left
-  is_left x y = deep.is ∙ rw (lt-ltb c m x, le-ltb m d y)
+  is_one : (right : Bool) → Goes right life m → Stays (not right) life m
+      → add_location (λ _. 0) n b c d lo hi (node xs l r) ≡ joined right xs (new_half right) (half_tree (not right))
+  unfolding new_half
+  is_one true y x = deep.is ∙ rw (le-ltb c m x, lt-ltb m d y)
+  is_one false x y = deep.is ∙ rw (lt-ltb c m x, le-ltb m d y)
 
-  is_right : m ≤ c → m < d → add_location (λ _. 0) n b c d lo hi (node xs l r) ≡ node xs l new_right
-  unfolding new_right
-  is_right x y = deep.is ∙ rw (le-ltb c m x, lt-ltb m d y)
+  is_both : (right : Bool) → Goes right life m → Goes (not right) life m
+      → add_location (λ _. 0) n b c d lo hi (node xs l r) ≡ joined right xs (new_half right) (new_half (not right))
+  unfolding new_half
+  is_both true y x = deep.is ∙ rw (lt-ltb c m x, lt-ltb m d y)
+  is_both false x y = deep.is ∙ rw (lt-ltb c m x, lt-ltb m d y)
 
-  is_both : c < m → m < d → add_location (λ _. 0) n b c d lo hi (node xs l r) ≡ node xs new_left new_right
-  unfolding new_left new_right
-  is_both x y = deep.is ∙ rw (lt-ltb c m x, lt-ltb m d y)
-
-split_mid : (link lo hi : ℕ) (life : Life) → Split link lo hi life → middle lo hi ≡ mid lo hi
-split_mid link lo hi life p = omega (arith, p.wide)
-
-module _ {t es : List ℕ} {link lo hi b cell : ℕ} {life : Life} (p : Split link lo hi life) where
-  pub write_neither : middle lo hi ≤ life.created → life.destroyed ≤ middle lo hi → Written t es t es link lo hi life b cell
+module _ {t es : List ℕ} {link b cell : ℕ} {span : Span} {life : Life} (p : Split link span.lo span.hi life) where
+  pub write_neither : mid span.lo span.hi ≤ life.created → life.destroyed ≤ mid span.lo span.hi → Written t es t es link span.lo span.hi life b cell
   write_neither x y =
-      written t es t es link lo hi life b cell (like_self t) refl refl
+      written t es t es link span.lo span.hi life b cell (like_self t) refl refl
       (λ blocks s kind n xs l r w f is g none room.
-      unchanged blocks s t es kind link lo hi (node xs l r) _ (is_neither link lo hi life b cell p blocks s kind n xs l r w is none (omega (arith, split_mid link lo hi life p)) (omega (arith, split_mid link lo hi life p))) g)
+      unchanged blocks s t es kind link span.lo span.hi (node xs l r) _ (is_neither link span.lo span.hi life b cell p blocks s kind n xs l r w is none x y) g)
 
-  pub write_right : {t₁ es₁ : List ℕ} {q : ℕ} → middle lo hi ≤ life.created → middle lo hi < life.destroyed → q ≡ right_at t link
-      → Written t es t₁ es₁ q (middle lo hi) hi life b cell → Written t es t₁ es₁ link lo hi life b cell
-  unfolding Roomy
-  write_right {t₁} {es₁} {q} x y read a =
-      written t es t₁ es₁ link lo hi life b cell a.like a.nodes_long a.entries_long
-      (λ blocks s kind n xs l r w f is g none room.
-      let z = is_right link lo hi life b cell p blocks s kind n xs l r w is none (omega (arith, split_mid link lo hi life p)) (omega (arith, split_mid link lo hi life p)) in
-      rw z (right_filled link lo hi life b cell p blocks s kind n xs l r w is none t es t₁ es₁ l q f g read (omega (arith, split_mid link lo hi life p)) a (rw z at room).2))
-
-  pub write_left : {t₁ es₁ : List ℕ} {q : ℕ} → life.created < middle lo hi → life.destroyed ≤ middle lo hi → q ≡ left_at t link
-      → Written t es t₁ es₁ q lo (middle lo hi) life b cell → Written t es t₁ es₁ link lo hi life b cell
-  unfolding Roomy
-  write_left {t₁} {es₁} {q} x y read a =
-      written t es t₁ es₁ link lo hi life b cell a.like a.nodes_long a.entries_long
-      (λ blocks s kind n xs l r w f is g none room.
-      let z = is_left link lo hi life b cell p blocks s kind n xs l r w is none (omega (arith, split_mid link lo hi life p)) (omega (arith, split_mid link lo hi life p)) in
-      rw z (left_filled link lo hi life b cell p blocks s kind n xs l r w is none t es t₁ es₁ r q f g read (omega (arith, split_mid link lo hi life p)) a (rw z at room).1))
-
-  module _ {t₁ es₁ t₂ es₂ : List ℕ} {q u : ℕ} (x : life.created < middle lo hi) (y : middle lo hi < life.destroyed) where
-    pub write_both : q ≡ left_at t link → Written t es t₁ es₁ q lo (middle lo hi) life b cell → u ≡ right_at t₁ link → Written t₁ es₁ t₂ es₂ u (middle lo hi) hi life b cell
-        → Written t es t₂ es₂ link lo hi life b cell
-    unfolding Roomy
-    write_both read a read₂ a₂ =
-        written t es t₂ es₂ link lo hi life b cell (like_trans t t₁ t₂ a.like a₂.like) (a₂.nodes_long ∙ a.nodes_long) (a₂.entries_long ∙ a.entries_long)
+  module _ (right : Bool) (x : Goes right life (mid span.lo span.hi)) {t₁ es₁ : List ℕ} {q : ℕ} (read : q ≡ half_at t link (half_on right span))
+      (a : Written t es t₁ es₁ q (half_on right span).span.lo (half_on right span).span.hi life b cell) where
+    pub write_one : Stays (not right) life (mid span.lo span.hi) → Written t es t₁ es₁ link span.lo span.hi life b cell
+    write_one y =
+        written t es t₁ es₁ link span.lo span.hi life b cell a.like a.nodes_long a.entries_long
         (λ blocks s kind n xs l r w f is g none room.
-        let z = is_both link lo hi life b cell p blocks s kind n xs l r w is none (omega (arith, split_mid link lo hi life p)) (omega (arith, split_mid link lo hi life p)) in
-        let rooms = rw z at room in
-        let first = left_filled link lo hi life b cell p blocks s kind n xs l r w is none t es t₁ es₁ r q f g read (omega (arith, split_mid link lo hi life p)) a rooms.1 in
+        let z = is_one link span.lo span.hi life b cell p blocks s kind n xs l r w is none right x y in
+        let rooms = roomy_halves link span.lo span.hi life b cell p blocks s kind n xs l r w is none right _ _ (rw z at room) in
+        rw z (first_filled link span.lo span.hi life b cell p blocks s kind n xs l r w is none right t es t₁ es₁ q f g read x a rooms.0))
+
+    pub write_two : Goes (not right) life (mid span.lo span.hi) → {t₂ es₂ : List ℕ} {u : ℕ} → u ≡ half_at t₁ link (half_on (not right) span)
+        → Written t₁ es₁ t₂ es₂ u (half_on (not right) span).span.lo (half_on (not right) span).span.hi life b cell → Written t es t₂ es₂ link span.lo span.hi life b cell
+    write_two y {t₂} {es₂} {u} read₂ a₂ =
+        written t es t₂ es₂ link span.lo span.hi life b cell (like_trans t t₁ t₂ a.like a₂.like) (a₂.nodes_long ∙ a.nodes_long) (a₂.entries_long ∙ a.entries_long)
+        (λ blocks s kind n xs l r w f is g none room.
+        let z = is_both link span.lo span.hi life b cell p blocks s kind n xs l r w is none right x y in
+        let rooms = roomy_halves link span.lo span.hi life b cell p blocks s kind n xs l r w is none right _ _ (rw z at room) in
+        let first = first_filled link span.lo span.hi life b cell p blocks s kind n xs l r w is none right t es t₁ es₁ q f g read x a rooms.0 in
         let f₁ : Fillable s t₁ es₁ = fillable_like s t es t₁ es₁ f a.like a.nodes_long a.entries_long in
         rw z
-        (filled_trans blocks s t es t₁ es₁ t₂ es₂ kind link lo hi _ _ _ first
-        (right_filled link lo hi life b cell p blocks s kind n xs l r w is none t₁ es₁ t₂ es₂ _ u f₁ first.here read₂ (omega (arith, split_mid link lo hi life p)) a₂ rooms.2)))
-
-    -- the right half first
-    pub write_back : u ≡ right_at t link → Written t es t₁ es₁ u (middle lo hi) hi life b cell → q ≡ left_at t₁ link → Written t₁ es₁ t₂ es₂ q lo (middle lo hi) life b cell
-        → Written t es t₂ es₂ link lo hi life b cell
-    unfolding Roomy
-    write_back read a read₂ a₂ =
-        written t es t₂ es₂ link lo hi life b cell (like_trans t t₁ t₂ a.like a₂.like) (a₂.nodes_long ∙ a.nodes_long) (a₂.entries_long ∙ a.entries_long)
-        (λ blocks s kind n xs l r w f is g none room.
-        let z = is_both link lo hi life b cell p blocks s kind n xs l r w is none (omega (arith, split_mid link lo hi life p)) (omega (arith, split_mid link lo hi life p)) in
-        let rooms = rw z at room in
-        let first = right_filled link lo hi life b cell p blocks s kind n xs l r w is none t es t₁ es₁ l u f g read (omega (arith, split_mid link lo hi life p)) a rooms.2 in
-        let f₁ : Fillable s t₁ es₁ = fillable_like s t es t₁ es₁ f a.like a.nodes_long a.entries_long in
-        rw z
-        (filled_trans blocks s t es t₁ es₁ t₂ es₂ kind link lo hi _ _ _ first
-        (left_filled link lo hi life b cell p blocks s kind n xs l r w is none t₁ es₁ t₂ es₂ _ q f₁ first.here read₂ (omega (arith, split_mid link lo hi life p)) a₂ rooms.1)))
+        (filled_trans blocks s t es t₁ es₁ t₂ es₂ kind link span.lo span.hi _ _ _ first
+        (other_filled link span.lo span.hi life b cell p blocks s kind n xs l r w is none right t₁ es₁ t₂ es₂ u f₁ first.here read₂ y a₂ rooms.1)))

@@ -1,10 +1,13 @@
 -- The node table while the tree is built: nodes with the counts of their entries, and what adding a life leaves. Definitions alone.
-use Rattle.std.specs.Prelude.{◌≡◌, Bool, true, false, List, ℕ, zero, suc, ◌+◌, ◌-◌, ◌*◌, ◌/◌, ◌^◌, ◌≤◌, ◌<◌, max, length, set}
+use Rattle.std.specs.Prelude.{◌≡◌, Bool, true, false, cond, List, ℕ, zero, suc, ◌+◌, ◌-◌, ◌*◌, ◌/◌, ◌^◌, ◌≤◌, ◌<◌, max, length, set, ltb}
 use Rattle.history.specs.Lent.{row_width, node_head}
 use Rattle.history.specs.Tree.{Tree, hole, node, mid, covers, add_location, node_count, entry_count}
 use Rattle.tables.specs.Columns.{column, node_min, node_max, node_left, node_right, node_kind, nodes_count}
 use Rattle.tables.specs.Sums.{most}
 use Rattle.segment_table.specs.Closed.{nodes_used, left_at, right_at, count_at}
+use Rattle.segment_tree.specs.declared.Life.{Life as CodeLife}
+use Rattle.segment_tree.specs.declared.Span.{Span}
+use Rattle.segment_tree.specs.declared.Place.{Place}
 
 -- ── numbers ──
 
@@ -64,10 +67,9 @@ pub record Clean (nodes : List ℕ) : Type 0 where
 
 -- ── where a node hangs ──
 
--- A life [created, destroyed).
-pub record Life : Type 0 where
-  pub created : ℕ
-  pub destroyed : ℕ
+-- a life [created, destroyed), the code's own
+abbrev pub Life : Type 0
+Life = CodeLife
 
 abbrev pub a_life : (created destroyed : ℕ) → Life
 a_life created destroyed = record { created = created; destroyed = destroyed }
@@ -82,6 +84,21 @@ pub record Spot : Type 0 where
 
 abbrev pub spot : (kind parent col lo hi : ℕ) → Spot
 spot kind parent col lo hi = record { kind = kind; parent = parent; col = col; lo = lo; hi = hi }
+
+-- .. by its place there
+abbrev pub spot_in : (kind parent : ℕ) (p : Place) → Spot
+spot_in kind parent p = spot kind parent p.col p.span.lo p.span.hi
+
+-- the halves of a node
+abbrev pub left_half : Span → Place
+left_half s = record { col = node_left; span = record { lo = s.lo; hi = mid s.lo s.hi } }
+
+abbrev pub right_half : Span → Place
+right_half s = record { col = node_right; span = record { lo = mid s.lo s.hi; hi = s.hi } }
+
+-- the one on that side
+abbrev pub half_on : (right : Bool) → Span → Place
+half_on right s = cond right (right_half s) (left_half s)
 
 abbrev pub link_at : (nodes : List ℕ) (s : Spot) → ℕ
 link_at nodes s = column nodes s.parent s.col
@@ -133,22 +150,23 @@ pub record Added (nodes nodes' : List ℕ) (s : Spot) (life : Life) (room : Bool
   pub done : (key : ℕ → ℕ) (levels block : ℕ) (T : Tree) → s.hi - s.lo ≤ 2 ^ levels → fullest T < most → Standing nodes s T
       → Outcome nodes nodes' s room T (add_location key levels block life.created life.destroyed s.lo s.hi T)
 
--- ── lives of which a part is known ──
+-- ── lives at a node ──
 
 -- it covers [lo, hi)
 pub record Whole (lo hi : ℕ) (life : Life) : Type 0 where
   pub from : life.created ≤ lo
   pub to : hi ≤ life.destroyed
 
--- it begins at c and covers what comes up to hi
-pub record Suffix (c hi : ℕ) (life : Life) : Type 0 where
-  pub from : life.created ≡ c
-  pub to : hi ≤ life.destroyed
+-- It meets the node [lo, hi), and lasts over the node's end; or, the other way, from its beginning on.
+pub record Lasts (to_end : Bool) (lo hi : ℕ) (life : Life) : Type 0 where
+  pub wide : lo < hi
+  pub begins : life.created < hi
+  pub ends : lo < life.destroyed
+  pub over : cond to_end (hi ≤ life.destroyed) (life.created ≤ lo)
 
--- it covers what comes from lo on and ends at d
-pub record Prefix (lo d : ℕ) (life : Life) : Type 0 where
-  pub from : life.created ≤ lo
-  pub to : life.destroyed ≡ d
+-- whether such a life meets the other half [lo, hi): it begins before its end, or lasts behind its beginning
+abbrev pub meets : (to_end : Bool) (life : Life) → Span → Bool
+meets to_end life half = cond to_end (ltb life.created half.hi) (ltb half.lo life.destroyed)
 
 -- ── one node ──
 
@@ -171,19 +189,14 @@ pub data Reached (nodes nodes' : List ℕ) (s : Spot) (link : ℕ) : Type 0 wher
 pub record AddedAt (nodes nodes' : List ℕ) (kind link lo hi : ℕ) (life : Life) (room : Bool) : Type 0 where
   pub from : (before : List ℕ) (parent col : ℕ) → Reached before nodes (spot kind parent col lo hi) link → Added before nodes' (spot kind parent col lo hi) life room
 
--- and whatever the rest of the life is
-pub record AddedFor (nodes nodes' : List ℕ) (kind link lo hi : ℕ) (room : Bool) (of : Life → Type 0) : Type 0 where
-  pub each : (life : Life) → of life → AddedAt nodes nodes' kind link lo hi life room
-
 -- at a spot, of every life that covers the node there
 pub record AddedWhole (nodes nodes' : List ℕ) (s : Spot) (room : Bool) : Type 0 where
   pub each : (life : Life) → Whole s.lo s.hi life → Added nodes nodes' s life room
 
 -- there is a node, and the life begins in its left half, ends in its right one, and does not cover it
-pub record Splits (link lo m hi : ℕ) (life : Life) : Type 0 where
+pub record Splits (link lo hi : ℕ) (life : Life) : Type 0 where
   pub some : link ≡ 0 → ⊥
   pub uncovered : covers life.created life.destroyed lo hi ≡ false
   pub wide : lo + 1 < hi
-  pub middle : m ≡ lo + (hi - lo) / 2
-  pub begins : life.created < m
-  pub ends : m < life.destroyed
+  pub begins : life.created < mid lo hi
+  pub ends : mid lo hi < life.destroyed

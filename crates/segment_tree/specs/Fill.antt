@@ -84,13 +84,9 @@ pub record Written (nodes entries nodes' entries' : List ℕ) (link lo hi : ℕ)
       → Roomy s link (add_location (λ _. 0) levels b life.created life.destroyed lo hi T)
       → Filled blocks s nodes entries nodes' entries' kind link lo hi T (add_location (λ _. 0) levels b life.created life.destroyed lo hi T)
 
--- the same, whatever the rest of the life is
-pub record WrittenFor (nodes entries nodes' entries' : List ℕ) (link lo hi b cell : ℕ) (of : Life → Type 0) : Type 0 where
-  pub each : (life : Life) → of life → Written nodes entries nodes' entries' link lo hi life b cell
-
 -- in a node that the life covers, whichever that is
 pub record WrittenWhole (nodes entries nodes' entries' : List ℕ) (link b cell : ℕ) : Type 0 where
-  pub each : (lo hi : ℕ) → WrittenFor nodes entries nodes' entries' link lo hi b cell (Whole lo hi)
+  pub each : (lo hi : ℕ) (life : Life) → Whole lo hi life → Written nodes entries nodes' entries' link lo hi life b cell
 
 -- the next free place of the run, one further
 abbrev pub with_next : (nodes : List ℕ) (link : ℕ) → List ℕ

@@ -1,9 +1,9 @@
 // Closing the counted tree: each node gets its run of the entry table, the blocks fill the runs in recorded order, and each run is sorted.
-ghost use Rattle.std.specs.Prelude.{◌<◌};
-ghost use Rattle.segment_tree.specs.Count.{a_life, Suffix, Prefix, Splits};
+ghost use Rattle.segment_tree.specs.Count.{Lasts, Splits};
 ghost use Rattle.segment_tree.specs.Runs.{AssignedRuns};
-ghost use Rattle.segment_tree.specs.Fill.{WroteEntry, Written, WrittenFor, WrittenWhole, WrittenAll, ClosedRuns, lent_tables, ClosedTree};
+ghost use Rattle.segment_tree.specs.Fill.{WroteEntry, Written, WrittenWhole, WrittenAll, ClosedRuns, lent_tables, ClosedTree};
 
+use crate::{Life, Span};
 use tables::{block, entry, node};
 
 // Gives each of the rows 1 to n its run, in row order, and returns how many entries they have. The counts stay, so that runs can be given out
@@ -21,173 +21,140 @@ pub(crate) fn assign_runs(nodes: &mut [u64], n: u64) -> u64
     at
 }
 
-// Block b, whose first cell is `cell`, at the next free place of the node of `link`.
-fn write_entry(nodes: &mut [u64], entries: &mut [u64], link: u64, b: u64, cell: u64)
-    ensures { WroteEntry nodes.old entries.old nodes.new entries.new link b cell }
+// What a node lists of a block: its number, and its first cell.
+#[derive(Clone, Copy)]
+struct Entry {
+    block: u64,
+    key: u64,
+}
+
+// An entry at the next free place of the node of `link`.
+fn write_entry(nodes: &mut [u64], entries: &mut [u64], link: u64, entry: Entry)
+    ensures { WroteEntry nodes.old entries.old nodes.new entries.new link entry.block entry.key }
 {
     let row = tables::get(nodes, link, node::FIRST);
-    entry::put(entries, row, entry::BLOCK, b);
-    entry::put(entries, row, entry::KEY, cell);
+    entry::put(entries, row, entry::BLOCK, entry.block);
+    entry::put(entries, row, entry::KEY, entry.key);
     tables::put(nodes, link, node::FIRST, row.saturating_add(1));
 }
 
-// Block b in the node of `link`, if there is one.
-fn write_whole(nodes: &mut [u64], entries: &mut [u64], link: u64, b: u64, cell: u64)
-    ensures { WrittenWhole nodes.old entries.old nodes.new entries.new link b cell }
+// An entry in the node of `link`, if there is one.
+#[tactic(auto, using(crate::proofs::WritingWays::whole_node))]
+fn write_whole(nodes: &mut [u64], entries: &mut [u64], link: u64, entry: Entry)
+    ensures { WrittenWhole nodes.old entries.old nodes.new entries.new link entry.block entry.key }
 {
     if link != 0 {
-        write_entry(nodes, entries, link, b, cell);
+        write_entry(nodes, entries, link, entry);
     }
 }
 
-// Writes block b into the nodes below the node [min, max) of `from` that list it, where its life begins before `max` and lasts to there. It goes the way of
-// `build::add_suffix`, as far.
-fn write_suffix(
+// Writes an entry into the nodes from that of `from` on that list it, where its life lasts over the end of this node, or from its beginning on. It goes the
+// way of `build::add_way`, as far, by a loop as there; but no node is made here, so that nothing can fail, and one function for both would carry a failure.
+fn write_way<const TO_END: bool>(
     nodes: &mut [u64],
     entries: &mut [u64],
     from: u64,
-    min: u64,
-    max: u64,
-    created: u64,
-    b: u64,
-    cell: u64,
+    whole: Span,
+    life: Life,
+    entry: Entry,
 )
-    requires { created < max }
-    ensures { WrittenFor nodes.old entries.old nodes.new entries.new from min max b cell (Suffix created max) }
+    requires { Lasts TO_END whole.lo whole.hi life }
+    ensures { Written nodes.old entries.old nodes.new entries.new from whole.lo whole.hi life entry.block entry.key }
 {
     let mut link = from;
-    let mut lo = min;
-    let mut hi = max;
+    let mut span = whole;
     while link != 0 {
-        if created <= lo {
-            write_entry(nodes, entries, link, b, cell);
+        if life.covers_rest::<TO_END>(span) {
+            write_entry(nodes, entries, link, entry);
             return;
         }
-        let mid = lo + (hi - lo) / 2;
-        let right = tables::get(nodes, link, node::RIGHT);
-        if created < mid {
-            write_whole(nodes, entries, right, b, cell);
-            link = tables::get(nodes, link, node::LEFT);
-            hi = mid;
+        let (sure, other) = span.sides::<TO_END>();
+        let next = tables::get(nodes, link, sure.col);
+        if life.meets::<TO_END>(other.span) {
+            write_whole(nodes, entries, next, entry);
+            link = tables::get(nodes, link, other.col);
+            span = other.span;
         } else {
-            link = right;
-            lo = mid;
+            link = next;
+            span = sure.span;
         }
     }
 }
 
-// The same where its life ends behind `min` and lasts from there: the way of `build::add_prefix`.
-fn write_prefix(
-    nodes: &mut [u64],
-    entries: &mut [u64],
-    from: u64,
-    min: u64,
-    max: u64,
-    destroyed: u64,
-    b: u64,
-    cell: u64,
-)
-    requires { min < destroyed }
-    ensures { WrittenFor nodes.old entries.old nodes.new entries.new from min max b cell (Prefix min destroyed) }
-{
-    let mut link = from;
-    let mut lo = min;
-    let mut hi = max;
-    while link != 0 {
-        if hi <= destroyed {
-            write_entry(nodes, entries, link, b, cell);
-            return;
-        }
-        let mid = lo + (hi - lo) / 2;
-        let left = tables::get(nodes, link, node::LEFT);
-        if mid < destroyed {
-            write_whole(nodes, entries, left, b, cell);
-            link = tables::get(nodes, link, node::RIGHT);
-            lo = mid;
-        } else {
-            link = left;
-            hi = mid;
-        }
-    }
-}
-
-// Writes block b into the two halves of the node of `link`, [min, mid) and [mid, max), where its life begins in the first and ends in the second.
+// Writes an entry into the two halves of the node of `link`, where its life begins in the left one and ends in the right one.
 fn write_both(
     nodes: &mut [u64],
     entries: &mut [u64],
     link: u64,
-    min: u64,
-    mid: u64,
-    max: u64,
-    created: u64,
-    destroyed: u64,
-    b: u64,
-    cell: u64,
+    span: Span,
+    life: Life,
+    entry: Entry,
 )
-    requires { Splits link min mid max (a_life created destroyed) }
-    ensures { Written nodes.old entries.old nodes.new entries.new link min max (a_life created destroyed) b cell }
+    requires { Splits link span.lo span.hi life }
+    ensures { Written nodes.old entries.old nodes.new entries.new link span.lo span.hi life entry.block entry.key }
 {
-    let left = tables::get(nodes, link, node::LEFT);
-    write_suffix(nodes, entries, left, min, mid, created, b, cell);
-    let right = tables::get(nodes, link, node::RIGHT);
-    write_prefix(nodes, entries, right, mid, max, destroyed, b, cell);
+    let (left, right) = span.halves();
+    let first = tables::get(nodes, link, left.col);
+    write_way::<true>(nodes, entries, first, left.span, life, entry);
+    let second = tables::get(nodes, link, right.col);
+    write_way::<false>(nodes, entries, second, right.span, life, entry);
 }
 
-// Writes block b with the life [created, destroyed) into the nodes of the tree at `root` that list it. It goes the way of `build::add_location`.
+// Writes an entry with its life into the nodes of the tree at `root` that list it. It goes the way of `build::add_location`, by a loop as there.
+#[tactic(auto, using(crate::proofs::WritingWays::way_onto))]
 fn write_location(
     nodes: &mut [u64],
     entries: &mut [u64],
     root: u64,
     end: u64,
-    created: u64,
-    destroyed: u64,
-    b: u64,
-    cell: u64,
+    life: Life,
+    entry: Entry,
 )
-    ensures { Written nodes.old entries.old nodes.new entries.new root 0 end (a_life created destroyed) b cell }
+    ensures { Written nodes.old entries.old nodes.new entries.new root 0 end life entry.block entry.key }
 {
     let mut link = root;
-    let mut lo = 0;
-    let mut hi = end;
+    let mut span = Span { lo: 0, hi: end };
     while link != 0 {
-        if crate::covers_node(created, destroyed, lo, hi) {
-            write_entry(nodes, entries, link, b, cell);
+        if life.covers(span) {
+            write_entry(nodes, entries, link, entry);
             return;
         }
-        if !crate::has_halves(lo, hi) {
+        if !span.has_halves() {
             return;
         }
-        let mid = lo + (hi - lo) / 2;
-        if created < mid {
-            if mid < destroyed {
-                write_both(
-                    nodes, entries, link, lo, mid, hi, created, destroyed, b, cell,
-                );
+        let (left, right) = span.halves();
+        let mid = right.span.lo;
+        if life.created < mid {
+            if mid < life.destroyed {
+                write_both(nodes, entries, link, span, life, entry);
                 return;
             }
-            link = tables::get(nodes, link, node::LEFT);
-            hi = mid;
+            link = tables::get(nodes, link, left.col);
+            span = left.span;
         } else {
-            if destroyed <= mid {
+            if life.destroyed <= mid {
                 return;
             }
-            link = tables::get(nodes, link, node::RIGHT);
-            lo = mid;
+            link = tables::get(nodes, link, right.col);
+            span = right.span;
         }
     }
 }
 
 // Writes the blocks 1 to n into the tree at `root`, in recorded order: blocks that follow one another live at about the same ticks, so that they meet
 // the same nodes.
+#[tactic(auto, using(crate::proofs::WritingAll::onward))]
 fn write_blocks(nodes: &mut [u64], entries: &mut [u64], blocks: &[u64], n: u64, root: u64, end: u64)
     ensures { WrittenAll blocks.now nodes.old entries.old nodes.new entries.new root end 0 n }
 {
     for j in 0..n {
         let link = j + 1;
-        let cell = block::get(blocks, link, block::FIRST);
-        let created = block::get(blocks, link, block::CREATED);
-        let destroyed = block::get(blocks, link, block::DESTROYED);
-        write_location(nodes, entries, root, end, created, destroyed, j, cell);
+        let life = Life::of_block(blocks, link);
+        let entry = Entry {
+            block: j,
+            key: block::get(blocks, link, block::FIRST),
+        };
+        write_location(nodes, entries, root, end, life, entry);
     }
 }
 
@@ -208,6 +175,7 @@ fn close_runs(nodes: &mut [u64], entries: &mut [u64], n: u64) -> u64
 }
 
 // Closes the counted tree of a kind: its n blocks fill the runs, which begin where they began, and each run is sorted by first cell.
+#[tactic(auto, using(crate::proofs::Closing::closed_tree))]
 pub fn close_tree(
     nodes: &mut [u64],
     entries: &mut [u64],

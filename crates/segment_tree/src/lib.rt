@@ -13,22 +13,119 @@
 
 #![tactic(auto)]
 
-ghost use Rattle.std.specs.Prelude.{◌≡◌};
+ghost use Rattle.std.specs.Prelude.{◌≡◌, ◌+◌, ◌<◌, not};
 ghost use Rattle.history.specs.Tree.{covers, halves};
+ghost use Rattle.segment_tree.specs.Count.{left_half, right_half, half_on, Lasts, meets};
+ghost use Rattle.segment_tree.specs.Lives.{block_life, piece_life};
+
+use tables::{block, node, piece};
 
 pub mod build;
 pub mod close;
 
-// The life [created, destroyed) covers [min, max).
-fn covers_node(created: u64, destroyed: u64, min: u64, max: u64) -> bool
-    ensures { result ≡ covers created destroyed min max }
-{
-    created <= min && max <= destroyed
+// The ticks [lo, hi) of a node.
+#[derive(Clone, Copy)]
+struct Span {
+    lo: u64,
+    hi: u64,
 }
 
-// A node [min, max) has halves.
-fn has_halves(min: u64, max: u64) -> bool
-    ensures { result ≡ halves min max }
-{
-    min < max && 1 < max - min
+// Where a node hangs: the column of its link in the row of its parent, and its ticks.
+#[derive(Clone, Copy)]
+struct Place {
+    col: usize,
+    span: Span,
+}
+
+impl Span {
+    // A node of one tick has none.
+    fn has_halves(self) -> bool
+        ensures { result ≡ halves self.lo self.hi }
+    {
+        self.lo < self.hi && 1 < self.hi - self.lo
+    }
+
+    // The left half and the right one.
+    fn halves(self) -> (Place, Place)
+        requires { self.lo + 1 < self.hi }
+        ensures { result ≡ (left_half self, right_half self) }
+    {
+        let mid = self.lo + (self.hi - self.lo) / 2;
+        let left = Place {
+            col: node::LEFT,
+            span: Span { hi: mid, ..self },
+        };
+        let right = Place {
+            col: node::RIGHT,
+            span: Span { lo: mid, ..self },
+        };
+        (left, right)
+    }
+
+    // The half that a life which lasts over that end of the node meets in any case, and the other one.
+    fn sides<const TO_END: bool>(self) -> (Place, Place)
+        requires { self.lo + 1 < self.hi }
+        ensures { result ≡ (half_on TO_END self, half_on (not TO_END) self) }
+    {
+        let (left, right) = self.halves();
+        if TO_END { (right, left) } else { (left, right) }
+    }
+}
+
+// A life [created, destroyed).
+#[derive(Clone, Copy)]
+struct Life {
+    created: u64,
+    destroyed: u64,
+}
+
+impl Life {
+    // That of a block.
+    fn of_block(blocks: &[u64], link: u64) -> Life
+        ensures { result ≡ block_life blocks.now link }
+    {
+        Life {
+            created: block::get(blocks, link, block::CREATED),
+            destroyed: block::get(blocks, link, block::DESTROYED),
+        }
+    }
+
+    // That of a piece, which lasts to the end.
+    fn of_piece(pieces: &[u64], link: u64, end: u64) -> Life
+        ensures { result ≡ piece_life pieces.now end link }
+    {
+        Life {
+            created: tables::get(pieces, link, piece::WRITTEN),
+            destroyed: end,
+        }
+    }
+
+    fn covers(self, span: Span) -> bool
+        ensures { result ≡ covers self.created self.destroyed span.lo span.hi }
+    {
+        self.created <= span.lo && span.hi <= self.destroyed
+    }
+
+    // The same where it lasts over that end: the other end tells.
+    fn covers_rest<const TO_END: bool>(self, span: Span) -> bool
+        requires { Lasts TO_END span.lo span.hi self }
+        ensures { result ≡ covers self.created self.destroyed span.lo span.hi }
+    {
+        if TO_END {
+            self.created <= span.lo
+        } else {
+            span.hi <= self.destroyed
+        }
+    }
+
+    // Whether it meets the half that lies away from that end.
+    fn meets<const TO_END: bool>(self, half: Span) -> bool
+        ensures { result ≡ meets TO_END self half }
+    {
+        if TO_END {
+            self.created < half.hi
+        } else {
+            half.lo < self.destroyed
+        }
+    }
 }

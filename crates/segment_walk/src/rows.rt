@@ -30,7 +30,7 @@ pub fn rows_of(nodes: &[u64], entries: &[u64], link: u64) -> Rows
 }
 
 // The first of the rows whose key is not below `key`, or their end: a binary search. Rows past the table's end, which `rows_of` does not give, are
-// not searched. It is written out, as `partition_point` goes over a slice of keys, and here every other number is one.
+// not searched. It is written out: by `partition_point` over rows as pairs a find of an hour takes a tenth longer.
 pub fn lower(entries: &[u64], rows: Rows, key: u64) -> usize
     ensures { Lower entries.now rows key result }
 {
@@ -70,30 +70,25 @@ fn lower_near(entries: &[u64], rows: Rows, key: u64) -> usize
     lower(entries, Rows { from: near, to }, key)
 }
 
-// The rows of a node whose key is in [start, stop). The second search begins where the first one ended.
+// The rows of a node whose key is in [start, stop). The second search begins where the first one ended, and tries the next rows first where the window
+// is `SMALL`, as find's mostly are. Find alone asks so: with one caller the compiler puts that copy in line, long as it is.
 #[tactic(auto, using(crate::proofs::Windows::in_window))]
-pub fn in_window(nodes: &[u64], entries: &[u64], link: u64, start: u64, stop: u64) -> Rows
+pub fn in_window<const SMALL: bool>(
+    nodes: &[u64],
+    entries: &[u64],
+    link: u64,
+    start: u64,
+    stop: u64,
+) -> Rows
     ensures { InWindow nodes.now entries.now link start stop result }
 {
     let rows = rows_of(nodes, entries, link);
     let from = lower(entries, rows, start);
-    let to = lower(entries, Rows { from, to: rows.to }, stop);
-    Rows { from, to }
-}
-
-// The same for find, where few rows are in a window. A function of its own: with one caller alone the compiler puts it in line, long as it is.
-#[tactic(auto, using(crate::proofs::Windows::in_window))]
-pub fn in_small_window(nodes: &[u64], entries: &[u64], link: u64, start: u64, stop: u64) -> Rows
-    ensures { InWindow nodes.now entries.now link start stop result }
-{
-    let rows = rows_of(nodes, entries, link);
-    let first = lower(entries, rows, start);
-    let left = Rows {
-        from: first,
-        to: rows.to,
+    let left = Rows { from, to: rows.to };
+    let to = if SMALL {
+        lower_near(entries, left, stop)
+    } else {
+        lower(entries, left, stop)
     };
-    Rows {
-        from: first,
-        to: lower_near(entries, left, stop),
-    }
+    Rows { from, to }
 }

@@ -6,6 +6,7 @@ ghost use Rattle.tables.specs.Columns.{column};
 ghost use Rattle.segment_walk.specs.Walking.{root_at, Absent, half_at};
 
 // A node of the tree, [min, max), by the link of its row; link 0 is no node.
+// No Option of a node: the link of a half is what stands in the row, and 0 is no node there.
 #[derive(Clone, Copy)]
 pub struct Node {
     pub link: u64,

@@ -1,5 +1,8 @@
 -- What the numbers mean that Rust and C get. Definitions alone.
-use Rattle.std.specs.Prelude.{◌≡◌, cond, ℕ, eqb}
+use Rattle.std.specs.Prelude.{◌≡◌, cond, ℕ, eqb, Option, Some, None, Ok, Err}
+use Rattle.std.specs.Prelude.{Result as Told}
+use Rattle.refusals.specs.declared.Refusal.{Refusal}
+use Rattle.refusals.specs.Numbers.{number_of}
 use Rattle.history.specs.Results.{Result, done, read, update, number as counted}
 use Rattle.history.specs.Refusals.{Answer, accepted, refused}
 use Rattle.layout.specs.Reads.{values_of}
@@ -19,6 +22,27 @@ pub record ToldAs {A B : Type 0} (values : A → B) (relation : Answer A → Typ
   pub behind : Answer A
   pub holds : relation behind
   pub is : answer ≡ values_of values behind
+
+-- ── a result by its number ──
+
+abbrev pub told_by : {A : Type 0} → Told A Refusal → ℕ
+told_by (Ok a) = 0
+told_by (Err e) = number_of e
+
+-- what it gives, or what was there before
+abbrev pub given_or : {A B : Type 0} → (A → B) → B → Told A Refusal → B
+given_or gives before (Ok a) = gives a
+given_or gives before (Err e) = before
+
+-- a result handed out
+pub record Handed {A B : Type 0} (gives : A → B) (x : Told A Refusal) (number : ℕ) (before after : B) : Type 0 where
+  pub numbered : number ≡ told_by x
+  pub given : after ≡ given_or gives before x
+
+-- a number that may be missing, as two: 1 and the number, or 0 and 0
+abbrev pub flagged : Option ℕ → ℕ × ℕ
+flagged (Some n) = (1, n)
+flagged None = (0, 0)
 
 -- ── the values handed out ──
 

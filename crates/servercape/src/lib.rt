@@ -3,7 +3,9 @@
 // number and the values stand for.
 //
 // `servercape_record_all` and `servercape_find_all` alone return no refusal: they return how many calls they made, each with its answer in a slice.
+// Callers link by name and pass numbers and slices one by one: so there is a function for each name, and no struct in any.
 //
+//   answers                            a result handed out, one function for each shape of its value
 //   specs/Numbers   proofs/Answering   what the numbers mean; a result as its number
 
 #![tactic(auto)]
@@ -20,7 +22,11 @@ ghost use Rattle.find_all.specs.Many.{FoundAll};
 ghost use Rattle.lengths.specs.Lengths.{length_for};
 ghost use Rattle.servercape.specs.Numbers.{ByNumber, ToldAs, changes, changes_of, counts, near, fields};
 
-use index::Index;
+pub mod answers;
+
+use index::{Index, Operation};
+use layout::Tables;
+use touching::Side;
 
 // How many numbers (of the store: bytes) to lend for so many rows: table 0 pieces, 1 blocks, 2 store, 3 nodes, 4 entries, 5 scratch. 0 where that is no
 // 64-bit number, and for any other table.
@@ -44,10 +50,7 @@ pub fn servercape_open(
         (tables pieces.old blocks.old store.now nodes.old entries.old)
         (tables pieces.new blocks.new store.now nodes.new entries.new)) result tt tt }
 {
-    match Index::open(pieces, blocks, store, nodes, entries, end_tick, kind) {
-        Ok(()) => 0,
-        Err(refusal) => u64::from(refusal),
-    }
+    answers::done(Index::open(pieces, blocks, store, nodes, entries, end_tick, kind))
 }
 
 // Records an operation.
@@ -69,22 +72,9 @@ pub fn servercape_record(
         (tables pieces.new blocks.new store.new nodes.now entries.now))) result
         (changes updated.old cell.old) (changes updated.new cell.new) }
 {
-    let recorded = index::record_op(
-        pieces, blocks, store, nodes, entries, scratch, tick, first, bytes,
-    );
-    match recorded {
-        Ok(None) => {
-            *updated = 0;
-            *cell = 0;
-            0
-        }
-        Ok(Some(changed)) => {
-            *updated = 1;
-            *cell = changed;
-            0
-        }
-        Err(refusal) => u64::from(refusal),
-    }
+    let op = Operation { tick, first, bytes };
+    let recorded = index::record_op(pieces, blocks, store, nodes, entries, scratch, op);
+    answers::maybe(recorded, updated, cell)
 }
 
 // Records the operations of a list, with one test of the tables for all: how many were played, and the position behind them.
@@ -123,10 +113,7 @@ pub fn servercape_finish(
         (tables pieces.old blocks.old store.now nodes.old entries.old)
         (tables pieces.new blocks.new store.now nodes.new entries.new)) result done done }
 {
-    match index::finalize(pieces, blocks, store, nodes, entries) {
-        Ok(()) => 0,
-        Err(refusal) => u64::from(refusal),
-    }
+    answers::done(index::finalize(pieces, blocks, store, nodes, entries))
 }
 
 // Installs a calendar into an open index, in place of the one before.
@@ -142,10 +129,7 @@ pub fn servercape_install_calendar(
         (tables pieces.now blocks.old store.now nodes.now entries.now)
         (tables pieces.now blocks.new store.now nodes.now entries.now)) result done done }
 {
-    match install::install_calendar(pieces, blocks, store, nodes, entries, calendar) {
-        Ok(()) => 0,
-        Err(refusal) => u64::from(refusal),
-    }
+    answers::done(install::install_calendar(pieces, blocks, store, nodes, entries, calendar))
 }
 
 // Installs a list of days of 23 and 25 hours into an open or a closed index, in place of the one before.
@@ -161,10 +145,7 @@ pub fn servercape_install_days(
         (tables pieces.now blocks.old store.now nodes.now entries.now)
         (tables pieces.now blocks.new store.now nodes.now entries.now)) result done done }
 {
-    match install::install_days(pieces, blocks, store, nodes, entries, days) {
-        Ok(()) => 0,
-        Err(refusal) => u64::from(refusal),
-    }
+    answers::done(install::install_days(pieces, blocks, store, nodes, entries, days))
 }
 
 // The block of a number: its bytes are the store's part of that length at the offset.
@@ -187,18 +168,15 @@ pub fn servercape_block(
         (fields kind.old first.old length.old created.old destroyed.old offset.old)
         (fields kind.new first.new length.new created.new destroyed.new offset.new) }
 {
-    match index::block(pieces, blocks, store, nodes, entries, number) {
-        Ok(given) => {
-            *kind = given.kind;
-            *first = given.first;
-            *length = given.length;
-            *created = given.created;
-            *destroyed = given.destroyed;
-            *offset = given.offset;
-            0
-        }
-        Err(refusal) => u64::from(refusal),
-    }
+    let lent = Tables {
+        pieces,
+        blocks,
+        store,
+        nodes,
+        entries,
+    };
+    let given = index::block(lent, number);
+    answers::block(given, kind, first, length, created, destroyed, offset)
 }
 
 // The live blocks whose first cell is in [start, end) at a tick: their numbers go into the lent answer.
@@ -220,17 +198,15 @@ pub fn servercape_find(
         answer.old answer.new) result
         (counts count.old visited.old) (counts count.new visited.new) }
 {
-    let asked = index::find(
-        pieces, blocks, store, nodes, entries, tick, start, end, answer,
-    );
-    match asked {
-        Ok(found) => {
-            *count = found.count;
-            *visited = found.visited;
-            0
-        }
-        Err(refusal) => u64::from(refusal),
-    }
+    let lent = Tables {
+        pieces,
+        blocks,
+        store,
+        nodes,
+        entries,
+    };
+    let asked = index::find(lent, tick, start, end, answer);
+    answers::found(asked, count, visited)
 }
 
 // Asks the queries of a list, with one test of the tables for all: how many were asked.
@@ -248,9 +224,14 @@ pub fn servercape_find_all(
         (tables pieces.now blocks.now store.now nodes.now entries.now)
         queries.now answers.old answers.new numbers.old numbers.new result }
 {
-    find_all::find_all(
-        pieces, blocks, store, nodes, entries, queries, answers, numbers,
-    ) as u64
+    let lent = Tables {
+        pieces,
+        blocks,
+        store,
+        nodes,
+        entries,
+    };
+    find_all::find_all(lent, queries, answers, numbers) as u64
 }
 
 // The live blocks that hold a cell of [start, end) at a tick, ascending by first cell: their numbers go into the lent answer.
@@ -270,16 +251,15 @@ pub fn servercape_touching(
         (tables pieces.now blocks.now store.now nodes.now entries.now) tick start end
         answer.old answer.new) result count.old count.new }
 {
-    let touched = touching::touching(
-        pieces, blocks, store, nodes, entries, tick, start, end, answer,
-    );
-    match touched {
-        Ok(listed) => {
-            *count = listed;
-            0
-        }
-        Err(refusal) => u64::from(refusal),
-    }
+    let lent = Tables {
+        pieces,
+        blocks,
+        store,
+        nodes,
+        entries,
+    };
+    let touched = touching::touching(lent, tick, start, end, answer);
+    answers::number(touched, count)
 }
 
 // The first live block that starts at the cell or after it: 1 and its number, or 0 and 0 where there is none.
@@ -298,19 +278,15 @@ pub fn servercape_next(
         (tables pieces.now blocks.now store.now nodes.now entries.now) tick cell) result
         (near found.old number.old) (near found.new number.new) }
 {
-    match touching::next(pieces, blocks, store, nodes, entries, tick, cell) {
-        Ok(Some(block)) => {
-            *found = 1;
-            *number = block;
-            0
-        }
-        Ok(None) => {
-            *found = 0;
-            *number = 0;
-            0
-        }
-        Err(refusal) => u64::from(refusal),
-    }
+    let lent = Tables {
+        pieces,
+        blocks,
+        store,
+        nodes,
+        entries,
+    };
+    let block = touching::near(lent, Side::From, tick, cell);
+    answers::maybe(block, found, number)
 }
 
 // The last live block whose cells are all below the cell: 1 and its number, or 0 and 0 where there is none.
@@ -329,19 +305,15 @@ pub fn servercape_last(
         (tables pieces.now blocks.now store.now nodes.now entries.now) tick cell) result
         (near found.old number.old) (near found.new number.new) }
 {
-    match touching::last(pieces, blocks, store, nodes, entries, tick, cell) {
-        Ok(Some(block)) => {
-            *found = 1;
-            *number = block;
-            0
-        }
-        Ok(None) => {
-            *found = 0;
-            *number = 0;
-            0
-        }
-        Err(refusal) => u64::from(refusal),
-    }
+    let lent = Tables {
+        pieces,
+        blocks,
+        store,
+        nodes,
+        entries,
+    };
+    let block = touching::near(lent, Side::Before, tick, cell);
+    answers::maybe(block, found, number)
 }
 
 // The byte of each cell of [start, end) at a tick, and 1 where a live block holds it.
@@ -361,13 +333,15 @@ pub fn servercape_read_cells(
         (tables pieces.now blocks.now store.now nodes.now entries.now) tick start end
         bytes.old bytes.new held.old held.new) result tt tt }
 {
-    let read = cells::read_cells(
-        pieces, blocks, store, nodes, entries, tick, start, end, bytes, held,
-    );
-    match read {
-        Ok(()) => 0,
-        Err(refusal) => u64::from(refusal),
-    }
+    let lent = Tables {
+        pieces,
+        blocks,
+        store,
+        nodes,
+        entries,
+    };
+    let read = cells::read_cells(lent, tick, start, end, bytes, held);
+    answers::done(read)
 }
 
 // Writes the file of a finished or loaded index from the start of `out` on: how many bytes.
@@ -384,13 +358,15 @@ pub fn servercape_write(
         (tables pieces.now blocks.now store.now nodes.now entries.now)
         out.old out.new) result written.old written.new }
 {
-    match spacetime_file::serialize_to(pieces, blocks, store, nodes, entries, out) {
-        Ok(count) => {
-            *written = count;
-            0
-        }
-        Err(refusal) => u64::from(refusal),
-    }
+    let lent = Tables {
+        pieces,
+        blocks,
+        store,
+        nodes,
+        entries,
+    };
+    let count = spacetime_file::serialize_to(lent, out);
+    answers::number(count, written)
 }
 
 // Loads a finished index from a file, from a position on: the position after it.
@@ -432,11 +408,13 @@ pub fn servercape_clock(
         (tables pieces.now blocks.now store.now nodes.now entries.now) cell) result
         label.old label.new }
 {
-    match clock::clock(pieces, blocks, store, nodes, entries, cell) {
-        Ok(shown) => {
-            *label = shown;
-            0
-        }
-        Err(refusal) => u64::from(refusal),
-    }
+    let lent = Tables {
+        pieces,
+        blocks,
+        store,
+        nodes,
+        entries,
+    };
+    let shown = clock::clock(lent, cell);
+    answers::number(shown, label)
 }

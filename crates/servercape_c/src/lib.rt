@@ -1,4 +1,5 @@
 // The exports of the library for Rust and C: each calls the function of `servercape` of its name and has its clauses. C callers link the archive that this crate makes.
+// Callers link by name and pass numbers and slices one by one: so there is an export for each name, and no struct in any.
 
 #![tactic(auto)]
 

@@ -1,21 +1,16 @@
 -- What the calls with a state say to Rust and C: where the state is true of the tables, what the public call of that name says by number and values,
 -- whatever tables are not lent. A record keeps the state true; a read changes no table. Definitions alone.
-use Rattle.std.specs.Prelude.{cond, List, ℕ, ◌≤◌, eqb}
+use Rattle.std.specs.Prelude.{List, ℕ, ◌≤◌}
 use Rattle.history.specs.Words.{Operation}
 use Rattle.layout.specs.Tables.{Tables, tables}
 use Rattle.layout.specs.Relations.{RecordedBy, Counts, FoundBy, Fields, BlockGivenBy, TouchedBy, Near, NextGivenBy, LastGivenBy, ClockGivenBy}
 use Rattle.layout.specs.Files.{WrittenBy}
 use Rattle.cells.specs.Answers.{CellsReadBy}
-use Rattle.index_test.specs.declared.State.{State}
-use Rattle.index_test.specs.declared.State.TheVariants.{Bad, Open, Closed}
+use Rattle.index_test.specs.States.{state_numbered}
 use Rattle.index_tested.specs.Kept.{Kept}
 use Rattle.servercape.specs.Numbers.{ByNumber, ToldAs, Changes, changes_of}
 
 -- ── the state ──
-
--- 1 open, 2 closed; any other number stands for tables that are not well formed
-unfoldable pub state_numbered : ℕ → State
-state_numbered n = cond (eqb n 1) Open (cond (eqb n 2) Closed Bad)
 
 -- `servercape_state`: 0, 1 or 2, and the state that it stands for is true of the tables
 pub record StateTold (t : Tables) (r : ℕ) : Type 0 where

@@ -1,32 +1,25 @@
 // The calls after one test, for Rust and C: each takes the number of the state that `servercape_state` gave in place of a test of its own, then what the
 // public call takes, less the tables that it does not use. Where the state is true of the tables each is the public call of its name, by number and
-// values (crate `servercape`). Where it is false the answer means nothing, but every call ends and stays in its slices.
+// values (crate `servercape`). Where it is false the answer means nothing, but every call ends and stays in its slices. There is a function for each name, as
+// there.
 //
-//   specs/States       the state that a number stands for; the calls at such a state
+//   specs/States       the calls at the state that a number stands for (crate `index_test`)
 //   proofs/Numbering   one step for each return
 
 #![tactic(auto)]
 
-ghost use Rattle.std.specs.Prelude.{◌≡◌, length};
+ghost use Rattle.std.specs.Prelude.{length};
 ghost use Rattle.layout.specs.Tables.{tables};
 ghost use Rattle.index_record.specs.Calls.{operation};
 ghost use Rattle.servercape.specs.Numbers.{changes, counts, near, fields};
-ghost use Rattle.servercape_tested.specs.States.{state_numbered, StateTold, RecordedAs, FoundAs, BlockAs, TouchedAs, NextAs, LastAs, CellsAs, WrittenAs, ClockAs};
+ghost use Rattle.servercape_tested.specs.States.{StateTold, RecordedAs, FoundAs, BlockAs, TouchedAs, NextAs, LastAs, CellsAs, WrittenAs, ClockAs};
 
+use index::Operation;
 use index_test::State;
-
-// The state that a number stands for: 1 open, 2 closed, any other not well formed.
-fn numbered(state: u64) -> State
-    ensures { result ≡ state_numbered state }
-{
-    if state == 1 {
-        return State::Open;
-    }
-    if state == 2 {
-        return State::Closed;
-    }
-    State::Bad
-}
+use layout::Tables;
+use segment_near::Side;
+use segment_table::lent::Closed;
+use servercape::answers;
 
 // Tests the tables: 0 not well formed, 1 open, 2 closed.
 pub fn servercape_state(
@@ -38,12 +31,14 @@ pub fn servercape_state(
 ) -> u64
     ensures { StateTold (tables pieces.now blocks.now store.now nodes.now entries.now) result }
 {
-    let state = index_test::test(pieces, blocks, store, nodes, entries);
-    match state {
-        State::Bad => 0,
-        State::Open => 1,
-        State::Closed => 2,
-    }
+    let lent = Tables {
+        pieces,
+        blocks,
+        store,
+        nodes,
+        entries,
+    };
+    u64::from(index_test::test(lent))
 }
 
 // Records an operation.
@@ -63,29 +58,16 @@ pub fn servercape_record_tested(
         (length scratch.now) (operation tick first bytes.now) result
         (changes updated.old cell.old) (changes updated.new cell.new) }
 {
+    let op = Operation { tick, first, bytes };
     let recorded = index_tested::record_tested(
-        numbered(state),
+        State::from(state),
         pieces,
         blocks,
         store,
         scratch,
-        tick,
-        first,
-        bytes,
+        op,
     );
-    match recorded {
-        Ok(None) => {
-            *updated = 0;
-            *cell = 0;
-            0
-        }
-        Ok(Some(changed)) => {
-            *updated = 1;
-            *cell = changed;
-            0
-        }
-        Err(refusal) => u64::from(refusal),
-    }
+    answers::maybe(recorded, updated, cell)
 }
 
 // The block of a number: its bytes are the store's part of that length at the offset.
@@ -105,18 +87,8 @@ pub fn servercape_block_tested(
         (fields kind.old first.old length.old created.old destroyed.old offset.old)
         (fields kind.new first.new length.new created.new destroyed.new offset.new) }
 {
-    match index_tested::block_tested(numbered(state), blocks, store, number) {
-        Ok(given) => {
-            *kind = given.kind;
-            *first = given.first;
-            *length = given.length;
-            *created = given.created;
-            *destroyed = given.destroyed;
-            *offset = given.offset;
-            0
-        }
-        Err(refusal) => u64::from(refusal),
-    }
+    let given = index_tested::block_tested(State::from(state), blocks, store, number);
+    answers::block(given, kind, first, length, created, destroyed, offset)
 }
 
 // The live blocks whose first cell is in [start, end) at a tick: their numbers go into the lent answer.
@@ -135,24 +107,13 @@ pub fn servercape_find_tested(
     ensures { FoundAs state blocks.now nodes.now entries.now tick start end answer.old answer.new result
         (counts count.old visited.old) (counts count.new visited.new) }
 {
-    let asked = index_tested::find_tested(
-        numbered(state),
+    let closed = Closed {
         blocks,
         nodes,
         entries,
-        tick,
-        start,
-        end,
-        answer,
-    );
-    match asked {
-        Ok(found) => {
-            *count = found.count;
-            *visited = found.visited;
-            0
-        }
-        Err(refusal) => u64::from(refusal),
-    }
+    };
+    let asked = index_tested::find_tested(State::from(state), &closed, tick, start, end, answer);
+    answers::found(asked, count, visited)
 }
 
 // The live blocks that hold a cell of [start, end) at a tick, ascending by first cell: their numbers go into the lent answer.
@@ -170,23 +131,20 @@ pub fn servercape_touching_tested(
     ensures { TouchedAs state blocks.now nodes.now entries.now tick start end answer.old answer.new result
         count.old count.new }
 {
-    let touched = reads_tested::touching_tested(
-        numbered(state),
+    let closed = Closed {
         blocks,
         nodes,
         entries,
+    };
+    let touched = reads_tested::touching_tested(
+        State::from(state),
+        &closed,
         tick,
         start,
         end,
         answer,
     );
-    match touched {
-        Ok(listed) => {
-            *count = listed;
-            0
-        }
-        Err(refusal) => u64::from(refusal),
-    }
+    answers::number(touched, count)
 }
 
 // The first live block that starts at the cell or after it: 1 and its number, or 0 and 0 where there is none.
@@ -203,19 +161,13 @@ pub fn servercape_next_tested(
     ensures { NextAs state blocks.now nodes.now entries.now tick cell result
         (near found.old number.old) (near found.new number.new) }
 {
-    match reads_tested::next_tested(numbered(state), blocks, nodes, entries, tick, cell) {
-        Ok(Some(block)) => {
-            *found = 1;
-            *number = block;
-            0
-        }
-        Ok(None) => {
-            *found = 0;
-            *number = 0;
-            0
-        }
-        Err(refusal) => u64::from(refusal),
-    }
+    let closed = Closed {
+        blocks,
+        nodes,
+        entries,
+    };
+    let block = reads_tested::near_tested(State::from(state), &closed, Side::From, tick, cell);
+    answers::maybe(block, found, number)
 }
 
 // The last live block whose cells are all below the cell: 1 and its number, or 0 and 0 where there is none.
@@ -232,19 +184,13 @@ pub fn servercape_last_tested(
     ensures { LastAs state blocks.now nodes.now entries.now tick cell result
         (near found.old number.old) (near found.new number.new) }
 {
-    match reads_tested::last_tested(numbered(state), blocks, nodes, entries, tick, cell) {
-        Ok(Some(block)) => {
-            *found = 1;
-            *number = block;
-            0
-        }
-        Ok(None) => {
-            *found = 0;
-            *number = 0;
-            0
-        }
-        Err(refusal) => u64::from(refusal),
-    }
+    let closed = Closed {
+        blocks,
+        nodes,
+        entries,
+    };
+    let block = reads_tested::near_tested(State::from(state), &closed, Side::Before, tick, cell);
+    answers::maybe(block, found, number)
 }
 
 // The byte of each cell of [start, end) at a tick, and 1 where a live block holds it.
@@ -263,22 +209,22 @@ pub fn servercape_read_cells_tested(
     ensures { CellsAs state blocks.now store.now nodes.now entries.now tick start end
         bytes.old bytes.new held.old held.new result }
 {
-    let read = reads_tested::cells_tested(
-        numbered(state),
+    let closed = Closed {
         blocks,
-        store,
         nodes,
         entries,
+    };
+    let read = reads_tested::cells_tested(
+        State::from(state),
+        &closed,
+        store,
         tick,
         start,
         end,
         bytes,
         held,
     );
-    match read {
-        Ok(()) => 0,
-        Err(refusal) => u64::from(refusal),
-    }
+    answers::done(read)
 }
 
 // Writes the file of a finished or loaded index from the start of `out` on: how many bytes.
@@ -294,24 +240,19 @@ pub fn servercape_write_tested(
     ensures { WrittenAs state blocks.now store.now nodes.now entries.now out.old out.new result
         written.old written.new }
 {
-    match reads_tested::write_tested(numbered(state), blocks, store, nodes, entries, out) {
-        Ok(count) => {
-            *written = count;
-            0
-        }
-        Err(refusal) => u64::from(refusal),
-    }
+    let closed = Closed {
+        blocks,
+        nodes,
+        entries,
+    };
+    let count = reads_tested::write_tested(State::from(state), &closed, store, out);
+    answers::number(count, written)
 }
 
 // The clock label of a cell, by the list of days of an open or a closed index.
 pub fn servercape_clock_tested(state: u64, blocks: &[u64], cell: u64, label: &mut u64) -> u64
     ensures { ClockAs state blocks.now cell result label.old label.new }
 {
-    match reads_tested::clock_tested(numbered(state), blocks, cell) {
-        Ok(shown) => {
-            *label = shown;
-            0
-        }
-        Err(refusal) => u64::from(refusal),
-    }
+    let shown = reads_tested::clock_tested(State::from(state), blocks, cell);
+    answers::number(shown, label)
 }

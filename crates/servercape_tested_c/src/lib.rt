@@ -1,12 +1,13 @@
 // The exports of the library for Rust and C, after one test: each calls the function of `servercape_tested` of its name and has its clauses. C callers link the archive that this crate makes.
+// Callers link by name and pass numbers and slices one by one: so there is an export for each name, and no struct in any.
 
 #![tactic(auto)]
 
-ghost use Rattle.std.specs.Prelude.{◌≡◌, length};
+ghost use Rattle.std.specs.Prelude.{length};
 ghost use Rattle.layout.specs.Tables.{tables};
 ghost use Rattle.index_record.specs.Calls.{operation};
 ghost use Rattle.servercape.specs.Numbers.{changes, counts, near, fields};
-ghost use Rattle.servercape_tested.specs.States.{state_numbered, StateTold, RecordedAs, FoundAs, BlockAs, TouchedAs, NextAs, LastAs, CellsAs, WrittenAs, ClockAs};
+ghost use Rattle.servercape_tested.specs.States.{StateTold, RecordedAs, FoundAs, BlockAs, TouchedAs, NextAs, LastAs, CellsAs, WrittenAs, ClockAs};
 
 // Tests the tables: 0 not well formed, 1 open, 2 closed.
 #[unsafe(no_mangle)]

@@ -17,11 +17,13 @@ pub fn sessions_hold()
 {}
 
 // An accepted open leaves an open index, an accepted load a closed one; records, calendars and lists of days leave the state as it was.
+#[tactic(auto, using(crate::proofs::States::states_follow))]
 pub fn states_follow()
     ensures { StatesFollow }
 {}
 
 // A state that is true of an index's tables is true of longer ones.
+#[tactic(auto, using(crate::proofs::Growth::growth_keeps))]
 pub fn growth_keeps()
     ensures { GrowthKeeps }
 {}

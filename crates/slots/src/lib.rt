@@ -7,7 +7,7 @@
 
 #![tactic(auto)]
 
-ghost use Rattle.std.specs.Prelude.{◌≡◌, ◌+◌, ◌≤◌};
+ghost use Rattle.std.specs.Prelude.{◌≤◌};
 ghost use Rattle.lists.specs.Tests.{Decides};
 ghost use Rattle.slots.specs.Steps.{Unused, TookIn, Restores, Takes, Holds, Counts};
 
@@ -24,6 +24,7 @@ pub struct Slot {
     pub sum: u64,
 }
 
+// First and end go as two numbers: a caller has them as fields of its row, and would build a value of both for each call.
 impl Slot {
     // The slot with [first, end) taken in.
     fn take_in(self, first: u64, end: u64) -> Slot
@@ -51,6 +52,7 @@ impl Slot {
     }
 }
 
+// Four in an array, as nothing is allocated.
 #[derive(Clone, Copy)]
 pub struct Slots {
     pub each: [Slot; 4],

@@ -9,30 +9,30 @@
 
 #![tactic(auto)]
 
-ghost use Rattle.layout.specs.Tables.{tables};
+ghost use Rattle.layout.specs.Tables.{tables, held};
 ghost use Rattle.layout.specs.Files.{WrittenBy, LoadedBy};
 ghost use Rattle.refusals.specs.Numbers.{answer_by};
 ghost use Rattle.spacetime_file.specs.Law.{SavedAndLoaded, LoadedAndWritten, TakenAndNotRefused, EmptyFiles};
 
+use layout::Tables;
 use refusals::Refusal;
+use segment_table::lent::Closed;
 
 // Writes the file of a finished or loaded index from the slice's start on.
-pub fn serialize_to(
-    pieces: &[u64],
-    blocks: &[u64],
-    store: &[u8],
-    nodes: &[u64],
-    entries: &[u64],
-    out: &mut [u8],
-) -> Result<u64, Refusal>
-    ensures { WrittenBy (tables pieces.now blocks.now store.now nodes.now entries.now)
+pub fn serialize_to(lent: Tables, out: &mut [u8]) -> Result<u64, Refusal>
+    ensures { WrittenBy (held lent.entry)
         out.old out.new (answer_by (λ n. n) result) }
 {
-    index_test::test(pieces, blocks, store, nodes, entries).closed()?;
-    file_write::write_closed(blocks, store, nodes, entries, out)
+    index_test::test(lent).closed()?;
+    let closed = Closed {
+        blocks: lent.blocks,
+        nodes: lent.nodes,
+        entries: lent.entries,
+    };
+    file_write::write_closed(&closed, lent.store, out)
 }
 
-// Loads the index whose file starts at a position, and gives the next one.
+// Loads the index whose file starts at a position, and gives the next one. The tables stand one by one, as in `file_load`.
 pub fn deserialize(
     pieces: &mut [u64],
     blocks: &mut [u64],
@@ -49,21 +49,25 @@ pub fn deserialize(
 }
 
 // An index that was written and loaded answers every find, block and read of cells alike, and shows the history.
+#[tactic(auto, using(crate::proofs::Reached::saved_and_loaded))]
 pub fn saved_and_loaded()
     ensures { SavedAndLoaded }
 {}
 
 // Writing a loaded index gives the bytes read.
+#[tactic(auto, using(crate::proofs::Taking::loaded_and_written))]
 pub fn loaded_and_written()
     ensures { LoadedAndWritten }
 {}
 
 // Whatever the loader takes is well formed and is what the parser says; what the parser and rules 20 to 24 accept is not refused.
+#[tactic(auto, using(crate::proofs::Taking::taken_and_not_refused))]
 pub fn taken_and_not_refused()
     ensures { TakenAndNotRefused }
 {}
 
 // An empty index, and one whose blocks all have no life, cannot be loaded again.
+#[tactic(auto, using(crate::proofs::Emptying::empty_files))]
 pub fn empty_files()
     ensures { EmptyFiles }
 {}

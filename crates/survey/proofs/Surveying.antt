@@ -1,4 +1,4 @@
--- `rests_of`, `made` and `survey`: one step for each return. Assumes nothing.
+-- `rests_of`, `report` and `survey`: one step for each return. Assumes nothing.
 use mathlib.Core.Path.{◌≡◌, refl, sym, ap, ap₂, ◌∙◌}
 use mathlib.Core.Logic.{◌⊎◌, inl, inr, ⊎_elim}
 use mathlib.Core.Bool.{Bool, true, false, cond}
@@ -8,6 +8,7 @@ use Prim.Native.Nat.{ℕ, ◌+◌, ◌*◌, ◌≤◌, ◌<◌, ◌^◌}
 use native.Mathlib.Omega.{arith}
 use borrow.Author.Tests.{ltb-true, ltb-false}
 use lib.ListN.{length, get_or}
+use Rattle.std.specs.Prelude.{Some, None}
 use Rattle.lists.specs.Lists.{All, all_cons}
 use Rattle.lists.proofs.Lists.{all_right, all_map, all_append, all_any, all_head}
 use Rattle.lists.proofs.Maps.{map-append}
@@ -106,10 +107,10 @@ survey_tells {t} {store} {bytes} {first} {count} {place} {m} {r} {same} {s} ec t
         }
 
 -- where the table stands for pieces, the link's ends past the place
-next_past : {t : List ℕ} {ps : List PieceRow} {place link was size next : ℕ} → Sought t place link → (link ≡ 0 → ⊥) → was ≡ first_at t link → size ≡ column t link piece_length → Plus was size next → Rep t ps
+next_past : {t : List ℕ} {ps : List PieceRow} {place link was size next : ℕ} → Sought t place (Some link) → was ≡ first_at t link → size ≡ column t link piece_length → Plus was size next → Rep t ps
     → place < next
-next_past {t} {ps} {place} {link} sought nz ew es en rep =
-    let v : Seen t place link ps = seen-some sought rep nz in
+next_past {t} {ps} {place} {link} sought ew es en rep =
+    let v : Seen t place link ps = seen-some sought rep refl in
     omega (arith, en.is (omega (arith, v.whole.near)), v.past)
 
 abbrev end_of : (first : ℕ) (bytes : List ℕ) → ℕ
@@ -119,10 +120,10 @@ end_told : (first : ℕ) (bytes : List ℕ) → Plus first (length bytes) (end_o
 end_told first bytes = plus_told refl
 
 module _ {t store bytes : List ℕ} {first count place m r same : ℕ} {s : Report} (ec : count ≡ column t 0 pieces_count) (turn : Turning t store first bytes place m r same) where
-  pub survey_none : {link : ℕ} → Sought t place link → link ≡ 0 → Made count m r same s → Surveyed t store first bytes s
-  survey_none {link} sought z made =
+  pub survey_none : Sought t place None → Made count m r same s → Surveyed t store first bytes s
+  survey_none sought made =
       survey_tells ec turn made (λ ps rep st big near k.
-      let l : Left place ps = seen_none sought rep z in
+      let l : Left place ps = seen_none sought rep refl in
       (past_left (met first (first + length bytes)) place l, past_left (rests first (first + length bytes)) place l, λ h. all_map (λ p k. inl k) l))
 
   pub survey_end : end_of first bytes ≤ place → Made count m r same s → Surveyed t store first bytes s
@@ -139,12 +140,12 @@ module _ {t store bytes : List ℕ} {first count place m r same : ℕ} {s : Repo
       zero ps w f b (inl z) = absurd (omega arith)
       zero ps w f b (inr c) = all_map (λ p d k. ⊎_elim (λ x. absurd (omega arith)) (λ x. f p (omega arith)) d) c
 
-  module _ {link : ℕ} (sought : Sought t place link) (nz : link ≡ 0 → ⊥) where
+  module _ {link : ℕ} (sought : Sought t place (Some link)) where
     beyond : end_of first bytes ≤ first_at t link → Made count m r same s → Surveyed t store first bytes s
     beyond h made =
         survey_tells ec turn made (λ ps rep st big near k.
         let e : end_of first bytes ≡ first + length bytes = (end_told first bytes).is near in
-        let v : Seen t place link ps = seen-some sought rep nz in (
+        let v : Seen t place link ps = seen-some sought rep refl in (
           past_zero (met first (first + length bytes)) place (zero v (met first (first + length bytes)) (λ p q. met_right first (first + length bytes) (omega arith) p q) (omega arith)),
           past_zero (rests first (first + length bytes)) place (zero v (rests first (first + length bytes)) (λ p q. rests_right first (first + length bytes) (omega arith) p q) (omega arith)),
           λ lt. rw v.is (all_append (all_map (λ p q. inl q) v.left) (all_cons {x = piece_at t link} (inr (omega arith)) (all_map (λ p q. inr (omega arith)) (follow_right (row_end (piece_at t link)) (row_end (piece_at t link)) (map (piece_at t) v.ys) (omega arith) v.after)))),
@@ -162,13 +163,13 @@ module _ {t store bytes : List ℕ} {first count place m r same : ℕ} {s : Repo
 
     pub survey_stuck : {p : PieceRow} {next : ℕ} → p ≡ piece_at t link → next ≡ plus_up_to p.first p.size → next ≤ place → Surveyed t store first bytes s
     survey_stuck {p} {next} ep en h = record {
-      says = λ ps rep st big near. absurd (omega (arith, next_past sought nz (ap (λ (q : PieceRow). q.first) ep) (ap (λ (q : PieceRow). q.size) ep) (plus_told en) rep));
+      says = λ ps rep st big near. absurd (omega (arith, next_past sought (ap (λ (q : PieceRow). q.first) ep) (ap (λ (q : PieceRow). q.size) ep) (plus_told en) rep));
     }
 
-pub survey_turn : {t store bytes : List ℕ} {first place m r same end link next out more m' r' : ℕ} {p : PieceRow} {starts : Bool} → end ≡ plus_up_to first (length bytes) → Turning t store first bytes place m r same → Sought t place link → (link ≡ 0 → ⊥)
+pub survey_turn : {t store bytes : List ℕ} {first place m r same end link next out more m' r' : ℕ} {p : PieceRow} {starts : Bool} → end ≡ plus_up_to first (length bytes) → Turning t store first bytes place m r same → Sought t place (Some link)
     → p ≡ piece_at t link → next ≡ plus_up_to p.first p.size → StartsBelow t link end starts → starts ≡ true → place < end → place < next
     → HeldBytes store bytes p first place same out → RestsOf p.first next first end more → m' ≡ plus_up_to m 1 → r' ≡ plus_up_to r more → Turning t store first bytes next m' r' out
-survey_turn {t} {store} {bytes} {first} {place} {m} {r} {same} {end} {link} {next} {out} {more} {m'} {r'} {p} ee' turn sought nz ep en' tested low before on held ro em' er' = record { low = omega (arith, turn.low); says = go }
+survey_turn {t} {store} {bytes} {first} {place} {m} {r} {same} {end} {link} {next} {out} {more} {m'} {r'} {p} ee' turn sought ep en' tested low before on held ro em' er' = record { low = omega (arith, turn.low); says = go }
   where
     ee : Plus first (length bytes) end
     ee = plus_told ee'
@@ -195,7 +196,7 @@ survey_turn {t} {store} {bytes} {first} {place} {m} {r} {same} {end} {link} {nex
         let lt : p.first < end = rw ew low-enough in
         let ends : end ≡ first + length bytes = ee.is near in
         let k : Counted store first bytes place m r same ps = turn.says ps rep st big near in
-        let v : Seen t place link ps = seen-some sought rep nz in
+        let v : Seen t place link ps = seen-some sought rep refl in
         let q : PieceRow = piece_at t link in
         let A : List PieceRow = map (piece_at t) v.xs in
         let B : List PieceRow = map (piece_at t) v.ys in

@@ -13,7 +13,7 @@ use borrow.Author.Tests.{lt-ltb, le-ltb}
 use Rattle.lists.specs.Lists.{All, all_nil, all_cons}
 use Rattle.lists.proofs.Lists.{all_map}
 use Rattle.lists.proofs.Maps.{filter_map_cons}
-use Rattle.lists.proofs.Numbers.{lt_or_le}
+use Rattle.lists.proofs.Numbers.{lt_or_le, counts_one}
 use Rattle.piece_table.specs.Piece.{PieceRow, row_end, part, clip_row, rows_below, rows_inside, rows_above, Filled, Follow}
 use Rattle.piece_table.proofs.Parts.{Left}
 use Rattle.survey.specs.Survey.{crosses, rests_of}
@@ -116,11 +116,7 @@ abbrev pub rests : (f e : ℕ) → PieceRow → ℕ
 rests f e p = rests_of p.first (row_end p) f e
 
 pub met-one : (f e : ℕ) (p : PieceRow) → met f e p ≤ 1
-met-one f e p = go (ltb (max f p.first) (min e (row_end p)))
-  where
-    go : (q : Bool) → cond q 1 0 ≤ 1
-    go true = omega arith
-    go false = omega arith
+met-one f e p = counts_one (ltb (max f p.first) (min e (row_end p)))
 
 pub rests-two : (f e : ℕ) (p : PieceRow) → rests f e p ≤ 2
 rests-two f e p = go (ltb p.first f && ltb f (row_end p)) (ltb p.first e && ltb e (row_end p))

@@ -27,7 +27,7 @@ pub struct Report {
 
 // How far a survey has come: the cells below `place` are looked at; so many leading cells are held with their bytes, all below `place`, or up to a change;
 // so many pieces are met, `low` is the link of the lowest of them, and they leave so many rests.
-#[derive(Clone, Copy)]
+#[derive(Clone, Copy, Default)]
 struct Seen {
     place: u64,
     same: u64,
@@ -41,16 +41,10 @@ impl Seen {
     fn report(self, count: u64) -> Report
         ensures { Made count self.met self.rests self.same result }
     {
-        let pieces = if count < self.met {
-            0
-        } else {
-            (count - self.met)
-                .saturating_add(self.rests)
-                .saturating_add(1)
-        };
+        let left = count.saturating_sub(self.met);
         Report {
             same: self.same,
-            pieces,
+            pieces: left.saturating_add(self.rests).saturating_add(1),
             blocks: self.met,
             near: self.low,
         }
@@ -84,26 +78,25 @@ fn rests_of(was: u64, next: u64, first: u64, end: u64) -> u64
 
 // Surveys an operation. Each turn looks at the lowest piece that ends after the place, mostly without a way down from the root: the search before it has
 // left guesses. The place rises, so that it ends on any table.
+// No `for` goes over the pieces: the next place is where one ends.
 #[tactic(auto, using(crate::proofs::Surveying::survey_start))]
 pub fn survey(pieces: &[u64], store: &[u8], first: u64, bytes: &[u8]) -> Report
     ensures { Surveyed pieces.now store.now first bytes.now result }
 {
     let count = tables::get(pieces, 0, piece::COUNT);
     let end = first.saturating_add(bytes.len() as u64);
-    let mut found = Found { link: 0, after: 0 };
+    let mut guess = Found { link: 0, after: 0 };
     let mut seen = Seen {
         place: first,
-        same: 0,
-        met: 0,
-        rests: 0,
-        low: 0,
+        ..Seen::default()
     };
     while seen.place < end {
-        found = piece_table::search_next(pieces, seen.place, found.link, found.after);
-        let link = found.link;
-        if link == 0 {
+        let Some(found) = piece_table::search_next(pieces, seen.place, guess.link, guess.after)
+        else {
             break;
-        }
+        };
+        guess = found;
+        let link = found.link;
         if !merge_set::starts_below(pieces, link, end) {
             break;
         }

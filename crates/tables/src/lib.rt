@@ -4,7 +4,9 @@
 //   specs/Columns   where each column stands
 //   specs/Sums      sums of numbers that nobody has tested
 //   specs/Parts     parts of bytes
+//   specs/Kinds     the code of each kind
 //   piece, block, node, entry   its names in code
+//   kind            the kinds by name
 
 #![tactic(auto)]
 
@@ -17,6 +19,7 @@ ghost use Rattle.tables.specs.Parts.{part_of};
 
 pub mod block;
 pub mod entry;
+pub mod kind;
 pub mod node;
 pub mod piece;
 

@@ -8,8 +8,10 @@
 
 ghost use Rattle.std.specs.Prelude.{◌≡◌, ◌≢◌, true, false, length};
 ghost use Rattle.lists.specs.Puts.{Put, behind};
+ghost use Rattle.board_text.specs.Wrote.{Wrote};
 ghost use Rattle.tally.specs.Lines.{count_text};
 
+use board_text::Output;
 use std::io::Print;
 
 // Bytes lent for a line: none that the programs print is longer.
@@ -54,38 +56,48 @@ impl Tally {
     }
 
     // Puts how many were compared, how many of them differ, and how many were refused.
-    fn put_line(&self, line: &mut [u8], words: &[u8]) -> usize
-        ensures { Put line.old 0 (tally_line self.now words.now) line.new result }
+    fn put_line(&self, line: &mut Output<'_>, words: &[u8])
+        ensures { Wrote line.old (tally_line self.now words.now) line.new }
     {
-        let compared = put_count(line, 0, self.compared, b" compared, ");
-        let differ = put_count(line, compared, self.differ, b" differ, ");
-        let refused = put_count(line, differ, self.refused, words);
-        board_text::put(line, refused, b'\n')
+        put_count(line, self.compared, b" compared, ");
+        put_count(line, self.differ, b" differ, ");
+        put_count(line, self.refused, words);
+        line.put(b'\n');
     }
 
     // Prints these counts. No contract can say what is written, so it says what is put into the lent line, of which the part up to the answer is written.
     pub fn print<W: Print>(&self, out: &W, line: &mut [u8], words: &[u8]) -> usize
         ensures { Put line.old 0 (tally_line self.now words.now) line.new result }
     {
-        let many = self.put_line(line, words);
+        let mut put = Output {
+            buffer: line,
+            at: 0,
+        };
+        self.put_line(&mut put, words);
+        let many = put.at;
         let _is_written = out.write_all(&line[..many]).is_ok();
         many
     }
 }
 
-// Puts a count, then words, into a line from a place on, as far as the line goes, and answers the place behind them.
-fn put_count(line: &mut [u8], at: usize, count: u64, words: &[u8]) -> usize
-    ensures { Put line.old at (count_text count words.now) line.new result }
+// Puts a count, then words.
+fn put_count(line: &mut Output<'_>, count: u64, words: &[u8])
+    ensures { Wrote line.old (count_text count words.now) line.new }
 {
-    let behind = board_text::decimal(line, at, count);
-    board_text::text(line, behind, words)
+    line.decimal(count);
+    line.text(words);
 }
 
 // Prints a count, then words, in the same way.
 pub fn print_count<W: Print>(out: &W, line: &mut [u8], count: u64, words: &[u8]) -> usize
     ensures { Put line.old 0 (count_text count words.now) line.new result }
 {
-    let many = put_count(line, 0, count, words);
+    let mut put = Output {
+        buffer: line,
+        at: 0,
+    };
+    put_count(&mut put, count, words);
+    let many = put.at;
     let _is_written = out.write_all(&line[..many]).is_ok();
     many
 }

@@ -9,13 +9,16 @@ use Rattle.refusals.specs.declared.Refusal.{Refusal}
 use Rattle.refusals.specs.Numbers.{number_of}
 use Rattle.layout.specs.Tables.{tables}
 use Rattle.layout.specs.Reads.{HandedOut, HandedInto}
-use Rattle.layout.specs.Relations.{TouchedBy, Near, near_of, NextGivenBy, LastGivenBy}
+use Rattle.layout.specs.Relations.{TouchedBy, Near, near_of}
 use Rattle.layout.proofs.ReadLaws.{out_refused, into_refused}
 use Rattle.index_test.specs.Board.{Outcome}
 use Rattle.index_test.specs.declared.State.{State}
 use Rattle.index_test.specs.States.{when_closed}
 use Rattle.index_test.proofs.Told.{closed_taken, read_not_closed, closed_read}
-use Rattle.touching_read.specs.Reads.{TouchingClosed, NextClosed, LastClosed}
+use Rattle.segment_near.specs.declared.Side.{Side}
+use Rattle.segment_near.specs.declared.Side.TheVariants.{From, Before}
+use Rattle.touching.specs.Sides.{NearGivenBy}
+use Rattle.touching_read.specs.Reads.{TouchingClosed, NearClosed}
 
 module _ {pieces blocks store nodes entries : List ℕ} (r : State) {x : Result Unit Refusal} (told : Outcome r (tables pieces blocks store nodes entries)) (is : x ≡ when_closed r) where
   -- ── touching ──
@@ -31,19 +34,15 @@ module _ {pieces blocks store nodes entries : List ℕ} (r : State) {x : Result 
         → TouchedBy (tables pieces blocks store nodes entries) tick start stop out out' a
     touching_taken q f = record { read = closed_read (closed_taken r told (sym is ∙ q)) (f.touched pieces store) }
 
-  -- ── next and last ──
+-- ── next and last: the side does not tell the tables, so they are given ──
 
-  module _ {tick cell : ℕ} where
-    pub next_refused : {e : Refusal} → x ≡ Err e → NextGivenBy (tables pieces blocks store nodes entries) tick cell (refused (number_of e))
-    unfolding neighbour_refusals first_of
-    next_refused q = record { read = read_not_closed (λ n. HandedOut near_of (refused n)) r told (sym is ∙ q) (λ l heads still. rw (heads, still)) (λ n. out_refused) }
+module _ (pieces blocks store nodes entries : List ℕ) (tick cell : ℕ) (r : State) {x : Result Unit Refusal} (told : Outcome r (tables pieces blocks store nodes entries)) (is : x ≡ when_closed r) where
+  pub near_refused : {e : Refusal} (side : Side) → x ≡ Err e → NearGivenBy side (tables pieces blocks store nodes entries) tick cell (refused (number_of e))
+  unfolding neighbour_refusals first_of
+  near_refused From q = record { read = read_not_closed (λ n. HandedOut near_of (refused n)) r told (sym is ∙ q) (λ l heads still. rw (heads, still)) (λ n. out_refused) }
+  near_refused Before q = record { read = read_not_closed (λ n. HandedOut near_of (refused n)) r told (sym is ∙ q) (λ l heads still. rw (heads, still)) (λ n. out_refused) }
 
-    pub next_taken : {u : Unit} {a : Answer Near} → x ≡ Ok u → NextClosed blocks nodes entries tick cell a → NextGivenBy (tables pieces blocks store nodes entries) tick cell a
-    next_taken q f = record { read = closed_read (closed_taken r told (sym is ∙ q)) (f.given pieces store) }
-
-    pub last_refused : {e : Refusal} → x ≡ Err e → LastGivenBy (tables pieces blocks store nodes entries) tick cell (refused (number_of e))
-    unfolding neighbour_refusals first_of
-    last_refused q = record { read = read_not_closed (λ n. HandedOut near_of (refused n)) r told (sym is ∙ q) (λ l heads still. rw (heads, still)) (λ n. out_refused) }
-
-    pub last_taken : {u : Unit} {a : Answer Near} → x ≡ Ok u → LastClosed blocks nodes entries tick cell a → LastGivenBy (tables pieces blocks store nodes entries) tick cell a
-    last_taken q f = record { read = closed_read (closed_taken r told (sym is ∙ q)) (f.given pieces store) }
+  pub near_taken : {u : Unit} (a : Answer Near) (side : Side) → x ≡ Ok u → NearClosed side blocks nodes entries tick cell a
+      → NearGivenBy side (tables pieces blocks store nodes entries) tick cell a
+  near_taken a From q f = record { read = closed_read (closed_taken r told (sym is ∙ q)) (f.given pieces store) }
+  near_taken a Before q f = record { read = closed_read (closed_taken r told (sym is ∙ q)) (f.given pieces store) }

@@ -3,64 +3,50 @@
 //
 //   The contracts are the relations of `layout`. The work stands in `touching_read`, without the test of the tables; what is proved of the ledger's
 //   lists stands in `history` (`law_of_touching`, `law_of_neighbours`).
+//   specs/Sides        next and last as one relation over the side
 //   proofs/Answering   one step for each return
 
 #![tactic(auto)]
 
-ghost use Rattle.layout.specs.Tables.{tables};
-ghost use Rattle.layout.specs.Relations.{TouchedBy, NextGivenBy, LastGivenBy};
+ghost use Rattle.layout.specs.Tables.{held};
+ghost use Rattle.layout.specs.Relations.{TouchedBy};
 ghost use Rattle.refusals.specs.Numbers.{answer_by};
 ghost use Rattle.touching_read.specs.Answers.{near_told};
+ghost use Rattle.touching.specs.Sides.{NearGivenBy};
 
+use layout::Tables;
 use refusals::Refusal;
+pub use segment_near::Side;
+use segment_table::lent::Closed;
 
 // The live blocks that hold a cell of [start, end) at a tick, ascending by first cell: their numbers go into the lent answer.
 pub fn touching(
-    pieces: &[u64],
-    blocks: &[u64],
-    store: &[u8],
-    nodes: &[u64],
-    entries: &[u64],
+    lent: Tables,
     tick: u64,
     start: u64,
     end: u64,
     answer: &mut [u64],
 ) -> Result<u64, Refusal>
-    ensures { TouchedBy (tables pieces.now blocks.now store.now nodes.now entries.now) tick start end
-        answer.old answer.new (answer_by (λ n. n) result) }
+    ensures { TouchedBy (held lent.entry) tick start end answer.old answer.new (answer_by (λ n. n) result) }
 {
-    index_test::test(pieces, blocks, store, nodes, entries).closed()?;
-    touching_read::touching_closed(blocks, nodes, entries, tick, start, end, answer)
+    index_test::test(lent).closed()?;
+    let closed = Closed {
+        blocks: lent.blocks,
+        nodes: lent.nodes,
+        entries: lent.entries,
+    };
+    touching_read::touching_closed(&closed, tick, start, end, answer)
 }
 
-// The first live block that starts at the cell or after it.
-pub fn next(
-    pieces: &[u64],
-    blocks: &[u64],
-    store: &[u8],
-    nodes: &[u64],
-    entries: &[u64],
-    tick: u64,
-    cell: u64,
-) -> Result<Option<u64>, Refusal>
-    ensures { NextGivenBy (tables pieces.now blocks.now store.now nodes.now entries.now) tick cell (answer_by near_told result) }
+// The live block next to a cell on one side: the first that starts at it or after it, or the last whose cells are all below it.
+pub fn near(lent: Tables, side: Side, tick: u64, cell: u64) -> Result<Option<u64>, Refusal>
+    ensures { NearGivenBy side (held lent.entry) tick cell (answer_by near_told result) }
 {
-    index_test::test(pieces, blocks, store, nodes, entries).closed()?;
-    touching_read::next_closed(blocks, nodes, entries, tick, cell)
-}
-
-// The last live block whose cells are all below the cell.
-pub fn last(
-    pieces: &[u64],
-    blocks: &[u64],
-    store: &[u8],
-    nodes: &[u64],
-    entries: &[u64],
-    tick: u64,
-    cell: u64,
-) -> Result<Option<u64>, Refusal>
-    ensures { LastGivenBy (tables pieces.now blocks.now store.now nodes.now entries.now) tick cell (answer_by near_told result) }
-{
-    index_test::test(pieces, blocks, store, nodes, entries).closed()?;
-    touching_read::last_closed(blocks, nodes, entries, tick, cell)
+    index_test::test(lent).closed()?;
+    let closed = Closed {
+        blocks: lent.blocks,
+        nodes: lent.nodes,
+        entries: lent.entries,
+    };
+    touching_read::near_closed(&closed, side, tick, cell)
 }

@@ -20,6 +20,7 @@ use Rattle.history.specs.Reads.{find_by, touching_by}
 use Rattle.history.specs.Refusals.{Answer, accepted, refused}
 use Rattle.history.specs.Sound.{Sound}
 use Rattle.tables.specs.Columns.{block_column, head_end, head_kind}
+use Rattle.segment_table.specs.Closed.{TreeOf}
 use Rattle.segment_near.specs.declared.Neighbour.{Neighbour}
 use Rattle.segment_touch.specs.Placing.{Placed, Starts}
 use Rattle.segment_touch.proofs.Agreeing.{starting_model}
@@ -68,6 +69,12 @@ module _ {list answer : List ℕ} {at : ℕ} {answer' : List ℕ} {r : Option �
         | inr h ↦ record { long = h; kept = rw (lt-leb (at + length list) (length answer) h) at p.left }
       ]
 
+-- in the tree that the head says
+starts_in : {blocks nodes entries ns es : List ℕ} {kind last tick start stop : ℕ} {out : List ℕ} {at : ℕ} {out' : List ℕ} {r : Option ℕ}
+    → TreeOf blocks nodes entries ns es kind last → Starts ns es kind last tick start stop out at out' r
+    → Starts nodes entries (block_column blocks 0 head_kind) (block_column blocks 0 head_end) tick start stop out at out' r
+starts_in t f = rw (← t.in_nodes, ← t.in_entries, ← t.own_kind, ← t.end) f
+
 -- what it lists of a closed index
 placed_started : {pieces blocks store nodes entries : List ℕ} {tick start stop : ℕ} {l : Ledger} {out : List ℕ} {at : ℕ} {out' : List ℕ} {r : Option ℕ}
     → (e : Encodes (tables pieces blocks store nodes entries) l) (s : Sound l) (done : finished l ≡ true) (before : tick < l.opening.end)
@@ -92,12 +99,12 @@ handed_short : (ks out out' : List ℕ) → length out < length ks → out' ≡ 
     → HandedInto length (λ x. x) out out' (refused 16) (cond (ltb (length out) (length ks)) (refused 16) (accepted ks))
 handed_short ks out out' h w = rw (lt-ltb (length out) (length ks) h, w) (record { answered = refl; left = refl })
 
-module _ {blocks nodes entries : List ℕ} {tick start stop last : ℕ} (e : last ≡ block_column blocks 0 head_end) where
+module _ {blocks nodes entries ns es : List ℕ} {tick start stop kind last : ℕ} (t : TreeOf blocks nodes entries ns es kind last) where
   pub touching_14 : {out : List ℕ} → last ≤ tick → TouchingClosed blocks nodes entries tick start stop out out (refused 14)
-  touching_14 h = record { touched = λ pieces store. closed_refuses (λ l enc done. window_14 enc done _ _ tick start stop (omega arith)) into_refused }
+  touching_14 h = record { touched = λ pieces store. closed_refuses (λ l enc done. window_14 enc done _ _ tick start stop (omega (arith, t.end))) into_refused }
 
   pub touching_15 : {out : List ℕ} → tick < last → stop < start → TouchingClosed blocks nodes entries tick start stop out out (refused 15)
-  touching_15 h b = record { touched = λ pieces store. closed_refuses (λ l enc done. window_15 enc done _ _ tick start stop (omega arith) b) into_refused }
+  touching_15 h b = record { touched = λ pieces store. closed_refuses (λ l enc done. window_15 enc done _ _ tick start stop (omega (arith, t.end)) b) into_refused }
 
   module _ (h : tick < last) (b : start ≤ stop) where
     -- by what is handed out for the ledger's list
@@ -109,8 +116,8 @@ module _ {blocks nodes entries : List ℕ} {tick start stop last : ℕ} (e : las
     touching_by_lem {out} f = record {
       touched = λ pieces store. record {
         closed = λ l enc s done.
-            rw (window_rest enc done (touching_by l tick start stop) (ltb (length out) (length (touching_by l tick start stop))) tick start stop (omega arith) b)
-            (f pieces store l enc s done (omega (arith, enc.end)));
+            rw (window_rest enc done (touching_by l tick start stop) (ltb (length out) (length (touching_by l tick start stop))) tick start stop (omega (arith, t.end)) b)
+            (f pieces store l enc s done (omega (arith, enc.end, t.end)));
       };
     }
 
@@ -120,15 +127,15 @@ module _ {blocks nodes entries : List ℕ} {tick start stop last : ℕ} (e : las
         touching_by_lem (λ pieces store l enc s done before.
         rw (← touched_none l s done tick before start stop (omega arith)) (handed-whole [] out out 0 (omega arith) refl refl))
 
-    module _ {kind : ℕ} {found : Option Neighbour} {out out₁ : List ℕ} {at : ℕ} {r : Option ℕ} (k : kind ≡ block_column blocks 0 head_kind) (o : OverAt blocks nodes entries tick start found)
-        (f : Starts nodes entries kind last tick start stop out at out₁ r) where
+    module _ {found : Option Neighbour} {out out₁ : List ℕ} {at : ℕ} {r : Option ℕ} (o : OverAt blocks nodes entries tick start found)
+        (f : Starts ns es kind last tick start stop out at out₁ r) where
       -- no block reaches over the start
       module _ (is : found ≡ None) (first : at ≡ 0) where
         plain : {pieces store : List ℕ} {l : Ledger} → (enc : Encodes (tables pieces blocks store nodes entries) l) (s : Sound l) (done : finished l ≡ true) → tick < l.opening.end
             → Placed (touching_by l tick start stop) out 0 out₁ r
         plain {store = store} {l} enc s done before =
-            rw (← touched_started l s done tick before start stop (o.nothing is store l (closed_at enc s done (omega arith))))
-            (rw first at (placed_started enc s done before (rw (k, e) at f)))
+            rw (← touched_started l s done tick before start stop (o.nothing is store l (closed_at enc s done (omega (arith, enc.end)))))
+            (rw first at (placed_started enc s done before (starts_in t f)))
 
         pub touching_listed : {count : ℕ} → r ≡ Some count → TouchingClosed blocks nodes entries tick start stop out out₁ (accepted count)
         touching_listed {count} q =
@@ -146,12 +153,12 @@ module _ {blocks nodes entries : List ℕ} {tick start stop last : ℕ} (e : las
       module _ {near : Neighbour} (is : found ≡ Some near) (second : at ≡ 1) (some : start ≡ stop → ⊥) where
         rest : {pieces store : List ℕ} {l : Ledger} → (enc : Encodes (tables pieces blocks store nodes entries) l) (s : Sound l) (done : finished l ≡ true) (before : tick < l.opening.end)
             → Placed (started l s done tick before start stop) out 1 out₁ r
-        rest enc s done before = rw second at (placed_started enc s done before (rw (k, e) at f))
+        rest enc s done before = rw second at (placed_started enc s done before (starts_in t f))
 
         whole : {pieces store : List ℕ} {l : Ledger} → (enc : Encodes (tables pieces blocks store nodes entries) l) (s : Sound l) (done : finished l ≡ true) (before : tick < l.opening.end)
             → near.number ∷ started l s done tick before start stop ≡ touching_by l tick start stop
         whole {store = store} {l} enc s done before =
-            touched-over l s done tick before start stop near.number (o.block near is store l (closed_at enc s done (omega arith))) (omega arith)
+            touched-over l s done tick before start stop near.number (o.block near is store l (closed_at enc s done (omega (arith, enc.end)))) (omega arith)
 
         pub touching_over : {count : ℕ} {out' : List ℕ} → r ≡ Some count → out' ≡ set out₁ 0 near.number → TouchingClosed blocks nodes entries tick start stop out out' (accepted count)
         touching_over {count} {out'} q put =

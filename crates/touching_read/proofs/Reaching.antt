@@ -11,6 +11,7 @@ use Rattle.history.specs.Tree.{no_block, block_at}
 use Rattle.history.specs.Ledger.{Ledger, finished}
 use Rattle.history.specs.Sound.{Sound}
 use Rattle.tables.specs.Columns.{block_column, head_end, head_kind}
+use Rattle.segment_table.specs.Closed.{TreeOf}
 use Rattle.segment_near.specs.declared.Side.TheVariants.{Before}
 use Rattle.segment_near.specs.declared.Neighbour.{Neighbour}
 use Rattle.segment_near.specs.Neighbours.{NearestLive}
@@ -18,7 +19,7 @@ use Rattle.layout.specs.Tables.{tables}
 use Rattle.layout.specs.Encodes.{Encodes}
 use Rattle.runs.specs.Runs.{ClosedAt}
 use Rattle.runs.proofs.Seeing.{live-number, passed_last, passed_first}
-use Rattle.runs.proofs.Living.{living}
+use Rattle.runs.proofs.Living.{near_in, living}
 use Rattle.touching_read.specs.Reads.{EndOf, Reaches, OverAt}
 
 -- ── a closed index ──
@@ -40,14 +41,14 @@ end_is {l = l} c k r lives e =
 
 -- ── the returns of `over` ──
 
-module _ {blocks nodes entries : List ℕ} {kind last tick place : ℕ} {found : Option Neighbour} (k : kind ≡ block_column blocks 0 head_kind) (e : last ≡ block_column blocks 0 head_end)
-    (n : NearestLive nodes entries kind last tick Before place found) where
+module _ {blocks nodes entries ns es : List ℕ} {kind last tick place : ℕ} {found : Option Neighbour} (t : TreeOf blocks nodes entries ns es kind last)
+    (n : NearestLive ns es kind last tick Before place found) where
   pub over_none : found ≡ None → OverAt blocks nodes entries tick place None
   over_none is = record {
     block = λ x z. let no : ◌≡◌ {A = ℕ} 0 1 = cc in absurd (omega arith);
     nothing = λ _ store l c.
         let v = living c in
-        let without = (v.near Before place (rw (k, e) at n)).nothing is in
+        let without = (v.near Before place (near_in t n)).nothing is in
         passed_first l.now.blocks tick v.apart v.filled place (λ j b g. all_mem without (v.met j b) g);
   }
 
@@ -57,7 +58,7 @@ module _ {blocks nodes entries : List ℕ} {kind last tick place : ℕ} {found :
       block = λ x z. let no : ◌≡◌ {A = ℕ} 0 1 = cc in absurd (omega arith);
       nothing = λ _ store l c.
           let v = living c in
-          let m = (v.near Before place (rw (k, e) at n)).block b is in
+          let m = (v.near Before place (near_in t n)).block b is in
           let a = v.lives b.number m.listed in
           passed_last l.now.blocks tick v.apart v.filled b.number place a (λ j y g. all_mem m.nearest (v.met j y) g) (omega (arith, end_is c b.number end a at));
     }
@@ -66,7 +67,7 @@ module _ {blocks nodes entries : List ℕ} {kind last tick place : ℕ} {found :
     over_block h = record {
       block = λ x z store l c.
           let v = living c in
-          let m = (v.near Before place (rw (k, e) at n)).block b is in
+          let m = (v.near Before place (near_in t n)).block b is in
           let a = v.lives b.number m.listed in
           let same : b ≡ x = cc in
           subst (λ (y : Neighbour). Reaches l.now.blocks tick place y.number) same

@@ -7,6 +7,8 @@ use Rattle.history.specs.Refusals.{Answer, touching_answer, next_answer, last_an
 use Rattle.tables.specs.Columns.{block_column, head_kind, head_count}
 use Rattle.tables.specs.Sums.{plus_up_to}
 use Rattle.block_table.specs.Blocks.{first_cell_at, length_at}
+use Rattle.segment_near.specs.declared.Side.{Side}
+use Rattle.segment_near.specs.declared.Side.TheVariants.{From, Before}
 use Rattle.segment_near.specs.declared.Neighbour.{Neighbour}
 use Rattle.layout.specs.Tables.{tables}
 use Rattle.layout.specs.Reads.{HandedOut, HandedInto, ClosedBy}
@@ -38,9 +40,14 @@ pub record TouchingClosed (blocks nodes entries : List ℕ) (tick start stop : �
   pub touched : (pieces store : List ℕ)
       → ClosedBy (tables pieces blocks store nodes entries) (λ l. touching_answer l tick start stop (length out)) (HandedInto length (λ ks. ks) out out' answer)
 
--- `next_closed` and `last_closed`: the ledger's neighbour
+-- next and last: the ledger's neighbour
 pub record NextClosed (blocks nodes entries : List ℕ) (tick cell : ℕ) (answer : Answer Near) : Type 0 where
   pub given : (pieces store : List ℕ) → ClosedBy (tables pieces blocks store nodes entries) (λ l. next_answer l tick cell) (HandedOut near_of answer)
 
 pub record LastClosed (blocks nodes entries : List ℕ) (tick cell : ℕ) (answer : Answer Near) : Type 0 where
   pub given : (pieces store : List ℕ) → ClosedBy (tables pieces blocks store nodes entries) (λ l. last_answer l tick cell) (HandedOut near_of answer)
+
+-- `near_closed`: next from the cell, last before it
+abbrev pub NearClosed : Side → (blocks nodes entries : List ℕ) (tick cell : ℕ) (answer : Answer Near) → Type 0
+NearClosed From blocks nodes entries tick cell answer = NextClosed blocks nodes entries tick cell answer
+NearClosed Before blocks nodes entries tick cell answer = LastClosed blocks nodes entries tick cell answer

@@ -5,16 +5,17 @@
 //   specs/Reads       what each call hands out of the ledger that the tables stand for
 //   proofs/Reaching   where a block ends, and the live one that reaches over a place
 //   proofs/Starting   so touching is what starts in the window, behind that one; Listing: the returns of `touching_closed`
-//   proofs/Nearing    the returns of `next_closed` and `last_closed`
+//   proofs/Nearing    the returns of `near_closed`
 
 #![tactic(auto)]
 
 ghost use Rattle.refusals.specs.Numbers.{answer_by};
 ghost use Rattle.touching_read.specs.Answers.{near_told};
-ghost use Rattle.touching_read.specs.Reads.{EndOf, OverAt, TouchingClosed, NextClosed, LastClosed};
+ghost use Rattle.touching_read.specs.Reads.{EndOf, OverAt, TouchingClosed, NearClosed};
 
 use refusals::Refusal;
 use segment_near::{Neighbour, Side};
+use segment_table::lent::Closed;
 use segment_walk::walk::Query;
 use tables::block;
 
@@ -31,13 +32,12 @@ fn end_of(blocks: &[u64], number: u64) -> u64
 }
 
 // The block that is live at the tick, starts before a place and reaches over it.
-fn over(blocks: &[u64], nodes: &[u64], entries: &[u64], tick: u64, place: u64) -> Option<Neighbour>
-    ensures { OverAt blocks.now nodes.now entries.now tick place result }
+fn over(closed: &Closed, tick: u64, place: u64) -> Option<Neighbour>
+    ensures { OverAt closed.now.blocks.now closed.now.nodes.now closed.now.entries.now tick place result }
 {
-    let kind = block_table::kind(blocks);
-    let last = block_table::end(blocks);
-    let before = segment_near::nearest_live(nodes, entries, kind, last, tick, Side::Before, place)?;
-    if end_of(blocks, before.number) <= place {
+    let tree = closed.tree();
+    let before = segment_near::nearest_live(&tree, tick, Side::Before, place)?;
+    if end_of(closed.blocks, before.number) <= place {
         return None;
     }
     Some(before)
@@ -46,18 +46,17 @@ fn over(blocks: &[u64], nodes: &[u64], entries: &[u64], tick: u64, place: u64) -
 // The live blocks that hold a cell of [start, end), ascending: 14, 15 and 16 in their order. The one that reaches over the start comes first; its place is
 // kept free until all the others have gone into the answer. An empty window has no cell to hold.
 pub fn touching_closed(
-    blocks: &[u64],
-    nodes: &[u64],
-    entries: &[u64],
+    closed: &Closed,
     tick: u64,
     start: u64,
     end: u64,
     answer: &mut [u64],
 ) -> Result<u64, Refusal>
-    ensures { TouchingClosed blocks.now nodes.now entries.now tick start end answer.old answer.new (answer_by (λ n. n) result) }
+    ensures { TouchingClosed closed.now.blocks.now closed.now.nodes.now closed.now.entries.now tick start end
+        answer.old answer.new (answer_by (λ n. n) result) }
 {
-    let last = block_table::end(blocks);
-    if last <= tick {
+    let tree = closed.tree();
+    if tree.end <= tick {
         return Err(Refusal::NoSuchTick);
     }
     if end < start {
@@ -71,10 +70,9 @@ pub fn touching_closed(
         start,
         stop: end,
     };
-    let kind = block_table::kind(blocks);
-    let before = over(blocks, nodes, entries, tick, start);
+    let before = over(closed, tick, start);
     let at = usize::from(before.is_some());
-    let listed = segment_touch::starting(nodes, entries, kind, last, query, answer, at);
+    let listed = segment_touch::starting(&tree, query, answer, at);
     let Some(count) = listed else {
         return Err(Refusal::ResultTooLong);
     };
@@ -84,54 +82,34 @@ pub fn touching_closed(
     Ok(count as u64)
 }
 
-// The first live block that starts at the cell or after it, or 14.
-pub fn next_closed(
-    blocks: &[u64],
-    nodes: &[u64],
-    entries: &[u64],
+// The neighbour of a cell, or 14: from it, the first live block that starts at the cell or after it; before it, the last one whose cells are all below the
+// cell. Where a block reaches over the cell that is the one before it.
+#[tactic(auto, using(crate::proofs::Nearing::nearing))]
+pub fn near_closed(
+    closed: &Closed,
+    side: Side,
     tick: u64,
     cell: u64,
 ) -> Result<Option<u64>, Refusal>
-    ensures { NextClosed blocks.now nodes.now entries.now tick cell (answer_by near_told result) }
+    ensures { NearClosed side closed.now.blocks.now closed.now.nodes.now closed.now.entries.now tick cell (answer_by near_told result) }
 {
-    let last = block_table::end(blocks);
-    if last <= tick {
+    let tree = closed.tree();
+    if tree.end <= tick {
         return Err(Refusal::NoSuchTick);
     }
-    let kind = block_table::kind(blocks);
-    let next = segment_near::nearest_live(nodes, entries, kind, last, tick, Side::From, cell);
-    match next {
-        Some(block) => Ok(Some(block.number)),
-        None => Ok(None),
-    }
-}
-
-// The last live block whose cells are all below the cell, or 14. Where a block reaches over the cell it is the one before that.
-pub fn last_closed(
-    blocks: &[u64],
-    nodes: &[u64],
-    entries: &[u64],
-    tick: u64,
-    cell: u64,
-) -> Result<Option<u64>, Refusal>
-    ensures { LastClosed blocks.now nodes.now entries.now tick cell (answer_by near_told result) }
-{
-    let last = block_table::end(blocks);
-    if last <= tick {
-        return Err(Refusal::NoSuchTick);
-    }
-    let kind = block_table::kind(blocks);
-    let before = segment_near::nearest_live(nodes, entries, kind, last, tick, Side::Before, cell);
-    let Some(block) = before else {
+    let near = segment_near::nearest_live(&tree, tick, side, cell);
+    let Some(block) = near else {
         return Ok(None);
     };
-    if end_of(blocks, block.number) <= cell {
-        return Ok(Some(block.number));
-    }
-    let start = block.first;
-    let earlier = segment_near::nearest_live(nodes, entries, kind, last, tick, Side::Before, start);
-    match earlier {
-        Some(one) => Ok(Some(one.number)),
-        None => Ok(None),
+    match side {
+        Side::From => Ok(Some(block.number)),
+        Side::Before if end_of(closed.blocks, block.number) <= cell => Ok(Some(block.number)),
+        Side::Before => {
+            let earlier = segment_near::nearest_live(&tree, tick, Side::Before, block.first);
+            match earlier {
+                Some(one) => Ok(Some(one.number)),
+                None => Ok(None),
+            }
+        }
     }
 }

@@ -12,7 +12,7 @@ use borrow.Author.Tests.{ltb-true, lt-ltb, le-ltb}
 use Rattle.lists.specs.Lists.{All, all_nil, all_cons, here, there, sum_of}
 use Rattle.lists.proofs.Numbers.{le_or_lt}
 use Rattle.history.specs.Words.{Block}
-use Rattle.history.specs.Tree.{mid, halves, covers, tree_of, entry_count}
+use Rattle.history.specs.Tree.{mid, tree_of, entry_count}
 use Rattle.history.proofs.TreeAdding.{all, part, covering, half_left, half_right}
 use Rattle.history.proofs.TreeCounts.{new_entries, tree_of_entries}
 use Rattle.tree_room.specs.Room.{entries_for}

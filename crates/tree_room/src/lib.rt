@@ -13,6 +13,7 @@
 ghost use Rattle.tree_room.specs.Room.{LawOfRoom};
 
 // The tree of an index has no more nodes and entries than the bounds say, and finish that is lent so many rows is taken.
+#[tactic(auto, using(crate::proofs::Room::law_of_room))]
 pub fn law_of_room()
     ensures { LawOfRoom }
 {}

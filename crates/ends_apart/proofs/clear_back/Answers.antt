@@ -1,13 +1,16 @@
--- `ends_apart::clear_back`: each turn and the last return is a step of Turning.
-use Rattle.std.proofs.Common.{arith}
-use Rattle.ends_apart.proofs.Turning.{clear_start, clear_turn, clear_end}
+-- `ends_apart::clear_back`: what is said of each row.
+use mathlib.Core.Path.{refl}
+use Rattle.std.specs.Prelude.{⊤}
+use Prim.Native.Nat.{◌-◌}
+use borrow.Author.Rules.{rules}
+use borrow.Author.Tests.{tests}
+use Rattle.std.proofs.lemmas.Iterator.{cases_from_all, YieldsList-from_range}
+use Rattle.ends_apart.proofs.Turning.{RowClear, each_below, row_clear, rows_clear}
 use Rattle.ends_apart.proofs.clear_back.Goals as goal
 
-pub loop-i-init : goal.loop-i-init
-loop-i-init c = clear_start
-
-pub loop-i-preserved : goal.loop-i-preserved
-loop-i-preserved c = clear_turn c.loop-i.invariant c.read.ensures c.parted.ensures c.if-not-parted.false
-
 pub returns : goal.returns
-returns c = clear_end c.loop-i.invariant (omega arith)
+returns c =
+    rows_clear
+    (each_below _ _
+    (cases_from_all _ _ _ (RowClear c.args.blocks.now c.args.own) (λ _. ⊤) c.all.ensures.ran (YieldsList-from_range c.args.low c.args.k (c.args.k - c.args.low) refl refl)
+    (λ x q k. search (rules, tests, row_clear)) (λ x q k. tt)))

@@ -2,7 +2,7 @@
 use Rattle.std.proofs.Common.{◌≡◌, arith, length, replicate, refl}
 use Rattle.std.proofs.lemmas.Grind.{common_steps}
 use Rattle.std.proofs.lemmas.Result.{err_from_is_err_and}
-use Rattle.file_load.proofs.Loading.{load_start, load_scan, load_full, load_broken, load_right}
+use Rattle.file_load.proofs.Loading.{load_scan, load_full, load_broken, load_right}
 use Rattle.file_load.proofs.load.Goals as goal
 
 pub returns-in_err-counts : goal.returns-in_err-counts
@@ -12,9 +12,6 @@ returns-in_err-counts c =
 
 pub returns-then-not-room : goal.returns-then-not-room
 returns-then-not-room c = load_full _ _ _ _ _ _ _ c.in_ok-counts.ensures c.room.ensures c.if-not-room.true
-
-pub overflow_add-at : goal.overflow_add-at
-overflow_add-at c = omega (arith, load_start _ _ c.in_ok-counts.ensures)
 
 pub returns-in-Ok : goal.returns-in-Ok
 returns-in-Ok c =

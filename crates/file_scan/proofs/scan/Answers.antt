@@ -3,20 +3,20 @@ use Rattle.std.proofs.lemmas.Result.{err_from_is_err_and}
 use Rattle.file_scan.proofs.Scanning.{scan_ends, scan_kind, scan_count-ends, scan_blocks, scan_nodes, scan_all}
 use Rattle.file_scan.proofs.scan.Goals as goal
 
-pub returns-in_err-kind : goal.returns-in_err-kind
-returns-in_err-kind c = let p = err_from_is_err_and c.from_residual.result c.from_residual.ensures.1 in rw (p.1, p.2) (scan_ends _ _ c.byte_at.result c.in_err-kind.ensures.value c.byte_at.ensures)
+pub returns-in_err-code : goal.returns-in_err-code
+returns-in_err-code c = let p = err_from_is_err_and c.from_residual.result c.from_residual.ensures.1 in rw (p.1, p.2) (scan_ends _ _ c.byte_at.result c.in_err-code.ensures.value c.byte_at.ensures)
 
-pub returns-then-kind-gt-KINDS : goal.returns-then-kind-gt-KINDS
-returns-then-kind-gt-KINDS c = scan_kind _ _ c.in_ok-kind.ensures.ok_part c.byte_at.ensures c.if-kind-gt-KINDS.true
+pub returns-in_default : goal.returns-in_default
+returns-in_default c = scan_kind _ _ c.in_ok-code.ensures.ok_part c.byte_at.ensures c.in_default.ensures
 
 pub returns-in_err-count : goal.returns-in_err-count
-returns-in_err-count c = let p = err_from_is_err_and c.from_residual-in_err-count.result c.from_residual-in_err-count.ensures.1 in rw (p.1, p.2) (scan_count-ends _ _ c.in_ok-kind.ensures.ok_part c.byte_at.ensures c.if-kind-gt-KINDS.false c.number_at.result c.in_err-count.ensures.value c.number_at.ensures)
+returns-in_err-count c = let p = err_from_is_err_and c.from_residual-in_err-count.result c.from_residual-in_err-count.ensures.1 in rw (p.1, p.2) (scan_count-ends _ _ c.in_ok-code.ensures.ok_part c.byte_at.ensures c.in-Ok.ensures.1 c.number_at.result c.in_err-count.ensures.value c.number_at.ensures)
 
 pub returns-in_err-blocks : goal.returns-in_err-blocks
-returns-in_err-blocks c = let p = err_from_is_err_and c.from_residual-in_err-blocks.result c.from_residual-in_err-blocks.ensures.1 in rw (p.1, p.2) (scan_blocks _ _ c.in_ok-kind.ensures.ok_part c.byte_at.ensures c.if-kind-gt-KINDS.false c.in_ok-count.ensures.ok_part c.number_at.ensures c.in_err-blocks.ensures)
+returns-in_err-blocks c = let p = err_from_is_err_and c.from_residual-in_err-blocks.result c.from_residual-in_err-blocks.ensures.1 in rw (p.1, p.2) (scan_blocks _ _ c.in_ok-code.ensures.ok_part c.byte_at.ensures c.in-Ok.ensures.1 c.in_ok-count.ensures.ok_part c.number_at.ensures c.in_err-blocks.ensures)
 
 pub returns-in_err-nodes : goal.returns-in_err-nodes
-returns-in_err-nodes c = let p = err_from_is_err_and c.from_residual-in_err-nodes.result c.from_residual-in_err-nodes.ensures.1 in rw (p.1, p.2) (scan_nodes _ _ c.in_ok-kind.ensures.ok_part c.byte_at.ensures c.if-kind-gt-KINDS.false c.in_ok-count.ensures.ok_part c.number_at.ensures c.in_ok-blocks.ensures c.in_err-nodes.ensures)
+returns-in_err-nodes c = let p = err_from_is_err_and c.from_residual-in_err-nodes.result c.from_residual-in_err-nodes.ensures.1 in rw (p.1, p.2) (scan_nodes _ _ c.in_ok-code.ensures.ok_part c.byte_at.ensures c.in-Ok.ensures.1 c.in_ok-count.ensures.ok_part c.number_at.ensures c.in_ok-blocks.ensures c.in_err-nodes.ensures)
 
 pub returns : goal.returns
-returns c = scan_all _ _ c.in_ok-kind.ensures.ok_part c.byte_at.ensures c.if-kind-gt-KINDS.false c.in_ok-count.ensures.ok_part c.number_at.ensures c.in_ok-blocks.ensures c.in_ok-nodes.ensures
+returns c = rw c.in-Ok.ensures.0 (scan_all _ _ c.in_ok-code.ensures.ok_part c.byte_at.ensures c.in-Ok.ensures.1 c.in_ok-count.ensures.ok_part c.number_at.ensures c.in_ok-blocks.ensures c.in_ok-nodes.ensures)

@@ -1,8 +1,8 @@
 use Rattle.index_read.proofs.Finding.{finding}
 use Rattle.index_read.proofs.find_closed.Goals as goal
 
-pub returns-then-last-tick : goal.returns-then-last-tick
-returns-then-last-tick c = search finding
+pub returns-then-tree-tick : goal.returns-then-tree-tick
+returns-then-tree-tick c = search finding
 
 pub returns-then-end-start : goal.returns-then-end-start
 returns-then-end-start c = search finding

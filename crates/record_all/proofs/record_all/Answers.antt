@@ -9,14 +9,14 @@ loop-count-init c = search (turn_start, turn_first, rules)
 pub returns-in_default : goal.returns-in_default
 returns-in_default c = turn_end c.loop-count.invariant c.in_default.ensures
 
-pub slice_bounds-record_one-count : goal.slice_bounds-record_one-count
-slice_bounds-record_one-count c = item_forward c.in-Some.ensures
+pub slice_bounds-op-count : goal.slice_bounds-op-count
+slice_bounds-op-count c = item_forward c.in-Some.ensures
 
-pub slice_bounds-record_one-start : goal.slice_bounds-record_one-start
-slice_bounds-record_one-start c = search (rules, item_forward)
+pub slice_bounds-op-start : goal.slice_bounds-op-start
+slice_bounds-op-start c = search (rules, item_forward)
 
-pub slice_bounds-record_one-end : goal.slice_bounds-record_one-end
-slice_bounds-record_one-end c = search (rules, item_inside)
+pub slice_bounds-op-end : goal.slice_bounds-op-end
+slice_bounds-op-end c = search (rules, item_inside)
 
 pub record_one-requires : goal.record_one-requires
 record_one-requires c = turn_room c.loop-count.invariant c.loop-count-test.true

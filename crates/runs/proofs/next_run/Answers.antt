@@ -8,8 +8,8 @@ returns-in_default c = search following
 pub returns-then-end-block : goal.returns-then-end-block
 returns-then-end-block c =
     elim c.then-end-block.branch [
-      | then-end-block-via-then-end-block w ↦ next_past c.end-last.ensures c.nearest_live-next.ensures c.in-Some.is w.if-end-block.true c.free-then-end-block.ensures
-      | then-end-block-via-else-end-block+then-block-place w ↦ next_back c.end-last.ensures c.nearest_live-next.ensures c.in-Some.is w.if-block-place.true c.free-then-end-block.ensures
+      | then-end-block-via-then-end-block w ↦ next_past c.tree-tree.ensures c.nearest_live-next.ensures c.in-Some.is w.if-end-block.true c.free-then-end-block.ensures
+      | then-end-block-via-else-end-block+then-block-place w ↦ next_back c.tree-tree.ensures c.nearest_live-next.ensures c.in-Some.is w.if-block-place.true c.free-then-end-block.ensures
     ]
 
 pub returns-then-run-place : goal.returns-then-run-place

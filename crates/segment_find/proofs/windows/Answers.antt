@@ -10,11 +10,11 @@ returns-then-room-many c = search windowing
 
 pub loop-k-preserved-then-many-eq0 : goal.loop-k-preserved-then-many-eq0
 loop-k-preserved-then-many-eq0 c =
-    windows_empty c.loop-k.invariant c.requires c.loop-k-test.true c.in_small_window-rows.ensures c.if-many-eq0.true
+    windows_empty c.loop-k.invariant c.requires c.loop-k-test.true c.in_window-rows.ensures c.if-many-eq0.true
 
 pub loop-k-preserved : goal.loop-k-preserved
 loop-k-preserved c =
-    windows_more c.loop-k.invariant c.requires c.loop-k-test.true c.in_small_window-rows.ensures c.if-room-many.false
+    windows_more c.loop-k.invariant c.requires c.loop-k-test.true c.in_window-rows.ensures c.if-room-many.false
 
 pub returns : goal.returns
 returns c = search windowing

@@ -1,9 +1,6 @@
--- `servercape::servercape_clock` meets its contract: taken or refused. Assumes nothing.
-use Rattle.servercape.proofs.Answering.{result_0, result_n}
+-- `servercape::servercape_clock` meets its contract: what the call behind answers, by its number. Assumes nothing.
+use Rattle.servercape.proofs.Answering.{by_number}
 use Rattle.servercape.proofs.servercape_clock.Goals as goal
 
-pub returns-in-Ok : goal.returns-in-Ok
-returns-in-Ok c = result_0 (λ n. n) c.clock.ensures c.in-Ok.is
-
-pub returns-in-Err : goal.returns-in-Err
-returns-in-Err c = result_n (λ n. n) c.clock.ensures c.in-Err.is c.from.ensures
+pub returns : goal.returns
+returns c = by_number (λ n. n) c.clock-shown.result c.clock-shown.ensures c.number.ensures

@@ -1,13 +1,6 @@
--- `servercape::servercape_next` meets its contract: a block, none, or refused. Assumes nothing.
-use Rattle.touching_read.specs.Answers.{near_told}
-use Rattle.servercape.proofs.Answering.{result_0, result_n}
+-- `servercape::servercape_next` meets its contract: what the call behind answers, by its number. Assumes nothing.
+use Rattle.servercape.proofs.Answering.{by_near}
 use Rattle.servercape.proofs.servercape_next.Goals as goal
 
-pub returns-in-Ok-Some : goal.returns-in-Ok-Some
-returns-in-Ok-Some c = result_0 near_told c.next.ensures (rw c.in-Ok-Some.field-0-is at c.in-Ok-Some.is)
-
-pub returns-in-Ok-None : goal.returns-in-Ok-None
-returns-in-Ok-None c = result_0 near_told c.next.ensures (rw c.in-Ok-None.field-0-is at c.in-Ok-None.is)
-
-pub returns-in-Err : goal.returns-in-Err
-returns-in-Err c = result_n near_told c.next.ensures c.in-Err.is c.from.ensures
+pub returns : goal.returns
+returns c = by_near c.near-block.result c.near-block.ensures c.maybe.ensures

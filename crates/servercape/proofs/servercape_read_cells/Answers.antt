@@ -1,9 +1,6 @@
--- `servercape::servercape_read_cells` meets its contract: taken or refused. Assumes nothing.
-use Rattle.servercape.proofs.Answering.{result_0, result_n}
+-- `servercape::servercape_read_cells` meets its contract: what the call behind answers, by its number. Assumes nothing.
+use Rattle.servercape.proofs.Answering.{by_done}
 use Rattle.servercape.proofs.servercape_read_cells.Goals as goal
 
-pub returns-in-Ok : goal.returns-in-Ok
-returns-in-Ok c = result_0 (λ _. tt) c.read_cells-read.ensures c.in-Ok.is
-
-pub returns-in-Err : goal.returns-in-Err
-returns-in-Err c = result_n (λ _. tt) c.read_cells-read.ensures c.in-Err.is c.from.ensures
+pub returns : goal.returns
+returns c = by_done c.read_cells-read.result c.read_cells-read.ensures c.done.ensures

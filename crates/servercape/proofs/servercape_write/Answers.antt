@@ -1,9 +1,6 @@
--- `servercape::servercape_write` meets its contract: taken or refused. Assumes nothing.
-use Rattle.servercape.proofs.Answering.{result_0, result_n}
+-- `servercape::servercape_write` meets its contract: what the call behind answers, by its number. Assumes nothing.
+use Rattle.servercape.proofs.Answering.{by_number}
 use Rattle.servercape.proofs.servercape_write.Goals as goal
 
-pub returns-in-Ok : goal.returns-in-Ok
-returns-in-Ok c = result_0 (λ n. n) c.serialize_to.ensures c.in-Ok.is
-
-pub returns-in-Err : goal.returns-in-Err
-returns-in-Err c = result_n (λ n. n) c.serialize_to.ensures c.in-Err.is c.from.ensures
+pub returns : goal.returns
+returns c = by_number (λ n. n) c.serialize_to-count.result c.serialize_to-count.ensures c.number.ensures

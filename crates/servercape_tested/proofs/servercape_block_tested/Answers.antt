@@ -1,9 +1,6 @@
--- `servercape_tested::servercape_block_tested` meets its contract: given or refused. Assumes nothing.
-use Rattle.servercape_tested.proofs.Numbering.{block_0, block_n}
+-- `servercape_tested::servercape_block_tested` meets its contract: what the call behind answers, by its number. Assumes nothing.
+use Rattle.servercape_tested.proofs.Numbering.{block_by}
 use Rattle.servercape_tested.proofs.servercape_block_tested.Goals as goal
 
-pub returns-in-Ok : goal.returns-in-Ok
-returns-in-Ok c = block_0 c.numbered.ensures c.block_tested.ensures c.in-Ok.is
-
-pub returns-in-Err : goal.returns-in-Err
-returns-in-Err c = block_n c.numbered.ensures c.block_tested.ensures c.in-Err.is c.from.ensures
+pub returns : goal.returns
+returns c = block_by c.from.ensures c.block_tested-given.ensures c.block.ensures

@@ -1,9 +1,6 @@
--- `servercape_tested::servercape_find_tested` meets its contract: given or refused. Assumes nothing.
-use Rattle.servercape_tested.proofs.Numbering.{find_0, find_n}
+-- `servercape_tested::servercape_find_tested` meets its contract: what the call behind answers, by its number. Assumes nothing.
+use Rattle.servercape_tested.proofs.Numbering.{find_by}
 use Rattle.servercape_tested.proofs.servercape_find_tested.Goals as goal
 
-pub returns-in-Ok : goal.returns-in-Ok
-returns-in-Ok c = find_0 c.numbered.ensures c.find_tested-asked.ensures c.in-Ok.is
-
-pub returns-in-Err : goal.returns-in-Err
-returns-in-Err c = find_n c.numbered.ensures c.find_tested-asked.ensures c.in-Err.is c.from.ensures
+pub returns : goal.returns
+returns c = find_by c.from.ensures c.find_tested-asked.ensures c.found.ensures

@@ -1,9 +1,6 @@
--- `servercape_tested::servercape_read_cells_tested` meets its contract: taken or refused. Assumes nothing.
-use Rattle.servercape_tested.proofs.Numbering.{cells_0, cells_n}
+-- `servercape_tested::servercape_read_cells_tested` meets its contract: what the call behind answers, by its number. Assumes nothing.
+use Rattle.servercape_tested.proofs.Numbering.{cells_by}
 use Rattle.servercape_tested.proofs.servercape_read_cells_tested.Goals as goal
 
-pub returns-in-Ok : goal.returns-in-Ok
-returns-in-Ok c = cells_0 c.numbered.ensures c.cells_tested-read.ensures c.in-Ok.is
-
-pub returns-in-Err : goal.returns-in-Err
-returns-in-Err c = cells_n c.numbered.ensures c.cells_tested-read.ensures c.in-Err.is c.from.ensures
+pub returns : goal.returns
+returns c = cells_by c.from.ensures c.cells_tested-read.result c.cells_tested-read.ensures c.done.ensures

@@ -1,9 +1,6 @@
--- `servercape_tested::servercape_touching_tested` meets its contract: taken or refused. Assumes nothing.
-use Rattle.servercape_tested.proofs.Numbering.{touching_0, touching_n}
+-- `servercape_tested::servercape_touching_tested` meets its contract: what the call behind answers, by its number. Assumes nothing.
+use Rattle.servercape_tested.proofs.Numbering.{touching_by}
 use Rattle.servercape_tested.proofs.servercape_touching_tested.Goals as goal
 
-pub returns-in-Ok : goal.returns-in-Ok
-returns-in-Ok c = touching_0 c.numbered.ensures c.touching_tested-touched.ensures c.in-Ok.is
-
-pub returns-in-Err : goal.returns-in-Err
-returns-in-Err c = touching_n c.numbered.ensures c.touching_tested-touched.ensures c.in-Err.is c.from.ensures
+pub returns : goal.returns
+returns c = touching_by c.from.ensures c.touching_tested-touched.ensures c.number.ensures

@@ -1,9 +1,6 @@
--- `servercape_tested::servercape_write_tested` meets its contract: written or refused. Assumes nothing.
-use Rattle.servercape_tested.proofs.Numbering.{write_0, write_n}
+-- `servercape_tested::servercape_write_tested` meets its contract: what the call behind answers, by its number. Assumes nothing.
+use Rattle.servercape_tested.proofs.Numbering.{write_by}
 use Rattle.servercape_tested.proofs.servercape_write_tested.Goals as goal
 
-pub returns-in-Ok : goal.returns-in-Ok
-returns-in-Ok c = write_0 c.numbered.ensures c.write_tested.ensures c.in-Ok.is
-
-pub returns-in-Err : goal.returns-in-Err
-returns-in-Err c = write_n c.numbered.ensures c.write_tested.ensures c.in-Err.is c.from.ensures
+pub returns : goal.returns
+returns c = write_by c.from.ensures c.write_tested-count.ensures c.number.ensures

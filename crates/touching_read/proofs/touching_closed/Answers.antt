@@ -2,8 +2,8 @@ use Rattle.std.proofs.Common.{rules, arith}
 use Rattle.touching_read.proofs.Listing.{touching_listed, touching_over, touching_short, listing}
 use Rattle.touching_read.proofs.touching_closed.Goals as goal
 
-pub returns-then-last-tick : goal.returns-then-last-tick
-returns-then-last-tick c = search (listing, arith)
+pub returns-then-tree-tick : goal.returns-then-tree-tick
+returns-then-tree-tick c = search (listing, arith)
 
 pub returns-then-end-start : goal.returns-then-end-start
 returns-then-end-start c = search (listing, arith)
@@ -13,15 +13,15 @@ returns-then-start-end c = search (listing, arith)
 
 pub returns-in_default : goal.returns-in_default
 returns-in_default c =
-    touching_short c.end-last.ensures c.if-last-tick.false c.if-end-start.false c.kind-kind.ensures c.over-before.ensures c.starting-listed.ensures c.is_some.ensures c.from-at.ensures
+    touching_short c.tree-tree.ensures c.if-tree-tick.false c.if-end-start.false c.over-before.ensures c.starting-listed.ensures c.is_some.ensures c.from-at.ensures
     (search rules) c.in_default.is
 
 pub returns-in-Some-before : goal.returns-in-Some-before
 returns-in-Some-before c =
-    touching_over c.end-last.ensures c.if-last-tick.false c.if-end-start.false c.kind-kind.ensures c.over-before.ensures c.starting-listed.ensures c.in-Some-before.is
+    touching_over c.tree-tree.ensures c.if-tree-tick.false c.if-end-start.false c.over-before.ensures c.starting-listed.ensures c.in-Some-before.is
     (rw (c.is_some.ensures, c.in-Some-before.is) at c.from-at.ensures) (search rules) c.in-Some.is c.put.ensures
 
 pub returns-in_default-before : goal.returns-in_default-before
 returns-in_default-before c =
-    touching_listed c.end-last.ensures c.if-last-tick.false c.if-end-start.false c.kind-kind.ensures c.over-before.ensures c.starting-listed.ensures c.in_default-before.is
+    touching_listed c.tree-tree.ensures c.if-tree-tick.false c.if-end-start.false c.over-before.ensures c.starting-listed.ensures c.in_default-before.is
     (rw (c.is_some.ensures, c.in_default-before.is) at c.from-at.ensures) c.in-Some.is

@@ -3,16 +3,16 @@ use Rattle.board_lines.proofs.Recording.{turn_first, turn_inside, turn_forward, 
 use Rattle.board_lines.proofs.records.record_all.Goals as goal
 
 pub loop-record-init : goal.loop-record-init
-loop-record-init c = turn_first _ _ _ _ _ _
+loop-record-init c = turn_first _ _ _ _ _
 
-pub slice_bounds-bytes-count : goal.slice_bounds-bytes-count
-slice_bounds-bytes-count c = turn_forward c.loop-record.invariant (rw c.in-Some-Ok.field-0-is at c.in-Some-Ok.ensures)
+pub slice_bounds-op-count : goal.slice_bounds-op-count
+slice_bounds-op-count c = turn_forward c.loop-record.invariant (rw c.in-Some-Ok.field-0-is at c.in-Some-Ok.ensures)
 
-pub slice_bounds-bytes-start : goal.slice_bounds-bytes-start
-slice_bounds-bytes-start c = turn_forward c.loop-record.invariant (rw c.in-Some-Ok.field-0-is at c.in-Some-Ok.ensures)
+pub slice_bounds-op-start : goal.slice_bounds-op-start
+slice_bounds-op-start c = turn_forward c.loop-record.invariant (rw c.in-Some-Ok.field-0-is at c.in-Some-Ok.ensures)
 
-pub slice_bounds-bytes-end : goal.slice_bounds-bytes-end
-slice_bounds-bytes-end c = turn_inside c.loop-record.invariant (rw c.in-Some-Ok.field-0-is at c.in-Some-Ok.ensures)
+pub slice_bounds-op-end : goal.slice_bounds-op-end
+slice_bounds-op-end c = turn_inside c.loop-record.invariant (rw c.in-Some-Ok.field-0-is at c.in-Some-Ok.ensures)
 
 pub overflow_add-k : goal.overflow_add-k
 overflow_add-k c =
@@ -25,7 +25,7 @@ loop-record-smaller c =
     omega (arith, turn_less c.loop-record.invariant e, turn_inside c.loop-record.invariant e)
 
 pub loop-record-preserved : goal.loop-record-preserved
-loop-record-preserved c = turn_on c.loop-record.invariant (rw c.in-Some-Ok.field-0-is at c.in-Some-Ok.ensures) c.record_one-at.ensures
+loop-record-preserved c = turn_on c.loop-record.invariant (rw c.in-Some-Ok.field-0-is at c.in-Some-Ok.ensures) c.record_one.ensures
 
 pub returns-in_default : goal.returns-in_default
 returns-in_default c =

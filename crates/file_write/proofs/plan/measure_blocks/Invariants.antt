@@ -3,4 +3,4 @@ use Rattle.file_write.proofs.Planning.{Measured}
 use Rattle.file_write.proofs.plan.measure_blocks.Given as goal
 
 abbrev pub invariant-loop-number : goal.invariant-loop-number
-invariant-loop-number l = Measured l.blocks l.room l.number l.living l.next
+invariant-loop-number l = Measured l.blocks l.room l.number l.living l.left

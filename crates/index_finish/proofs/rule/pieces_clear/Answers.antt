@@ -2,11 +2,11 @@
 use Rattle.index_finish.proofs.Clearing.{ahead_turn, ahead_end, clear_met}
 use Rattle.index_finish.proofs.rule.pieces_clear.Goals as goal
 
-pub returns-then-get-destroyed : goal.returns-then-get-destroyed
-returns-then-get-destroyed c =
+pub returns-then-piece-destroyed : goal.returns-then-piece-destroyed
+returns-then-piece-destroyed c =
     ahead_end c.loop-place.invariant
-    (clear_met c.seek-link.ensures c.if-link-eq0.false c.starts_below.ensures c.if-not-starts_below.false c.get.ensures c.if-get-destroyed.true)
+    (clear_met c.seek.ensures c.in-Some.is c.starts_below.ensures c.if-not-starts_below.false c.read-piece.ensures c.if-piece-destroyed.true)
 
 pub loop-place-preserved : goal.loop-place-preserved
 loop-place-preserved c =
-    ahead_turn c.loop-place.invariant c.seek-link.ensures c.if-link-eq0.false c.get.ensures c.end_of-next.ensures c.if-get-destroyed.false
+    ahead_turn c.loop-place.invariant c.seek.ensures c.in-Some.is c.read-piece.ensures c.end-next.ensures c.if-piece-destroyed.false

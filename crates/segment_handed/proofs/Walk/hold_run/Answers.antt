@@ -7,10 +7,10 @@ loop-row-init c = run_starts {rows = c.rows_of-rows.result}
 
 pub loop-row-preserved-then-read-node-2 : goal.loop-row-preserved-then-read-node-2
 loop-row-preserved-then-read-node-2 c =
-    run_passes c.loop-row-test.true c.loop-row.invariant c.get-k.ensures c.row-read.ensures (omega arith) c.saturating_add-place.ensures
+    run_passes c.loop-row-test.true c.loop-row.invariant c.get-k.ensures c.row-read.ensures (omega arith) c.end-place.ensures
     c.if-read-node.true c.if-read-node-2.true
 
 pub loop-row-preserved : goal.loop-row-preserved
 loop-row-preserved c =
-    run_holds c.loop-row-test.true c.loop-row.invariant c.get-k.ensures c.row-read.ensures (omega arith) c.saturating_add-place.ensures
+    run_holds c.loop-row-test.true c.loop-row.invariant c.get-k.ensures c.row-read.ensures (omega arith) c.end-place.ensures
     c.hold_block.ensures c.in_ok-slots.was

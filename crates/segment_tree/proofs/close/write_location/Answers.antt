@@ -1,35 +1,21 @@
-use Rattle.std.proofs.Common.{ap, sym, ◌∙◌, arith}
-use mathlib.Core.Bool.{not}
-use Rattle.segment_tree.proofs.Ways.{wide_of, narrow_of}
-use Rattle.segment_tree.proofs.WritingWays.{onto-none, onto-covered, onto_narrow, onto_neither, onto_left, onto_right}
+use Rattle.std.proofs.Common.{true, false}
+use Rattle.segment_tree.proofs.WritingWays.{onto_covered, onto_one, onto_neither}
 use Rattle.segment_tree.proofs.close.write_location.Goals as goal
 
-pub returns-then-covers_node : goal.returns-then-covers_node
-returns-then-covers_node c =
-    onto-covered c.loop-link.invariant.1 c.loop-link-test.true (sym c.covers_node.ensures ∙ c.if-covers_node.true) c.write_entry.ensures
+pub returns-then-covers : goal.returns-then-covers
+returns-then-covers c = onto_covered c.loop-link.invariant c.loop-link-test.true c.covers.ensures c.if-covers.true c.write_entry.ensures
 
-pub returns-then-not-has_halves : goal.returns-then-not-has_halves
-returns-then-not-has_halves c =
-    let narrow = narrow_of c.loop-link.lo c.loop-link.hi c.has_halves.ensures (ap not c.if-not-has_halves.true) in
-    onto_narrow c.loop-link.invariant.1 c.loop-link-test.true (sym c.covers_node.ensures ∙ c.if-covers_node.false) narrow
+pub returns-then-mid-life : goal.returns-then-mid-life
+returns-then-mid-life c = c.loop-link.invariant.rest _ _ c.write_both.ensures
 
-pub returns-then-mid-destroyed : goal.returns-then-mid-destroyed
-returns-then-mid-destroyed c = c.loop-link.invariant.1.rest _ _ c.write_both.ensures
+pub loop-link-preserved-then-life-mid : goal.loop-link-preserved-then-life-mid
+loop-link-preserved-then-life-mid c =
+    onto_one c.loop-link.invariant c.loop-link-test.true c.covers.ensures c.if-covers.false c.has_halves.ensures c.if-not-has_halves.false c.halves.ensures false c.if-life-mid.true c.if-mid-life.false c.get-link.ensures
 
-pub loop-link-preserved-then-created-mid : goal.loop-link-preserved-then-created-mid
-loop-link-preserved-then-created-mid c =
-    let wide = wide_of c.loop-link.lo c.loop-link.hi c.has_halves.ensures (ap not c.if-not-has_halves.false) in
-    (omega (arith, wide), onto_left c.loop-link.invariant.1 (sym c.covers_node.ensures ∙ c.if-covers_node.false) wide c.if-created-mid.true c.if-mid-destroyed.false c.get-link.ensures)
-
-pub returns-then-destroyed-mid : goal.returns-then-destroyed-mid
-returns-then-destroyed-mid c =
-    let wide = wide_of c.loop-link.lo c.loop-link.hi c.has_halves.ensures (ap not c.if-not-has_halves.false) in
-    onto_neither c.loop-link.invariant.1 (sym c.covers_node.ensures ∙ c.if-covers_node.false) wide c.if-created-mid.false c.if-destroyed-mid.true
+pub returns-then-life-mid-2 : goal.returns-then-life-mid-2
+returns-then-life-mid-2 c =
+    onto_neither c.loop-link.invariant c.loop-link-test.true c.covers.ensures c.if-covers.false c.has_halves.ensures c.if-not-has_halves.false c.halves.ensures c.if-life-mid.false c.if-life-mid-2.true
 
 pub loop-link-preserved : goal.loop-link-preserved
 loop-link-preserved c =
-    let wide = wide_of c.loop-link.lo c.loop-link.hi c.has_halves.ensures (ap not c.if-not-has_halves.false) in
-    (c.loop-link.invariant.0, onto_right c.loop-link.invariant.1 (sym c.covers_node.ensures ∙ c.if-covers_node.false) wide c.if-created-mid.false c.if-destroyed-mid.false c.get-link-else-created-mid.ensures)
-
-pub returns : goal.returns
-returns c = onto-none c.loop-link.invariant.1 c.loop-link-test.false
+    onto_one c.loop-link.invariant c.loop-link-test.true c.covers.ensures c.if-covers.false c.has_halves.ensures c.if-not-has_halves.false c.halves.ensures true c.if-life-mid-2.false c.if-life-mid.false c.get-link-else-life-mid.ensures

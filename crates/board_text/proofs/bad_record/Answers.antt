@@ -1,5 +1,0 @@
-use Rattle.lists.proofs.Puts.{put_append}
-use Rattle.board_text.proofs.bad_record.Goals as goal
-
-pub returns : goal.returns
-returns c = put_append c.text-next.ensures c.last_field.ensures

@@ -1,5 +1,0 @@
-use Rattle.board_text.proofs.Lines.{label_put}
-use Rattle.board_text.proofs.label.Goals as goal
-
-pub returns : goal.returns
-returns c = search label_put

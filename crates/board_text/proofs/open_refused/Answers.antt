@@ -1,5 +1,0 @@
-use Rattle.board_text.proofs.Lines.{refused_put}
-use Rattle.board_text.proofs.open_refused.Goals as goal
-
-pub returns : goal.returns
-returns c = refused_put _ _ c.text-next.ensures c.refused.ensures

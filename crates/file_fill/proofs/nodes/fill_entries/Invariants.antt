@@ -1,7 +1,0 @@
--- What the entries that are left leave, all leave from the start.
-use Rattle.std.proofs.Common.{◌+◌, ◌-◌}
-use Rattle.file_fill.proofs.FillingEntries.{Onward}
-use Rattle.file_fill.proofs.nodes.fill_entries.Given as goal
-
-abbrev pub invariant-loop-more : goal.invariant-loop-more
-invariant-loop-more l = Onward l.blocks l.file l.at l.first l.count l.fn.entries l.entries l.place (l.first + l.more) (l.count - l.more)

@@ -1,0 +1,92 @@
+// A result for Rust and C: 0, and what it gives through `&mut`; or the number of its refusal, and every value as it was.
+ghost use Rattle.std.specs.Prelude.{◌≡◌};
+ghost use Rattle.index_read.specs.Answers.{counts_given, fields_given};
+ghost use Rattle.servercape.specs.Numbers.{Handed, told_by, flagged, counts, fields};
+
+use index::{Block, Found};
+use refusals::Refusal;
+
+// A result that gives nothing.
+#[tactic(auto, using(crate::proofs::Answering::handing))]
+pub fn done(answer: Result<(), Refusal>) -> u64
+    ensures { result ≡ told_by answer }
+{
+    match answer {
+        Ok(()) => 0,
+        Err(refusal) => u64::from(refusal),
+    }
+}
+
+// A number.
+#[tactic(auto, using(crate::proofs::Answering::handing))]
+pub fn number(answer: Result<u64, Refusal>, value: &mut u64) -> u64
+    ensures { Handed (λ n. n) answer result value.old value.new }
+{
+    match answer {
+        Ok(given) => {
+            *value = given;
+            0
+        }
+        Err(refusal) => u64::from(refusal),
+    }
+}
+
+// A number that may be missing: 1 and the number, or 0 and 0.
+#[tactic(auto, using(crate::proofs::Answering::handing))]
+pub fn maybe(answer: Result<Option<u64>, Refusal>, some: &mut u64, value: &mut u64) -> u64
+    ensures { Handed flagged answer result (some.old, value.old) (some.new, value.new) }
+{
+    match answer {
+        Ok(found) => {
+            *some = u64::from(found.is_some());
+            *value = found.unwrap_or(0);
+            0
+        }
+        Err(refusal) => u64::from(refusal),
+    }
+}
+
+// What find counted.
+#[tactic(auto, using(crate::proofs::Answering::handing))]
+pub fn found(answer: Result<Found, Refusal>, count: &mut u64, visited: &mut u64) -> u64
+    ensures { Handed counts_given answer result
+        (counts count.old visited.old) (counts count.new visited.new) }
+{
+    match answer {
+        Ok(counted) => {
+            *count = counted.count;
+            *visited = counted.visited;
+            0
+        }
+        Err(refusal) => u64::from(refusal),
+    }
+}
+
+// The fields of a block.
+#[tactic(auto, using(crate::proofs::Answering::handing))]
+pub fn block(
+    answer: Result<Block, Refusal>,
+    kind: &mut u64,
+    first: &mut u64,
+    length: &mut u64,
+    created: &mut u64,
+    destroyed: &mut u64,
+    offset: &mut u64,
+) -> u64
+    ensures { Handed fields_given answer result
+        (fields kind.old first.old length.old created.old destroyed.old offset.old)
+        (fields kind.new first.new length.new created.new destroyed.new offset.new) }
+{
+    match answer {
+        Ok(row) => {
+            *kind = row.kind;
+            *first = row.first;
+            *length = row.length;
+            *created = row.created;
+            *destroyed = row.destroyed;
+            *offset = row.offset;
+            0
+        }
+        Err(refusal) => u64::from(refusal),
+    }
+}

@@ -1,0 +1,12 @@
+-- `touching::near` meets its contract: refused by the state, or what the inner call hands out. Assumes nothing.
+use Rattle.std.proofs.lemmas.Result.{err_from_is_err_and}
+use Rattle.touching.proofs.Answering.{near_refused, near_taken}
+use Rattle.touching.proofs.near.Goals as goal
+
+pub returns-in_err-closed : goal.returns-in_err-closed
+returns-in_err-closed c =
+    let p = err_from_is_err_and c.from_residual.result c.from_residual.ensures.1 in
+    rw (p.1, p.2) (near_refused _ _ _ _ _ _ _ c.test.result c.test.ensures c.closed.ensures c.args.side c.in_err-closed.was)
+
+pub returns : goal.returns
+returns c = near_taken _ _ _ _ _ _ _ c.test.result c.test.ensures c.closed.ensures _ c.args.side c.in_ok-closed.was c.near_closed.ensures
