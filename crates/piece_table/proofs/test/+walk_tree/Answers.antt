@@ -1,7 +1,7 @@
 -- full, or a piece that does not fit
 use Rattle.piece_table.proofs.Testing.{walk_full, walk_misfit}
-use Rattle.piece_table.proofs.+walk_tree.Goals as goal
-use Rattle.piece_table.proofs.+walk_tree.Goals.{then-limits-left-via-then-limits-left, then-limits-left-via-else-limits-left+then-not-row_fits}
+use Rattle.piece_table.proofs.test.+walk_tree.Goals as goal
+use Rattle.piece_table.proofs.test.+walk_tree.Goals.{then-limits-left-via-then-limits-left, then-limits-left-via-else-limits-left+then-not-row_fits}
 
 pub returns-then-limits-left : goal.returns-then-limits-left
 returns-then-limits-left t c =
