@@ -1,6 +1,6 @@
 use Rattle.std.proofs.Common.{rules}
 use Rattle.segment_tree.proofs.Counting.{count_spent_entries, count_all}
-use Rattle.segment_tree.proofs.build.count_tree.Goals as goal
+use Rattle.segment_tree.proofs.build.count_trees.Goals as goal
 
 pub returns-then-rows-total : goal.returns-then-rows-total
 returns-then-rows-total c =
