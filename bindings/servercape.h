@@ -34,27 +34,38 @@ enum servercape_table {
 };
 
 /* How many numbers (of the store: bytes) to lend for so many rows. 0 where that is no 64-bit number, and for any other table. Of the scratch one row is
-   enough: 8 numbers. Of nodes and entries finish needs rows by the end tick E: where E is at most 2^n and n at least 1, 1 + 2 * n * t nodes are enough for t
-   different ticks at which operations were recorded, and 2 * n - 1 entries for each row of the block table. */
+   enough: 8 numbers. Of nodes and entries finish needs rows by the end tick E: where E is at most 2^n and n at least 1, for each kind with operations
+   1 + 2 * n * t nodes are enough where these were recorded at t different ticks, and 2 * n - 1 entries for each row of the block table. */
 uint64_t servercape_length(uint64_t table, uint64_t rows);
 
 /* The largest end tick. */
 #define SERVERCAPE_MAX_END_TICK (UINT64_C(1) << 63)
 
-/* Opens an index: the end tick is from 1 to SERVERCAPE_MAX_END_TICK, the kind 0 Constant, 1 Memory, 2 Register, 3 Unique, 4 Other.
-   Refusal 1. */
+/* The kinds. An index is opened with one or more of them. A cell of one kind is none of another: each call that records or reads cells names the kind, as one
+   byte. Tables, block numbers and the last accepted tick are common to all kinds. */
+enum servercape_kind {
+    SERVERCAPE_CONSTANT = 0,
+    SERVERCAPE_MEMORY = 1,
+    SERVERCAPE_REGISTER = 2,
+    SERVERCAPE_UNIQUE = 3,
+    SERVERCAPE_OTHER = 4
+};
+
+/* Opens an index: the end tick is from 1 to SERVERCAPE_MAX_END_TICK. `kinds` has a byte for each kind that is opened; order and repeats do not matter.
+   Refusal 1: another end tick, no kind, or one above 4. */
 uint64_t servercape_open(
     uint64_t *pieces, size_t pieces_length,
     uint64_t *blocks, size_t blocks_length,
     const uint8_t *store, size_t store_length,
     uint64_t *nodes, size_t nodes_length,
     uint64_t *entries, size_t entries_length,
-    uint64_t end_tick, uint8_t kind);
+    uint64_t end_tick,
+    const uint8_t *kinds, size_t kinds_length);
 
-/* Records an operation: the bytes of the cells from `first` on, at a tick. Of an update `updated` is 1 and `cell` the lowest cell that was unknown or had
-   another byte; of a read, which changes no cell, both are 0. Of the scratch only the length counts: 8 numbers are enough for any number of pieces, and with
-   fewer every call is refused 2. Outside the hours of the installed calendar a byte other than 0 is refused 26, even where it is known; 0 is not.
-   Refusals 2, 3, 5 to 8, 26, 9 to 11. */
+/* Records an operation of a kind: the bytes of the cells from `first` on, at a tick. Of an update `updated` is 1 and `cell` the lowest cell that was unknown or
+   had another byte; of a read, which changes no cell, both are 0. Of the scratch only the length counts: 8 numbers are enough for any number of pieces, and
+   with fewer every call is refused 2. Outside the hours of the installed calendar a byte other than 0 is refused 26, even where it is known; 0 is not.
+   Refusals 2, 3, 25, 5 to 8, 26, 9 to 11. */
 uint64_t servercape_record(
     uint64_t *pieces, size_t pieces_length,
     uint64_t *blocks, size_t blocks_length,
@@ -62,15 +73,15 @@ uint64_t servercape_record(
     const uint64_t *nodes, size_t nodes_length,
     const uint64_t *entries, size_t entries_length,
     const uint64_t *scratch, size_t scratch_length,
-    uint64_t tick, uint64_t first,
+    uint8_t kind, uint64_t tick, uint64_t first,
     const uint8_t *bytes, size_t bytes_length,
     uint64_t *updated, uint64_t *cell);
 
-/* Records many operations with one test of the tables. They stand in a row: tick, first cell and length, 8 little-endian bytes each, then the bytes of the
-   cells. Of operation i the answers have at 3 * i what servercape_record returns for it, and then `updated` and `cell`, which are 0 where it is refused: a
+/* Records many operations of one kind with one test of the tables. They stand in a row: tick, first cell and length, 8 little-endian bytes each, then the bytes
+   of the cells. Of operation i the answers have at 3 * i what servercape_record returns for it, and then `updated` and `cell`, which are 0 where it is refused: a
    refused operation changes nothing, and the next one is played. It ends where the next operation is cut short or no three places for answers are left.
    Returns how many were played, which is no refusal; `next` is the position behind them.
-   Of each operation refusals 2, 3, 5 to 8, 26, 9 to 11. */
+   Of each operation refusals 2, 3, 25, 5 to 8, 26, 9 to 11. */
 uint64_t servercape_record_all(
     uint64_t *pieces, size_t pieces_length,
     uint64_t *blocks, size_t blocks_length,
@@ -78,11 +89,13 @@ uint64_t servercape_record_all(
     const uint64_t *nodes, size_t nodes_length,
     const uint64_t *entries, size_t entries_length,
     const uint64_t *scratch, size_t scratch_length,
+    uint8_t kind,
     const uint8_t *operations, size_t operations_length,
     uint64_t *answers, size_t answers_length,
     uint64_t *next);
 
-/* Finishes an index: its blocks can be read, and it takes no more operations.
+/* Finishes an index: its blocks can be read, and it takes no more operations. Each kind with blocks has a tree of its own, and all of them share the nodes and
+   the entries.
    Refusals 2, 3, 12, 13. */
 uint64_t servercape_finish(
     uint64_t *pieces, size_t pieces_length,
@@ -119,8 +132,8 @@ uint64_t servercape_install_days(
     const uint64_t *entries, size_t entries_length,
     const uint64_t *days, size_t days_length);
 
-/* The block of a number, from 0 in recorded order. Its bytes are store[offset] to store[offset + length - 1]. It is live from tick `created`
-   up to, and not including, `destroyed`.
+/* The block of a number, from 0 in recorded order, whatever its kind, which is told. Its bytes are store[offset] to store[offset + length - 1]. It is live from
+   tick `created` up to, and not including, `destroyed`.
    Refusals 2, 4, 15. */
 uint64_t servercape_block(
     const uint64_t *pieces, size_t pieces_length,
@@ -131,83 +144,86 @@ uint64_t servercape_block(
     uint64_t number,
     uint64_t *kind, uint64_t *first, uint64_t *length, uint64_t *created, uint64_t *destroyed, uint64_t *offset);
 
-/* The blocks that are live at a tick and whose first cell is in [start, end): their numbers go into the answer. `count` says how many, `visited` how
-   many nodes were looked at. A block that starts before the window and reaches into it is not listed: to look for conflicts, call servercape_touching.
-   Refusals 2, 4, 14 to 16. */
+/* The blocks of a kind that are live at a tick and whose first cell is in [start, end): their numbers go into the answer. `count` says how many, `visited`
+   how many nodes were looked at. A block that starts before the window and reaches into it is not listed: to look for conflicts, call servercape_touching.
+   Refusals 2, 4, 25, 14 to 16. */
 uint64_t servercape_find(
     const uint64_t *pieces, size_t pieces_length,
     const uint64_t *blocks, size_t blocks_length,
     const uint8_t *store, size_t store_length,
     const uint64_t *nodes, size_t nodes_length,
     const uint64_t *entries, size_t entries_length,
-    uint64_t tick, uint64_t start, uint64_t end,
+    uint8_t kind, uint64_t tick, uint64_t start, uint64_t end,
     uint64_t *answer, size_t answer_length,
     uint64_t *count, uint64_t *visited);
 
-/* Asks many finds with one test of the tables. A query is three numbers: tick, start, end. Of query i the answers have at 3 * i what servercape_find returns for
-   it, and then `count` and `visited`, which are 0 where it is refused. The block numbers of all go one behind the other into `numbers`; a query is lent what is
-   left there, and refused 16 where that does not hold its own. It ends where no three numbers of a query or no three places for its answer are left.
+/* Asks many finds of one kind with one test of the tables. A query is three numbers: tick, start, end. Of query i the answers have at 3 * i what
+   servercape_find returns for it, and then `count` and `visited`, which are 0 where it is refused. The block numbers of all go one behind the other into
+   `numbers`; a query is lent what is left there, and refused 16 where that does not hold its own. It ends where no three numbers of a query or no three places
+   for its answer are left.
    Returns how many were asked, which is no refusal.
-   Of each query refusals 2, 4, 14 to 16. */
+   Of each query refusals 2, 4, 25, 14 to 16. */
 uint64_t servercape_find_all(
     const uint64_t *pieces, size_t pieces_length,
     const uint64_t *blocks, size_t blocks_length,
     const uint8_t *store, size_t store_length,
     const uint64_t *nodes, size_t nodes_length,
     const uint64_t *entries, size_t entries_length,
+    uint8_t kind,
     const uint64_t *queries, size_t queries_length,
     uint64_t *answers, size_t answers_length,
     uint64_t *numbers, size_t numbers_length);
 
-/* For each cell of [start, end) at a tick: its byte, and 1 where a live block holds it; 0 and 0 where none does.
-   Refusals 2, 4, 14 to 16. */
+/* For each cell of [start, end) of a kind at a tick: its byte, and 1 where a live block holds it; 0 and 0 where none does.
+   Refusals 2, 4, 25, 14 to 16. */
 uint64_t servercape_read_cells(
     const uint64_t *pieces, size_t pieces_length,
     const uint64_t *blocks, size_t blocks_length,
     const uint8_t *store, size_t store_length,
     const uint64_t *nodes, size_t nodes_length,
     const uint64_t *entries, size_t entries_length,
-    uint64_t tick, uint64_t start, uint64_t end,
+    uint8_t kind, uint64_t tick, uint64_t start, uint64_t end,
     uint8_t *bytes, size_t bytes_length,
     uint8_t *held, size_t held_length);
 
-/* The blocks that are live at a tick and hold any cell of [start, end), those that start before the window too: their numbers go into the answer, ascending
-   by first cell, and `count` says how many. An empty window has no cell, so it lists none.
-   Refusals 2, 4, 14 to 16. */
+/* The blocks of a kind that are live at a tick and hold any cell of [start, end), those that start before the window too: their numbers go into the answer,
+   ascending by first cell, and `count` says how many. An empty window has no cell, so it lists none.
+   Refusals 2, 4, 25, 14 to 16. */
 uint64_t servercape_touching(
     const uint64_t *pieces, size_t pieces_length,
     const uint64_t *blocks, size_t blocks_length,
     const uint8_t *store, size_t store_length,
     const uint64_t *nodes, size_t nodes_length,
     const uint64_t *entries, size_t entries_length,
-    uint64_t tick, uint64_t start, uint64_t end,
+    uint8_t kind, uint64_t tick, uint64_t start, uint64_t end,
     uint64_t *answer, size_t answer_length,
     uint64_t *count);
 
-/* The first block that is live at a tick and starts at or after a cell: `found` is 1 and `number` its number; both are 0 where there is none.
-   Refusals 2, 4, 14. */
+/* The first block of a kind that is live at a tick and starts at or after a cell: `found` is 1 and `number` its number; both are 0 where there is none.
+   Refusals 2, 4, 25, 14. */
 uint64_t servercape_next(
     const uint64_t *pieces, size_t pieces_length,
     const uint64_t *blocks, size_t blocks_length,
     const uint8_t *store, size_t store_length,
     const uint64_t *nodes, size_t nodes_length,
     const uint64_t *entries, size_t entries_length,
-    uint64_t tick, uint64_t cell,
+    uint8_t kind, uint64_t tick, uint64_t cell,
     uint64_t *found, uint64_t *number);
 
-/* The last block that is live at a tick and whose cells are all below a cell, told in the same way. One that reaches over the cell is passed over; one that
-   ends at it counts.
-   Refusals 2, 4, 14. */
+/* The last block of a kind that is live at a tick and whose cells are all below a cell, told in the same way. One that reaches over the cell is passed over;
+   one that ends at it counts.
+   Refusals 2, 4, 25, 14. */
 uint64_t servercape_last(
     const uint64_t *pieces, size_t pieces_length,
     const uint64_t *blocks, size_t blocks_length,
     const uint8_t *store, size_t store_length,
     const uint64_t *nodes, size_t nodes_length,
     const uint64_t *entries, size_t entries_length,
-    uint64_t tick, uint64_t cell,
+    uint8_t kind, uint64_t tick, uint64_t cell,
     uint64_t *found, uint64_t *number);
 
-/* Writes the file of an index from the start of `out` on; `written` says how many bytes.
+/* Writes the file of an index from the start of `out` on; `written` says how many bytes. Where several kinds have blocks, their trees stand one behind the other,
+   by kind code, each with its own blocks, numbered from 0: each is a file that servercape_load takes.
    Refusals 2, 4, 16. */
 uint64_t servercape_write(
     const uint64_t *pieces, size_t pieces_length,
@@ -218,8 +234,8 @@ uint64_t servercape_write(
     uint8_t *out, size_t out_length,
     uint64_t *written);
 
-/* Loads a finished index from a file, from position `at` on; `next` is the position after it. The tables need not be opened. It has no list of days: install
-   it anew. After refusals 21 to 24 the tables hold zeros.
+/* Loads a finished index from a file, from position `at` on; `next` is the position after it. The tables need not be opened. It takes one tree and opens its kind
+   alone; the next kind of the same file begins at `next`. It has no list of days: install it anew. After refusals 21 to 24 the tables hold zeros.
    Refusals 17 to 24. */
 uint64_t servercape_load(
     uint64_t *pieces, size_t pieces_length,

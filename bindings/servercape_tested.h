@@ -47,7 +47,7 @@ uint64_t servercape_record_tested(
     uint64_t *blocks, size_t blocks_length,
     uint8_t *store, size_t store_length,
     const uint64_t *scratch, size_t scratch_length,
-    uint64_t tick, uint64_t first,
+    uint8_t kind, uint64_t tick, uint64_t first,
     const uint8_t *bytes, size_t bytes_length,
     uint64_t *updated, uint64_t *cell);
 
@@ -65,7 +65,7 @@ uint64_t servercape_find_tested(
     const uint64_t *blocks, size_t blocks_length,
     const uint64_t *nodes, size_t nodes_length,
     const uint64_t *entries, size_t entries_length,
-    uint64_t tick, uint64_t start, uint64_t end,
+    uint8_t kind, uint64_t tick, uint64_t start, uint64_t end,
     uint64_t *answer, size_t answer_length,
     uint64_t *count, uint64_t *visited);
 
@@ -76,7 +76,7 @@ uint64_t servercape_read_cells_tested(
     const uint8_t *store, size_t store_length,
     const uint64_t *nodes, size_t nodes_length,
     const uint64_t *entries, size_t entries_length,
-    uint64_t tick, uint64_t start, uint64_t end,
+    uint8_t kind, uint64_t tick, uint64_t start, uint64_t end,
     uint8_t *bytes, size_t bytes_length,
     uint8_t *held, size_t held_length);
 
@@ -86,7 +86,7 @@ uint64_t servercape_touching_tested(
     const uint64_t *blocks, size_t blocks_length,
     const uint64_t *nodes, size_t nodes_length,
     const uint64_t *entries, size_t entries_length,
-    uint64_t tick, uint64_t start, uint64_t end,
+    uint8_t kind, uint64_t tick, uint64_t start, uint64_t end,
     uint64_t *answer, size_t answer_length,
     uint64_t *count);
 
@@ -96,7 +96,7 @@ uint64_t servercape_next_tested(
     const uint64_t *blocks, size_t blocks_length,
     const uint64_t *nodes, size_t nodes_length,
     const uint64_t *entries, size_t entries_length,
-    uint64_t tick, uint64_t cell,
+    uint8_t kind, uint64_t tick, uint64_t cell,
     uint64_t *found, uint64_t *number);
 
 /* servercape_last. */
@@ -105,7 +105,7 @@ uint64_t servercape_last_tested(
     const uint64_t *blocks, size_t blocks_length,
     const uint64_t *nodes, size_t nodes_length,
     const uint64_t *entries, size_t entries_length,
-    uint64_t tick, uint64_t cell,
+    uint8_t kind, uint64_t tick, uint64_t cell,
     uint64_t *found, uint64_t *number);
 
 /* servercape_write. */

@@ -1,13 +1,15 @@
 """The rules (docs/RULES.md) as a plain model: an index that answers the calls of the stored list.
 
 Nothing is shared with the crates. Pieces and blocks are lists, the tree is made of Python objects, and the loader reads fields from bytes. A call is a list of
-words and its answer a text, as in the list of the oracle: `open E KIND PIECES SCRATCH BLOCKS STORE NODES ENTRIES`, `record TICK FIRST HEX`, `finish`,
-`load AT BLOCKS STORE NODES ENTRIES HEX`, `block NUMBER`, `find TICK START END ROOM`, `cells TICK START END BYTEROOM HELDROOM`, `write ROOM`, `clock CELL`.
-What is lent is counted in rows, the scratch in numbers; a table of -1 rows cannot hold its head.
+words and its answer a text, as in the list of the oracle, with kinds: `open E KINDS PIECES SCRATCH BLOCKS STORE NODES ENTRIES`, `record KIND TICK FIRST HEX`,
+`finish`, `load AT BLOCKS STORE NODES ENTRIES HEX`, `block NUMBER`, `find KIND TICK START END ROOM`, `cells KIND TICK START END BYTEROOM HELDROOM`, `write ROOM`,
+`clock CELL`. What is lent is counted in rows, the scratch in numbers; a table of -1 rows cannot hold its head. KINDS are numbers with commas between them, `-`
+for none.
 
-Of the requests: `touching TICK START END ROOM`, whose answer is the count and the numbers, and `next TICK CELL` and `last TICK CELL`, with a number or `missing`;
-record answers `read`, or `update` with the lowest cell that was unknown or had another byte, and is refused 2 with a scratch of fewer than eight numbers; `calendar
-NUMBERS` and `days NUMBERS` install the calendar and the list of days of these numbers, with commas between them, and answer `installed`.
+Of the requests: `touching KIND TICK START END ROOM`, whose answer is the count and the numbers, and `next KIND TICK CELL` and `last KIND TICK CELL`, with a
+number or `missing`; record answers `read`, or `update` with the lowest cell that was unknown or had another byte, and is refused 2 with a scratch of fewer
+than eight numbers; `calendar NUMBERS` and `days NUMBERS` install the calendar and the list of days of these numbers, and answer `installed`. A call that leaves
+out its KIND, as those of lists that are older than request 3, means the first kind of the index (`Model.named`).
 
 Two more are our own. `scratch NUMBERS` lends another scratch from there on. `damaged AT BY FROM TO HEX` loads a file into the tables of the load before, once
 for each place from FROM up to TO: cut at that place where BY is 0, else with the byte there raised by BY. Its answer is `NUMBER*MANY` for each run of files
@@ -22,6 +24,7 @@ WORD = 1 << 64
 MOST_END = 1 << 63
 MINUTES = 1 << 32
 LEAST_SCRATCH = 8
+KINDS = 5
 
 
 class Refused(Exception):
@@ -44,15 +47,18 @@ def unhexed(word):
 
 
 class Piece:
-    def __init__(self, first, data, written):
-        self.first, self.data, self.written = first, data, written
+    def __init__(self, kind, first, data, written):
+        self.kind, self.first, self.data, self.written = kind, first, data, written
 
     @property
     def end(self):
         return self.first + len(self.data)
 
     def part(self, start, end):
-        return Piece(start, self.data[start - self.first:end - self.first], self.written)
+        return Piece(self.kind, start, self.data[start - self.first:end - self.first], self.written)
+
+    def settled(self, destroyed):
+        return Block(self.kind, self.first, self.data, self.written, destroyed)
 
 
 class Block:
@@ -107,6 +113,22 @@ def entry_count(root):
     return sum(len(node.entries) for node in nodes_of(root))
 
 
+def roots_of(end, blocks):
+    """A tree for each kind that has blocks, by kind code."""
+    roots = {}
+    for kind in sorted({block.kind for block in blocks}):
+        roots[kind] = Node(0, end)
+        for number, block in enumerate(blocks):
+            if block.kind == kind:
+                roots[kind].add(number, blocks)
+    return roots
+
+
+def counts_of(roots):
+    """The nodes and entries of all trees together."""
+    return sum(len(nodes_of(root)) for root in roots.values()), sum(map(entry_count, roots.values()))
+
+
 # ── the file ──
 
 
@@ -128,8 +150,7 @@ def node_bytes(node, renumber):
 
 
 def file_bytes(kind, blocks, root):
-    if not blocks:
-        return b""
+    """One tree with the blocks that have an entry in it, numbered anew."""
     written = sorted({n for node in nodes_of(root) for n in node.entries})
     own = bytes([kind]) + number_bytes(len(written)) + b"".join(block_bytes(blocks[n]) for n in written)
     return own + node_bytes(root, written.index)
@@ -237,6 +258,9 @@ def damaged_at(file, place, by):
 # The calls whose last word is bytes, or numbers with commas.
 BYTES_LAST = ("record", "load", "damaged", "calendar", "days")
 
+# How many words a call has that names a kind: one less where it leaves it out.
+NAMES_KIND = {"record": 5, "find": 6, "cells": 7, "touching": 6, "next": 4, "last": 4}
+
 
 def listed(word):
     """The numbers of a word with commas."""
@@ -249,20 +273,27 @@ class Model:
     def __init__(self):
         self.state = None
         self.rows = None
+        self.kinds = {1}
+
+    def named(self, words):
+        """The call with its kind."""
+        words = list(map(str, words))
+        return words[:1] + [str(min(self.kinds))] + words[1:] if NAMES_KIND.get(words[0], 0) == len(words) + 1 else words
 
     def answer(self, words):
-        call, *numbers = words
+        call, *numbers = self.named(words)
         tail = [numbers.pop()] if call in BYTES_LAST else []
+        front = [int(numbers.pop(0)), listed(numbers.pop(0))] if call == "open" else []
         try:
-            return " ".join(map(str, getattr(self, call)(*map(int, numbers), *tail)))
+            return " ".join(map(str, getattr(self, call)(*front, *map(int, numbers), *tail)))
         except Refused as no:
             return f"refused {no.number}"
 
-    def open(self, end, kind, pieces, scratch, blocks, store, nodes, entries):
-        refuse(1, not 1 <= end <= MOST_END or kind > 4)
+    def open(self, end, kinds, pieces, scratch, blocks, store, nodes, entries):
+        refuse(1, not 1 <= end <= MOST_END or not kinds or max(kinds) >= KINDS)
         self.rows = {"pieces": pieces, "scratch": scratch, "blocks": blocks, "store": store, "nodes": nodes, "entries": entries}
-        self.end, self.kind, self.state = end, kind, self.headed("open")
-        self.pieces, self.blocks, self.root = [], [], None
+        self.end, self.kinds, self.state = end, set(kinds), self.headed("open")
+        self.pieces, self.blocks, self.roots = [], [], {}
         self.last_tick, self.used, self.hours, self.day_list = 0, 0, None, Days([])
         return ["ok"]
 
@@ -273,48 +304,48 @@ class Model:
         self.rows["scratch"] = numbers
         return ["lent"]
 
-    def first_change(self, first, data):
+    def first_change(self, kind, first, data):
         """The lowest cell of an operation that is unknown or has another byte; none of a read."""
         known = {}
-        for piece in self.pieces:
-            if piece.first < first + len(data) and first < piece.end:
-                for cell in range(max(piece.first, first), min(piece.end, first + len(data))):
-                    known[cell] = piece.data[cell - piece.first]
+        for piece in self.overlapped(kind, first, data):
+            for cell in range(max(piece.first, first), min(piece.end, first + len(data))):
+                known[cell] = piece.data[cell - piece.first]
         return next((first + i for i, byte in enumerate(data) if known.get(first + i) != byte), None)
 
-    def is_read(self, first, data):
-        return self.first_change(first, data) is None
+    def overlapped(self, kind, first, data):
+        """The pieces of its kind that an operation has a cell in common with, ascending."""
+        return [p for p in self.pieces if p.kind == kind and p.first < first + len(data) and first < p.end]
 
-    def updated(self, tick, first, data):
-        """The pieces and the new blocks of an update."""
-        end = first + len(data)
-        pieces, blocks = [Piece(first, data, tick)], []
-        for piece in self.pieces:
-            if piece.end <= first or end <= piece.first:
-                pieces.append(piece)
-                continue
-            inside = piece.part(max(piece.first, first), min(piece.end, end))
-            blocks.append(Block(self.kind, inside.first, inside.data, piece.written, tick))
+    def is_read(self, kind, first, data):
+        return self.first_change(kind, first, data) is None
+
+    def updated(self, kind, tick, first, data):
+        """The pieces, by kind and then by cell, and the new blocks of an update."""
+        end, over = first + len(data), self.overlapped(kind, first, data)
+        pieces, blocks = [p for p in self.pieces if p not in over] + [Piece(kind, first, data, tick)], []
+        for piece in over:
+            blocks.append(piece.part(max(piece.first, first), min(piece.end, end)).settled(tick))
             if piece.first < first:
                 pieces.append(piece.part(piece.first, first))
             if end < piece.end:
                 pieces.append(piece.part(end, piece.end))
-        return sorted(pieces, key=lambda p: p.first), blocks
+        return sorted(pieces, key=lambda p: (p.kind, p.first)), blocks
 
-    def record(self, tick, first, word):
+    def record(self, kind, tick, first, word):
         data = unhexed(word)
         refuse(2, self.state is None or self.rows["scratch"] < LEAST_SCRATCH)
         refuse(3, self.state != "open")
+        refuse(25, kind not in self.kinds)
         refuse(5, not data)
         refuse(6, first + len(data) > WORD - 1)
         refuse(7, tick >= self.end)
         refuse(8, tick < self.last_tick)
         refuse(26, self.hours is not None and any(byte and not self.hours.is_open(*self.day_list.place(first + i)) for i, byte in enumerate(data)))
-        cell = self.first_change(first, data)
+        cell = self.first_change(kind, first, data)
         if cell is None:
             self.last_tick = tick
             return ["read"]
-        pieces, blocks = self.updated(tick, first, data)
+        pieces, blocks = self.updated(kind, tick, first, data)
         refuse(9, len(pieces) > self.rows["pieces"])
         refuse(10, len(self.blocks) + len(blocks) + len(pieces) > self.rows["blocks"])
         refuse(11, self.used + len(data) > self.rows["store"])
@@ -325,14 +356,13 @@ class Model:
     def finish(self):
         refuse(2, self.state is None)
         refuse(3, self.state != "open")
-        blocks = self.blocks + [Block(self.kind, p.first, p.data, p.written, self.end) for p in self.pieces]
-        root = Node(0, self.end) if blocks else None
-        for number in range(len(blocks)):
-            root.add(number, blocks)
-        refuse(12, len(nodes_of(root)) > self.rows["nodes"])
-        refuse(13, entry_count(root) > self.rows["entries"])
-        self.blocks, self.pieces, self.root, self.state = blocks, [], root, "closed"
-        return [len(blocks), len(nodes_of(root)), entry_count(root)]
+        blocks = self.blocks + [piece.settled(self.end) for piece in self.pieces]
+        roots = roots_of(self.end, blocks)
+        nodes, entries = counts_of(roots)
+        refuse(12, nodes > self.rows["nodes"])
+        refuse(13, entries > self.rows["entries"])
+        self.blocks, self.pieces, self.roots, self.state = blocks, [], roots, "closed"
+        return [len(blocks), nodes, entries]
 
     def calendar(self, word):
         hours = Calendar(listed(word))
@@ -366,8 +396,8 @@ class Model:
         self.state = None
         end = root.high if root else 0
         refuse_rules(end, found, root)
-        self.end, self.kind, self.state = end, kind, self.headed("loaded")
-        self.pieces, self.blocks, self.root, self.day_list = [], found, root, Days([])
+        self.end, self.kinds, self.state = end, {kind}, self.headed("loaded")
+        self.pieces, self.blocks, self.roots, self.day_list = [], found, {kind: root}, Days([])
         return [fields.at, end, kind, len(found)]
 
     def damaged(self, at, by, start, end, word):
@@ -397,53 +427,58 @@ class Model:
         b = self.blocks[number]
         return [b.kind, b.first, len(b.data), b.created, b.destroyed, hexed(b.data)]
 
-    def refuse_tick(self, tick):
+    def refuse_tick(self, kind, tick):
         self.refuse_open()
+        refuse(25, kind not in self.kinds)
         refuse(14, tick >= self.end)
 
-    def refuse_window(self, tick, start, end):
-        self.refuse_tick(tick)
+    def refuse_window(self, kind, tick, start, end):
+        self.refuse_tick(kind, tick)
         refuse(15, start > end)
 
-    def find(self, tick, start, end, room):
-        self.refuse_window(tick, start, end)
-        path = list(self.root.path(tick)) if self.root else []
+    def find(self, kind, tick, start, end, room):
+        self.refuse_window(kind, tick, start, end)
+        path = list(self.roots[kind].path(tick)) if kind in self.roots else []
         listed = [n for node in path for n in node.entries if start <= self.blocks[n].first < end]
         refuse(16, len(listed) > room)
         return [len(listed), len(path)] + listed
 
-    def cells(self, tick, start, end, byte_room, held_room):
-        self.refuse_window(tick, start, end)
+    def cells(self, kind, tick, start, end, byte_room, held_room):
+        self.refuse_window(kind, tick, start, end)
         refuse(16, end - start > byte_room or end - start > held_room)
         data, held = bytearray(end - start), bytearray(end - start)
         for block in self.blocks:
-            if block.live(tick):
+            if block.kind == kind and block.live(tick):
                 for cell in range(max(start, block.first), min(end, block.end)):
                     data[cell - start], held[cell - start] = block.data[cell - block.first], 1
         return [hexed(data), hexed(held)]
 
-    def in_order(self, tick, asked):
-        """The numbers of the live blocks of which something holds, ascending by first cell. No look at the tree."""
-        numbers = [n for n, block in enumerate(self.blocks) if block.live(tick) and asked(block)]
+    def in_order(self, kind, tick, asked):
+        """The numbers of the live blocks of a kind of which something holds, ascending by first cell. No look at the tree."""
+        numbers = [n for n, block in enumerate(self.blocks) if block.kind == kind and block.live(tick) and asked(block)]
         return sorted(numbers, key=lambda n: self.blocks[n].first)
 
-    def touching(self, tick, start, end, room):
-        self.refuse_window(tick, start, end)
-        listed = self.in_order(tick, lambda block: max(start, block.first) < min(end, block.end))
+    def touching(self, kind, tick, start, end, room):
+        self.refuse_window(kind, tick, start, end)
+        listed = self.in_order(kind, tick, lambda block: max(start, block.first) < min(end, block.end))
         refuse(16, len(listed) > room)
         return [len(listed)] + listed
 
-    def next(self, tick, cell):
-        self.refuse_tick(tick)
-        return (self.in_order(tick, lambda block: cell <= block.first) or ["missing"])[:1]
+    def next(self, kind, tick, cell):
+        self.refuse_tick(kind, tick)
+        return (self.in_order(kind, tick, lambda block: cell <= block.first) or ["missing"])[:1]
 
-    def last(self, tick, cell):
-        self.refuse_tick(tick)
-        return (["missing"] + self.in_order(tick, lambda block: block.end <= cell))[-1:]
+    def last(self, kind, tick, cell):
+        self.refuse_tick(kind, tick)
+        return (["missing"] + self.in_order(kind, tick, lambda block: block.end <= cell))[-1:]
+
+    def file(self):
+        """The trees one after the other, by kind code."""
+        return b"".join(file_bytes(kind, self.blocks, root) for kind, root in sorted(self.roots.items()))
 
     def write(self, room):
         self.refuse_open()
-        file = file_bytes(self.kind, self.blocks, self.root)
+        file = self.file()
         refuse(16, len(file) > room)
         return [hexed(file)]
 

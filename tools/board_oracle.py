@@ -1,9 +1,9 @@
 """Compares the model's answers to the own cases with those of the Rust, where the two must agree.
 
-The Rust is the program `oracle` of the list's source (`ops E KIND`, `op TICK FIRST HEX`, `load HEX`, `q TICK START END`, `go`; answers up to `end`). A list of
-records goes to it with the accepted ones alone (D3), and is cut before the first that meets D1 or D2. Its blocks, finds and, after renumbering (D4), its file
-must be the model's. A file that the model takes must be taken with the same next position, finds and bytes; one that it refuses with 17 must make the
-Rust panic or end; 18 to 24 may go either way (D5).
+The Rust is the program `oracle` of the list's source (`ops E KIND`, `op TICK FIRST HEX`, `load HEX`, `q TICK START END`, `go`; answers up to `end`). It knows one
+kind at a time, so each kind of a list is a job of its own. The records of a kind go to it with the accepted ones alone (D3), and are cut before the first that meets
+D1 or D2. Its blocks, finds and, after renumbering (D4), its file must be the model's for that kind, which is given the kinds together. A file that the model
+takes must be taken with the same next position, finds and bytes; one that it refuses with 17 must make the Rust panic or end; 18 to 24 may go either way (D5).
 """
 import subprocess
 
@@ -34,16 +34,16 @@ class Oracle:
         return answer
 
 
-def differs(model, first, data):
-    """D1 or D2, of an operation on the pieces as they stand."""
+def differs(model, kind, first, data):
+    """D1 or D2, of an operation on the pieces of its kind as they stand."""
     end = first + len(data)
-    over = [p for p in model.pieces if p.first < end and first < p.end]
+    over = model.overlapped(kind, first, data)
     if not over:
         return False
-    if not model.is_read(first, data) and any(p.first <= first and end < p.end for p in over):
+    if not model.is_read(kind, first, data) and any(p.first <= first and end < p.end for p in over):
         return True
     last = over[-1].end
-    return last < end and model.is_read(first, data[:last - first])
+    return last < end and model.is_read(kind, first, data[:last - first])
 
 
 def key(block):
@@ -68,46 +68,49 @@ def renumbered(file, blocks):
     return file_bytes(kind, blocks, root)
 
 
-def finds_of(model, queries):
+def finds_of(model, kind, queries):
     lines = []
     for tick, start, end in queries:
-        numbers = [int(n) for n in model.answer(["find", tick, start, end, "100000"]).split()[2:]]
+        numbers = [int(n) for n in model.answer(["find", kind, tick, start, end, "100000"]).split()[2:]]
         lines += [f"find {len(numbers)}"] + ["hit " + shown(model.blocks[n]) for n in numbers]
     return lines
 
 
 def queries_of(model, calls):
-    windows = [call[1:4] for call in calls if call[0] == "find"]
+    """The windows of all finds, whatever their kinds."""
+    windows = [call[-4:-1] for call in calls if call[0] == "find"]
     return [w for w in windows if int(w[0]) < model.end and int(w[1]) <= int(w[2]) < WORD]
 
 
-def agree(oracle, model, head, front, file, queries):
-    """Whether the Rust says `front`, the file, and the model's finds."""
+def agree(oracle, model, kind, head, front, file, queries):
+    """Whether the Rust says `front`, the file, and the model's finds of the kind."""
     answer = oracle.ask(head + ["q " + " ".join(w) for w in queries])
     if answer is None or answer[:len(front)] != front or not answer[len(front)].startswith("file "):
         return False
-    theirs = renumbered(unhexed(answer[len(front)].split()[1]), model.blocks)
-    return theirs == file and answer[len(front) + 1:] == finds_of(model, queries)
+    own = [b for b in model.blocks if b.kind == kind and b.created < b.destroyed]
+    theirs = renumbered(unhexed(answer[len(front)].split()[1]), own)
+    return theirs == file and answer[len(front) + 1:] == finds_of(model, kind, queries)
 
 
-def list_agrees(oracle, end, kind, records, calls):
-    """One list of accepted records."""
+def kind_agrees(oracle, model, kind, records, calls):
+    """What a finished index has of one kind, by its accepted records."""
+    front = ["block " + shown(b) for b in model.blocks if b.kind == kind]
+    file = file_bytes(kind, model.blocks, model.roots[kind]) if kind in model.roots else b""
+    head = [f"ops {model.end} {kind}"] + ["op " + " ".join(r[2:]) for r in records]
+    return agree(oracle, model, kind, head, front, file, queries_of(model, calls) if file else [])
+
+
+def list_agrees(oracle, end, kinds, records, calls):
+    """One list of accepted records: each of its kinds; the first one also where it has none."""
     model = Model()
-    model.answer(["open", end, kind] + WIDE)
+    model.answer(["open", end, kinds] + WIDE)
     for record in records:
         model.answer(record)
     model.answer(["finish"])
-    written = {n for node in nodes_of(model.root) for n in node.entries}
-    front = ["block " + shown(b) for b in model.blocks]
-    file = file_bytes(model.kind, model.blocks, model.root)
-    queries = queries_of(model, calls) if written else []
-    model_of_file = Model()
-    if written:
-        model_of_file.answer(["load", "0"] + WIDE[:4] + [hexed(file)])
-    else:
-        model_of_file.blocks = []
-    head = [f"ops {end} {kind}"] + ["op " + " ".join(r[1:]) for r in records]
-    return agree(oracle, model_of_file, head, front, file, queries)
+    parts = {int(record[1]): [] for record in records} or {min(model.kinds): []}
+    for record in records:
+        parts[int(record[1])].append(record)
+    return all(kind_agrees(oracle, model, kind, part, calls) for kind, part in parts.items())
 
 
 def file_agrees(oracle, call, calls):
@@ -122,24 +125,25 @@ def file_agrees(oracle, call, calls):
         return told is None or told[0].startswith("panic")
     if answer[0] == "refused":
         return None
-    return agree(oracle, model, head, ["next " + answer[0]], content[:int(answer[0])], queries_of(model, calls))
+    return agree(oracle, model, int(answer[2]), head, ["next " + answer[0]], content[:int(answer[0])], queries_of(model, calls))
 
 
 def lists_of(calls):
-    """The lists of a case that are finished: end tick, kind, the accepted records up to D1 or D2."""
-    model, head, records, cut = Model(), None, [], False
+    """The lists of a case that are finished: end tick, kinds, the accepted records, those of each kind up to its first D1 or D2."""
+    model, head, records, cut = Model(), None, [], set()
     for call in calls:
         if call[0] == "damaged":
             continue
-        meets = call[0] == "record" and model.state == "open" and differs(model, int(call[2]), unhexed(call[3]))
+        call = model.named(call)
+        meets = call[0] == "record" and model.state == "open" and differs(model, int(call[1]), int(call[3]), unhexed(call[4]))
         answer = model.answer(call)
         if answer.startswith("refused"):
             continue
         if call[0] == "open":
-            head, records, cut = call[1:3], [], False
+            head, records, cut = call[1:3], [], set()
         elif call[0] == "record":
-            cut = cut or meets
-            records += [] if cut else [call]
+            cut |= {call[1]} if meets else set()
+            records += [] if call[1] in cut else [call]
         elif call[0] == "finish":
             yield head[0], head[1], records
 
@@ -148,9 +152,9 @@ def compare(program, cases):
     """Counts what was compared; gives the names of the cases that differ."""
     oracle, lists, files, differ = Oracle(program), 0, 0, []
     for name, calls in cases:
-        for end, kind, records in lists_of(calls):
+        for end, kinds, records in lists_of(calls):
             lists += 1
-            if not list_agrees(oracle, end, kind, records, calls):
+            if not list_agrees(oracle, end, kinds, records, calls):
                 differ.append(name)
         for call in calls:
             alike = file_agrees(oracle, call, calls) if call[0] == "load" else None

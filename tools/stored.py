@@ -2,7 +2,7 @@
 """Makes the stored list that the program `replay` plays: calls with their answers, as its standard input.
 
   stored.py make VECTORS FILE [ORACLE]   from the oracle's list, the boards of marked.txt and the own cases (stored_cases.py, _touching, _changes, _scratch,
-                                         _hours, _days)
+                                         _hours, _days, _kinds)
   stored.py show FILE [CASE]             the list, or one case of it, in words; cases count from 1
   stored.py spoil VECTORS FILE           the same cases, each up to a call whose answer is changed: replay must say that one of each differs
   stored.py --test                       tries itself: the model gives every answer of marked.txt, and rows are read as they were written
@@ -14,16 +14,17 @@ import collections
 import os
 import sys
 
-from board_model import BYTES_LAST, LEAST_SCRATCH, WORD, Model, hexed, listed, unhexed
+from board_model import BYTES_LAST, LEAST_SCRATCH, NAMES_KIND, WORD, Model, hexed, listed, unhexed
 from board_oracle import compare
 from stored_cases import Dice, own_cases
 from stored_changes import change_cases
 from stored_rows import (
-    BLOCK, CALENDAR, CASE, CELLS, CLOCK, DAMAGED, DAYS, FIND, FINISH, LAST, LOAD, NEXT, OPEN, OWN, PART, RECORD, SCRATCH, TOUCHING, WRITE, Part, line, number, read_number,
-    row, rows_of
+    BLOCK, CALENDAR, CASE, CELLS, CLOCK, DAMAGED, DAYS, FIND, FINISH, KIND, LAST, LOAD, NEXT, OPEN, OWN, PART, RECORD, SCRATCH, TOUCHING, WRITE, Part, line, number,
+    read_number, row, rows_of
 )
 from stored_days import days_cases
 from stored_hours import hours_cases
+from stored_kinds import kinds_cases
 from stored_scratch import scratch_cases
 from stored_touching import touching_cases
 
@@ -34,7 +35,7 @@ PIECE_HEAD, BLOCK_HEAD, NODE_HEAD, ENTRY_HEAD = 8, 2048, 8, 8
 ROW, ENTRY_ROW = 8, 2
 
 # What the program has room for: rows of each table, bytes of store, numbers of a scratch, places of an answer, cells, bytes of a file, numbers of a calendar
-# or of a list of days.
+# or of a list of days. A kind is a byte.
 PIECES, BLOCKS, STORE, NODES, ENTRIES = 64, 256, 4103, 4096, 8195
 SCRATCH_MOST = ROW * PIECES + 7
 ANSWER, WINDOW, FILE = 64, 64, 16384
@@ -86,12 +87,14 @@ class Case:
         """The rows of a call and its answer, each as numbers."""
         refusal = int(answer[1]) if answer[0] == "refused" else 0
         words = call[1:]
-        for word in words[:-1] if call[0] in BYTES_LAST else words:
+        for word in words[:-1] if call[0] in BYTES_LAST else words[:1] + words[2:] if call[0] == "open" else words:
             fits(int(word), WORD - 1)
         if call[0] == "damaged":
             return self.damaged(words, answer)
+        kind = [fits(int(words.pop(0)), 255)] if call[0] in NAMES_KIND else []
         code, numbers = getattr(self, call[0])(words, [] if refusal else answer)
-        return [[code, refusal] + numbers]
+        front = [code, refusal] + numbers
+        return [front + [0] * (KIND - len(front)) + kind if kind else front]
 
     def damaged(self, words, answer):
         """A row for each run of places."""
@@ -104,7 +107,8 @@ class Case:
 
     def open(self, words, answer):
         self.pieces, self.numbers = self.table(PIECE_HEAD, ROW, words[2], PIECES), fits(int(words[3]), SCRATCH_MOST)
-        return OPEN, [int(words[0]), int(words[1])] + [0] * 6 + [self.pieces, self.numbers] + self.lent(*words[4:])
+        kinds = bytes(listed(words[1]))
+        return OPEN, [int(words[0]), self.part.place(kinds), len(kinds)] + [0] * 5 + [self.pieces, self.numbers] + self.lent(*words[4:])
 
     def scratch(self, words, answer):
         self.numbers = fits(int(words[0]), SCRATCH_MOST)
@@ -167,7 +171,8 @@ class Case:
         return WRITE, [min(int(words[0]), FILE), start, fits(length, FILE)]
 
     def load(self, words, answer):
-        said = list(map(int, answer)) or [0] * 4
+        behind, end, kind, count = map(int, answer or [0] * 4)
+        said = [behind, end, 1 << kind if answer else 0, count]
         return LOAD, [int(words[0])] + self.bytes(words[5]) + said + [0, self.pieces, self.numbers] + self.lent(*words[1:5])
 
     def clock(self, words, answer):
@@ -237,9 +242,9 @@ def vector_cases(path):
 
 
 def modelled(calls):
-    """The calls with the model's answers."""
+    """The calls, each with its kind, and the model's answers."""
     model = Model()
-    return [(call, model.answer(call).split()) for call in calls]
+    return [(model.named(call), model.answer(call).split()) for call in calls]
 
 
 def lent_now(call):
@@ -257,12 +262,13 @@ def opened_now(case):
 
 
 def oracle_cases(path):
-    """The cases of the oracle's list with the model's cells: the list says of an update only that it is one."""
+    """The cases of the oracle's list with the model's cells: the list says of an update only that it is one. It is older than request 3, and its calls name no
+    kind: each has that of its index."""
     cases = []
     for listed in vector_cases(path):
         case = [(lent_now(call), answer) for call, answer in opened_now(listed)]
         own = modelled([call for call, _ in case])
-        cases.append([(call, said if answer == ["update"] == said[:1] else answer) for (call, answer), (_, said) in zip(case, own)])
+        cases.append([(call, said if answer == ["update"] == said[:1] else answer) for (_, answer), (call, said) in zip(case, own)])
     return cases
 
 
@@ -286,7 +292,7 @@ def tell(stored, vectors, whole):
 
 
 def own_lists():
-    return [(name, [list(map(str, call)) for call in calls]) for name, calls in own_cases() + touching_cases() + change_cases() + scratch_cases() + hours_cases() + days_cases()]
+    return [(name, [list(map(str, call)) for call in calls]) for name, calls in own_cases() + touching_cases() + change_cases() + scratch_cases() + hours_cases() + days_cases() + kinds_cases()]
 
 
 def put_out(vectors, own, out):
@@ -393,7 +399,7 @@ def test():
     lines = [line(*r) for start in range(0, len(stored.bytes()), PART) for r in rows_of(stored.bytes()[start:start + PART])]
     assert lines.count("own case") == len(marked) and len(lines) == len(marked) + sum(map(len, marked))
     said = {n for case in marked for _, answer in case for n in answer[1:] if answer[0] == "refused"}
-    assert said == {str(n) for n in [*range(1, 25), 26, 27, 28]}, "marked.txt has the edge of each refusal"
+    assert said == {str(n) for n in range(1, 29)}, "marked.txt has the edge of each refusal"
     assert [run_of(word) for word in broken(Dice(1), ["17*5"])] != [(17, 5)]
     print("stored: ok")
 

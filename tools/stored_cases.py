@@ -154,7 +154,7 @@ def without(end, records):
     model, kept = Model(), []
     model.answer(list(map(str, ["open", end, 1, *WIDE])))
     for call in records:
-        meets = differs(model, call[2], unhexed(call[3]))
+        meets = differs(model, 1, call[2], unhexed(call[3]))
         if not meets and not model.answer(list(map(str, call))).startswith("refused"):
             kept.append(call)
     return kept

@@ -9,6 +9,9 @@ says where they start. A case stands in one part. A row `damaged` is a load for 
 Block numbers that a call lists are bytes in the pool, `length` of them. `touching` has its columns where `find` has them; in place of the nodes visited it has
 0. `next` and `last` have `found`, 1 or 0, and the number, 0 where it is missing. `record` has `updated`, 1 and the cell of an update, 0 and 0 of a read. The
 numbers of a calendar and of a list of days stand in the pool as numbers stand in a row, `count` of them. Of a refused call what must come is 0.
+
+The kinds that `open` takes are bytes in the pool, `length` of them, as the call is lent them. Every call that names a kind has it in column KIND, behind its other
+columns. Of a load that is taken `kinds` is the mask of the one kind, bit k for kind k, as it stands in the block table.
 """
 from board_model import WORD, hexed
 
@@ -16,25 +19,28 @@ PART = 65536
 
 CASE, OWN, OPEN, RECORD, FINISH, BLOCK, FIND, CELLS, WRITE, LOAD, CLOCK, SCRATCH, DAMAGED, TOUCHING, NEXT, LAST, CALENDAR, DAYS = range(1, 19)
 
+# The column of the kind, in the row of a call that names one.
+KIND = 9
+
 # The columns from 2 on; crates/replay/src names them too. `@` is where bytes start.
 LENT = ["pieces", "scratch", "blocks", "store", "nodes", "entries"]
 COLUMNS = {
     CASE: ["case"],
     OWN: ["own case"],
-    OPEN: ["open", "end", "kind"] + [""] * 6 + LENT,
-    RECORD: ["record", "tick", "first", "@bytes", "length", "updated", "cell"],
+    OPEN: ["open", "end", "@kinds", "length"] + [""] * 5 + LENT,
+    RECORD: ["record", "tick", "first", "@bytes", "length", "updated", "cell", "", "kind"],
     FINISH: ["finish", "blocks", "nodes", "entries"],
     BLOCK: ["block", "number", "kind", "first", "length", "created", "destroyed", "@bytes"],
-    FIND: ["find", "tick", "start", "end", "room", "length", "visited", "@numbers"],
-    CELLS: ["cells", "tick", "start", "end", "byte room", "held room", "@bytes", "@held"],
+    FIND: ["find", "tick", "start", "end", "room", "length", "visited", "@numbers", "kind"],
+    CELLS: ["cells", "tick", "start", "end", "byte room", "held room", "@bytes", "@held", "kind"],
     WRITE: ["write", "room", "@file", "length"],
-    LOAD: ["load", "at", "@file", "length", "next", "end", "kind", "count", ""] + LENT,
+    LOAD: ["load", "at", "@file", "length", "next", "end", "kinds", "count", ""] + LENT,
     CLOCK: ["clock", "cell", "label"],
     SCRATCH: ["scratch"] + [""] * 9 + ["scratch"],
     DAMAGED: ["damaged", "at", "@file", "length", "by", "from", "many"],
-    TOUCHING: ["touching", "tick", "start", "end", "room", "length", "", "@numbers"],
-    NEXT: ["next", "tick", "cell", "found", "number"],
-    LAST: ["last", "tick", "cell", "found", "number"],
+    TOUCHING: ["touching", "tick", "start", "end", "room", "length", "", "@numbers", "kind"],
+    NEXT: ["next", "tick", "cell", "found", "number", "", "", "", "kind"],
+    LAST: ["last", "tick", "cell", "found", "number", "", "", "", "kind"],
     CALENDAR: ["calendar", "@numbers", "length", "count"],
     DAYS: ["days", "@numbers", "length", "count"],
 }

@@ -24,8 +24,8 @@ fn listed(first: u64) -> Vec<(u64, u64)> {
 
 fn board(calendar: Option<Calendar>, days: &[(u64, u64)]) -> Index {
     let room = Room { pieces: 8, blocks: 8, bytes: 1 << 16, nodes: 8, entries: 8 };
-    let mut index = Index::open(room, 8, Kind::Memory).expect("open");
-    index.record(0, 0, &vec![7; LONGEST]).expect("record");
+    let mut index = Index::open(room, 8, &[Kind::Memory]).expect("open");
+    index.record(Kind::Memory, 0, 0, &vec![7; LONGEST]).expect("record");
     if let Some(calendar) = calendar {
         index.install_calendar(&calendar).expect("install");
     }
@@ -35,7 +35,7 @@ fn board(calendar: Option<Calendar>, days: &[(u64, u64)]) -> Index {
 
 fn record(mut index: Index, cells: usize) -> Option<Timed<'static>> {
     let bytes = vec![7; cells];
-    Some(timed(move |k| index.record(0, k as u64, &bytes).is_ok() as u64))
+    Some(timed(move |k| index.record(Kind::Memory, 0, k as u64, &bytes).is_ok() as u64))
 }
 
 /// A cell for each call, over a hundred days.

@@ -2,6 +2,9 @@
 use servercape::tested::{self, SERVERCAPE_CLOSED, SERVERCAPE_OPEN};
 use servercape::{raw, Kind};
 
+/// The kind of all boards but those of five.
+const KIND: u8 = Kind::Memory.code();
+
 /// How many rows each table has; of the store, how many bytes.
 #[derive(Clone, Copy)]
 pub struct Rows {
@@ -47,8 +50,13 @@ macro_rules! tested {
 }
 
 impl Tables {
-    /// An open index. Opening clears the tables, so every page of them has been touched before anything is timed.
+    /// An open index of one kind. Opening clears the tables, so every page of them has been touched before anything is timed.
     pub fn open(rows: Rows, end_tick: u64) -> Tables {
+        Tables::open_kinds(rows, end_tick, &[Kind::Memory])
+    }
+
+    pub fn open_kinds(rows: Rows, end_tick: u64, kinds: &[Kind]) -> Tables {
+        let kinds: Vec<u8> = kinds.iter().map(|kind| kind.code()).collect();
         let length = |table, rows| unsafe { raw::servercape_length(table, rows) as usize };
         let mut t = Tables {
             pieces: vec![7; length(raw::SERVERCAPE_PIECES, rows.pieces)],
@@ -65,7 +73,7 @@ impl Tables {
                 t.store.as_ptr(), t.store.len(),
                 t.nodes.as_mut_ptr(), t.nodes.len(),
                 t.entries.as_mut_ptr(), t.entries.len(),
-                end_tick, Kind::Memory as u8,
+                end_tick, kinds.as_ptr(), kinds.len(),
             )
         };
         assert_eq!(number, 0, "open");
@@ -95,13 +103,18 @@ impl Tables {
                 self.nodes.as_ptr(), self.nodes.len(),
                 self.entries.as_ptr(), self.entries.len(),
                 self.scratch.as_ptr(), self.scratch.len(),
-                tick, first, bytes.as_ptr(), bytes.len(),
+                KIND, tick, first, bytes.as_ptr(), bytes.len(),
                 &mut updated, &mut cell,
             )
         }
     }
 
     pub fn record_tested(&mut self, tick: u64, first: u64, bytes: &[u8]) -> u64 {
+        self.record_kind(Kind::Memory, tick, first, bytes)
+    }
+
+    /// After one test, of a kind.
+    pub fn record_kind(&mut self, kind: Kind, tick: u64, first: u64, bytes: &[u8]) -> u64 {
         let (mut updated, mut cell) = (0, 0);
         unsafe {
             tested::servercape_record_tested(
@@ -110,7 +123,7 @@ impl Tables {
                 self.blocks.as_mut_ptr(), self.blocks.len(),
                 self.store.as_mut_ptr(), self.store.len(),
                 self.scratch.as_ptr(), self.scratch.len(),
-                tick, first, bytes.as_ptr(), bytes.len(),
+                kind.code(), tick, first, bytes.as_ptr(), bytes.len(),
                 &mut updated, &mut cell,
             )
         }
@@ -127,7 +140,7 @@ impl Tables {
                 self.nodes.as_ptr(), self.nodes.len(),
                 self.entries.as_ptr(), self.entries.len(),
                 self.scratch.as_ptr(), self.scratch.len(),
-                operations.as_ptr(), operations.len(), answers.as_mut_ptr(), answers.len(), &mut next,
+                KIND, operations.as_ptr(), operations.len(), answers.as_mut_ptr(), answers.len(), &mut next,
             )
         }
     }
@@ -171,7 +184,7 @@ impl Tables {
     pub fn find(&self, tick: u64, start: u64, end: u64, answer: &mut [u64]) -> u64 {
         let (mut count, mut visited) = (0, 0);
         let refusal =
-            reads!(raw::servercape_find, self, tick, start, end, answer.as_mut_ptr(), answer.len(), &mut count, &mut visited);
+            reads!(raw::servercape_find, self, KIND, tick, start, end, answer.as_mut_ptr(), answer.len(), &mut count, &mut visited);
         assert_eq!(refusal, 0, "find");
         count
     }
@@ -179,7 +192,7 @@ impl Tables {
     pub fn find_tested(&self, tick: u64, start: u64, end: u64, answer: &mut [u64]) -> u64 {
         let (mut count, mut visited) = (0, 0);
         let refusal = tested!(tested::servercape_find_tested, self, blocks nodes entries;
-            tick, start, end, answer.as_mut_ptr(), answer.len(), &mut count, &mut visited);
+            KIND, tick, start, end, answer.as_mut_ptr(), answer.len(), &mut count, &mut visited);
         assert_eq!(refusal, 0, "find");
         count
     }
@@ -187,12 +200,12 @@ impl Tables {
     /// Asks the queries of a list: how many were asked.
     pub fn find_all(&self, queries: &[u64], answers: &mut [u64], numbers: &mut [u64]) -> u64 {
         reads!(raw::servercape_find_all, self,
-            queries.as_ptr(), queries.len(), answers.as_mut_ptr(), answers.len(), numbers.as_mut_ptr(), numbers.len())
+            KIND, queries.as_ptr(), queries.len(), answers.as_mut_ptr(), answers.len(), numbers.as_mut_ptr(), numbers.len())
     }
 
     pub fn touching(&self, tick: u64, start: u64, end: u64, answer: &mut [u64]) -> u64 {
         let mut count = 0;
-        let refusal = reads!(raw::servercape_touching, self, tick, start, end, answer.as_mut_ptr(), answer.len(), &mut count);
+        let refusal = reads!(raw::servercape_touching, self, KIND, tick, start, end, answer.as_mut_ptr(), answer.len(), &mut count);
         assert_eq!(refusal, 0, "touching");
         count
     }
@@ -200,48 +213,48 @@ impl Tables {
     pub fn touching_tested(&self, tick: u64, start: u64, end: u64, answer: &mut [u64]) -> u64 {
         let mut count = 0;
         let refusal = tested!(tested::servercape_touching_tested, self, blocks nodes entries;
-            tick, start, end, answer.as_mut_ptr(), answer.len(), &mut count);
+            KIND, tick, start, end, answer.as_mut_ptr(), answer.len(), &mut count);
         assert_eq!(refusal, 0, "touching");
         count
     }
 
     pub fn next(&self, tick: u64, cell: u64) -> Option<u64> {
         let (mut found, mut number) = (0, 0);
-        let refusal = reads!(raw::servercape_next, self, tick, cell, &mut found, &mut number);
+        let refusal = reads!(raw::servercape_next, self, KIND, tick, cell, &mut found, &mut number);
         assert_eq!(refusal, 0, "next");
         (found == 1).then_some(number)
     }
 
     pub fn next_tested(&self, tick: u64, cell: u64) -> Option<u64> {
         let (mut found, mut number) = (0, 0);
-        let refusal = tested!(tested::servercape_next_tested, self, blocks nodes entries; tick, cell, &mut found, &mut number);
+        let refusal = tested!(tested::servercape_next_tested, self, blocks nodes entries; KIND, tick, cell, &mut found, &mut number);
         assert_eq!(refusal, 0, "next");
         (found == 1).then_some(number)
     }
 
     pub fn last(&self, tick: u64, cell: u64) -> Option<u64> {
         let (mut found, mut number) = (0, 0);
-        let refusal = reads!(raw::servercape_last, self, tick, cell, &mut found, &mut number);
+        let refusal = reads!(raw::servercape_last, self, KIND, tick, cell, &mut found, &mut number);
         assert_eq!(refusal, 0, "last");
         (found == 1).then_some(number)
     }
 
     pub fn last_tested(&self, tick: u64, cell: u64) -> Option<u64> {
         let (mut found, mut number) = (0, 0);
-        let refusal = tested!(tested::servercape_last_tested, self, blocks nodes entries; tick, cell, &mut found, &mut number);
+        let refusal = tested!(tested::servercape_last_tested, self, blocks nodes entries; KIND, tick, cell, &mut found, &mut number);
         assert_eq!(refusal, 0, "last");
         (found == 1).then_some(number)
     }
 
     pub fn cells(&self, tick: u64, start: u64, end: u64, bytes: &mut [u8], held: &mut [u8]) {
         let refusal =
-            reads!(raw::servercape_read_cells, self, tick, start, end, bytes.as_mut_ptr(), bytes.len(), held.as_mut_ptr(), held.len());
+            reads!(raw::servercape_read_cells, self, KIND, tick, start, end, bytes.as_mut_ptr(), bytes.len(), held.as_mut_ptr(), held.len());
         assert_eq!(refusal, 0, "read cells");
     }
 
     pub fn cells_tested(&self, tick: u64, start: u64, end: u64, bytes: &mut [u8], held: &mut [u8]) {
         let refusal = tested!(tested::servercape_read_cells_tested, self, blocks store nodes entries;
-            tick, start, end, bytes.as_mut_ptr(), bytes.len(), held.as_mut_ptr(), held.len());
+            KIND, tick, start, end, bytes.as_mut_ptr(), bytes.len(), held.as_mut_ptr(), held.len());
         assert_eq!(refusal, 0, "read cells");
     }
 
@@ -260,6 +273,11 @@ impl Tables {
     }
 
     pub fn load(&mut self, file: &[u8]) -> u64 {
+        self.load_at(file, 0)
+    }
+
+    /// From a position on: the one behind what was loaded.
+    pub fn load_at(&mut self, file: &[u8], at: u64) -> u64 {
         let mut next = 0;
         let refusal = unsafe {
             raw::servercape_load(
@@ -268,7 +286,7 @@ impl Tables {
                 self.store.as_mut_ptr(), self.store.len(),
                 self.nodes.as_mut_ptr(), self.nodes.len(),
                 self.entries.as_mut_ptr(), self.entries.len(),
-                file.as_ptr(), file.len(), 0, &mut next,
+                file.as_ptr(), file.len(), at, &mut next,
             )
         };
         assert_eq!(refusal, 0, "load");

@@ -19,8 +19,13 @@ pub fn row(name: &str, boards: &[Board], shown: impl Fn(&Board) -> String) {
     println!("| {name} | {} |", boards.iter().map(shown).collect::<Vec<_>>().join(" | "));
 }
 
+/// How a board is called.
+pub fn named(b: &Board) -> String {
+    format!("{} pieces, {} ops, {} blocks", b.pieces, b.ops, b.blocks)
+}
+
 pub fn head(first: &str, boards: &[Board]) {
-    row(first, boards, |b| format!("{} pieces, {} ops, {} blocks", b.pieces, b.ops, b.blocks));
+    row(first, boards, named);
     println!("|---|{}", "---|".repeat(boards.len()));
 }
 

@@ -33,11 +33,11 @@ int main(void)
         return 3;
 
     uint64_t scratch[8] = {0}, updated, cell, numbers[32], count;
-    must(servercape_open(TABLES, 8, 1));
-    must(servercape_record(TABLES, scratch, 8, 1, 100, (const uint8_t[]){7, 7, 7}, 3, &updated, &cell)); /* train 7 from 01:40 on, at tick 1 */
-    must(servercape_record(TABLES, scratch, 8, 3, 102, (const uint8_t[]){9, 9, 9}, 3, &updated, &cell)); /* train 9 from 01:42 on, at tick 3 */
+    must(servercape_open(TABLES, 8, (const uint8_t[]){SERVERCAPE_MEMORY}, 1));
+    must(servercape_record(TABLES, scratch, 8, SERVERCAPE_MEMORY, 1, 100, (const uint8_t[]){7, 7, 7}, 3, &updated, &cell)); /* train 7 from 01:40 on, at tick 1 */
+    must(servercape_record(TABLES, scratch, 8, SERVERCAPE_MEMORY, 3, 102, (const uint8_t[]){9, 9, 9}, 3, &updated, &cell)); /* train 9 from 01:42 on, at tick 3 */
     must(servercape_finish(TABLES));
-    must(servercape_touching(TABLES, 6, 101, 103, numbers, 32, &count)); /* at tick 6, who holds cell 101 or 102? */
+    must(servercape_touching(TABLES, SERVERCAPE_MEMORY, 6, 101, 103, numbers, 32, &count)); /* at tick 6, who holds cell 101 or 102? */
 
     for (uint64_t k = 0; k < count; k++) {
         uint64_t kind, first, length, created, destroyed, offset, label;

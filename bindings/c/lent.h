@@ -83,6 +83,9 @@ static inline void give_back(struct lent x)
     let_go(x.scratch, 8 * x.scratch_length);
 }
 
+/* A set of one kind, as a slice. */
+#define ONLY(kind) (const uint8_t[]){kind}, 1
+
 /* The five slices, in the order that every call has. */
 #define TABLES(x)                                                                                                                                    \
     (x).pieces, (x).pieces_length, (x).blocks, (x).blocks_length, (x).store, (x).store_length, (x).nodes, (x).nodes_length, (x).entries,             \

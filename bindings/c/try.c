@@ -19,12 +19,20 @@ static struct told refusal(uint64_t number)
     return (struct told){number, 77, 77};
 }
 
-static void record(const char *what, struct lent x, uint64_t tick, uint64_t first, const uint8_t *bytes, size_t length, struct told want)
+static void record_of(uint8_t kind, const char *what, struct lent x, uint64_t tick, uint64_t first, const uint8_t *bytes, size_t length, struct told want)
 {
     uint64_t updated = 77, cell = 77;
-    same(what, servercape_record(TABLES(x), x.scratch, x.scratch_length, tick, first, bytes, length, &updated, &cell), want.number);
+    same(what, servercape_record(TABLES(x), x.scratch, x.scratch_length, kind, tick, first, bytes, length, &updated, &cell), want.number);
     same("updated", updated, want.updated);
     same("its cell", cell, want.cell);
+}
+
+/* The kind of all boards but those of several. */
+enum { MEMORY = SERVERCAPE_MEMORY };
+
+static void record(const char *what, struct lent x, uint64_t tick, uint64_t first, const uint8_t *bytes, size_t length, struct told want)
+{
+    record_of(MEMORY, what, x, tick, first, bytes, length, want);
 }
 
 /* ── the listing ── */
@@ -40,7 +48,7 @@ static const struct block listing[] = {
 
 static void play(struct lent x)
 {
-    same("open", servercape_open(TABLES(x), 8, 1), 0);
+    same("open", servercape_open(TABLES(x), 8, ONLY(1)), 0);
     record("op 1", x, 1, 100, (const uint8_t[]){7, 7, 7}, 3, update(100));
     record("op 2", x, 3, 102, (const uint8_t[]){9, 9, 9}, 3, update(102));
     record("op 3", x, 5, 100, (const uint8_t[]){7, 7}, 2, a_read);
@@ -70,12 +78,12 @@ static void read_blocks(struct lent x)
 static void read_finds(struct lent x)
 {
     uint64_t answer[4] = {77, 77, 77, 77}, count = 77, visited = 77;
-    same("too small", servercape_find(TABLES(x), 6, 100, 104, answer, 2, &count, &visited), 16);
-    same("past the end", servercape_find(TABLES(x), 8, 100, 104, answer, 4, &count, &visited), 14);
-    same("turned round", servercape_find(TABLES(x), 6, 104, 100, answer, 4, &count, &visited), 15);
+    same("too small", servercape_find(TABLES(x), MEMORY, 6, 100, 104, answer, 2, &count, &visited), 16);
+    same("past the end", servercape_find(TABLES(x), MEMORY, 8, 100, 104, answer, 4, &count, &visited), 14);
+    same("turned round", servercape_find(TABLES(x), MEMORY, 6, 104, 100, answer, 4, &count, &visited), 15);
     same("kept counts", count + visited, 2 * 77);
     same("kept answer", answer[0] + answer[1], 2 * 77);
-    same("find", servercape_find(TABLES(x), 6, 100, 104, answer, 4, &count, &visited), 0);
+    same("find", servercape_find(TABLES(x), MEMORY, 6, 100, 104, answer, 4, &count, &visited), 0);
     same("count", count, 3);
     same("visited", visited, 3);
     uint64_t cells = 0;
@@ -83,7 +91,7 @@ static void read_finds(struct lent x)
         cells += listing[answer[i]].first;
     same("their first cells", cells, 100 + 102 + 103);
     same("past the count", answer[3], 77);
-    same("an empty window", servercape_find(TABLES(x), 6, 104, 104, answer, 0, &count, &visited), 0);
+    same("an empty window", servercape_find(TABLES(x), MEMORY, 6, 104, 104, answer, 0, &count, &visited), 0);
     same("nothing", count, 0);
 }
 
@@ -91,20 +99,20 @@ static void read_finds(struct lent x)
 static void read_touching(struct lent x)
 {
     uint64_t answer[3] = {77, 77, 77}, count = 77;
-    same("touching too small", servercape_touching(TABLES(x), 6, 101, 103, answer, 1, &count), 16);
-    same("touching past the end", servercape_touching(TABLES(x), 8, 104, 100, answer, 0, &count), 14);
-    same("touching turned round", servercape_touching(TABLES(x), 6, 104, 100, answer, 0, &count), 15);
+    same("touching too small", servercape_touching(TABLES(x), MEMORY, 6, 101, 103, answer, 1, &count), 16);
+    same("touching past the end", servercape_touching(TABLES(x), MEMORY, 8, 104, 100, answer, 0, &count), 14);
+    same("touching turned round", servercape_touching(TABLES(x), MEMORY, 6, 104, 100, answer, 0, &count), 15);
     same("kept count", count, 77);
     same("kept answer", answer[0] + answer[1], 2 * 77);
-    same("touching", servercape_touching(TABLES(x), 6, 101, 103, answer, 2, &count), 0);
+    same("touching", servercape_touching(TABLES(x), MEMORY, 6, 101, 103, answer, 2, &count), 0);
     same("two touch", count, 2);
     same("the one that came in before", answer[0], 2);
     same("then the next cell's", answer[1], 3);
-    same("touching up to a block", servercape_touching(TABLES(x), 6, 0, 100, answer, 0, &count), 0);
+    same("touching up to a block", servercape_touching(TABLES(x), MEMORY, 6, 0, 100, answer, 0, &count), 0);
     same("none before it", count, 0);
-    same("touching nothing", servercape_touching(TABLES(x), 6, 101, 101, answer, 0, &count), 0);
+    same("touching nothing", servercape_touching(TABLES(x), MEMORY, 6, 101, 101, answer, 0, &count), 0);
     same("none in an empty window", count, 0);
-    same("touching at tick 2", servercape_touching(TABLES(x), 2, 0, UINT64_MAX, answer, 3, &count), 0);
+    same("touching at tick 2", servercape_touching(TABLES(x), MEMORY, 2, 0, UINT64_MAX, answer, 3, &count), 0);
     same("two then", count, 2);
     same("by cell and not by number", answer[0] == 2 && answer[1] == 0, 1);
     same("past the count", answer[2], 77);
@@ -114,11 +122,11 @@ static void read_touching(struct lent x)
 static void neighbours(struct lent x, uint64_t tick, uint64_t cell, const uint64_t next[2], const uint64_t last[2])
 {
     uint64_t found = 77, number = 77;
-    same("next", servercape_next(TABLES(x), tick, cell, &found, &number), 0);
+    same("next", servercape_next(TABLES(x), MEMORY, tick, cell, &found, &number), 0);
     same("next found", found, next[0]);
     same("next number", number, next[1]);
     found = number = 77;
-    same("last", servercape_last(TABLES(x), tick, cell, &found, &number), 0);
+    same("last", servercape_last(TABLES(x), MEMORY, tick, cell, &found, &number), 0);
     same("last found", found, last[0]);
     same("last number", number, last[1]);
 }
@@ -128,8 +136,8 @@ static const uint64_t missing[2] = {0, 0};
 static void read_neighbours(struct lent x)
 {
     uint64_t found = 77, number = 77;
-    same("next past the end", servercape_next(TABLES(x), 8, 0, &found, &number), 14);
-    same("last past the end", servercape_last(TABLES(x), 8, 0, &found, &number), 14);
+    same("next past the end", servercape_next(TABLES(x), MEMORY, 8, 0, &found, &number), 14);
+    same("last past the end", servercape_last(TABLES(x), MEMORY, 8, 0, &found, &number), 14);
     same("kept neighbours", found + number, 2 * 77);
     neighbours(x, 6, 100, (const uint64_t[]){1, 2}, missing);
     neighbours(x, 6, 101, (const uint64_t[]){1, 3}, missing);
@@ -143,10 +151,10 @@ static void read_all_cells(struct lent x)
     uint8_t bytes[8], held[8];
     memset(bytes, 77, 8);
     memset(held, 77, 8);
-    same("cells", servercape_read_cells(TABLES(x), 6, 99, 106, bytes, 8, held, 8), 0);
+    same("cells", servercape_read_cells(TABLES(x), MEMORY, 6, 99, 106, bytes, 8, held, 8), 0);
     same("bytes", memcmp(bytes, (const uint8_t[]){0, 7, 7, 9, 4, 9, 0, 77}, 8) == 0, 1);
     same("held", memcmp(held, (const uint8_t[]){0, 1, 1, 1, 1, 1, 0, 77}, 8) == 0, 1);
-    same("held too short", servercape_read_cells(TABLES(x), 6, 99, 106, bytes, 8, held, 6), 16);
+    same("held too short", servercape_read_cells(TABLES(x), MEMORY, 6, 99, 106, bytes, 8, held, 6), 16);
 }
 
 /* ── the file ── */
@@ -200,15 +208,15 @@ static void midnight(struct lent x)
 {
     const uint8_t train[14] = {9, 9, 9, 9, 9, 9, 9, 9, 9, 9, 9, 9, 9, 9};
     uint64_t answer[1] = {77}, count = 77, visited = 77;
-    same("open", servercape_open(TABLES(x), 8, 1), 0);
+    same("open", servercape_open(TABLES(x), 8, ONLY(1)), 0);
     record("a train", x, 0, 1432, train, sizeof train, update(1432));
     same("finish", servercape_finish(TABLES(x)), 0);
-    same("find after midnight", servercape_find(TABLES(x), 5, 1440, 1450, answer, 1, &count, &visited), 0);
+    same("find after midnight", servercape_find(TABLES(x), MEMORY, 5, 1440, 1450, answer, 1, &count, &visited), 0);
     same("not found", count, 0);
-    same("touching after midnight", servercape_touching(TABLES(x), 5, 1440, 1450, answer, 1, &count), 0);
+    same("touching after midnight", servercape_touching(TABLES(x), MEMORY, 5, 1440, 1450, answer, 1, &count), 0);
     same("it touches", count, 1);
     same("its number", answer[0], 0);
-    same("touching after the train", servercape_touching(TABLES(x), 5, 1446, 1450, answer, 0, &count), 0);
+    same("touching after the train", servercape_touching(TABLES(x), MEMORY, 5, 1446, 1450, answer, 0, &count), 0);
     same("it has left", count, 0);
     neighbours(x, 5, 1440, missing, missing);
     neighbours(x, 5, 1446, missing, (const uint64_t[]){1, 0});
@@ -218,11 +226,11 @@ static void midnight(struct lent x)
 static void same_tick(struct lent x)
 {
     uint64_t answer[2] = {77, 77}, count = 77;
-    same("open", servercape_open(TABLES(x), 8, 1), 0);
+    same("open", servercape_open(TABLES(x), 8, ONLY(1)), 0);
     record("first write", x, 3, 50, (const uint8_t[]){1}, 1, update(50));
     record("second write", x, 3, 50, (const uint8_t[]){2}, 1, update(50));
     same("finish", servercape_finish(TABLES(x)), 0);
-    same("touching both", servercape_touching(TABLES(x), 3, 0, 100, answer, 2, &count), 0);
+    same("touching both", servercape_touching(TABLES(x), MEMORY, 3, 0, 100, answer, 2, &count), 0);
     same("one is live", count, 1);
     same("the second", answer[0], 1);
     neighbours(x, 3, 50, (const uint64_t[]){1, 1}, missing);
@@ -232,7 +240,7 @@ static void same_tick(struct lent x)
 /* The first cell that an operation changes: unknown, or with another byte. */
 static void changes(struct lent x)
 {
-    same("open", servercape_open(TABLES(x), 8, 1), 0);
+    same("open", servercape_open(TABLES(x), 8, ONLY(1)), 0);
     record("two cells", x, 0, 10, (const uint8_t[]){5, 5}, 2, update(10));
     record("a third", x, 1, 10, (const uint8_t[]){5, 5, 5}, 3, update(12));
     record("two again", x, 2, 10, (const uint8_t[]){5, 5}, 2, a_read);
@@ -279,7 +287,7 @@ static void scratch(void)
     struct lent x = lend(10, 32, 64, 64, 64);
     uint64_t found = 77, number = 77;
     same("a scratch of one row", x.scratch_length, 8);
-    same("open", servercape_open(TABLES(x), 8, 1), 0);
+    same("open", servercape_open(TABLES(x), 8, ONLY(1)), 0);
     too_short("short, no piece", x, 1, 0, 1);
     for (uint64_t k = 0; k < 10; k++)
         record("ten pieces", x, 1, 2 * k, (const uint8_t[]){9}, 1, update(2 * k));
@@ -295,7 +303,7 @@ static void scratch(void)
     same("finish", servercape_finish(TABLES(x)), 0);
     too_short("short, finished", x, 2, 1, 1);
     record("finished", x, 2, 1, (const uint8_t[]){9}, 1, refusal(3));
-    same("next", servercape_next(TABLES(x), 7, 18, &found, &number), 0);
+    same("next", servercape_next(TABLES(x), MEMORY, 7, 18, &found, &number), 0);
     same("the tenth piece", number, 9);
     give_back(x);
 }
@@ -329,8 +337,8 @@ static void record_all(void)
     size_t cut = put_operation(list, end, 7, 200, (const uint8_t[]){1, 1}, 2) - 1;
     memset(answers, 77, sizeof answers);
 
-    same("open", servercape_open(TABLES(x), 8, 1), 0);
-    same("record all", servercape_record_all(TABLES(x), x.scratch, 8, list, cut, answers, 20, &next), 6);
+    same("open", servercape_open(TABLES(x), 8, ONLY(1)), 0);
+    same("record all", servercape_record_all(TABLES(x), x.scratch, 8, MEMORY, list, cut, answers, 20, &next), 6);
     same("behind the last whole one", next, end);
     const uint64_t want[18] = {0, 1, 100, 0, 1, 102, 0, 0, 0, 7, 0, 0, 5, 0, 0, 0, 1, 103};
     same("its answers", memcmp(answers, want, sizeof want) == 0, 1);
@@ -338,18 +346,18 @@ static void record_all(void)
     same("finish", servercape_finish(TABLES(x)), 0);
     read_blocks(x);
 
-    same("open", servercape_open(TABLES(y), 8, 1), 0);
-    same("one place", servercape_record_all(TABLES(y), y.scratch, 8, list, cut, answers, 5, &next), 1);
+    same("open", servercape_open(TABLES(y), 8, ONLY(1)), 0);
+    same("one place", servercape_record_all(TABLES(y), y.scratch, 8, MEMORY, list, cut, answers, 5, &next), 1);
     same("behind the first", next, second);
-    same("no place", servercape_record_all(TABLES(y), y.scratch, 8, list + next, cut - next, answers, 2, &next), 0);
+    same("no place", servercape_record_all(TABLES(y), y.scratch, 8, MEMORY, list + next, cut - next, answers, 2, &next), 0);
     same("still there", next, 0);
-    same("no list", servercape_record_all(TABLES(y), y.scratch, 8, list, 23, answers, 20, &next), 0);
-    same("a short scratch", servercape_record_all(TABLES(y), y.scratch, 7, list, second, answers, 20, &next), 1);
+    same("no list", servercape_record_all(TABLES(y), y.scratch, 8, MEMORY, list, 23, answers, 20, &next), 0);
+    same("a short scratch", servercape_record_all(TABLES(y), y.scratch, 7, MEMORY, list, second, answers, 20, &next), 1);
     same("each is refused 2", answers[0], 2);
-    same("the rest", servercape_record_all(TABLES(y), y.scratch, 8, list + second, cut - second, answers, 20, &next), 5);
+    same("the rest", servercape_record_all(TABLES(y), y.scratch, 8, MEMORY, list + second, cut - second, answers, 20, &next), 5);
     same("finish", servercape_finish(TABLES(y)), 0);
     read_blocks(y);
-    same("finished", servercape_record_all(TABLES(y), y.scratch, 8, list, end, answers, 20, &next), 6);
+    same("finished", servercape_record_all(TABLES(y), y.scratch, 8, MEMORY, list, end, answers, 20, &next), 6);
     same("each is refused 3", answers[0] + answers[3] + answers[15], 9);
     give_back(x);
     give_back(y);
@@ -362,16 +370,16 @@ static void find_all(struct lent x)
     uint64_t answers[17], numbers[6], answer[4] = {77, 77, 77, 77}, count = 77, visited = 77;
     memset(answers, 77, sizeof answers);
     memset(numbers, 77, sizeof numbers);
-    same("find all", servercape_find_all(TABLES(x), queries, 17, answers, 17, numbers, 6), 5);
-    same("find", servercape_find(TABLES(x), 6, 100, 104, answer, 4, &count, &visited), 0);
+    same("find all", servercape_find_all(TABLES(x), MEMORY, queries, 17, answers, 17, numbers, 6), 5);
+    same("find", servercape_find(TABLES(x), MEMORY, 6, 100, 104, answer, 4, &count, &visited), 0);
     same("the first", answers[0] == 0 && answers[1] == count && answers[2] == visited && memcmp(numbers, answer, 8 * count) == 0, 1);
     const uint64_t refused[9] = {14, 0, 0, 15, 0, 0, 16, 0, 0};
     same("refused ones", memcmp(answers + 3, refused, sizeof refused) == 0, 1);
-    same("find", servercape_find(TABLES(x), 1, 100, 101, answer, 4, &count, &visited), 0);
+    same("find", servercape_find(TABLES(x), MEMORY, 1, 100, 101, answer, 4, &count, &visited), 0);
     same("the last", answers[12] == 0 && answers[13] == count && answers[14] == visited && count == 1 && numbers[3] == answer[0], 1);
     same("no more", numbers[4] == UINT64_C(0x4D4D4D4D4D4D4D4D) && answers[15] == UINT64_C(0x4D4D4D4D4D4D4D4D), 1);
-    same("two places", servercape_find_all(TABLES(x), queries, 17, answers, 8, numbers, 6), 2);
-    same("no query", servercape_find_all(TABLES(x), queries, 2, answers, 17, numbers, 6), 0);
+    same("two places", servercape_find_all(TABLES(x), MEMORY, queries, 17, answers, 8, numbers, 6), 2);
+    same("no query", servercape_find_all(TABLES(x), MEMORY, queries, 2, answers, 17, numbers, 6), 0);
 }
 
 /* A calendar is refused, and nothing changes. */
@@ -386,7 +394,7 @@ static void not_installed(const char *what, struct lent x, const uint64_t *calen
 static void station_hours(struct lent x)
 {
     uint64_t numbers[1272] = {1, 480, 1200};
-    same("open", servercape_open(TABLES(x), 8, 1), 0);
+    same("open", servercape_open(TABLES(x), 8, ONLY(1)), 0);
     record("before the first calendar", x, 0, 479, (const uint8_t[]){7}, 1, update(479));
     same("install", servercape_install_calendar(TABLES(x), numbers, 1272), 0);
     record("closed, though known", x, 1, 479, (const uint8_t[]){7}, 1, refusal(26));
@@ -471,7 +479,7 @@ static void listed_days(struct lent x)
     struct lent y = lend(8, 16, 64, 16, 32);
     uint8_t file[1024];
     uint64_t written = 0, next = 0, told = 77;
-    same("open", servercape_open(TABLES(x), 8, 1), 0);
+    same("open", servercape_open(TABLES(x), 8, ONLY(1)), 0);
     label("without a list", x, (UINT64_C(7) << 32) + 3 * 1440 + 605, 1005);
     same("a short day", servercape_install_days(TABLES(x), short_day, 2), 0);
     label("up to 01:59", x, 119, 159);
@@ -509,12 +517,128 @@ static void listed_days(struct lent x)
     give_back(y);
 }
 
+/* ── several kinds ── */
+
+/* Kinds 0, 3 and 4: cell 5 of two of them, and cell 9 of one. */
+static const uint8_t several[] = {4, 0, 3, 0};
+
+static void play_kinds(struct lent x)
+{
+    const uint8_t train[] = {8};
+    same("open kinds 0, 3, 4", servercape_open(TABLES(x), 8, several, 4), 0);
+    record_of(1, "a kind that was not opened, before 5", x, 0, 5, train, 0, refusal(25));
+    record_of(5, "no such kind", x, 0, 5, train, 1, refusal(25));
+    record_of(255, "nor that", x, 8, UINT64_MAX, train, 1, refusal(25));
+    record_of(3, "kind 3", x, 1, 5, train, 1, update(5));
+    record_of(0, "the last tick is common", x, 0, 5, train, 1, refusal(8));
+    record_of(0, "kind 0", x, 3, 9, train, 1, update(9));
+    record_of(0, "the same cell and byte in another kind", x, 4, 5, train, 1, update(5));
+    record_of(3, "known", x, 4, 5, train, 1, a_read);
+}
+
+/* What find, touching and read cells must give of kind 0, 3 or 4 at tick 5 over [0, 10), and of any other. */
+static void read_kind(struct lent x, uint8_t kind, uint64_t count, const uint64_t *numbers, const uint8_t held[10])
+{
+    uint64_t answer[3] = {77, 77, 77}, listed = 77, visited = 77;
+    uint8_t bytes[10], shown[10];
+    same("find", servercape_find(TABLES(x), kind, 5, 0, 10, answer, 3, &listed, &visited), 0);
+    same("its count", listed, count);
+    same("its nodes", visited, count ? 2 : 0);
+    same("its numbers", memcmp(answer, numbers, 8 * count) == 0 && answer[2] == 77, 1);
+    same("touching", servercape_touching(TABLES(x), kind, 5, 0, 10, answer, 3, &listed), 0);
+    same("its list", listed == count && memcmp(answer, numbers, 8 * count) == 0, 1);
+    same("cells", servercape_read_cells(TABLES(x), kind, 5, 0, 10, bytes, 10, shown, 10), 0);
+    same("held", memcmp(shown, held, 10) == 0, 1);
+    same("find all", servercape_find_all(TABLES(x), kind, (const uint64_t[]){5, 0, 10}, 3, answer, 3, &visited, 1), 1);
+    same("as find, or no room", answer[0] == (count > 1 ? 16 : 0) && answer[1] == (count > 1 ? 0 : count), 1);
+}
+
+/* Every read of a kind that was not opened is refused 25, before 14 to 16; or with another number. */
+static void no_kind(struct lent x, uint8_t kind, uint64_t number)
+{
+    uint64_t a = 77, b = 77, answers[3] = {77, 77, 77};
+    uint8_t byte = 77;
+    same("find", servercape_find(TABLES(x), kind, 8, 1, 0, &a, 0, &a, &b), number);
+    same("touching", servercape_touching(TABLES(x), kind, 8, 1, 0, &a, 0, &a), number);
+    same("next", servercape_next(TABLES(x), kind, 8, 0, &a, &b), number);
+    same("last", servercape_last(TABLES(x), kind, 8, 0, &a, &b), number);
+    same("cells", servercape_read_cells(TABLES(x), kind, 8, 1, 0, &byte, 0, &byte, 0), number);
+    same("find all", servercape_find_all(TABLES(x), kind, (const uint64_t[]){8, 1, 0}, 3, answers, 3, &a, 1), 1);
+    same("its answer", answers[0] == number && answers[1] + answers[2] == 0, 1);
+    same("kept", a + b + byte, 3 * 77);
+}
+
+/* Opening takes a set; every other kind is refused 25; trees, block numbers and parts of the file go by kind code. */
+static void kinds(void)
+{
+    struct lent x = lend(3, 3, 3, 11, 6), y = lend(0, 2, 2, 6, 3);
+    static const uint64_t zero[] = {0, 1}, three[] = {2}, alone[] = {0};
+    static const uint8_t held_zero[10] = {0, 0, 0, 0, 0, 1, 0, 0, 0, 1}, held_three[10] = {0, 0, 0, 0, 0, 1}, held_none[10] = {0};
+    uint8_t file[600];
+    uint64_t kind = 77, first = 77, length = 77, created = 77, destroyed = 77, offset = 77, written = 77, next = 77;
+    same("no kind", servercape_open(TABLES(x), 8, several, 0), 1);
+    same("kind 5 among others", servercape_open(TABLES(x), 8, (const uint8_t[]){1, 5}, 2), 1);
+    play_kinds(x);
+    no_kind(x, 1, 4);
+    x.nodes_length -= 8;
+    same("nodes of all trees", servercape_finish(TABLES(x)), 12);
+    x.nodes_length += 8;
+    x.entries_length -= 2;
+    same("entries of all trees", servercape_finish(TABLES(x)), 13);
+    x.entries_length += 2;
+    same("finish", servercape_finish(TABLES(x)), 0);
+    record_of(1, "3 before 25", x, 4, 5, held_zero, 1, refusal(3));
+    read_kind(x, 0, 2, zero, held_zero);
+    read_kind(x, 3, 1, three, held_three);
+    read_kind(x, 4, 0, zero, held_none);
+    no_kind(x, 1, 25);
+    no_kind(x, 5, 25);
+    no_kind(x, 255, 25);
+    no_kind(x, 3, 14);
+    for (uint64_t k = 0; k < 3; k++) {
+        same("block", servercape_block(TABLES(x), k, &kind, &first, &length, &created, &destroyed, &offset), 0);
+        same("by kind, then by cell", kind == (k == 2 ? 3 : 0) && first == (k == 1 ? 9 : 5), 1);
+    }
+    same("write", servercape_write(TABLES(x), file, sizeof file, &written), 0);
+    same("both parts", written, 544);
+    same("load", servercape_load(TABLES(y), file, written, 0, &next), 0);
+    same("up to the second", next, 272);
+    read_kind(y, 0, 2, zero, held_zero);
+    no_kind(y, 3, 25);
+    same("load the second", servercape_load(TABLES(y), file, written, next, &next), 0);
+    same("up to the end", next, 544);
+    read_kind(y, 3, 1, alone, held_three);
+    no_kind(y, 0, 25);
+    same("write it again", servercape_write(TABLES(y), file, 272, &written), 0);
+    same("its kind stands in front", file[0], 3);
+    give_back(x);
+    give_back(y);
+}
+
+/* A list of operations of one kind. */
+static void record_all_kinds(void)
+{
+    struct lent x = lend(8, 16, 64, 16, 32);
+    uint8_t list[64];
+    uint64_t answers[6] = {77, 77, 77, 77, 77, 77}, next = 77;
+    size_t end = put_operation(list, 0, 1, 5, (const uint8_t[]){8}, 1);
+    end = put_operation(list, end, 1, 5, (const uint8_t[]){8}, 1);
+    same("open", servercape_open(TABLES(x), 8, several, 4), 0);
+    for (uint8_t kind = 3; kind < 5; kind++) {
+        same("record all", servercape_record_all(TABLES(x), x.scratch, 8, kind, list, end, answers, 6, &next), 2);
+        same("an update, then a read", answers[0] == 0 && answers[1] == 1 && answers[2] == 5 && answers[3] + answers[4] + answers[5] == 0, 1);
+    }
+    same("not opened", servercape_record_all(TABLES(x), x.scratch, 8, 2, list, end, answers, 6, &next), 2);
+    same("each is refused 25", answers[0] == 25 && answers[3] == 25 && answers[1] + answers[2] + answers[4] + answers[5] == 0, 1);
+    give_back(x);
+}
+
 static void without_blocks(struct lent x)
 {
     uint64_t count = 77;
-    same("open", servercape_open(TABLES(x), 8, 1), 0);
+    same("open", servercape_open(TABLES(x), 8, ONLY(1)), 0);
     same("finish", servercape_finish(TABLES(x)), 0);
-    same("touching nothing", servercape_touching(TABLES(x), 7, 0, UINT64_MAX, x.scratch, 0, &count), 0);
+    same("touching nothing", servercape_touching(TABLES(x), MEMORY, 7, 0, UINT64_MAX, x.scratch, 0, &count), 0);
     same("no block", count, 0);
     neighbours(x, 7, 0, missing, missing);
     neighbours(x, 7, UINT64_MAX, missing, missing);
@@ -536,22 +660,22 @@ static void lengths(void)
 
 static void refused(struct lent x)
 {
-    same("end tick 0", servercape_open(TABLES(x), 0, 1), 1);
-    same("largest end tick", servercape_open(TABLES(x), SERVERCAPE_MAX_END_TICK, 4), 0);
-    same("above it", servercape_open(TABLES(x), SERVERCAPE_MAX_END_TICK + 1, 4), 1);
-    same("kind 5", servercape_open(TABLES(x), 8, 5), 1);
+    same("end tick 0", servercape_open(TABLES(x), 0, ONLY(1)), 1);
+    same("largest end tick", servercape_open(TABLES(x), SERVERCAPE_MAX_END_TICK, ONLY(4)), 0);
+    same("above it", servercape_open(TABLES(x), SERVERCAPE_MAX_END_TICK + 1, ONLY(4)), 1);
+    same("kind 5", servercape_open(TABLES(x), 8, ONLY(5)), 1);
     uint64_t count = 77, visited = 77;
-    same("not finished", servercape_find(TABLES(x), 0, 0, 1, x.scratch, x.scratch_length, &count, &visited), 4);
-    same("touching, not finished", servercape_touching(TABLES(x), UINT64_MAX, 1, 0, x.scratch, 0, &count), 4);
-    same("next, not finished", servercape_next(TABLES(x), UINT64_MAX, 0, &count, &visited), 4);
-    same("last, not finished", servercape_last(TABLES(x), UINT64_MAX, 0, &count, &visited), 4);
+    same("not finished", servercape_find(TABLES(x), MEMORY, 0, 0, 1, x.scratch, x.scratch_length, &count, &visited), 4);
+    same("touching, not finished", servercape_touching(TABLES(x), MEMORY, UINT64_MAX, 1, 0, x.scratch, 0, &count), 4);
+    same("next, not finished", servercape_next(TABLES(x), MEMORY, UINT64_MAX, 0, &count, &visited), 4);
+    same("last, not finished", servercape_last(TABLES(x), MEMORY, UINT64_MAX, 0, &count, &visited), 4);
     /* the state stands in the head's last row */
     x.blocks[servercape_length(SERVERCAPE_BLOCKS, 0) - 8] = 9;
     same("not well formed", servercape_finish(TABLES(x)), 2);
     record("record, not well formed", x, 0, 0, (const uint8_t[]){1}, 1, refusal(2));
-    same("touching, not well formed", servercape_touching(TABLES(x), UINT64_MAX, 1, 0, x.scratch, 0, &count), 2);
-    same("next, not well formed", servercape_next(TABLES(x), UINT64_MAX, 0, &count, &visited), 2);
-    same("last, not well formed", servercape_last(TABLES(x), UINT64_MAX, 0, &count, &visited), 2);
+    same("touching, not well formed", servercape_touching(TABLES(x), MEMORY, UINT64_MAX, 1, 0, x.scratch, 0, &count), 2);
+    same("next, not well formed", servercape_next(TABLES(x), MEMORY, UINT64_MAX, 0, &count, &visited), 2);
+    same("last, not well formed", servercape_last(TABLES(x), MEMORY, UINT64_MAX, 0, &count, &visited), 2);
     same("kept values", count + visited, 2 * 77);
 }
 
@@ -578,6 +702,8 @@ int main(void)
     record_all();
     station_hours(x);
     listed_days(x);
+    kinds();
+    record_all_kinds();
     without_blocks(x);
     give_back(x);
     printf("C: %d checks, %d wrong\n", checks, wrong);

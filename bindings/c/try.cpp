@@ -21,6 +21,8 @@ void same(const char *what, std::uint64_t got, std::uint64_t want)
 using Numbers = std::vector<std::uint64_t>;
 using Bytes = std::vector<std::uint8_t>;
 
+constexpr std::uint8_t memory = SERVERCAPE_MEMORY;
+
 Numbers table(std::uint64_t which, std::uint64_t rows)
 {
     return Numbers(servercape_length(which, rows));
@@ -43,7 +45,7 @@ void record(Tables &x, std::uint64_t tick, std::uint64_t first, const Bytes &byt
 {
     const Numbers scratch(8);
     std::uint64_t updated = 77, cell = 77;
-    same("record", call(servercape_record, x, scratch.data(), scratch.size(), tick, first, bytes.data(), bytes.size(), &updated, &cell), 0);
+    same("record", call(servercape_record, x, scratch.data(), scratch.size(), memory, tick, first, bytes.data(), bytes.size(), &updated, &cell), 0);
     same("updated", updated, want);
     same("its cell", cell, changed);
 }
@@ -51,7 +53,9 @@ void record(Tables &x, std::uint64_t tick, std::uint64_t first, const Bytes &byt
 void play(Tables &x)
 {
     const Numbers hours = {1, 90, 120}, reversed = {1, 120, 90};
-    same("open", call(servercape_open, x, std::uint64_t{8}, std::uint8_t{1}), 0);
+    const Bytes kinds = {SERVERCAPE_OTHER, memory}, none;
+    same("no kind", call(servercape_open, x, std::uint64_t{8}, kinds.data(), none.size()), 1);
+    same("open", call(servercape_open, x, std::uint64_t{8}, kinds.data(), kinds.size()), 0);
     same("hours, Mondays from 01:30 to 02:00", call(servercape_install_calendar, x, hours.data(), hours.size()), 0);
     same("no hours", call(servercape_install_calendar, x, reversed.data(), reversed.size()), 27);
     const Numbers short_day = {0, 1380}, whole_day = {0, 1440};
@@ -76,16 +80,17 @@ void read(Tables &x)
     }
     Numbers answer(16);
     std::uint64_t count = 77, visited = 77, found = 77, number = 77;
-    same("find", call(servercape_find, x, tick, std::uint64_t{100}, std::uint64_t{104}, answer.data(), answer.size(), &count, &visited), 0);
+    same("find", call(servercape_find, x, memory, tick, std::uint64_t{100}, std::uint64_t{104}, answer.data(), answer.size(), &count, &visited), 0);
     same("its count", count, 3);
-    same("touching", call(servercape_touching, x, tick, std::uint64_t{101}, std::uint64_t{103}, answer.data(), answer.size(), &count), 0);
+    same("a kind that was not opened", call(servercape_find, x, std::uint8_t{0}, tick, std::uint64_t{100}, std::uint64_t{104}, answer.data(), answer.size(), &count, &visited), 25);
+    same("touching", call(servercape_touching, x, memory, tick, std::uint64_t{101}, std::uint64_t{103}, answer.data(), answer.size(), &count), 0);
     same("its first", count == 2 ? answer[0] : 77, 2);
-    same("next", call(servercape_next, x, tick, std::uint64_t{103}, &found, &number), 0);
+    same("next", call(servercape_next, x, memory, tick, std::uint64_t{103}, &found, &number), 0);
     same("its number", number, 4);
-    same("last", call(servercape_last, x, tick, std::uint64_t{103}, &found, &number), 0);
+    same("last", call(servercape_last, x, memory, tick, std::uint64_t{103}, &found, &number), 0);
     same("its number", number, 3);
     Bytes shown(4), held(4);
-    same("cells", call(servercape_read_cells, x, tick, std::uint64_t{102}, std::uint64_t{106}, shown.data(), shown.size(), held.data(), held.size()), 0);
+    same("cells", call(servercape_read_cells, x, memory, tick, std::uint64_t{102}, std::uint64_t{106}, shown.data(), shown.size(), held.data(), held.size()), 0);
     same("the last one is free", held == Bytes{1, 1, 1, 0}, 1);
     same("the trains", shown == Bytes{9, 4, 9, 0}, 1);
 }

@@ -46,10 +46,11 @@ static void same_answers(const char *what, struct answers a, struct answers b)
 
 /* ── with the state that the test found ── */
 
-/* A window at a tick, a cell, and how long the slices are. */
+/* A window at a tick, a cell, how long the slices are, and the kind. */
 struct asked {
     uint64_t tick, start, end;
     size_t room;
+    uint8_t kind;
 };
 
 static void same_reads(struct lent x, uint64_t state, struct asked q)
@@ -57,18 +58,18 @@ static void same_reads(struct lent x, uint64_t state, struct asked q)
     struct answers a = make_answers(), b = make_answers();
     uint64_t *v = a.values, *w = b.values;
     size_t cells = 2 * q.room, bytes = q.room < ANSWER ? q.room : FILE_BYTES;
-    same("find", servercape_find_tested(state, BLOCKS(x), TREE(x), q.tick, q.start, q.end, a.numbers, q.room, &v[0], &v[1]),
-        servercape_find(TABLES(x), q.tick, q.start, q.end, b.numbers, q.room, &w[0], &w[1]));
+    same("find", servercape_find_tested(state, BLOCKS(x), TREE(x), q.kind, q.tick, q.start, q.end, a.numbers, q.room, &v[0], &v[1]),
+        servercape_find(TABLES(x), q.kind, q.tick, q.start, q.end, b.numbers, q.room, &w[0], &w[1]));
     same_answers("find", a, b);
-    same("touching", servercape_touching_tested(state, BLOCKS(x), TREE(x), q.tick, q.start, q.end, a.numbers, q.room, &v[0]),
-        servercape_touching(TABLES(x), q.tick, q.start, q.end, b.numbers, q.room, &w[0]));
+    same("touching", servercape_touching_tested(state, BLOCKS(x), TREE(x), q.kind, q.tick, q.start, q.end, a.numbers, q.room, &v[0]),
+        servercape_touching(TABLES(x), q.kind, q.tick, q.start, q.end, b.numbers, q.room, &w[0]));
     same_answers("touching", a, b);
-    same("next", servercape_next_tested(state, BLOCKS(x), TREE(x), q.tick, q.start, &v[2], &v[3]), servercape_next(TABLES(x), q.tick, q.start, &w[2], &w[3]));
+    same("next", servercape_next_tested(state, BLOCKS(x), TREE(x), q.kind, q.tick, q.start, &v[2], &v[3]), servercape_next(TABLES(x), q.kind, q.tick, q.start, &w[2], &w[3]));
     same_answers("next", a, b);
-    same("last", servercape_last_tested(state, BLOCKS(x), TREE(x), q.tick, q.start, &v[2], &v[3]), servercape_last(TABLES(x), q.tick, q.start, &w[2], &w[3]));
+    same("last", servercape_last_tested(state, BLOCKS(x), TREE(x), q.kind, q.tick, q.start, &v[2], &v[3]), servercape_last(TABLES(x), q.kind, q.tick, q.start, &w[2], &w[3]));
     same_answers("last", a, b);
-    same("cells", servercape_read_cells_tested(state, BLOCKS(x), STORE(x), TREE(x), q.tick, q.start, q.end, a.bytes, cells, a.held, cells),
-        servercape_read_cells(TABLES(x), q.tick, q.start, q.end, b.bytes, cells, b.held, cells));
+    same("cells", servercape_read_cells_tested(state, BLOCKS(x), STORE(x), TREE(x), q.kind, q.tick, q.start, q.end, a.bytes, cells, a.held, cells),
+        servercape_read_cells(TABLES(x), q.kind, q.tick, q.start, q.end, b.bytes, cells, b.held, cells));
     same_answers("cells", a, b);
     same("block", servercape_block_tested(state, BLOCKS(x), STORE(x), q.tick, &v[0], &v[1], &v[2], &v[3], &v[4], &v[5]),
         servercape_block(TABLES(x), q.tick, &w[0], &w[1], &w[2], &w[3], &w[4], &w[5]));
@@ -85,11 +86,13 @@ static void same_all_reads(struct lent x, uint64_t state)
 {
     same("the state", servercape_state(TABLES(x)), state);
     static const uint64_t ticks[] = {0, 1, 3, 6, 7, 8, UINT64_MAX}, cells[] = {0, 100, 101, 103, 105, UINT64_MAX};
+    static const uint8_t kinds[] = {1, 3, 4, 255};
     for (int t = 0; t < 7; t++)
         for (int i = 0; i < 6; i++)
             for (int j = 0; j < 6; j++)
                 for (size_t room = 0; room <= ANSWER; room += 4)
-                    same_reads(x, state, (struct asked){ticks[t], cells[i], cells[j], room});
+                    for (int k = 0; k < 4; k++)
+                        same_reads(x, state, (struct asked){ticks[t], cells[i], cells[j], room, kinds[k]});
 }
 
 /* Both have the same tables. */
@@ -99,15 +102,23 @@ static void same_tables(struct lent x, struct lent y)
         || memcmp(x.store, y.store, x.store_length) || memcmp(x.nodes, y.nodes, 8 * x.nodes_length) || memcmp(x.entries, y.entries, 8 * x.entries_length), 0);
 }
 
-/* An operation by both calls, each on its own tables. */
-static void same_record(struct lent x, struct lent y, uint64_t state, uint64_t tick, uint64_t first, const char *bytes, size_t scratch)
+/* Kinds 1 and 3 are opened; most operations are of the first. */
+#define KINDS (const uint8_t[]){3, 1}, 2
+
+/* An operation of a kind by both calls, each on its own tables. */
+static void same_record_of(uint8_t kind, struct lent x, struct lent y, uint64_t state, uint64_t tick, uint64_t first, const char *bytes, size_t scratch)
 {
     uint64_t v[2] = {77, 77}, w[2] = {77, 77};
     const uint8_t *b = (const uint8_t *)bytes;
-    same("record", servercape_record_tested(state, x.pieces, x.pieces_length, BLOCKS(x), STORE(x), x.scratch, scratch, tick, first, b, strlen(bytes), &v[0], &v[1]),
-        servercape_record(TABLES(y), y.scratch, scratch, tick, first, b, strlen(bytes), &w[0], &w[1]));
+    same("record", servercape_record_tested(state, x.pieces, x.pieces_length, BLOCKS(x), STORE(x), x.scratch, scratch, kind, tick, first, b, strlen(bytes), &v[0], &v[1]),
+        servercape_record(TABLES(y), y.scratch, scratch, kind, tick, first, b, strlen(bytes), &w[0], &w[1]));
     same("its values", memcmp(v, w, sizeof v), 0);
     same_tables(x, y);
+}
+
+static void same_record(struct lent x, struct lent y, uint64_t state, uint64_t tick, uint64_t first, const char *bytes, size_t scratch)
+{
+    same_record_of(1, x, y, state, tick, first, bytes, scratch);
 }
 
 static void same_records(struct lent x, struct lent y, uint64_t state)
@@ -116,6 +127,10 @@ static void same_records(struct lent x, struct lent y, uint64_t state)
     same_record(x, y, state, 3, 102, "999", 8);
     same_record(x, y, state, 5, 100, "77", 8);
     same_record(x, y, state, 5, 100, "78", 7);
+    same_record_of(3, x, y, state, 5, 101, "77", 8);
+    same_record_of(3, x, y, state, 5, 101, "7", 8);
+    same_record_of(4, x, y, state, 5, 101, "7", 8);
+    same_record_of(255, x, y, state, 5, 101, "", 8);
     same_record(x, y, state, 6, 103, "4", 8);
     same_record(x, y, state, 6, 103, "", 8);
     same_record(x, y, state, 6, UINT64_MAX, "4", 8);
@@ -127,14 +142,14 @@ static void same_records(struct lent x, struct lent y, uint64_t state)
 
 static void with_true_states(void)
 {
-    struct lent x = lend(8, 16, 64, 16, 32), y = lend(8, 16, 64, 16, 32), z = lend(0, 6, 7, 10, 12);
+    struct lent x = lend(8, 16, 64, 32, 32), y = lend(8, 16, 64, 32, 32), z = lend(0, 7, 9, 16, 16);
     uint64_t written, next;
     uint8_t file[FILE_BYTES];
     memset(x.blocks, 0, 8 * x.blocks_length);
     memset(y.blocks, 0, 8 * y.blocks_length);
     same_all_reads(x, SERVERCAPE_NOT_WELL_FORMED);
     same_records(x, y, SERVERCAPE_NOT_WELL_FORMED);
-    same("open", servercape_open(TABLES(x), 8, 1) + servercape_open(TABLES(y), 8, 1), 0);
+    same("open", servercape_open(TABLES(x), 8, KINDS) + servercape_open(TABLES(y), 8, KINDS), 0);
     same_all_reads(x, SERVERCAPE_OPEN);
     same_records(x, y, SERVERCAPE_OPEN);
     same_all_reads(x, SERVERCAPE_OPEN);
@@ -145,6 +160,9 @@ static void with_true_states(void)
     same_all_reads(x, SERVERCAPE_CLOSED);
     same("write", servercape_write_tested(SERVERCAPE_CLOSED, BLOCKS(x), STORE(x), TREE(x), file, sizeof file, &written), 0);
     same("load", servercape_load(TABLES(z), file, written, 0, &next), 0);
+    same_all_reads(z, SERVERCAPE_CLOSED);
+    same("load the other kind", servercape_load(TABLES(z), file, written, next, &next), 0);
+    same("behind it", next, written);
     same_all_reads(z, SERVERCAPE_CLOSED);
     file[9 + 17] = 8;
     same("load of a block without a life", servercape_load(TABLES(z), file, written, 0, &next), 22);
@@ -158,8 +176,8 @@ static void with_true_states(void)
 static void with_hours(void)
 {
     static const uint64_t hours[] = {1, 100, 103};
-    struct lent x = lend(8, 16, 64, 16, 32), y = lend(8, 16, 64, 16, 32);
-    same("open", servercape_open(TABLES(x), 8, 1) + servercape_open(TABLES(y), 8, 1), 0);
+    struct lent x = lend(8, 16, 64, 32, 32), y = lend(8, 16, 64, 32, 32);
+    same("open", servercape_open(TABLES(x), 8, KINDS) + servercape_open(TABLES(y), 8, KINDS), 0);
     same("install", servercape_install_calendar(TABLES(x), hours, 3) + servercape_install_calendar(TABLES(y), hours, 3), 0);
     same_records(x, y, SERVERCAPE_OPEN);
     same_record(x, y, SERVERCAPE_OPEN, 6, 99, "1", 8);
@@ -190,7 +208,7 @@ static void with_days(void)
 {
     static const uint64_t days[] = {0, 1380, 2, 1500}, fewer[] = {1, 1500}, hours[] = {2, 0, 120, 180, 1440};
     struct lent x = lend(8, 32, 64, 64, 64), y = lend(8, 32, 64, 64, 64);
-    same("open", servercape_open(TABLES(x), 8, 1) + servercape_open(TABLES(y), 8, 1), 0);
+    same("open", servercape_open(TABLES(x), 8, KINDS) + servercape_open(TABLES(y), 8, KINDS), 0);
     same("hours", servercape_install_calendar(TABLES(x), hours, 5) + servercape_install_calendar(TABLES(y), hours, 5), 0);
     same("days", servercape_install_days(TABLES(x), days, 4) + servercape_install_days(TABLES(y), days, 4), 0);
     same_labels(x, SERVERCAPE_OPEN);
@@ -218,7 +236,7 @@ static uint64_t *head(struct lent x)
     return x.blocks + servercape_length(SERVERCAPE_BLOCKS, 0) - 8;
 }
 
-enum { PIECES = 8, ROWS = 16, BYTES = 64, NODES = 16, ENTRIES = 32, HUGE_BIT = 60 };
+enum { PIECES = 8, ROWS = 16, BYTES = 64, NODES = 32, ENTRIES = 32, HUGE_BIT = 60 };
 
 #define HUGE_COUNT (UINT64_C(1) << HUGE_BIT)
 
@@ -226,7 +244,7 @@ enum { PIECES = 8, ROWS = 16, BYTES = 64, NODES = 16, ENTRIES = 32, HUGE_BIT = 6
 static struct lent full_tables(void)
 {
     struct lent x = lend(PIECES, ROWS, BYTES, NODES, ENTRIES), y = lend(PIECES, ROWS, BYTES, NODES, ENTRIES);
-    same("open", servercape_open(TABLES(x), 8, 1) + servercape_open(TABLES(y), 8, 1), 0);
+    same("open", servercape_open(TABLES(x), 8, KINDS) + servercape_open(TABLES(y), 8, KINDS), 0);
     same_records(x, y, SERVERCAPE_OPEN);
     same("finish", servercape_finish(TABLES(x)), 0);
     memcpy(x.pieces, y.pieces, 8 * x.pieces_length);
@@ -235,8 +253,8 @@ static struct lent full_tables(void)
 }
 
 /* Every way to spoil them: none; links that lead back or to one row; counts and offsets that no table has; garbage; a calendar and a list of days of more than
-   there is room for; days that fall, or have no minutes. */
-enum { WAYS = 17, CALENDAR = 32, SPECIAL = CALENDAR + 120, DAYS = 1305 };
+   there is room for; days that fall, or have no minutes; rows of kinds that were not opened or cannot be, and trees exchanged. */
+enum { WAYS = 20, CALENDAR = 32, SPECIAL = CALENDAR + 120, DAYS = 1305 };
 
 static void spoil(struct lent x, int way)
 {
@@ -273,6 +291,12 @@ static void spoil(struct lent x, int way)
         x.blocks[CALENDAR] = 1, x.blocks[DAYS] = 64, x.blocks[DAYS + 1 + 2 * k] = UINT64_MAX - k, x.blocks[DAYS + 2 + 2 * k] = HUGE_COUNT;
     for (uint64_t k = 0; way == 16 && k < 64; k++)
         x.blocks[CALENDAR] = 1, x.blocks[DAYS] = 64, x.blocks[DAYS + 1 + 2 * k] = 64 - k, x.blocks[DAYS + 2 + 2 * k] = 0;
+    if (way == 17)
+        h[2] = 31, x.nodes[1] = x.nodes[3], x.nodes[0] = x.nodes[4] = 1;
+    if (way == 18)
+        h[2] = UINT64_MAX;
+    for (uint64_t k = 0; way == 19 && k < PIECES; k++)
+        x.pieces[8 * k + 15] = HUGE_COUNT + k, h[8 + 8 * k + 5] = k % 2 ? 7 : UINT64_MAX, x.nodes[8 * k + 14] = 9;
 }
 
 /* Every call with a state, whatever it answers; no read changes a table. */
@@ -286,11 +310,11 @@ static void every_call(struct lent x, uint64_t state, struct asked q)
     memcpy(before.store, x.store, x.store_length);
     memcpy(before.nodes, x.nodes, 8 * x.nodes_length);
     memcpy(before.entries, x.entries, 8 * x.entries_length);
-    servercape_find_tested(state, BLOCKS(x), TREE(x), q.tick, q.start, q.end, a.numbers, ANSWER, &v[0], &v[1]);
-    servercape_touching_tested(state, BLOCKS(x), TREE(x), q.tick, q.start, q.end, a.numbers, ANSWER, &v[0]);
-    servercape_next_tested(state, BLOCKS(x), TREE(x), q.tick, q.start, &v[0], &v[1]);
-    servercape_last_tested(state, BLOCKS(x), TREE(x), q.tick, q.end, &v[0], &v[1]);
-    servercape_read_cells_tested(state, BLOCKS(x), STORE(x), TREE(x), q.tick, q.start, q.end, a.bytes, CELLS, a.held, CELLS);
+    servercape_find_tested(state, BLOCKS(x), TREE(x), q.kind, q.tick, q.start, q.end, a.numbers, ANSWER, &v[0], &v[1]);
+    servercape_touching_tested(state, BLOCKS(x), TREE(x), q.kind, q.tick, q.start, q.end, a.numbers, ANSWER, &v[0]);
+    servercape_next_tested(state, BLOCKS(x), TREE(x), q.kind, q.tick, q.start, &v[0], &v[1]);
+    servercape_last_tested(state, BLOCKS(x), TREE(x), q.kind, q.tick, q.end, &v[0], &v[1]);
+    servercape_read_cells_tested(state, BLOCKS(x), STORE(x), TREE(x), q.kind, q.tick, q.start, q.end, a.bytes, CELLS, a.held, CELLS);
     for (uint64_t k = 0; k < 8; k++)
         if (servercape_block_tested(state, BLOCKS(x), STORE(x), k, &v[0], &v[1], &v[2], &v[3], &v[4], &v[5]) == 0)
             same("its bytes lie in the store", v[2] <= x.store_length && v[5] <= x.store_length - v[2], 1);
@@ -298,8 +322,8 @@ static void every_call(struct lent x, uint64_t state, struct asked q)
     servercape_clock_tested(state, BLOCKS(x), q.start, &v[0]);
     servercape_clock_tested(state, BLOCKS(x), 7 * 1440 + q.end, &v[0]);
     same_tables(x, before);
-    servercape_record_tested(state, x.pieces, x.pieces_length, BLOCKS(x), STORE(x), x.scratch, 8, q.tick, q.start, (const uint8_t *)"12345", 5, &v[0], &v[1]);
-    servercape_record_tested(state, x.pieces, x.pieces_length, BLOCKS(x), STORE(x), x.scratch, 8, q.tick, 100, (const uint8_t *)"777", 3, &v[0], &v[1]);
+    servercape_record_tested(state, x.pieces, x.pieces_length, BLOCKS(x), STORE(x), x.scratch, 8, q.kind, q.tick, q.start, (const uint8_t *)"12345", 5, &v[0], &v[1]);
+    servercape_record_tested(state, x.pieces, x.pieces_length, BLOCKS(x), STORE(x), x.scratch, 8, 1, q.tick, 100, (const uint8_t *)"777", 3, &v[0], &v[1]);
     give_back(before);
     drop_answers(a);
 }
@@ -307,10 +331,10 @@ static void every_call(struct lent x, uint64_t state, struct asked q)
 static void with_false_states(void)
 {
     static const uint64_t states[] = {0, 1, 2, 3, UINT64_MAX};
-    static const struct asked queries[] = {{6, 99, 106, 0}, {0, 0, UINT64_MAX, 0}, {7, 101, 101, 0}, {UINT64_MAX, UINT64_MAX, 0, 0}};
+    static const struct asked queries[] = {{6, 99, 106, 0, 1}, {0, 0, UINT64_MAX, 0, 3}, {7, 101, 101, 0, 4}, {UINT64_MAX, UINT64_MAX, 0, 0, 255}, {6, 0, UINT64_MAX, 0, 0}};
     for (int way = 0; way <= WAYS; way++)
         for (int s = 0; s < 5; s++)
-            for (int q = 0; q < 4; q++) {
+            for (int q = 0; q < 5; q++) {
                 struct lent x = full_tables(), y = x;
                 if (way < WAYS)
                     spoil(x, way);
@@ -324,7 +348,7 @@ static void with_false_states(void)
 int main(void)
 {
     /* a call that does not end is a failure */
-    alarm(60);
+    alarm(240);
     with_true_states();
     with_hours();
     with_days();

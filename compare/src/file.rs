@@ -1,7 +1,24 @@
 //! The file of docs/RULES.md: its bytes, its fields one after the other, and the loader's refusals. Also the Rust's files in another order (D4).
-use crate::board::{Block, Closed};
+use crate::board::{Block, Closed, KINDS};
 use crate::tree::{Node, Tree};
 use servercape::{Index, Room};
+
+/// What one tree of a file says: its kind, its blocks and the tree.
+#[derive(Clone, Debug)]
+pub struct Part {
+    pub end: u64,
+    pub kind: u64,
+    pub blocks: Vec<Block>,
+    pub tree: Tree,
+}
+
+impl Part {
+    /// The index that is loaded from it: its kind alone.
+    pub fn closed(self) -> Closed {
+        let trees = (0..KINDS).map(|kind| if kind == self.kind { self.tree.clone() } else { Tree::none() }).collect();
+        Closed { end: self.end, kinds: vec![self.kind], blocks: self.blocks, trees }
+    }
+}
 
 // ── writing ──
 
@@ -35,24 +52,30 @@ pub fn bytes_of(kind: u64, blocks: &[&Block], tree: &Tree) -> Vec<u8> {
     out
 }
 
-/// The file of a closed index: only blocks with an entry, in recorded order and numbered so.
+/// The file of a closed index: the trees one behind the other, by kind.
 pub fn written(index: &Closed) -> Vec<u8> {
-    if index.blocks.is_empty() {
+    (0..KINDS).flat_map(|kind| written_part(index, kind)).collect()
+}
+
+/// The part of one kind: only blocks with an entry, in recorded order and numbered so. Without blocks of the kind it is empty.
+fn written_part(index: &Closed, kind: u64) -> Vec<u8> {
+    let tree = &index.trees[kind as usize];
+    if tree.0.is_none() {
         return vec![];
     }
     let mut has_entry = vec![false; index.blocks.len()];
-    index.tree.each(&mut |node| {
+    tree.each(&mut |node| {
         for &k in node.map_or(&[][..], |n| &n.entries) {
             has_entry[k as usize] = true;
         }
     });
     let before = |k: u64| has_entry[..k as usize].iter().filter(|&&e| e).count() as u64;
     let blocks: Vec<&Block> = index.blocks.iter().zip(&has_entry).filter(|(_, &e)| e).map(|(b, _)| b).collect();
-    bytes_of(index.kind, &blocks, &index.tree.renumbered(&before))
+    bytes_of(kind, &blocks, &tree.renumbered(&before))
 }
 
 /// The bytes of a file with its blocks in the order in which they stand in `order`, and the entries renumbered; none where a block is not there.
-pub fn reordered(file: &Closed, order: &[Block]) -> Option<Vec<u8>> {
+pub fn reordered(file: &Part, order: &[Block]) -> Option<Vec<u8>> {
     let place: Option<Vec<usize>> = file.blocks.iter().map(|b| order.iter().position(|o| o == b)).collect();
     let place = place?;
     let mut numbers: Vec<usize> = (0..file.blocks.len()).collect();
@@ -91,7 +114,7 @@ impl<'a> Reader<'a> {
         }
         let (first, length, created, destroyed) = (self.number()?, self.number()?, self.number()?, self.number()?);
         let bytes = self.field(length)?.to_vec();
-        Ok(Block { first, created, destroyed, bytes })
+        Ok(Block { kind, first, created, destroyed, bytes })
     }
 
     fn tree(&mut self) -> Result<Tree, u64> {
@@ -129,8 +152,8 @@ pub fn numbers(file: &[u8]) -> Vec<usize> {
     fields
 }
 
-/// What a file says, with the next position; or 17, 18 or 19, whichever comes first.
-pub fn parsed(file: &[u8], at: usize) -> Result<(Closed, usize), u64> {
+/// What a file says from a position on, with the next position; or 17, 18 or 19, whichever comes first.
+pub fn parsed(file: &[u8], at: usize) -> Result<(Part, usize), u64> {
     let mut reader = Reader { file, at };
     let kind = reader.byte()?;
     if kind > 4 {
@@ -143,13 +166,24 @@ pub fn parsed(file: &[u8], at: usize) -> Result<(Closed, usize), u64> {
     }
     let tree = reader.tree()?;
     let end = tree.0.as_ref().map_or(0, |n| n.max);
-    Ok((Closed { end, kind, blocks, tree }, reader.at))
+    Ok((Part { end, kind, blocks, tree }, reader.at))
+}
+
+/// The parts of a file, one behind the other: their kinds and bytes.
+pub fn parts(file: &[u8]) -> Vec<(u64, Vec<u8>)> {
+    let (mut at, mut parts) = (0, vec![]);
+    while at < file.len() {
+        let Ok((part, next)) = parsed(file, at) else { break };
+        parts.push((part.kind, file[at..next].to_vec()));
+        at = next;
+    }
+    parts
 }
 
 // ── loading ──
 
-/// A closed index from a file with the next position, or the number of the refusal.
-pub fn loaded(file: &[u8], at: usize, room: &Room) -> Result<(Closed, usize), u64> {
+/// What is loaded from a file, with the next position, or the number of the refusal.
+pub fn loaded(file: &[u8], at: usize, room: &Room) -> Result<(Part, usize), u64> {
     let (index, next) = parsed(file, at)?;
     let bytes: u64 = index.blocks.iter().map(|b| b.bytes.len() as u64).sum();
     let fits = index.blocks.len() as u64 <= room.blocks
@@ -189,7 +223,7 @@ fn sound(block: &Block, end: u64) -> bool {
 }
 
 /// 23: the entries are those that each block's life asks for.
-fn entered(index: &Closed) -> bool {
+fn entered(index: &Part) -> bool {
     let mut widths = vec![0u128; index.blocks.len()];
     entries_right(&index.tree, None, &index.blocks, &mut widths)
         && index.blocks.iter().zip(&widths).all(|(b, &w)| w == (b.destroyed - b.created) as u128)

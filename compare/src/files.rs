@@ -1,6 +1,5 @@
 //! Good files and damaged copies of them, loaded by the proved calls, by the plain reading of the document and by the Rust.
-use crate::board::Closed;
-use crate::file;
+use crate::file::{self, Part};
 use crate::lists::{closed_records, lists_of, number, owned, read};
 use crate::random::Random;
 use crate::rust::{Answer, Job, Query, Rust};
@@ -127,7 +126,7 @@ fn rim(node: &mut Node, random: &mut Random) {
 
 // ── comparing ──
 
-fn queries(random: &mut Random, index: &Closed) -> Vec<Query> {
+fn queries(random: &mut Random, index: &Part) -> Vec<Query> {
     let cell = index.blocks.first().map_or(0, |b| b.first);
     let end = index.end.clamp(1, Index::MAX_END_TICK);
     vec![(random.below(end), 0, u64::MAX), (end - 1, cell, cell.saturating_add(random.below(9)))]
@@ -151,10 +150,13 @@ fn loaded(random: &mut Random, case: &Case, tally: &mut Tally) -> Loaded {
         tally.refused(number);
     }
     let (mut index, mut asked) = (None, vec![]);
-    if let (Ok((mut loaded, next)), Ok((closed, want_next))) = (got, want) {
+    if let (Ok((mut loaded, next)), Ok((part, want_next))) = (got, want) {
         tally.count(41, "  of these taken: blocks, finds, cells and the bytes written again compared", 1);
         tally.same(|| format!("next position after {case:?}"), &next, &want_next);
-        asked = queries(random, &closed);
+        asked = queries(random, &part);
+        let kind = part.kind;
+        let closed = part.closed();
+        tally.same(|| format!("loaded kind of {case:?}"), &loaded.kinds().map(|kind| u64::from(kind.code())).collect(), &vec![kind]);
         closed_records(&mut loaded, &closed, tally, &|| format!("{case:?}"));
         read(&loaded, &closed, &asked, tally, &|| format!("{case:?}"));
         let again = loaded.write().expect("a loaded index");
@@ -176,7 +178,8 @@ fn compared(of: &Loaded, answer: &Answer, tally: &mut Tally) {
             }
             tally.same(|| format!("next position of the Rust after {case:?}"), next, &(case.at + answer.next));
             let blocks: Vec<_> = index.blocks().expect("a loaded index").map(owned).collect();
-            let listed: Vec<_> = lists_of(index, &blocks, &of.queries).into_iter().map(Some).collect();
+            let kind = index.kinds().next().expect("a loaded index has a kind");
+            let listed: Vec<_> = lists_of(index, kind, &blocks, &of.queries).into_iter().map(Some).collect();
             tally.same(|| format!("finds of the Rust for {case:?}"), &listed, &answer.finds);
             let again = file::parsed(&answer.file, 0).ok().and_then(|(parsed, _)| file::reordered(&parsed, &blocks));
             tally.same(|| format!("bytes that the Rust writes again for {case:?}"), &Some(case.file[case.at..*next].to_vec()), &again);

@@ -1,11 +1,14 @@
 //! Station hours (docs/RULES.md): a plain reading, and lists of operations between which calendars and lists of days are installed.
 use crate::board::{Board, Op, LEAST_SCRATCH};
 use crate::days::{self, List, DAY, LAST, PLATFORM};
-use crate::lists::{number, owned};
+use crate::lists::{kind_of, kinds_of, number, owned};
 use crate::random::Random;
 use crate::tally::Tally;
-use servercape::{Calendar, Index, Kind, Room};
+use servercape::{Calendar, Index, Room};
 use std::ops::Range;
+
+/// A calendar counts for every kind.
+const KINDS: [u64; 2] = [1, 4];
 
 // ── what the document says ──
 
@@ -64,7 +67,7 @@ fn op(random: &mut Random, calendar: &Calendar, days: &List, tick: u64) -> Op {
     let first = cell.saturating_sub(random.below(4) + random.of(&[0, 0, 60]));
     let length = random.of(&[1, 1, 2, 3, 6, 40, 1500]);
     let zero = random.of(&[2, 5, 1000]);
-    Op { tick, first, bytes: (0..length).map(|_| if random.once_in(zero) { 0 } else { 7 }).collect() }
+    Op { kind: random.of(&KINDS), tick, first, bytes: (0..length).map(|_| if random.once_in(zero) { 0 } else { 7 }).collect() }
 }
 
 // ── compared ──
@@ -79,7 +82,7 @@ fn install(index: &mut Index, board: &mut Board, calendar: &Calendar, tally: &mu
 }
 
 fn record(index: &mut Index, board: &mut Board, op: &Op, tally: &mut Tally) {
-    let got = number(&index.record(op.tick, op.first, &op.bytes));
+    let got = number(&index.record(kind_of(op.kind), op.tick, op.first, &op.bytes));
     tally.same(|| format!("hours of {op:?}"), &got, &board.record(op, LEAST_SCRATCH));
     tally.count(15, "operations judged by a calendar, the answer compared with the document", 1);
     if got != 0 {
@@ -126,7 +129,7 @@ fn closed(random: &mut Random, mut index: Index, mut board: Board, tally: &mut T
 pub fn compare(random: &mut Random, lists: u64, tally: &mut Tally) {
     let room = Room { pieces: 90, blocks: 300, bytes: 1 << 16, nodes: 2_000, entries: 4_000 };
     for _ in 0..lists {
-        let (mut board, mut index) = (Board::open(40, 1, room), Index::open(room, 40, Kind::Memory).expect("an end tick that opening takes"));
+        let (mut board, mut index) = (Board::open(40, &KINDS, room), Index::open(room, 40, &kinds_of(&KINDS)).expect("an end tick that opening takes"));
         let mut hours = Calendar::default();
         for tick in 0..30 {
             if random.once_in(5) {

@@ -1,8 +1,9 @@
 //! compare [--full] [--seed N] [--spoil]
 //!
 //! Feeds the same inputs to the proved calls (through bindings/rust), to a plain reading of the rules (docs/RULES.md), and to the Rust that they are ported from:
-//! every list of a small world, random lists around each boundary, damaged copies of good files. Prints how many of each; exits with 1 where any
-//! answer differs. `--spoil` changes one expectation for each kind of answer, and exits with 1 unless just these differences are seen.
+//! every list of a small world, random lists around each boundary and over several kinds, damaged copies of good files. Prints how many of each; exits with 1 where
+//! any answer differs. `--spoil` changes one expectation for each kind of answer and asks once for another kind, and exits with 1 unless just these differences are
+//! seen.
 //!
 //! The Rust is looked for in the folder that ORACLE names, or else beside the repository, in ../shared/oracle.
 mod board;
@@ -31,18 +32,21 @@ struct Extent {
     /// Lists of each size, for each table and each of one less, as many, one more.
     tight: u64,
     random: u64,
+    /// Lists over several kinds.
+    kinds: u64,
     /// Lists with calendars and lists of days.
     hours: u64,
     /// Copies of good files, most of them damaged.
     files: usize,
 }
 
-const SHORT: Extent = Extent { worlds: &[World { end: 2, cells: 3, letters: 2, most: 2 }], tight: 1, random: 3_000, hours: 300, files: 4_000 };
+const SHORT: Extent = Extent { worlds: &[World { end: 2, cells: 3, letters: 2, most: 2 }], tight: 1, random: 3_000, kinds: 2_000, hours: 300, files: 4_000 };
 
 const FULL: Extent = Extent {
     worlds: &[World { end: 3, cells: 3, letters: 2, most: 3 }, World { end: 4, cells: 4, letters: 2, most: 2 }],
     tight: 30,
     random: 120_000,
+    kinds: 100_000,
     hours: 10_000,
     files: 100_000,
 };
@@ -92,6 +96,12 @@ fn random_cases(extent: &Extent, seed: u64) -> Vec<Case> {
     cases
 }
 
+fn kinds_cases(extent: &Extent, seed: u64) -> Vec<Case> {
+    let mut random = Random::new(seed);
+    let mut size = move || if random.once_in(20) { (random.below(200), random.next()) } else { (random.below(40), random.next()) };
+    (0..extent.kinds).map(|_| size()).map(|(size, seed)| worlds::kinds_case(&mut Random::new(seed), size)).collect()
+}
+
 fn main() -> ExitCode {
     let arguments: Vec<String> = std::env::args().skip(1).collect();
     let has = |name: &str| arguments.iter().any(|a| a == name);
@@ -115,6 +125,11 @@ fn main() -> ExitCode {
         let files = lists::compare(batch, &mut rust, &mut tally);
         let room = GOOD - good.len();
         good.extend(files.into_iter().filter(|f| !f.is_empty() && f.len() <= LONGEST).take(room));
+    }
+    let cases = kinds_cases(&extent, seed ^ 0x5EC);
+    println!("Random lists over several kinds: {} lists", cases.len());
+    for batch in cases.chunks(BATCH) {
+        lists::compare(batch, &mut rust, &mut tally);
     }
     println!("Lists with calendars and days: {} lists", extent.hours);
     hours::compare(&mut Random::new(seed ^ 0x40EA5), extent.hours, &mut tally);

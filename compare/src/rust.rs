@@ -76,8 +76,8 @@ impl Rust {
             scope.spawn(|| {
                 let _ = input.write_all(text.as_bytes()).and_then(|()| input.flush());
             });
-            for _ in jobs {
-                match read_answer(&mut output) {
+            for job in jobs {
+                match read_answer(&mut output, kind_of(job)) {
                     Some(answer) => answers.push(answer),
                     None => break,
                 }
@@ -137,15 +137,23 @@ fn text_of(job: &Job) -> String {
     text
 }
 
-fn block_of(words: &[&str]) -> Block {
+/// The Rust has one kind at a time, and tells it of no block.
+fn kind_of(job: &Job) -> u64 {
+    match job {
+        Job::Ops { kind, .. } => *kind,
+        Job::Load { file, .. } => file.first().map_or(0, |&kind| kind.into()),
+    }
+}
+
+fn block_of(kind: u64, words: &[&str]) -> Block {
     let number = |k: usize| words[k].parse().expect("a number");
     let bytes = unhex(words[4]);
     assert_eq!(bytes.len() as u64, number(1), "the Rust's block has as many bytes as its length says");
-    Block { first: number(0), created: number(2), destroyed: number(3), bytes }
+    Block { kind, first: number(0), created: number(2), destroyed: number(3), bytes }
 }
 
 /// One answer, or none where the child has ended.
-fn read_answer(output: &mut BufReader<impl Read>) -> Option<Answer> {
+fn read_answer(output: &mut BufReader<impl Read>, kind: u64) -> Option<Answer> {
     let mut answer = Answer::default();
     let mut line = String::new();
     loop {
@@ -156,11 +164,11 @@ fn read_answer(output: &mut BufReader<impl Read>) -> Option<Answer> {
         let words: Vec<&str> = line.split_whitespace().collect();
         match words[0] {
             "end" => return Some(answer),
-            "block" => answer.blocks.push(block_of(&words[1..])),
+            "block" => answer.blocks.push(block_of(kind, &words[1..])),
             "file" => answer.file = unhex(words[1]),
             "next" => answer.next = words[1].parse().expect("a position"),
             "find" => answer.finds.push(Some(vec![])),
-            "hit" => answer.finds.last_mut().unwrap().as_mut().unwrap().push(block_of(&words[1..])),
+            "hit" => answer.finds.last_mut().unwrap().as_mut().unwrap().push(block_of(kind, &words[1..])),
             "findpanic" => answer.finds.push(None),
             _ => answer.failed = Some(line.trim().into()),
         }

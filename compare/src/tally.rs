@@ -6,23 +6,33 @@ pub struct Tally {
     counts: BTreeMap<(u32, &'static str), u64>,
     refusals: BTreeMap<u64, u64>,
     pub differences: u64,
-    /// The kinds of answers whose next comparison must fail: to see that a difference is seen.
+    /// What of the answers must fail at the next comparison: to see that a difference is seen.
     spoil: Vec<&'static str>,
 }
 
 /// The answers of a list, by the first words of what is said of them: a difference can be put into each.
-const KINDS: [&str; 18] = [
+const ANSWERS: [&str; 23] = [
     "install", "hours", "days", "clock", "day of", "record", "short scratch", "closed index", "change", "finish", "blocks", "find", "visited", "touching", "next block", "last block", "cells", "file",
+    "opened kinds", "kind not opened", "part of", "loaded kind", MIXED,
 ];
+
+/// A kind mixed up: one find is asked of another kind, and the comparison must see it.
+const MIXED: &str = "mixed kinds";
 
 /// How many differences are printed in full.
 const SHOWN: u64 = 10;
 
 impl Tally {
-    /// Puts a difference into the next comparison of each kind: as many must be seen.
+    /// Puts a difference into the next comparison of each answer: as many must be seen.
     pub fn spoil(&mut self) -> u64 {
-        self.spoil = KINDS.to_vec();
-        KINDS.len() as u64
+        self.spoil = ANSWERS.to_vec();
+        ANSWERS.len() as u64
+    }
+
+    /// Whether a kind is to be mixed up now: once, where it makes a difference.
+    pub fn mixes(&mut self, differs: impl Fn() -> bool) -> bool {
+        let place = self.spoil.iter().position(|&answer| answer == MIXED).filter(|_| differs());
+        place.map(|place| self.spoil.remove(place)).is_some()
     }
 
     /// Whether a comparison is one that must fail.
@@ -31,7 +41,7 @@ impl Tally {
             return false;
         }
         let text = of();
-        let place = self.spoil.iter().position(|kind| text.starts_with(kind));
+        let place = self.spoil.iter().position(|answer| text.starts_with(answer));
         place.map(|place| self.spoil.remove(place)).is_some()
     }
 

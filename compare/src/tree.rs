@@ -20,10 +20,10 @@ impl Tree {
         Tree(None)
     }
 
-    /// The tree of an index: without blocks it has no node.
-    pub fn of(end: u64, blocks: &[Block]) -> Tree {
+    /// The tree of a kind: without blocks of that kind it has no node.
+    pub fn of(end: u64, kind: u64, blocks: &[Block]) -> Tree {
         let mut tree = Tree::none();
-        for (number, block) in (0..).zip(blocks) {
+        for (number, block) in (0..).zip(blocks).filter(|(_, block)| block.kind == kind) {
             tree.add(0, end, number, block, blocks);
         }
         tree

@@ -1,5 +1,5 @@
 //! The lists that are tried: every list of a small world, and random ones around each boundary.
-use crate::board::{Board, Op, LEAST_SCRATCH};
+use crate::board::{Board, Op, KINDS, LEAST_SCRATCH};
 use crate::lists::{need, Case, UNBOUNDED};
 use crate::random::Random;
 use crate::rust::Query;
@@ -23,7 +23,7 @@ impl World {
             for length in 1..=self.cells - first {
                 for code in 0..self.letters.pow(length as u32) {
                     let bytes = (0..length as u32).map(|i| (code / self.letters.pow(i) % self.letters) as u8 + 1).collect();
-                    ops.push(Op { tick: 0, first, bytes });
+                    ops.push(Op { kind: 1, tick: 0, first, bytes });
                 }
             }
         }
@@ -51,7 +51,7 @@ impl World {
     pub fn case(&self, ops: Vec<Op>) -> Case {
         let whole = (0..self.end).map(|tick| (tick, 0, self.cells));
         let queries = whole.chain([(self.end - 1, 1, 2)]).collect();
-        Case { end: self.end, kind: 1, room: Room { pieces: 8, blocks: 16, bytes: 16, nodes: 16, entries: 32 }, ops, queries }
+        Case { end: self.end, kinds: vec![1], room: Room { pieces: 8, blocks: 16, bytes: 16, nodes: 16, entries: 32 }, ops, queries }
     }
 }
 
@@ -76,6 +76,7 @@ pub const TABLES: [Table; 5] = [Table::Pieces, Table::Blocks, Table::Bytes, Tabl
 
 /// How a random list is made.
 struct Style {
+    kinds: Vec<u64>,
     end: u64,
     base: u64,
     span: u64,
@@ -87,11 +88,12 @@ struct Style {
     whole: bool,
 }
 
-fn style(random: &mut Random, size: u64) -> Style {
+fn style(random: &mut Random, size: u64, kinds: Vec<u64>) -> Style {
     let end = random.of(&ENDS);
     let span = random.of(&[1, 2, 3, 4, 8, 16, 40]);
     let top = u64::MAX - span;
     Style {
+        kinds,
         end,
         base: random.of(&[0, 0, 1, 100, 1430, (1 << 32) - 3, (1 << 63) - 2, top]),
         span,
@@ -107,12 +109,13 @@ fn op(random: &mut Random, style: &Style, tick: u64) -> Op {
     let length = 1 + random.below(style.wide.min(style.span));
     let first = style.base + random.below(style.span - length + 1);
     let bytes = (0..length).map(|_| random.below(style.letters) as u8).collect();
-    Op { tick, first, bytes }
+    Op { kind: random.of(&style.kinds), tick, first, bytes }
 }
 
-/// An operation that is refused, or nearly: no cells, an end that wraps, a tick past the end or before the last.
+/// An operation that is refused, or nearly: any kind, no cells, an end that wraps, a tick past the end or before the last.
 fn spoiled(random: &mut Random, end: u64, last: u64, op: Op) -> Op {
-    match random.below(4) {
+    match random.below(5) {
+        4 => Op { kind: random.below(KINDS), ..op },
         0 => Op { bytes: vec![], ..op },
         1 => Op { first: u64::MAX - random.below(op.bytes.len() as u64 + 1), ..op },
         2 => Op { tick: end + random.below(2), ..op },
@@ -120,11 +123,30 @@ fn spoiled(random: &mut Random, end: u64, last: u64, op: Op) -> Op {
     }
 }
 
-/// A list of so many operations, with room for all of it and a little more.
+/// A list of so many operations of one kind, with room for all of it and a little more.
 pub fn random_case(random: &mut Random, size: u64) -> Case {
-    let style = style(random, size);
-    let kind = random.below(5);
-    let mut board = Board::open(style.end, kind, UNBOUNDED);
+    let kind = random.below(KINDS);
+    case_of(random, size, vec![kind])
+}
+
+/// The same over several kinds, which ascend; they stand on the same cells. Now and then one table has one row less than is needed, as many, or one more.
+pub fn kinds_case(random: &mut Random, size: u64) -> Case {
+    let many = 2 + random.below(KINDS - 1);
+    let mut kinds: Vec<u64> = (0..KINDS).collect();
+    while kinds.len() as u64 > many {
+        kinds.remove(random.below(kinds.len() as u64) as usize);
+    }
+    let mut case = case_of(random, size, kinds);
+    if random.once_in(4) {
+        let (table, less) = (random.of(&TABLES), random.of(&[-1, 0, 1]));
+        tighten(&mut case, table, less);
+    }
+    case
+}
+
+fn case_of(random: &mut Random, size: u64, kinds: Vec<u64>) -> Case {
+    let style = style(random, size, kinds);
+    let mut board = Board::open(style.end, &style.kinds, UNBOUNDED);
     let (mut tick, mut ops) = (0u64, vec![]);
     for _ in 0..size {
         let later = tick.saturating_add(random.below(style.step));
@@ -142,7 +164,7 @@ pub fn random_case(random: &mut Random, size: u64) -> Case {
         }
     }
     let queries = queries(random, &style, tick);
-    let mut case = Case { end: style.end, kind, room: UNBOUNDED, ops, queries };
+    let mut case = Case { end: style.end, kinds: style.kinds, room: UNBOUNDED, ops, queries };
     let need = need(&case);
     case.room = Room { pieces: need.pieces + 2, blocks: need.blocks + 2, bytes: need.bytes + 2, nodes: need.nodes + 2, entries: need.entries + 2 };
     case
@@ -161,7 +183,12 @@ fn queries(random: &mut Random, style: &Style, last: u64) -> Vec<Query> {
 /// A list whose room in one table is what it needs, one less or one more.
 pub fn tight_case(random: &mut Random, size: u64, table: Table, less: i64) -> Case {
     let mut case = random_case(random, size);
-    let need = need(&case);
+    tighten(&mut case, table, less);
+    case
+}
+
+fn tighten(case: &mut Case, table: Table, less: i64) {
+    let need = need(case);
     let room = |rows: u64| rows.saturating_add_signed(less);
     match table {
         Table::Pieces => case.room.pieces = room(need.pieces),
@@ -170,5 +197,4 @@ pub fn tight_case(random: &mut Random, size: u64, table: Table, less: i64) -> Ca
         Table::Nodes => case.room.nodes = room(need.nodes),
         Table::Entries => case.room.entries = room(need.entries),
     }
-    case
 }

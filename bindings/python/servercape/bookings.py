@@ -1,8 +1,12 @@
-"""Lists of bookings of any size: readable, as tools/boardfile.py has it, or the binary input of the program `board`."""
+"""Lists of bookings of any size: readable, as tools/boardfile.py has it, or the binary input of the program `board`.
+
+A readable list may have several kinds, which that program has not: `kind memory other` names them, and `at 3 kind other cell 102 bytes 09` is a booking of one of
+them. A booking that names none is of the first.
+"""
 import struct
 from typing import NamedTuple
 
-from .boardfile import FRONT, MARK, START, Fault, statement
+from .boardfile import FRONT, MARK, START, Fault, kind_of, statement
 from .days import REGULAR, Days
 from .index import Operation
 from .places import Place
@@ -12,11 +16,12 @@ FIELDS = struct.Struct("<2sQQH")
 
 
 class Bookings(NamedTuple):
-    """A list of bookings. Of each `places` has the number of its line, or of its record."""
+    """A list of bookings. Of each `kinds_of` has its kind, and `places` the number of its line, or of its record."""
 
     end_tick: int
-    kind: int
+    kinds: list[int]
     operations: list[Operation]
+    kinds_of: list[int]
     places: list[int]
     unit: str
 
@@ -37,16 +42,32 @@ def moved(booking: tuple[int, int, bytes], days: Days) -> tuple[int, int, bytes]
     return tick, Place.of(cell).moved(days).cell, data
 
 
+def without_kind(words: list[str], kinds: list[int]) -> tuple[list[str], int]:
+    """A line as `board` has it, with one kind at most and none in a booking, and the kind of its booking. Further kinds of the list join those that are known."""
+    if words[0] == "kind":
+        kinds += map(kind_of, words[1:])
+        return words[:2], 0
+    if words[0] == "at" and words[2:3] == ["kind"]:
+        if len(words) < 4:
+            raise Fault("write: at TICK kind KIND cell CELL bytes .. or: at TICK kind KIND platform P DAY HH:MM bytes ..")
+        return words[:2] + words[4:], kind_of(words[3])
+    return words, kinds[0] if kinds else 0
+
+
 def read_text(data: bytes, days: Days) -> Bookings:
     board: dict = {"bookings": []}
+    kinds: list[int] = []
+    kinds_of: list[int] = []
     places: list[int] = []
     for at, line in enumerate(data.removeprefix(BOM).split(b"\n"), 1):
         try:
             words = line.decode("utf-8").partition("#")[0].split()
             if words:
+                words, kind = without_kind(words, kinds)
                 statement(board, words)
             if len(board["bookings"]) > len(places):
                 places.append(at)
+                kinds_of.append(kind)
                 if days.listed and words[2] == "platform":
                     board["bookings"][-1] = moved(board["bookings"][-1], days)
         except UnicodeDecodeError:
@@ -56,7 +77,7 @@ def read_text(data: bytes, days: Days) -> Bookings:
     for name in ("end", "kind"):
         if name not in board:
             raise Fault(f"there is no {name}")
-    return Bookings(board["end"], board["kind"], list(map(Operation._make, board["bookings"])), places, "line")
+    return Bookings(board["end"], kinds, list(map(Operation._make, board["bookings"])), kinds_of, places, "line")
 
 
 def read_binary(data: bytes) -> Bookings:
@@ -77,4 +98,4 @@ def read_binary(data: bytes) -> Bookings:
         if len(data) < at:
             raise Fault(f"{where}, is cut")
         operations.append(Operation(tick, first, data[start:at]))
-    return Bookings(end_tick, kind, operations, list(range(1, len(operations) + 1)), "record")
+    return Bookings(end_tick, [kind], operations, [kind] * len(operations), list(range(1, len(operations) + 1)), "record")

@@ -8,10 +8,10 @@ from datetime import date
 from functools import cache, partial
 from pathlib import Path
 
-from .boardfile import Fault, number
+from .boardfile import KINDS, Fault, number
 from .bookings import Bookings, read_bookings
 from .days import REGULAR, Days
-from .index import Index
+from .index import Index, Kind
 from .listing import BLOCK_COLUMNS, CELL_COLUMNS, Row, block_row, block_words, cell_row, cell_words, show
 from .picture import picture
 from .places import MINUTES, Place
@@ -30,6 +30,11 @@ WINDOW = """The window has the cells from --from up to, and not including, --to:
 of cells, or with --platform a day and a clock time, as 'monday 23:50', or
 'tuesday+1 00:10' for one week later; of a time that comes twice the first is
 meant. What is left out is the first cell, or the end."""
+OF_KIND = """A file of several kinds has a board for each, one behind the other; --kind chooses the
+first of its kind. Without it the board at --at is read."""
+KINDED = """A readable list may have several kinds: 'kind memory other' names them, and
+'at 3 kind other cell 102 bytes 09' is a booking of one; one that names none is of
+the first. The file has a board for each kind that has bookings."""
 LISTED = """Days and clock times go by the list that --days names; a file holds none, and
 without it every day has 1,440 minutes."""
 CALENDAR = """it must be JSON, {"week": DAYS, "special": SPECIAL}: DAYS are seven lists of windows, Monday first, SPECIAL is a list of [DAY, WINDOWS], and a \
@@ -99,15 +104,18 @@ def install_days(index: Index, name: str | None) -> None:
 
 
 def loaded(options: argparse.Namespace) -> Index:
-    index = Index.load(read_file(options.file), options.at)[0]
+    of_kind = (index for _, _, index in boards(read_file(options.file), options.at) if options.kind in (None, index.kind))
+    index = next(of_kind, None)
+    if index is None:
+        raise Fault(f"there is no board of kind {options.kind.name.lower()}")
     install_days(index, options.days)
     return index
 
 
-def boards(data: bytes) -> Iterator[tuple[int, int, Index]]:
-    """The boards that stand in a file one behind the other, with their positions and the ones after them."""
-    at = 0
-    while at == 0 or at < len(data):
+def boards(data: bytes, at: int = 0) -> Iterator[tuple[int, int, Index]]:
+    """The boards that stand in a file from a position on, one behind the other, with their positions and the ones after them."""
+    first = at
+    while at == first or at < len(data):
         index, end = Index.load(data, at)
         yield at, end, index
         at = end
@@ -155,11 +163,24 @@ def install(index: Index, name: str) -> None:
         raise Fault(f"the calendar {name}: {CALENDAR}") from None
 
 
+def record_part(bookings: Bookings, index: Index, start: int) -> Iterator[int | None | Refused]:
+    """Records a part of a list: where all is of one kind with one test of the tables, else one by one."""
+    operations, kinds = bookings.operations[start:start + MANY], bookings.kinds_of[start:start + MANY]
+    if len(set(kinds)) == 1:
+        yield from index.record_all(operations, kind=kinds[0])
+        return
+    for operation, kind in zip(operations, kinds):
+        try:
+            yield index.record(*operation, kind=kind)
+        except Refused as refused:
+            yield refused
+
+
 def record(bookings: Bookings, index: Index, name: str, progress: Progress) -> int:
     """Records a list, and tells each refusal with its place: how many there are."""
     count, refused = len(bookings.operations), 0
     for start in range(0, count, MANY):
-        for at, answer in enumerate(index.record_all(bookings.operations[start:start + MANY]), start):
+        for at, answer in enumerate(record_part(bookings, index, start), start):
             if isinstance(answer, Refused):
                 refused += 1
                 complain(f"{name}: {bookings.place(at)}: {answer}")
@@ -172,7 +193,7 @@ def build(options: argparse.Namespace) -> int:
     progress = Progress(len(data))
     progress.say("reading the list")
     bookings = read_bookings(data, read_days(options.days))
-    index = Index.open(bookings.end_tick, bookings.kind)
+    index = Index.open(bookings.end_tick, bookings.kinds)
     install_days(index, options.days)
     if options.calendar is not None:
         install(index, options.calendar)
@@ -263,7 +284,7 @@ def verify(options: argparse.Namespace) -> int:
 
 def explain(options: argparse.Namespace) -> int:
     if options.number is not None and options.number not in WORDS:
-        options.parser.error(f"there is no refusal {options.number}: they go from {min(WORDS)} to {max(WORDS)}, without 25")
+        options.parser.error(f"there is no refusal {options.number}: they go from {min(WORDS)} to {max(WORDS)}")
     for each in WORDS if options.number is None else [options.number]:
         for words in WORDS[each]:
             print(f"{each}: {words}")
@@ -298,6 +319,12 @@ def platform(word: str) -> int:
     if natural(word) >= MINUTES:
         raise argparse.ArgumentTypeError("a platform is below 2^32")
     return natural(word)
+
+
+def kind_named(word: str) -> Kind:
+    if word.lower() not in KINDS:
+        raise argparse.ArgumentTypeError(f"'{word}' is no kind: it is {', '.join(KINDS)}")
+    return Kind(KINDS.index(word.lower()))
 
 
 def day_zero(word: str) -> date:
@@ -336,6 +363,7 @@ def add_form(parser: argparse.ArgumentParser) -> None:
 
 def add_at(parser: argparse.ArgumentParser) -> None:
     parser.add_argument("--at", type=natural, default=0, metavar="BYTE", help="where the board starts in the file")
+    parser.add_argument("--kind", type=kind_named, metavar="KIND", help=f"{', '.join(KINDS)}: the first board of that kind from there on")
 
 
 # A command: what it does, an example, what runs it, and its options.
@@ -367,13 +395,17 @@ def make_parser() -> argparse.ArgumentParser:
             about += f"\n\n{WINDOW}"
         if add_tick in additions:
             about += f"\n{TICK}"
+        if name == "build":
+            about += f"\n\n{KINDED}"
+        if add_at in additions:
+            about += f"\n\n{OF_KIND}"
         if add_days in additions:
             about += f"\n\n{LISTED}"
         command = commands.add_parser(name, help=words, description=about, epilog=f"Example: servercape {example}\n\n{STATUS}", allow_abbrev=False,
                                       formatter_class=argparse.RawDescriptionHelpFormatter)
         command.set_defaults(run=run, parser=command, file=name)
         if name == "explain":
-            command.add_argument("number", type=natural, nargs="?", metavar="NUMBER", help="from 1 to 28, without 25")
+            command.add_argument("number", type=natural, nargs="?", metavar="NUMBER", help="from 1 to 28")
         elif name == "days":
             command.add_argument("monday", type=day_zero, metavar="MONDAY", help="the date of day 0, as 2024-01-01")
             command.add_argument("first", type=year, metavar="FIRST", help="the first year")

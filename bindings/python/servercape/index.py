@@ -20,7 +20,7 @@ NOT_WELL_FORMED, OPEN, CLOSED = range(3)
 # in the front of that head, a count and then pairs.
 PIECE_COUNT, NODE_COUNT, ENTRY_COUNT = 1, 5, 0
 DAY_COUNT = 1305
-END, KIND, COUNT, USED, LAST = (library.length(BLOCKS, 0)[0] - 8 + column for column in (1, 2, 3, 4, 5))
+END, KINDS, COUNT, USED, LAST = (library.length(BLOCKS, 0)[0] - 8 + column for column in (1, 2, 3, 4, 5))
 
 NO_ROOM_FOR_NODES, NO_ROOM_FOR_ENTRIES, OUTSIDE, EXCEEDS, NO_ROOM_FOR_FILE = 12, 13, 15, 16, 20
 
@@ -29,7 +29,7 @@ LEAST_BLOCK, LEAST_NODE = 34, 33
 
 
 class Kind(IntEnum):
-    """The kind of space that an index is of."""
+    """A kind of space. An index is opened with one or more, and a cell of one kind is none of another."""
 
     CONSTANT = 0
     MEMORY = 1
@@ -82,6 +82,11 @@ def _bytes(data: bytes) -> bytes:
     return data if isinstance(data, bytes) else memoryview(data).tobytes()
 
 
+def _kinds(kinds: int | Iterable[int]) -> bytes:
+    """One kind or several, a byte each."""
+    return bytes([kinds] if isinstance(kinds, int) else kinds)
+
+
 def _zeros(size: int) -> bytes:
     try:
         return bytes(size)
@@ -94,6 +99,8 @@ class Index:
 
     Each method is one proved call. Nobody else can change the tables, so they are tested once: the calls after one test are used, with the state that is
     kept here. An index is for one thread at a time.
+
+    A method that records or reads cells takes their kind by name, `kind=Kind.OTHER`. Of an index that has one kind it may be left out.
     """
 
     def __init__(self) -> None:
@@ -114,16 +121,17 @@ class Index:
         return self._blocks, self._nodes, self._entries
 
     @classmethod
-    def open(cls, end_tick: int, kind: int = Kind.MEMORY) -> "Index":
-        """Opens an index. Refusal 1."""
+    def open(cls, end_tick: int, kinds: int | Iterable[int] = Kind.MEMORY) -> "Index":
+        """Opens an index with one kind or several. Refusal 1."""
         index = cls()
-        accepted(*library.open(*index._tables, end_tick, kind))
+        accepted(*library.open(*index._tables, end_tick, _kinds(kinds)))
         index._state = OPEN
         return index
 
     @classmethod
     def load(cls, file: bytes, at: int = 0) -> tuple["Index", int]:
-        """A finished index from a file's bytes from a position on, with the position after it. Refusals 17 to 19, 21 to 24."""
+        """A finished index of one kind from a file's bytes from a position on, with the position after it, where the next kind of the same board begins. Refusals
+        17 to 19, 21 to 24."""
         index, file = cls(), _bytes(file)
         size = max(0, len(file) - at)
         blocks = min(int.from_bytes(file[at + 1:at + 9], "little"), size // LEAST_BLOCK)
@@ -155,8 +163,16 @@ class Index:
         return self._blocks[END]
 
     @property
+    def kinds(self) -> tuple[Kind, ...]:
+        """The kinds that it was opened with, by code."""
+        return tuple(kind for kind in Kind if self._blocks[KINDS] >> kind & 1)
+
+    @property
     def kind(self) -> Kind:
-        return Kind(self._blocks[KIND])
+        """The kind of an index that has one; of one that has several it raises `ValueError`."""
+        if len(self.kinds) > 1:
+            raise ValueError("the index has several kinds: name one, by kind=")
+        return self.kinds[0] if self.kinds else Kind.MEMORY
 
     @property
     def last_tick(self) -> int:
@@ -187,7 +203,7 @@ class Index:
 
     def __repr__(self) -> str:
         state = "closed" if self.closed else "open"
-        return f"<Index {self.kind.name.lower()}, end tick {self.end_tick}, {self.block_count} blocks, {state}>"
+        return f"<Index {'+'.join(kind.name.lower() for kind in self.kinds)}, end tick {self.end_tick}, {self.block_count} blocks, {state}>"
 
     # ── recording ──
 
@@ -206,18 +222,22 @@ class Index:
             if library.length(which, rows)[0] > len(table):
                 _lengthen(table, which, rows + rows // 2)
 
-    def record(self, tick: int, first: int, data: bytes) -> int | None:
+    def record(self, tick: int, first: int, data: bytes, *, kind: int | None = None) -> int | None:
         """Records the bytes of the cells from `first` on, at a tick: the lowest cell that was unknown or had another byte, or None where nothing changed.
-        Outside the station hours that are installed a byte other than 0 is refused 26, even where it changes nothing. Refusals 3, 5 to 8, 26."""
+        Outside the station hours that are installed a byte other than 0 is refused 26, even where it changes nothing. Refusals 3, 25, 5 to 8, 26."""
         data = _bytes(data)
         self._reserve(1, len(data))
         number, updated, cell = library.record_tested(
-            self._state, self._pieces, self._blocks, self._store, self._scratch, tick, first, data)
+            self._state, self._pieces, self._blocks, self._store, self._scratch, self._named(kind), tick, first, data)
         accepted(number)
         return cell if updated else None
 
-    def record_all(self, operations: Iterable[tuple[int, int, bytes]]) -> list[int | None | Refused]:
-        """Records many operations, tick, first cell and bytes each, one after the other: for each what `record` gives, or the refusal that it raises. A
+    def _named(self, kind: int | None) -> int:
+        """The kind that is named, or the only one."""
+        return self.kind if kind is None else kind
+
+    def record_all(self, operations: Iterable[tuple[int, int, bytes]], *, kind: int | None = None) -> list[int | None | Refused]:
+        """Records many operations of one kind, tick, first cell and bytes each, one after the other: for each what `record` gives, or the refusal that it raises. A
         refused one changes nothing, and the next one is recorded."""
         parts: list[bytes] = []
         size = 0
@@ -231,7 +251,7 @@ class Index:
         count = len(parts) // 2
         self._reserve(count, size)
         answers = array("Q", bytes(24 * count))
-        library.record_all(*self._tables, self._scratch, b"".join(parts), answers)
+        library.record_all(*self._tables, self._scratch, self._named(kind), b"".join(parts), answers)
         return [Refused(number) if number else cell if updated else None
                 for number, updated, cell in zip(answers[0::3], answers[1::3], answers[2::3])]
 
@@ -295,34 +315,36 @@ class Index:
                 return answer[:count].tolist(), *rest
             room = min(8 * room, self.block_count)
 
-    def find(self, tick: int, start: int, end: int) -> Found:
-        """The blocks live at a tick whose first cell is in [start, end). One that starts before it and reaches in is not listed: `touching` has all.
-        Refusals 4, 14, 15."""
-        return Found(*self._listed(library.find_tested, tick, start, end))
+    def find(self, tick: int, start: int, end: int, *, kind: int | None = None) -> Found:
+        """The blocks of a kind live at a tick whose first cell is in [start, end). One that starts before it and reaches in is not listed: `touching` has all.
+        Refusals 4, 25, 14, 15."""
+        return Found(*self._listed(library.find_tested, self._named(kind), tick, start, end))
 
-    def touching(self, tick: int, start: int, end: int) -> list[int]:
-        """The blocks live at a tick that hold any cell of [start, end), ascending by first cell; an empty window lists none. Refusals 4, 14, 15."""
-        return self._listed(library.touching_tested, tick, start, end)[0]
+    def touching(self, tick: int, start: int, end: int, *, kind: int | None = None) -> list[int]:
+        """The blocks of a kind live at a tick that hold any cell of [start, end), ascending by first cell; an empty window lists none. Refusals 4, 25, 14, 15."""
+        return self._listed(library.touching_tested, self._named(kind), tick, start, end)[0]
 
-    def next(self, tick: int, cell: int) -> int | None:
-        """The first block live at a tick that starts at or after the cell. Refusals 4, 14."""
-        return self._near(library.next_tested, tick, cell)
+    def next(self, tick: int, cell: int, *, kind: int | None = None) -> int | None:
+        """The first block of a kind live at a tick that starts at or after the cell. Refusals 4, 25, 14."""
+        return self._near(library.next_tested, self._named(kind), tick, cell)
 
-    def last(self, tick: int, cell: int) -> int | None:
-        """The last block live at a tick whose cells are all below the cell. Refusals 4, 14."""
-        return self._near(library.last_tested, tick, cell)
+    def last(self, tick: int, cell: int, *, kind: int | None = None) -> int | None:
+        """The last block of a kind live at a tick whose cells are all below the cell. Refusals 4, 25, 14."""
+        return self._near(library.last_tested, self._named(kind), tick, cell)
 
-    def _near(self, call: Callable[..., tuple[int, ...]], tick: int, cell: int) -> int | None:
-        refusal, found, number = call(self._state, *self._tree, tick, cell)
+    def _near(self, call: Callable[..., tuple[int, ...]], kind: int, tick: int, cell: int) -> int | None:
+        refusal, found, number = call(self._state, *self._tree, kind, tick, cell)
         accepted(refusal)
         return number if found else None
 
-    def cells(self, tick: int, start: int, end: int) -> list[int | None]:
-        """For each cell of [start, end) the byte that it holds at a tick, None where it holds none. Refusals 4, 14, 15."""
+    def cells(self, tick: int, start: int, end: int, *, kind: int | None = None) -> list[int | None]:
+        """For each cell of [start, end) of a kind the byte that it holds at a tick, None where it holds none. Refusals 4, 25, 14, 15."""
+        own = self._named(kind)
+
         def read(count: int) -> tuple[int, array, array]:
             data, held = array("B", _zeros(count)), array("B", _zeros(count))
             number, = library.read_cells_tested(
-                self._state, self._blocks, self._store, self._nodes, self._entries, tick, start, end, data, held)
+                self._state, self._blocks, self._store, self._nodes, self._entries, own, tick, start, end, data, held)
             return number, data, held
 
         # into no cells first: a window that is refused takes no memory
@@ -333,9 +355,9 @@ class Index:
         return [byte if known else None for byte, known in zip(data, held)]
 
     def write(self) -> bytes:
-        """The file of the index; one without blocks has none, and gives no bytes. Refusal 4."""
-        # kind and count; the fields of blocks, and their bytes; the fields of nodes with a byte before each, and one for each child that is not there
-        most = 9 + 33 * self.block_count + self.byte_count + 34 * self.node_count + 8 * self.entry_count + 1
+        """The file of the index: of each kind that has blocks a part, by code, which is loaded by itself. An index without blocks gives no bytes. Refusal 4."""
+        # of each kind its code and a count; the fields of blocks, and their bytes; the fields of nodes with a byte before each, and one for each child that is not there
+        most = 10 * len(Kind) + 33 * self.block_count + self.byte_count + 34 * self.node_count + 8 * self.entry_count
         out = array("B", _zeros(most if self.closed else 0))
         number, written = library.write_tested(self._state, self._blocks, self._store, self._nodes, self._entries, out)
         accepted(number)

@@ -2,7 +2,7 @@
 
 # Each condition by its number, in the words of the Rust crate; 15 has two, of a window and of a block's number.
 WORDS: dict[int, tuple[str, ...]] = {
-    1: ("the end tick is 0 or above 2^63, or a kind is above 4",),
+    1: ("the end tick is 0 or above 2^63, there is no kind, or one is above 4",),
     2: ("the tables hold no index, or the scratch has fewer than 8 numbers",),
     3: ("the index is finished or loaded, and takes no more bookings",),
     4: ("the index is still open, and is not read before it is finished",),
@@ -28,6 +28,7 @@ WORDS: dict[int, tuple[str, ...]] = {
     23: ("the file's entries are wrong: a block number is too high, an entry's block does not cover the node or covers its parent too, first cells do not "
          "ascend, or a block's nodes do not make up its life",),
     24: ("two blocks of the file share a cell at a tick",),
+    25: ("the index was not opened with that kind",),
     26: ("the booking has a byte other than 0 in a minute at which the station is closed",),
     27: ("the calendar is wrong: a window does not end after it starts, or ends above minute 1440 of the day, a day has more than 8 windows, there are more than "
          "64 special days, or they do not ascend",),

@@ -118,6 +118,36 @@ class Build(Command):
         self.assertEqual(self.build(long, "--days", days, "--calendar", hours), (DONE, "", ""))
         self.assertIn("line 3: refused 26", self.build(long, "--calendar", hours)[2])
 
+    def test_kinds(self):
+        """A list of several kinds makes a board for each, one behind the other; --kind chooses one."""
+        text = ("end 8\nkind other memory\nat 1 cell 5 bytes 07*3\nat 1 kind memory cell 5 bytes 08*3\nat 2 kind unique cell 5 bytes 09\n"
+                "at 3 kind memory platform 0 monday 00:06 bytes 09\nat 2 cell 5 bytes 07\n")
+        status, output, errors = self.build(text, "--skip-refused")
+        self.assertEqual((status, output), (REFUSED, ""))
+        self.assertEqual(errors.splitlines(), [f"servercape: -: line {line}: refused {number}: {WORDS[number][0]}" for line, number in ((5, 25), (7, 8))])
+        made = self.folder / "made"
+        rows = json.loads(run("info", made, "--json")[1])
+        self.assertEqual([(row["kind"], row["blocks"]) for row in rows], [("memory", 4), ("other", 1)])
+        cells = lambda *more: [row["byte"] for row in json.loads(run("cells", made, "--tick", 4, "--from", 5, "--to", 8, "--json", *more)[1])]
+        self.assertEqual((cells(), cells("--kind", "memory"), cells("--kind", "OTHER"), cells("--at", rows[1]["at"])), (["08", "09", "08"], ["08", "09", "08"], ["07"] * 3, ["07"] * 3))
+        self.assertEqual(run("verify", made)[0], DONE)
+        status, output, errors = run("blocks", made, "--kind", "unique")
+        self.assertEqual((status, output, errors), (REFUSED, "", f"servercape: {made}: there is no board of kind unique\n"))
+        self.assertEqual(self.build("end 8\nkind memory\nat 1 kind\n")[2], "servercape: -: line 3: write: at TICK kind KIND cell CELL bytes .. or: at TICK kind KIND platform P DAY HH:MM bytes ..\n")
+        self.assertIn("line 2: the kind must be a number, not 'crews'", self.build("end 8\nkind memory crews\n")[2])
+        self.assertEqual(run("build", EXAMPLES / "crews.txt", "-o", made), (DONE, "", ""))
+        crews = [line.split(", live")[0] for line in run("blocks", made, "--kind", "other", "--human")[1].splitlines()]
+        self.assertEqual(crews, ["block 0: train 31 at platform 2 from tuesday 00:10 to tuesday 00:19, 10 min", "block 1: train 31 at platform 2 from monday 23:40 to tuesday 00:09, 30 min",
+                                 "block 2: train 32 at platform 2 from tuesday 00:10 to tuesday 00:39, 30 min"])
+        # as many bookings as one call takes, of two kinds by turns
+        lines = "".join(f"at {tick} kind {('memory', 'other')[tick % 2]} cell {tick % 97} bytes {tick % 250:02x}\n" for tick in range(3000))
+        self.assertEqual(self.build(f"end 3000\nkind memory other\n{lines}"), (DONE, "", ""))
+        index = Index.open(3000, [1, 4])
+        for tick in range(3000):
+            index.record(tick, tick % 97, bytes([tick % 250]), kind=(1, 4)[tick % 2])
+        index.finish()
+        self.assertEqual(made.read_bytes(), index.write())
+
     def test_bad_days(self):
         days = self.folder / "days.json"
         for text, words in (("{", "it must be JSON"), ("{}]", "it must be JSON"), ("[5]", "it must be JSON"), ("[[1]]", "it must be JSON"), ("5", "it must be JSON"), ("\udcff", "it must be JSON"),
@@ -275,12 +305,12 @@ class Reads(Command):
     def test_explain(self):
         self.assertEqual(run("explain", 8), (DONE, "8: the booking's tick is below the last accepted one\n", ""))
         self.assertEqual(run("explain", 26)[1], "26: the booking has a byte other than 0 in a minute at which the station is closed\n")
-        self.assertEqual(len(run("explain")[1].splitlines()), 28)
+        self.assertEqual(len(run("explain")[1].splitlines()), 29)
 
 
 class Usage(Command):
     def test_wrong(self):
-        for words in ((), ("check",), ("explain", 0), ("explain", 25), ("build", "x"), ("find", "x", "--tick", "-1"), ("find", "x", "--tick", 1 << 64),
+        for words in ((), ("check",), ("explain", 0), ("explain", 29), ("build", "x"), ("find", "x", "--kind", "crews"), ("cells", "x", "--to", 5, "--kind", 1), ("find", "x", "--tick", "-1"), ("find", "x", "--tick", 1 << 64),
                       ("find", "x", "--from", "monday 23:50"), ("find", "x", "--platform", 1, "--from", "someday 00:00"), ("cells", "x"),
                       ("find", "x", "--platform", 1 << 32), ("find", "x", "--platform", 1, "--to", 7), ("blocks", "x", "--csv", "--json"), ("blocks", "x", "y"),
                       ("days",), ("days", "2024-01-02", 2024, 2025), ("days", "2024-01", 2024, 2025), ("days", "2024-01-01", 0, 2025), ("days", "2024-01-01", 2024)):

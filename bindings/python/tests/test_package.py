@@ -61,9 +61,9 @@ def random_days(dice) -> list[tuple[int, int]]:
 class Played:
     """The model with the package's shapes of answers; it has room for all."""
 
-    def __init__(self, end_tick, kind):
+    def __init__(self, end_tick, kinds):
         self.model = board_model.Model()
-        self.model.open(end_tick, kind, ROOM, ROOM, ROOM, ROOM, ROOM, ROOM)
+        self.model.open(end_tick, kinds, ROOM, ROOM, ROOM, ROOM, ROOM, ROOM)
 
     def call(self, name, *arguments):
         try:
@@ -75,14 +75,14 @@ class Played:
         given = self.call(name, *arguments)
         return given if isinstance(given, Refused) else shape(given)
 
-    def record(self, tick, first, data):
-        return self.shaped(lambda given: given[1] if given[0] == "update" else None, "record", tick, first, board_model.hexed(data))
+    def record(self, kind, tick, first, data):
+        return self.shaped(lambda given: given[1] if given[0] == "update" else None, "record", kind, tick, first, board_model.hexed(data))
 
-    def find(self, tick, start, end):
-        return self.shaped(lambda given: (given[2:], given[1]), "find", tick, start, end, ROOM)
+    def find(self, kind, tick, start, end):
+        return self.shaped(lambda given: (given[2:], given[1]), "find", kind, tick, start, end, ROOM)
 
-    def touching(self, tick, start, end):
-        return self.shaped(lambda given: given[1:], "touching", tick, start, end, ROOM)
+    def touching(self, kind, tick, start, end):
+        return self.shaped(lambda given: given[1:], "touching", kind, tick, start, end, ROOM)
 
     def calendar(self, week, special):
         return self.shaped(lambda given: None, "calendar", ",".join(map(str, calendar(week, special))))
@@ -93,12 +93,12 @@ class Played:
     def clock(self, cell):
         return self.shaped(lambda given: given[0], "clock", cell)
 
-    def near(self, name, tick, cell):
-        return self.shaped(lambda given: None if given[0] == "missing" else given[0], name, tick, cell)
+    def near(self, name, kind, tick, cell):
+        return self.shaped(lambda given: None if given[0] == "missing" else given[0], name, kind, tick, cell)
 
-    def cells(self, tick, start, end):
+    def cells(self, kind, tick, start, end):
         shape = lambda given: [byte if held else None for byte, held in zip(*map(board_model.unhexed, given))]
-        return self.shaped(shape, "cells", tick, start, end, ROOM, ROOM)
+        return self.shaped(shape, "cells", kind, tick, start, end, ROOM, ROOM)
 
     def block(self, number):
         return self.shaped(lambda given: Block(given[0], given[1], given[3], given[4], board_model.unhexed(given[5])), "block", number)
@@ -106,8 +106,9 @@ class Played:
 
 class Model(unittest.TestCase):
     def play(self, dice):
-        end_tick, kind = dice.randrange(1, 14), dice.randrange(5)
-        index, model = Index.open(end_tick, kind), Played(end_tick, kind)
+        end_tick, kinds = dice.randrange(1, 14), [dice.randrange(5) for _ in range(dice.choice([1, 1, 2, 4]))]
+        index, model = Index.open(end_tick, kinds), Played(end_tick, kinds)
+        self.assertEqual(index.kinds, tuple(sorted(set(kinds))))
         for _ in range(dice.randrange(4)):
             if dice.randrange(2):
                 hours = random_calendar(dice)
@@ -116,11 +117,13 @@ class Model(unittest.TestCase):
                 listed = random_days(dice)
                 self.assertEqual(answer(lambda: index.install_days(listed)), model.days(listed))
             operations = [random_operation(dice) for _ in range(dice.randrange(12))]
-            want = [model.record(*operation) for operation in operations]
+            # now and then a kind that was not opened
+            kind = dice.choice([*kinds, *kinds, *kinds, dice.choice([0, 1, 2, 3, 4, 5, 255])])
+            want = [model.record(kind, *operation) for operation in operations]
             if dice.randrange(2):
-                self.assertEqual(index.record_all(operations), want)
+                self.assertEqual(index.record_all(operations, kind=kind), want)
             else:
-                self.assertEqual([answer(lambda: index.record(*operation)) for operation in operations], want)
+                self.assertEqual([answer(lambda: index.record(*operation, kind=kind)) for operation in operations], want)
         self.compare(dice, index, model)  # before finish each is refused 4
         board = index.finished()
         self.assertFalse(index.closed)
@@ -131,7 +134,7 @@ class Model(unittest.TestCase):
         listed = random_days(dice)
         self.assertEqual(answer(lambda: index.install_days(listed)), model.days(listed))  # of a finished index too
         self.compare(dice, index, model)
-        self.assertEqual(answer(lambda: index.record(13, 1, b"x")), Refused(3))
+        self.assertEqual(answer(lambda: index.record(13, 1, b"x", kind=9)), Refused(3))
         self.assertEqual(answer(index.finish), Refused(3))
         self.assertEqual(answer(lambda: index.install_calendar([[]] * 7)), Refused(3))
         return index
@@ -140,12 +143,12 @@ class Model(unittest.TestCase):
         self.assertEqual(library.state(*index._tables), (index._state,))  # the state that the index keeps is true
         window = lambda: (dice.randrange(14), dice.randrange(45), dice.randrange(45))
         for _ in range(12):
-            asked = window()
-            self.assertEqual(answer(lambda: index.find(*asked)), model.find(*asked))
-            self.assertEqual(answer(lambda: index.touching(*asked)), model.touching(*asked))
-            self.assertEqual(answer(lambda: index.cells(*asked)), model.cells(*asked))
-            self.assertEqual(answer(lambda: index.next(*asked[:2])), model.near("next", *asked[:2]))
-            self.assertEqual(answer(lambda: index.last(*asked[:2])), model.near("last", *asked[:2]))
+            asked, kind = window(), dice.choice([*index.kinds, *index.kinds, dice.randrange(6)])
+            self.assertEqual(answer(lambda: index.find(*asked, kind=kind)), model.find(kind, *asked))
+            self.assertEqual(answer(lambda: index.touching(*asked, kind=kind)), model.touching(kind, *asked))
+            self.assertEqual(answer(lambda: index.cells(*asked, kind=kind)), model.cells(kind, *asked))
+            self.assertEqual(answer(lambda: index.next(*asked[:2], kind=kind)), model.near("next", kind, *asked[:2]))
+            self.assertEqual(answer(lambda: index.last(*asked[:2], kind=kind)), model.near("last", kind, *asked[:2]))
             for cell in (asked[1], dice.randrange(5000), dice.randrange(1 << 32), dice.randrange(1 << 64), (1 << 32) - 1 - dice.randrange(300)):
                 label = index.clock(cell)
                 shown = index.days.place(cell % (1 << 32))[1]
@@ -157,11 +160,13 @@ class Model(unittest.TestCase):
         dice = random.Random(24)
         for _ in range(150):
             index = self.play(dice)
-            file = index.write()
-            if file:
-                loaded, end = Index.load(b"xyz" + file, 3)
-                self.assertEqual((end, loaded.write()), (3 + len(file), file))
-                self.assertEqual(list(loaded.blocks()), [block for block in index.blocks() if block.created < block.destroyed])
+            file, at = b"xyz" + index.write(), 3
+            for kind in sorted({block.kind for block in index.blocks()}):
+                loaded, end = Index.load(file, at)
+                self.assertEqual((loaded.kinds, loaded.write()), ((kind,), file[at:end]))
+                self.assertEqual(list(loaded.blocks()), [block for block in index.blocks() if block.kind == kind and block.created < block.destroyed])
+                at = end
+            self.assertEqual(at, len(file))
 
     def test_damaged_files(self):
         file = finished(LISTING).write()
@@ -197,6 +202,29 @@ class Growth(unittest.TestCase):
         self.assertEqual(index.record_all([(2, 1, b"b" * 6000), *((3, 3 * cell, b"c") for cell in range(2000))])[0], 1)
         index.finish()
         self.assertEqual(index.cells(3, 0, 4), [99, 98, 98, 99])
+
+
+class Kinds(unittest.TestCase):
+    def test_several(self):
+        """The board of request 3: the same cell and byte in two kinds are two bookings, and their files stand one behind the other."""
+        index = Index.open(8, [Kind.OTHER, Kind.CONSTANT, Kind.UNIQUE, Kind.CONSTANT])
+        self.assertEqual(index.kinds, (Kind.CONSTANT, Kind.UNIQUE, Kind.OTHER))
+        self.assertEqual(index.record(1, 5, b"\x08", kind=Kind.UNIQUE), 5)
+        self.assertEqual(index.record_all([(0, 5, b"\x08"), (3, 9, b"\x08"), (4, 5, b"\x08")], kind=Kind.CONSTANT), [Refused(8), 9, 5])
+        self.assertRaisesRegex(ValueError, "several kinds", index.record, 4, 5, b"a")
+        self.assertRaisesRegex(ValueError, "several kinds", lambda: index.kind)
+        index.finish()
+        self.assertEqual((index.block_count, index.node_count, index.entry_count), (3, 11, 6))
+        self.assertEqual([(block.kind, block.first) for block in index.blocks()], [(0, 5), (0, 9), (3, 5)])
+        self.assertEqual([index.find(5, 0, 10, kind=kind) for kind in index.kinds], [([0, 1], 2), ([2], 2), ([], 0)])
+        self.assertEqual([index.cells(3, 5, 6, kind=kind) for kind in index.kinds], [[None], [8], [None]])
+        self.assertRaisesRegex(ValueError, "several kinds", index.touching, 5, 0, 10)
+        file = index.write()
+        first, end = Index.load(file)
+        second, behind = Index.load(file, end)
+        self.assertEqual((len(file), end, behind, first.kind, second.kind), (544, 272, 544, Kind.CONSTANT, Kind.UNIQUE))
+        self.assertEqual((first.touching(5, 0, 10), second.touching(5, 0, 10)), ([0, 1], [0]))
+        self.assertEqual((repr(index), repr(second)), ("<Index constant+unique+other, end tick 8, 3 blocks, closed>", "<Index unique, end tick 8, 1 blocks, closed>"))
 
 
 class Hours(unittest.TestCase):
@@ -307,7 +335,9 @@ class Refusals(unittest.TestCase):
         index = Index.open(8)
         index.record(3, 0, b"a")
         closed = finished(LISTING)
-        cases = [(1, lambda: Index.open(0)), (1, lambda: Index.open((1 << 63) + 1)), (1, lambda: Index.open(8, 5)), (3, closed.finish),
+        cases = [(1, lambda: Index.open(0)), (1, lambda: Index.open((1 << 63) + 1)), (1, lambda: Index.open(8, 5)), (1, lambda: Index.open(8, [])), (1, lambda: Index.open(8, [1, 5])), (3, closed.finish),
+                 (25, lambda: index.record(8, 0, b"", kind=Kind.OTHER)), (25, lambda: closed.find(8, 1, 0, kind=5)), (25, lambda: closed.touching(8, 1, 0, kind=0)), (25, lambda: closed.cells(8, 1, 0, kind=255)),
+                 (25, lambda: closed.next(8, 0, kind=2)), (25, lambda: closed.last(8, 0, kind=3)), (4, lambda: index.find(8, 1, 0, kind=5)), (3, lambda: closed.record(8, 0, b"", kind=5)),
                  (3, lambda: closed.record(1, 1, b"a")), (4, lambda: index.find(0, 0, 1)), (4, lambda: index.blocks()), (4, index.write),
                  (5, lambda: index.record(3, 0, b"")), (6, lambda: index.record(3, (1 << 64) - 2, b"ab")), (7, lambda: index.record(8, 0, b"a")),
                  (8, lambda: index.record(2, 0, b"a")), (14, lambda: closed.find(8, 0, 1)), (14, lambda: closed.next(8, 0)),
@@ -328,7 +358,7 @@ class Refusals(unittest.TestCase):
             index.cells(1, 0, (1 << 64) - 1)
 
     def test_words(self):
-        self.assertEqual(list(WORDS), [*range(1, 25), 26, 27, 28])
+        self.assertEqual(list(WORDS), [*range(1, 29)])
         self.assertEqual(str(Refused(8)), "refused 8: the booking's tick is below the last accepted one")
         with self.assertRaisesRegex(Refused, "15: there is no block of that number"):
             finished(LISTING).block(6)
@@ -342,7 +372,7 @@ class Refusals(unittest.TestCase):
 
     def test_what_no_call_takes(self):
         index = finished(LISTING)
-        for run in (lambda: index.find(-1, 0, 1), lambda: index.find(0, 0, 1 << 64), lambda: index.block(-1), lambda: Index.open(8, 256),
+        for run in (lambda: index.find(-1, 0, 1), lambda: index.find(0, 0, 1 << 64), lambda: index.block(-1), lambda: Index.open(8, 256), lambda: Index.open(8, [1, -1]), lambda: index.find(0, 0, 1, kind=256),
                     lambda: Index.open(8).record_all([(1 << 64, 0, b"a")]), lambda: Index.open(8).record(-1, 0, b"a"), lambda: Index.load(b"", -1), lambda: Index.load(bytes(50), -30)):
             self.assertRaises(ValueError, run)
         for run in (lambda: Index.open(8).record(0, 0, 5), lambda: Index.open(8).record_all([(0, 0, "text")]), lambda: index.find("1", 0, 1)):
@@ -353,7 +383,7 @@ class Values(unittest.TestCase):
     def test_getters(self):
         index = Index.open(8)
         self.assertEqual(index.record_all(LISTING), [100, 102, None, 103])
-        self.assertEqual((index.end_tick, index.kind, index.last_tick, index.closed, index.block_count, index.byte_count), (8, Kind.MEMORY, 6, False, 2, 7))
+        self.assertEqual((index.end_tick, index.kind, index.kinds, index.last_tick, index.closed, index.block_count, index.byte_count), (8, Kind.MEMORY, (Kind.MEMORY,), 6, False, 2, 7))
         index.finish()
         self.assertEqual((index.closed, index.block_count, index.node_count, index.entry_count), (True, 6, 10, 12))
         self.assertEqual(index.find(6, 100, 104), ([2, 3, 4], 3))

@@ -24,7 +24,7 @@ BROWSER = next(filter(None, map(shutil.which, ("chromium", "chromium-browser", "
 
 def board_of(name: str) -> Index:
     bookings = read_bookings((EXAMPLES / name).read_bytes())
-    index = Index.open(bookings.end_tick, bookings.kind)
+    index = Index.open(bookings.end_tick, bookings.kinds)
     index.record_all(bookings.operations)
     index.finish()
     return Index.load(index.write())[0]

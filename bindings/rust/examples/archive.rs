@@ -6,9 +6,9 @@ use std::{env, fs, io, process};
 
 /// The board of a day: some trains at one platform.
 fn day(platform: u32, trains: u8) -> Result<Index, Refusal> {
-    let mut board = GrowingIndex::open(1000, Kind::Memory)?;
+    let mut board = GrowingIndex::open(1000, &[Kind::Memory])?;
     for train in 1..=trains {
-        board.record(u64::from(train), Cell::new(platform, 400 + 30 * u32::from(train)).number(), &[train; 12])?;
+        board.record(Kind::Memory, u64::from(train), Cell::new(platform, 400 + 30 * u32::from(train)).number(), &[train; 12])?;
     }
     board.finish()?;
     Ok(board.into_index())

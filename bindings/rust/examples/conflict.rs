@@ -10,7 +10,7 @@ fn check(board: &Index, tick: u64, platform: u32, minutes: Range<u32>) -> Result
     let window = Cell::window(platform, minutes);
     println!("platform {platform} from {} to {} at tick {tick}:", board.label(window.start), board.label(window.end));
     let mut free = true;
-    for number in board.touching(tick, window.clone())? {
+    for number in board.touching(Kind::Memory, tick, window.clone())? {
         let block = board.block(number)?;
         let mut cell = block.first;
         for stay in block.bytes.chunk_by(|one, next| one == next) {
@@ -24,7 +24,7 @@ fn check(board: &Index, tick: u64, platform: u32, minutes: Range<u32>) -> Result
     }
     if free {
         println!("    free");
-        let before = board.last(tick, window.start)?.map(|number| board.block(number)).transpose()?;
+        let before = board.last(Kind::Memory, tick, window.start)?.map(|number| board.block(number)).transpose()?;
         if let Some(block) = before.filter(|block| Cell::from(block.first).platform() == platform) {
             println!("    the last train before it leaves at {}", board.label(block.cells().end));
         }
@@ -33,10 +33,10 @@ fn check(board: &Index, tick: u64, platform: u32, minutes: Range<u32>) -> Result
 }
 
 fn main() -> Result<(), Refusal> {
-    let mut board = GrowingIndex::open(1_000_000, Kind::Memory)?;
-    board.record(1, Cell::new(2, 1432).number(), &[7; 14])?; // 23:52 to 00:06
-    board.record(2, Cell::new(2, 1450).number(), &[9; 5])?; // 00:10 to 00:15
-    board.record(3, Cell::new(2, 1450).number(), &[0; 5])?; // which is cancelled
+    let mut board = GrowingIndex::open(1_000_000, &[Kind::Memory])?;
+    board.record(Kind::Memory, 1, Cell::new(2, 1432).number(), &[7; 14])?; // 23:52 to 00:06
+    board.record(Kind::Memory, 2, Cell::new(2, 1450).number(), &[9; 5])?; // 00:10 to 00:15
+    board.record(Kind::Memory, 3, Cell::new(2, 1450).number(), &[0; 5])?; // which is cancelled
     // the board goes on, and a finished clone of it is read
     let now = board.finished()?;
     check(&now, board.last_tick(), 2, 1440..1448)?;

@@ -7,12 +7,12 @@ use servercape::{Calendar, Cell, GrowingIndex, Kind, Recorded, Refusal};
 type Booking = (u32, u32, usize, u8);
 
 fn book(board: &mut GrowingIndex, tick: u64, (platform, minute, minutes, train): Booking) -> Result<Recorded, Refusal> {
-    board.record(tick, Cell::new(platform, minute).number(), &vec![train; minutes])
+    board.record(Kind::Memory, tick, Cell::new(platform, minute).number(), &vec![train; minutes])
 }
 
 fn main() -> Result<(), Refusal> {
     // any number of ticks below the end tick; tables grow with the bookings
-    let mut board = GrowingIndex::open(1_000_000, Kind::Memory)?;
+    let mut board = GrowingIndex::open(1_000_000, &[Kind::Memory])?;
     // every day the station is open from 05:00 to midnight
     board.install_calendar(&Calendar { week: std::array::from_fn(|_| vec![300..1440]), special: vec![] })?;
     let bookings: [(u64, Booking); 7] = [

@@ -17,7 +17,7 @@ fn show(board: &Index, tick: u64, platforms: Range<u32>, minutes: Range<u32>) ->
     let window = Cell::window(0, minutes.clone());
     println!("tick {tick}, {} to {}", board.label(window.start), board.label(window.end));
     for platform in platforms {
-        let cells = board.cells(tick, Cell::window(platform, minutes.clone()))?;
+        let cells = board.cells(Kind::Memory, tick, Cell::window(platform, minutes.clone()))?;
         println!("  {platform} {}", cells.into_iter().map(letter).collect::<String>());
     }
     Ok(())
@@ -27,12 +27,12 @@ fn show(board: &Index, tick: u64, platforms: Range<u32>, minutes: Range<u32>) ->
 fn show_nights() -> Result<(), Refusal> {
     // day 0 is Monday, 1 January 2024
     let days = Days::central_european((2024, 1, 1), 2024..=2024).expect("a Monday");
-    let mut board = GrowingIndex::open(8, Kind::Memory)?;
+    let mut board = GrowingIndex::open(8, &[Kind::Memory])?;
     board.install_days(days.list())?;
     for (tick, (day, minutes)) in (1..).zip(days.list()) {
         // from the hour at which the clock changes on, for eighty minutes
         let minute = days.start(*day) + if *minutes == 1380 { 110 } else { 170 };
-        board.record(tick, Cell::new(1, minute as u32).number(), &[5; 80])?;
+        board.record(Kind::Memory, tick, Cell::new(1, minute as u32).number(), &[5; 80])?;
     }
     board.finish()?;
     for block in board.blocks()? {
@@ -43,11 +43,11 @@ fn show_nights() -> Result<(), Refusal> {
 }
 
 fn main() -> Result<(), Refusal> {
-    let mut board = GrowingIndex::open(8, Kind::Memory)?;
-    board.record(1, Cell::new(1, 482).number(), &[1; 12])?;
-    board.record(2, Cell::new(2, 485).number(), &[2; 20])?;
-    board.record(4, Cell::new(1, 490).number(), &[3; 10])?;
-    board.record(6, Cell::new(2, 485).number(), &[0; 8])?;
+    let mut board = GrowingIndex::open(8, &[Kind::Memory])?;
+    board.record(Kind::Memory, 1, Cell::new(1, 482).number(), &[1; 12])?;
+    board.record(Kind::Memory, 2, Cell::new(2, 485).number(), &[2; 20])?;
+    board.record(Kind::Memory, 4, Cell::new(1, 490).number(), &[3; 10])?;
+    board.record(Kind::Memory, 6, Cell::new(2, 485).number(), &[0; 8])?;
     board.finish()?;
     for tick in [1, 2, 4, 6] {
         show(&board, tick, 1..3, 480..510)?;

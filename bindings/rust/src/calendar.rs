@@ -13,11 +13,11 @@ use core::ops::Range;
 /// hours.week[0] = vec![300..720, 780..1440]; // Mondays from 05:00, with a break at noon
 /// hours.special.push((1, vec![0..90])); // and the Tuesday after, up to 01:30
 /// hours.special.push((7, vec![])); // the Monday after is a holiday
-/// let mut index = Index::open(Room::even(64), 8, Kind::Memory)?;
+/// let mut index = Index::open(Room::even(64), 8, &[Kind::Memory])?;
 /// index.install_calendar(&hours)?;
-/// index.record(1, 1430, &[7; 20])?; // through midnight: each minute by its own day
-/// assert_eq!(index.record(2, 715, &[9; 10]), Err(Refusal::OutsideHours));
-/// assert_eq!(index.record(2, 7 * 1440 + 600, &[9; 10]), Err(Refusal::OutsideHours));
+/// index.record(Kind::Memory, 1, 1430, &[7; 20])?; // through midnight: each minute by its own day
+/// assert_eq!(index.record(Kind::Memory, 2, 715, &[9; 10]), Err(Refusal::OutsideHours));
+/// assert_eq!(index.record(Kind::Memory, 2, 7 * 1440 + 600, &[9; 10]), Err(Refusal::OutsideHours));
 /// # Ok::<(), servercape::Refusal>(())
 /// ```
 #[derive(Clone, PartialEq, Eq, Hash, Debug, Default)]

@@ -62,7 +62,7 @@ impl Days {
     ///
     /// let days = Days::central_european((2024, 1, 1), 2024..=2026).expect("a Monday");
     /// assert_eq!(days.list()[..2], [(90, 1380), (300, 1500)]); // 31 March and 27 October 2024
-    /// let mut board = GrowingIndex::open(1_000_000, Kind::Memory)?;
+    /// let mut board = GrowingIndex::open(1_000_000, &[Kind::Memory])?;
     /// board.install_days(days.list())?;
     /// let last = days.start(90) + 119;
     /// assert_eq!([last, last + 1].map(|cell| board.label(cell).to_string()), ["01:59", "03:00"]);

@@ -56,10 +56,10 @@ fn reserved<T>(numbers: &mut Vec<T>, table: u64, rows: u64) -> Option<usize> {
 /// ```
 /// use servercape::{GrowingIndex, Kind};
 ///
-/// let mut board = GrowingIndex::open(8, Kind::Memory)?;
-/// board.record(1, 100, &[7, 7, 7])?;
+/// let mut board = GrowingIndex::open(8, &[Kind::Memory])?;
+/// board.record(Kind::Memory, 1, 100, &[7, 7, 7])?;
 /// board.finish()?;
-/// assert_eq!(board.touching(6, 101..103)?, [0]);
+/// assert_eq!(board.touching(Kind::Memory, 6, 101..103)?, [0]);
 /// # Ok::<(), servercape::Refusal>(())
 /// ```
 ///
@@ -72,8 +72,8 @@ const BEGIN: Room = Room { pieces: 64, blocks: 64, bytes: 1024, nodes: 0, entrie
 
 impl GrowingIndex {
     /// Opens an index. Refusal 1.
-    pub fn open(end_tick: u64, kind: Kind) -> Result<GrowingIndex, Refusal> {
-        GrowingIndex::with(&Opening::new(end_tick, kind).room(BEGIN))
+    pub fn open(end_tick: u64, kinds: &[Kind]) -> Result<GrowingIndex, Refusal> {
+        GrowingIndex::with(&Opening::new(end_tick, kinds).room(BEGIN))
     }
 
     /// Opens an index by options. Refusal 1.
@@ -88,8 +88,8 @@ impl GrowingIndex {
     }
 
     /// Opens an index anew in the same tables. Refusal 1.
-    pub fn reopen(&mut self, end_tick: u64, kind: Kind) -> Result<(), Refusal> {
-        self.0.reopen(end_tick, kind)
+    pub fn reopen(&mut self, end_tick: u64, kinds: &[Kind]) -> Result<(), Refusal> {
+        self.0.reopen(end_tick, kinds)
     }
 
     /// Loads a file into the same tables, which grow first where they are too small for it. Refusals 17 to 19, 21 to 24.
@@ -103,23 +103,23 @@ impl GrowingIndex {
         }
     }
 
-    /// Records a booking, as [`Index::record`]. Refusals 3, 5 to 8, 26.
-    pub fn record(&mut self, tick: u64, first: u64, bytes: &[u8]) -> Result<Recorded, Refusal> {
+    /// Records a booking, as [`Index::record`]. Refusals 3, 25, 5 to 8, 26.
+    pub fn record(&mut self, kind: Kind, tick: u64, first: u64, bytes: &[u8]) -> Result<Recorded, Refusal> {
         loop {
-            match self.0.record(tick, first, bytes) {
+            match self.0.record(kind, tick, first, bytes) {
                 Err(refusal) if refusal.is_no_room() => self.grow_for(refusal, bytes.len() as u64)?,
                 answer => return answer,
             }
         }
     }
 
-    /// Records the bookings of a list, as [`Index::record_all`]. Of each refusals 3, 5 to 8, 26.
-    pub fn record_all(&mut self, operations: &[u8]) -> Result<Played, Refusal> {
+    /// Records the bookings of a list, all of one kind, as [`Index::record_all`]. Of each refusals 3, 25, 5 to 8, 26.
+    pub fn record_all(&mut self, kind: Kind, operations: &[u8]) -> Result<Played, Refusal> {
         let mut answers = Vec::new();
         room::reserve(&mut answers, Operations(operations).count()).ok_or(Refusal::NoRoomForAnswer)?;
         let mut list = Operations(operations);
         for (tick, first, bytes) in list.by_ref() {
-            answers.push(self.record(tick, first, bytes));
+            answers.push(self.record(kind, tick, first, bytes));
         }
         Ok(Played { answers, next: operations.len() - list.0.len() })
     }

@@ -4,7 +4,7 @@ use crate::{days::MOST, raw, room, Days, Index, Kind, Room};
 /// A row of pieces or blocks has eight numbers. Of the block table's head the last eight are such a row.
 const ROW: usize = 8;
 const END: usize = 1;
-const KIND: usize = 2;
+const KINDS: usize = 2;
 const BLOCKS: usize = 3;
 const USED: usize = 4;
 const LAST: usize = 5;
@@ -17,10 +17,15 @@ const PIECES: usize = 1;
 const NODES: usize = 5;
 const ENTRIES: usize = 0;
 
+/// The root of each kind's tree stands in front of the count of nodes.
+const ROOTS: usize = Kind::ALL.len();
+
 /// Columns of a row of pieces and of a row of blocks.
 const WRITTEN: usize = 2;
+const PIECE_OWNER: usize = 7;
 const CREATED: usize = 2;
 const DESTROYED: usize = 3;
+const BLOCK_OWNER: usize = 5;
 
 /// The head of an index, of which the caller knows that it was opened or loaded.
 pub(crate) struct Head<'a> {
@@ -40,8 +45,10 @@ impl Head<'_> {
         self.row[END]
     }
 
-    pub fn kind(&self) -> Option<Kind> {
-        u8::try_from(self.row[KIND]).ok().and_then(|code| Kind::try_from(code).ok())
+    /// The set of kinds, a bit for each.
+    pub fn kinds(&self) -> impl Iterator<Item = Kind> {
+        let mask = self.row[KINDS];
+        Kind::ALL.into_iter().filter(move |kind| mask >> kind.code() & 1 == 1)
     }
 
     pub fn last_tick(&self) -> u64 {
@@ -63,12 +70,17 @@ impl Index {
         Days::new(&list[..listed]).unwrap_or_default()
     }
 
-    /// When each block is live, and each piece up to the end tick.
-    pub(crate) fn lives(&self) -> impl Iterator<Item = (u64, u64)> + '_ {
+    /// How many kinds have a tree.
+    pub(crate) fn trees(&self) -> u64 {
+        self.nodes[..ROOTS].iter().filter(|&&root| root != 0).count() as u64
+    }
+
+    /// The kind of each block and when it is live, and of each piece up to the end tick.
+    pub(crate) fn lives(&self) -> impl Iterator<Item = (u64, u64, u64)> + '_ {
         let (head, used) = (Head::of(self), self.used());
         let (behind, end) = (room::length(raw::SERVERCAPE_BLOCKS, 0).unwrap_or(0), head.end_tick());
-        let blocks = self.blocks[behind..].chunks_exact(ROW).take(used.blocks as usize).map(|row| (row[CREATED], row[DESTROYED]));
-        let pieces = self.pieces[ROW..].chunks_exact(ROW).take(used.pieces as usize).map(move |row| (row[WRITTEN], end));
+        let blocks = self.blocks[behind..].chunks_exact(ROW).take(used.blocks as usize).map(|row| (row[BLOCK_OWNER], row[CREATED], row[DESTROYED]));
+        let pieces = self.pieces[ROW..].chunks_exact(ROW).take(used.pieces as usize).map(move |row| (row[PIECE_OWNER], row[WRITTEN], end));
         blocks.chain(pieces)
     }
 }

@@ -53,26 +53,28 @@ pub enum State {
     Empty,
 }
 
-/// How an index is opened: its end tick and kind, and how large its tables are. What later versions add has a default.
+/// How an index is opened: its end tick and kinds, and how large its tables are. What later versions add has a default.
 ///
 /// ```
 /// use servercape::{Kind, Opening, Room};
 ///
-/// let index = Opening::new(8, Kind::Memory).room(Room::even(64)).open()?;
+/// let index = Opening::new(8, &[Kind::Memory, Kind::Other]).room(Room::even(64)).open()?;
 /// assert_eq!(index.end_tick(), 8);
+/// assert!(index.kinds().eq([Kind::Memory, Kind::Other]));
 /// # Ok::<(), servercape::Refusal>(())
 /// ```
 #[derive(Clone, PartialEq, Eq, Debug)]
 pub struct Opening {
     pub(crate) end_tick: u64,
-    pub(crate) kind: Kind,
+    pub(crate) kinds: Vec<Kind>,
     pub(crate) room: Room,
 }
 
 impl Opening {
-    /// An index of an end tick from 1 to [`Index::MAX_END_TICK`] and a kind, with tables for 1,024 of everything.
-    pub fn new(end_tick: u64, kind: Kind) -> Opening {
-        Opening { end_tick, kind, room: Room::even(1024) }
+    /// An index of an end tick from 1 to [`Index::MAX_END_TICK`] and one kind or more, with tables for 1,024 of everything. The order of the kinds and repeats do
+    /// not matter.
+    pub fn new(end_tick: u64, kinds: &[Kind]) -> Opening {
+        Opening { end_tick, kinds: kinds.to_vec(), room: Room::even(1024) }
     }
 
     /// Tables of another size. Those of a [`GrowingIndex`](crate::GrowingIndex) begin with it.
@@ -84,7 +86,7 @@ impl Opening {
     /// Opens the index. Refusal 1; 9 to 13 where there is no memory for a table.
     pub fn open(&self) -> Result<Index, Refusal> {
         let mut index = Index::lend(self.room)?;
-        index.reopen(self.end_tick, self.kind)?;
+        index.reopen(self.end_tick, &self.kinds)?;
         Ok(index)
     }
 }
@@ -148,15 +150,16 @@ impl Index {
         })
     }
 
-    /// Opens an index with tables of some room: `Opening::new(end_tick, kind).room(room).open()`. Refusal 1; 9 to 13 where there is no memory for a table.
-    pub fn open(room: Room, end_tick: u64, kind: Kind) -> Result<Index, Refusal> {
-        Opening::new(end_tick, kind).room(room).open()
+    /// Opens an index with tables of some room: `Opening::new(end_tick, kinds).room(room).open()`. Refusal 1; 9 to 13 where there is no memory for a table.
+    pub fn open(room: Room, end_tick: u64, kinds: &[Kind]) -> Result<Index, Refusal> {
+        Opening::new(end_tick, kinds).room(room).open()
     }
 
     /// Opens an index anew in the same tables, whatever they held. Refusal 1.
-    pub fn reopen(&mut self, end_tick: u64, kind: Kind) -> Result<(), Refusal> {
+    pub fn reopen(&mut self, end_tick: u64, kinds: &[Kind]) -> Result<(), Refusal> {
         Refusal::unless_zero(unsafe {
-            call!(servercape_open, self, as_mut_ptr as_mut_ptr as_ptr as_mut_ptr as_mut_ptr, end_tick, kind.code())
+            // a kind is a byte, its code
+            call!(servercape_open, self, as_mut_ptr as_mut_ptr as_ptr as_mut_ptr as_mut_ptr, end_tick, kinds.as_ptr().cast(), kinds.len())
         })?;
         self.state = tested::SERVERCAPE_OPEN;
         Ok(())
@@ -182,9 +185,10 @@ impl Index {
         self.head().end_tick()
     }
 
-    /// The kinds that it was opened with, here one. None of an empty one.
+    /// The kinds that it was opened with, by code; of a loaded one its kind alone, of an empty one none.
     pub fn kinds(&self) -> impl Iterator<Item = Kind> {
-        self.head().kind().filter(|_| self.state != tested::SERVERCAPE_NOT_WELL_FORMED).into_iter()
+        let holds_index = self.state != tested::SERVERCAPE_NOT_WELL_FORMED;
+        self.head().kinds().filter(move |_| holds_index)
     }
 
     /// How many blocks there are by now. Finish adds one for each piece.
@@ -226,15 +230,15 @@ impl Index {
 
     // ── recording ──
 
-    /// Records a booking: the bytes of the cells from `first` on, at a tick; and says what that changed. Outside the station
-    /// hours that are installed a byte other than 0 is refused 26, even where it changes nothing. Refusals 3, 5 to 8, 26, 9 to 11.
-    pub fn record(&mut self, tick: u64, first: u64, bytes: &[u8]) -> Result<Recorded, Refusal> {
-        self.record_with(&SCRATCH, tick, first, bytes)
+    /// Records a booking: the bytes of the cells of a kind from `first` on, at a tick; and says what that changed. Outside the station
+    /// hours that are installed a byte other than 0 is refused 26, even where it changes nothing. Refusals 3, 25, 5 to 8, 26, 9 to 11.
+    pub fn record(&mut self, kind: Kind, tick: u64, first: u64, bytes: &[u8]) -> Result<Recorded, Refusal> {
+        self.record_with(&SCRATCH, kind, tick, first, bytes)
     }
 
     /// The same with a scratch of the caller's, of which only the length counts. With fewer than eight numbers it is refused 2, before all else. Refusals 2, 3,
-    /// 5 to 8, 26, 9 to 11.
-    pub fn record_with(&mut self, scratch: &[u64], tick: u64, first: u64, bytes: &[u8]) -> Result<Recorded, Refusal> {
+    /// 25, 5 to 8, 26, 9 to 11.
+    pub fn record_with(&mut self, scratch: &[u64], kind: Kind, tick: u64, first: u64, bytes: &[u8]) -> Result<Recorded, Refusal> {
         let (mut updated, mut cell) = (0, 0);
         Refusal::unless_zero(unsafe {
             tested::servercape_record_tested(
@@ -243,16 +247,16 @@ impl Index {
                 self.blocks.as_mut_ptr(), self.blocks.len(),
                 self.store.as_mut_ptr(), self.store.len(),
                 scratch.as_ptr(), scratch.len(),
-                tick, first, bytes.as_ptr(), bytes.len(),
+                kind.code(), tick, first, bytes.as_ptr(), bytes.len(),
                 &mut updated, &mut cell,
             )
         })?;
         Ok(Recorded::of(updated, cell))
     }
 
-    /// Records the bookings of a list, which [`put_operation`] makes, one after the other; a refused one changes nothing. A list that is cut short is played up to
-    /// there. Each answer is that of `record`. Refusal 16 where there is no memory for the answers, and then nothing is played.
-    pub fn record_all(&mut self, operations: &[u8]) -> Result<Played, Refusal> {
+    /// Records the bookings of a list, all of one kind, which [`put_operation`] makes, one after the other; a refused one changes nothing. A list that is cut short
+    /// is played up to there. Each answer is that of `record`. Refusal 16 where there is no memory for the answers, and then nothing is played.
+    pub fn record_all(&mut self, kind: Kind, operations: &[u8]) -> Result<Played, Refusal> {
         let count = Operations(operations).count();
         let mut answers = Vec::new();
         room::reserve(&mut answers, count).ok_or(Refusal::NoRoomForAnswer)?;
@@ -260,7 +264,7 @@ impl Index {
         let mut next = 0;
         let played = unsafe {
             call!(servercape_record_all, self, as_mut_ptr as_mut_ptr as_mut_ptr as_ptr as_ptr,
-                SCRATCH.as_ptr(), SCRATCH.len(), operations.as_ptr(), operations.len(), threes.as_mut_ptr(), threes.len(), &mut next)
+                SCRATCH.as_ptr(), SCRATCH.len(), kind.code(), operations.as_ptr(), operations.len(), threes.as_mut_ptr(), threes.len(), &mut next)
         };
         let answer = |three: &[u64]| Refusal::unless_zero(three[0]).map(|()| Recorded::of(three[1], three[2]));
         answers.extend(threes.chunks_exact(3).take(played as usize).map(answer));
@@ -301,8 +305,8 @@ impl Index {
 
     // ── files ──
 
-    /// A closed index from a file's bytes from a position on, in tables just large enough, with the position behind it. Refusals 17 to 19, 21 to 24; 20 where there
-    /// is no memory for a table.
+    /// A closed index of one kind from a file's bytes from a position on, in tables just large enough, with the position behind it, where the next kind of the same
+    /// board begins. Refusals 17 to 19, 21 to 24; 20 where there is no memory for a table.
     pub fn load(file: &[u8], at: usize) -> Result<(Index, usize), Refusal> {
         Index::load_with(Room::of_file(file, at), file, at)
     }
@@ -330,7 +334,8 @@ impl Index {
         Ok(next as usize)
     }
 
-    /// The file of the index. Of one without blocks it is empty, and cannot be loaded. Refusal 4; 16 where there is no memory for it.
+    /// The file of the index: of each kind that has blocks a part, by code, which is loaded by itself. Of an index without blocks it is empty, and cannot be loaded.
+    /// Refusal 4; 16 where there is no memory for it.
     pub fn write(&self) -> Result<Vec<u8>, Refusal> {
         // what is refused takes no memory
         match self.write_into(&mut []) {
@@ -338,8 +343,9 @@ impl Index {
             other => return other.map(|_| Vec::new()),
         }
         let Room { blocks, bytes, nodes, entries, .. } = self.used();
-        // kind and count; a block's fields and bytes; a node's fields, its entries, and a byte for each child that is not there; blocks of no life are left out
-        let most = 9 + 33 * blocks + bytes + 33 * nodes + 8 * entries + nodes + 1;
+        // of each kind: its code and a count; a block's fields and bytes; a node's fields, its entries, and a byte for each child that is not there; blocks of no life
+        // are left out
+        let most = (9 + 1) * self.trees() + 33 * blocks + bytes + (33 + 1) * nodes + 8 * entries;
         let mut out = usize::try_from(most).ok().and_then(room::zeros).ok_or(Refusal::NoRoomForAnswer)?;
         let written = self.write_into(&mut out)?;
         out.truncate(written);

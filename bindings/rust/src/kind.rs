@@ -1,8 +1,10 @@
 //! The kinds of board.
 use core::{error::Error, fmt, str::FromStr};
 
-/// The kind of space that an index is of. A board of platforms is [`Kind::Memory`]; the names are those of the library that this one is ported from.
+/// A kind of space. An index is opened with one or more: platforms, rolling stock and crews of one board, say. A cell of one kind is none of another. A board of
+/// platforms alone is [`Kind::Memory`]; the names are those of the library that this one is ported from.
 #[derive(Clone, Copy, PartialEq, Eq, PartialOrd, Ord, Hash, Debug)]
+#[repr(u8)]
 pub enum Kind {
     /// Code 0.
     Constant,

@@ -5,6 +5,8 @@
 //! edit. A **booking** writes bytes into cells from a first one on, at a tick. A **block** is what some cells held over a time: it is **live** from the tick at
 //! which it was created up to, and not including, the one at which it was destroyed. All ticks are below the **end tick** of the index.
 //!
+//! An index is opened with one [`Kind`] or more, and every call on cells names one of them.
+//!
 //! An index is open first: it takes bookings. Once it is finished it is read, and takes none. To read a board that goes on, finish a clone of it:
 //! [`GrowingIndex::finished`].
 //!
@@ -15,13 +17,13 @@
 //! ```
 //! use servercape::{Cell, GrowingIndex, Kind, Recorded, Refusal};
 //!
-//! let mut board = GrowingIndex::open(1_000_000, Kind::Memory)?;
+//! let mut board = GrowingIndex::open(1_000_000, &[Kind::Memory])?;
 //! let at_0800 = Cell::new(2, 480).number();
-//! assert_eq!(board.record(1, at_0800, &[7; 10])?.cell(), Some(at_0800));
-//! assert_eq!(board.record(2, at_0800, &[7; 12])?.cell(), Some(at_0800 + 10), "two minutes more");
-//! assert_eq!(board.record(3, at_0800, &[7; 12])?, Recorded::Read, "nothing changed");
+//! assert_eq!(board.record(Kind::Memory, 1, at_0800, &[7; 10])?.cell(), Some(at_0800));
+//! assert_eq!(board.record(Kind::Memory, 2, at_0800, &[7; 12])?.cell(), Some(at_0800 + 10), "two minutes more");
+//! assert_eq!(board.record(Kind::Memory, 3, at_0800, &[7; 12])?, Recorded::Read, "nothing changed");
 //! // a tick that goes back is refused, and the board is as it was
-//! assert_eq!(board.record(2, at_0800, &[9]), Err(Refusal::TickGoesBack));
+//! assert_eq!(board.record(Kind::Memory, 2, at_0800, &[9]), Err(Refusal::TickGoesBack));
 //! # Ok::<(), Refusal>(())
 //! ```
 //!
@@ -30,13 +32,13 @@
 //! ```
 //! use servercape::{Calendar, Cell, GrowingIndex, Kind, Refusal};
 //!
-//! let mut board = GrowingIndex::open(1_000_000, Kind::Memory)?;
+//! let mut board = GrowingIndex::open(1_000_000, &[Kind::Memory])?;
 //! let mut hours = Calendar::default();
 //! hours.week[0].push(480..1200); // Mondays from 08:00 to 20:00, and no other day
 //! board.install_calendar(&hours)?;
 //! let at_1955 = Cell::new(2, 1195).number();
-//! assert_eq!(board.record(1, at_1955, &[7; 6]), Err(Refusal::OutsideHours), "its last minute is 20:00");
-//! assert_eq!(board.record(1, at_1955, &[7; 5])?.cell(), Some(at_1955));
+//! assert_eq!(board.record(Kind::Memory, 1, at_1955, &[7; 6]), Err(Refusal::OutsideHours), "its last minute is 20:00");
+//! assert_eq!(board.record(Kind::Memory, 1, at_1955, &[7; 5])?.cell(), Some(at_1955));
 //! # Ok::<(), Refusal>(())
 //! ```
 //!
@@ -48,12 +50,12 @@
 //! ```
 //! use servercape::{Cell, GrowingIndex, Kind};
 //!
-//! let mut board = GrowingIndex::open(1_000_000, Kind::Memory)?;
-//! board.record(1, Cell::new(2, 1432).number(), &[7; 14])?; // from 23:52 through midnight
+//! let mut board = GrowingIndex::open(1_000_000, &[Kind::Memory])?;
+//! board.record(Kind::Memory, 1, Cell::new(2, 1432).number(), &[7; 14])?; // from 23:52 through midnight
 //! let now = board.finished()?;
 //! let window = Cell::window(2, 1440..1450); // from 00:00 on
-//! assert_eq!(now.touching(1, window.clone())?, [0]);
-//! assert_eq!(now.find(1, window)?.numbers, [], "it starts before");
+//! assert_eq!(now.touching(Kind::Memory, 1, window.clone())?, [0]);
+//! assert_eq!(now.find(Kind::Memory, 1, window)?.numbers, [], "it starts before");
 //! # Ok::<(), servercape::Refusal>(())
 //! ```
 //!
@@ -64,12 +66,12 @@
 //! ```
 //! use servercape::{Cell, GrowingIndex, Kind};
 //!
-//! let mut board = GrowingIndex::open(8, Kind::Memory)?;
-//! board.record(1, 100, &[7, 7, 7])?;
-//! board.record(3, 102, &[9, 9, 9])?;
+//! let mut board = GrowingIndex::open(8, &[Kind::Memory])?;
+//! board.record(Kind::Memory, 1, 100, &[7, 7, 7])?;
+//! board.record(Kind::Memory, 3, 102, &[9, 9, 9])?;
 //! board.finish()?;
-//! assert_eq!(board.cells(2, 100..104)?, [Some(7), Some(7), Some(7), None]);
-//! assert_eq!(board.cells(3, 100..104)?, [Some(7), Some(7), Some(9), Some(9)]);
+//! assert_eq!(board.cells(Kind::Memory, 2, 100..104)?, [Some(7), Some(7), Some(7), None]);
+//! assert_eq!(board.cells(Kind::Memory, 3, 100..104)?, [Some(7), Some(7), Some(9), Some(9)]);
 //! assert_eq!(board.label(102).to_string(), "01:42");
 //! # Ok::<(), servercape::Refusal>(())
 //! ```
@@ -80,7 +82,7 @@
 //! ```
 //! use servercape::{Cell, Days, GrowingIndex, Kind};
 //!
-//! let mut board = GrowingIndex::open(1_000_000, Kind::Memory)?;
+//! let mut board = GrowingIndex::open(1_000_000, &[Kind::Memory])?;
 //! let days = Days::central_european((2024, 1, 1), 2024..=2055).expect("day 0 is a Monday");
 //! board.install_days(days.list())?;
 //! let long = days.start(300); // day 300 is Sunday, 27 October 2024
@@ -95,14 +97,39 @@
 //! ```
 //! use servercape::{GrowingIndex, Index, Kind};
 //!
-//! let mut board = GrowingIndex::open(8, Kind::Memory)?;
-//! board.record(1, 100, &[7, 7, 7])?;
+//! let mut board = GrowingIndex::open(8, &[Kind::Memory])?;
+//! board.record(Kind::Memory, 1, 100, &[7, 7, 7])?;
 //! board.finish()?;
 //! let file = board.write()?;
 //! let (loaded, next) = Index::load(&file, 0)?;
 //! assert_eq!(next, file.len());
 //! assert!(loaded.blocks()?.eq(board.blocks()?));
 //! # Ok::<(), servercape::Refusal>(())
+//! ```
+//!
+//! # Several kinds
+//!
+//! Platforms, rolling stock and crews can be kinds of one board. A cell of one kind is none of another; tables, block numbers and the last tick are common. Their files
+//! stand one behind the other, and a load takes one of them.
+//!
+//! ```
+//! use servercape::{GrowingIndex, Index, Kind, Refusal};
+//!
+//! const PLATFORMS: Kind = Kind::Memory;
+//! const CREWS: Kind = Kind::Other;
+//!
+//! let mut board = GrowingIndex::open(8, &[PLATFORMS, CREWS])?;
+//! board.record(PLATFORMS, 1, 100, &[7, 7, 7])?;
+//! board.record(CREWS, 1, 100, &[3])?; // the same cell, and nothing is replaced
+//! assert_eq!(board.record(Kind::Unique, 1, 100, &[3]), Err(Refusal::KindNotOpened));
+//! board.finish()?;
+//! assert_eq!(board.cells(PLATFORMS, 1, 100..102)?, [Some(7), Some(7)]);
+//! assert_eq!(board.cells(CREWS, 1, 100..102)?, [Some(3), None]);
+//! let file = board.write()?;
+//! let (platforms, next) = Index::load(&file, 0)?;
+//! let (crews, end) = Index::load(&file, next)?;
+//! assert!(platforms.kinds().eq([PLATFORMS]) && crews.kinds().eq([CREWS]) && end == file.len());
+//! # Ok::<(), Refusal>(())
 //! ```
 //!
 //! # What is proved

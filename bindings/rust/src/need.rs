@@ -1,5 +1,5 @@
 //! How many nodes and entries finish needs, counted from the rows of an open index.
-use crate::{room, Index, Room, State};
+use crate::{room, Index, Kind, Room, State};
 use alloc::vec::Vec;
 
 impl Index {
@@ -9,8 +9,8 @@ impl Index {
     /// ```
     /// use servercape::{Index, Kind, Room};
     ///
-    /// let mut index = Index::open(Room { nodes: 0, entries: 0, ..Room::even(9) }, 8, Kind::Memory)?;
-    /// index.record(1, 100, &[7, 7, 7])?;
+    /// let mut index = Index::open(Room { nodes: 0, entries: 0, ..Room::even(9) }, 8, &[Kind::Memory])?;
+    /// index.record(Kind::Memory, 1, 100, &[7, 7, 7])?;
     /// index.grow(index.room_for_finish())?;
     /// index.finish()?;
     /// # Ok::<(), servercape::Refusal>(())
@@ -20,23 +20,28 @@ impl Index {
             return self.room();
         }
         let end = self.end_tick();
-        let entries = self.lives().map(|(created, destroyed)| entries(0, end, created, destroyed)).sum();
+        let entries = self.lives().map(|(_, created, destroyed)| entries(0, end, created, destroyed)).sum();
         Room { nodes: self.nodes_for_finish(end), entries, ..self.room() }
     }
 
     /// A node has halves only where a block or piece begins or ends strictly inside it, or where a block of no life is in it; and then at least one of them. So the
-    /// places where they do are doubled: such a block is between two ticks, and all are strictly inside.
+    /// places where they do are doubled: such a block is between two ticks, and all are strictly inside. Each kind that has blocks or pieces has a tree of its own.
     fn nodes_for_finish(&self, end: u64) -> u64 {
         let Room { blocks, pieces, .. } = self.used();
-        if blocks + pieces == 0 {
-            return 0;
-        }
         let mut places = Vec::new();
         let most = usize::try_from(blocks + pieces).ok().and_then(|lives| lives.checked_mul(2));
         if most.and_then(|most| room::reserve(&mut places, most)).is_none() {
             return self.room().for_finish(end, blocks + pieces).nodes;
         }
-        for (created, destroyed) in self.lives() {
+        self.kinds().map(|kind| self.nodes_of_kind(kind, end, &mut places)).sum()
+    }
+
+    /// The nodes of one kind, with room for its places.
+    fn nodes_of_kind(&self, kind: Kind, end: u64, places: &mut Vec<u64>) -> u64 {
+        let mut trees = 0;
+        places.clear();
+        for (_, created, destroyed) in self.lives().filter(|&(owner, ..)| owner == u64::from(kind.code())) {
+            trees = 1;
             if created == destroyed {
                 places.push(2 * created + 1);
             } else {
@@ -45,7 +50,7 @@ impl Index {
         }
         places.sort_unstable();
         places.dedup();
-        1 + 2 * halved(0, end, &places)
+        trees + 2 * halved(0, end, places)
     }
 }
 

@@ -17,17 +17,18 @@ extern "C" {
     /// How many numbers (of the store: bytes) a table of so many rows has; 0 where that is no 64-bit number.
     pub fn servercape_length(table: u64, rows: u64) -> u64;
 
-    /// Opens an index.
+    /// Opens an index with the kinds of a slice, a byte each.
     pub fn servercape_open(
         pieces: *mut u64, pieces_length: usize,
         blocks: *mut u64, blocks_length: usize,
         store: *const u8, store_length: usize,
         nodes: *mut u64, nodes_length: usize,
         entries: *mut u64, entries_length: usize,
-        end_tick: u64, kind: u8,
+        end_tick: u64,
+        kinds: *const u8, kinds_length: usize,
     ) -> u64;
 
-    /// Records an operation.
+    /// Records an operation of a kind.
     pub fn servercape_record(
         pieces: *mut u64, pieces_length: usize,
         blocks: *mut u64, blocks_length: usize,
@@ -35,12 +36,12 @@ extern "C" {
         nodes: *const u64, nodes_length: usize,
         entries: *const u64, entries_length: usize,
         scratch: *const u64, scratch_length: usize,
-        tick: u64, first: u64,
+        kind: u8, tick: u64, first: u64,
         bytes: *const u8, bytes_length: usize,
         updated: &mut u64, cell: &mut u64,
     ) -> u64;
 
-    /// Records many operations with one test; returns how many were played.
+    /// Records many operations of one kind with one test; returns how many were played.
     pub fn servercape_record_all(
         pieces: *mut u64, pieces_length: usize,
         blocks: *mut u64, blocks_length: usize,
@@ -48,6 +49,7 @@ extern "C" {
         nodes: *const u64, nodes_length: usize,
         entries: *const u64, entries_length: usize,
         scratch: *const u64, scratch_length: usize,
+        kind: u8,
         operations: *const u8, operations_length: usize,
         answers: *mut u64, answers_length: usize,
         next: &mut u64,
@@ -93,77 +95,78 @@ extern "C" {
         kind: &mut u64, first: &mut u64, length: &mut u64, created: &mut u64, destroyed: &mut u64, offset: &mut u64,
     ) -> u64;
 
-    /// The live blocks whose first cell is in a window.
+    /// The live blocks of a kind whose first cell is in a window.
     pub fn servercape_find(
         pieces: *const u64, pieces_length: usize,
         blocks: *const u64, blocks_length: usize,
         store: *const u8, store_length: usize,
         nodes: *const u64, nodes_length: usize,
         entries: *const u64, entries_length: usize,
-        tick: u64, start: u64, end: u64,
+        kind: u8, tick: u64, start: u64, end: u64,
         answer: *mut u64, answer_length: usize,
         count: &mut u64, visited: &mut u64,
     ) -> u64;
 
-    /// Many finds with one test; returns how many were asked.
+    /// Many finds of one kind with one test; returns how many were asked.
     pub fn servercape_find_all(
         pieces: *const u64, pieces_length: usize,
         blocks: *const u64, blocks_length: usize,
         store: *const u8, store_length: usize,
         nodes: *const u64, nodes_length: usize,
         entries: *const u64, entries_length: usize,
+        kind: u8,
         queries: *const u64, queries_length: usize,
         answers: *mut u64, answers_length: usize,
         numbers: *mut u64, numbers_length: usize,
     ) -> u64;
 
-    /// The byte of each cell of a window, and whether it is held.
+    /// The byte of each cell of a window of a kind, and whether it is held.
     pub fn servercape_read_cells(
         pieces: *const u64, pieces_length: usize,
         blocks: *const u64, blocks_length: usize,
         store: *const u8, store_length: usize,
         nodes: *const u64, nodes_length: usize,
         entries: *const u64, entries_length: usize,
-        tick: u64, start: u64, end: u64,
+        kind: u8, tick: u64, start: u64, end: u64,
         bytes: *mut u8, bytes_length: usize,
         held: *mut u8, held_length: usize,
     ) -> u64;
 
-    /// The live blocks that hold a cell of a window.
+    /// The live blocks of a kind that hold a cell of a window.
     pub fn servercape_touching(
         pieces: *const u64, pieces_length: usize,
         blocks: *const u64, blocks_length: usize,
         store: *const u8, store_length: usize,
         nodes: *const u64, nodes_length: usize,
         entries: *const u64, entries_length: usize,
-        tick: u64, start: u64, end: u64,
+        kind: u8, tick: u64, start: u64, end: u64,
         answer: *mut u64, answer_length: usize,
         count: &mut u64,
     ) -> u64;
 
-    /// The first live block that starts at or after a cell.
+    /// The first live block of a kind that starts at or after a cell.
     pub fn servercape_next(
         pieces: *const u64, pieces_length: usize,
         blocks: *const u64, blocks_length: usize,
         store: *const u8, store_length: usize,
         nodes: *const u64, nodes_length: usize,
         entries: *const u64, entries_length: usize,
-        tick: u64, cell: u64,
+        kind: u8, tick: u64, cell: u64,
         found: &mut u64, number: &mut u64,
     ) -> u64;
 
-    /// The last live block whose cells are all below a cell.
+    /// The last live block of a kind whose cells are all below a cell.
     pub fn servercape_last(
         pieces: *const u64, pieces_length: usize,
         blocks: *const u64, blocks_length: usize,
         store: *const u8, store_length: usize,
         nodes: *const u64, nodes_length: usize,
         entries: *const u64, entries_length: usize,
-        tick: u64, cell: u64,
+        kind: u8, tick: u64, cell: u64,
         found: &mut u64, number: &mut u64,
     ) -> u64;
 
-    /// The file of an index.
+    /// The file of an index: one tree behind the other, by kind.
     pub fn servercape_write(
         pieces: *const u64, pieces_length: usize,
         blocks: *const u64, blocks_length: usize,
@@ -174,7 +177,7 @@ extern "C" {
         written: &mut u64,
     ) -> u64;
 
-    /// A closed index from a file.
+    /// A closed index of one kind from a file.
     pub fn servercape_load(
         pieces: *mut u64, pieces_length: usize,
         blocks: *mut u64, blocks_length: usize,

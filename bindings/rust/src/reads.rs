@@ -62,7 +62,7 @@ impl Index {
         Ok(Block { kind, first, created, destroyed, bytes })
     }
 
-    /// All blocks in recorded order. Refusal 4.
+    /// All blocks in recorded order, whatever their kinds. Refusal 4.
     pub fn blocks(&self) -> Result<Blocks<'_>, Refusal> {
         match self.block(0) {
             Err(refusal) if refusal != Refusal::NoSuchBlock => Err(refusal),
@@ -70,12 +70,12 @@ impl Index {
         }
     }
 
-    /// The blocks live at a tick whose first cell is in the window. One that starts before it and reaches in is not listed: [`touching`](Index::touching) has
-    /// all. Refusals 4, 14, 15.
-    pub fn find(&self, tick: u64, window: Range<u64>) -> Result<Found, Refusal> {
+    /// The blocks of a kind live at a tick whose first cell is in the window. One that starts before it and reaches in is not listed: [`touching`](Index::touching) has
+    /// all. Refusals 4, 25, 14, 15.
+    pub fn find(&self, kind: Kind, tick: u64, window: Range<u64>) -> Result<Found, Refusal> {
         let mut visited = 0;
         let numbers = self.listed(|numbers| {
-            let (count, nodes) = self.find_into(tick, window.clone(), numbers)?;
+            let (count, nodes) = self.find_into(kind, tick, window.clone(), numbers)?;
             visited = nodes;
             Ok(count)
         })?;
@@ -98,54 +98,54 @@ impl Index {
         }
     }
 
-    /// The same into a slice: how many it lists there, and how many nodes were visited. Refusals 4, 14 to 16.
-    pub fn find_into(&self, tick: u64, window: Range<u64>, answer: &mut [u64]) -> Result<(usize, u64), Refusal> {
+    /// The same into a slice: how many it lists there, and how many nodes were visited. Refusals 4, 25, 14 to 16.
+    pub fn find_into(&self, kind: Kind, tick: u64, window: Range<u64>, answer: &mut [u64]) -> Result<(usize, u64), Refusal> {
         let (mut count, mut visited) = (0, 0);
         Refusal::unless_zero(unsafe {
             after_test!(servercape_find_tested, self, blocks nodes entries;
-                tick, window.start, window.end, answer.as_mut_ptr(), answer.len(), &mut count, &mut visited)
+                kind.code(), tick, window.start, window.end, answer.as_mut_ptr(), answer.len(), &mut count, &mut visited)
         })?;
         Ok((count as usize, visited))
     }
 
-    /// The blocks live at a tick that hold any cell of the window, ascending by first cell; those that start before it too. An empty window lists none.
-    /// Refusals 4, 14, 15.
-    pub fn touching(&self, tick: u64, window: Range<u64>) -> Result<Vec<u64>, Refusal> {
-        self.listed(|numbers| self.touching_into(tick, window.clone(), numbers))
+    /// The blocks of a kind live at a tick that hold any cell of the window, ascending by first cell; those that start before it too. An empty window lists none.
+    /// Refusals 4, 25, 14, 15.
+    pub fn touching(&self, kind: Kind, tick: u64, window: Range<u64>) -> Result<Vec<u64>, Refusal> {
+        self.listed(|numbers| self.touching_into(kind, tick, window.clone(), numbers))
     }
 
-    /// The same into a slice: how many it lists there. Refusals 4, 14 to 16.
-    pub fn touching_into(&self, tick: u64, window: Range<u64>, answer: &mut [u64]) -> Result<usize, Refusal> {
+    /// The same into a slice: how many it lists there. Refusals 4, 25, 14 to 16.
+    pub fn touching_into(&self, kind: Kind, tick: u64, window: Range<u64>, answer: &mut [u64]) -> Result<usize, Refusal> {
         let mut count = 0;
         Refusal::unless_zero(unsafe {
             after_test!(servercape_touching_tested, self, blocks nodes entries;
-                tick, window.start, window.end, answer.as_mut_ptr(), answer.len(), &mut count)
+                kind.code(), tick, window.start, window.end, answer.as_mut_ptr(), answer.len(), &mut count)
         })?;
         Ok(count as usize)
     }
 
-    /// The first block live at a tick that starts at or after the cell, if there is one. Refusals 4, 14.
-    pub fn next(&self, tick: u64, cell: u64) -> Result<Option<u64>, Refusal> {
+    /// The first block of a kind live at a tick that starts at or after the cell, if there is one. Refusals 4, 25, 14.
+    pub fn next(&self, kind: Kind, tick: u64, cell: u64) -> Result<Option<u64>, Refusal> {
         let (mut found, mut number) = (0, 0);
         Refusal::unless_zero(unsafe {
-            after_test!(servercape_next_tested, self, blocks nodes entries; tick, cell, &mut found, &mut number)
+            after_test!(servercape_next_tested, self, blocks nodes entries; kind.code(), tick, cell, &mut found, &mut number)
         })?;
         Ok((found == 1).then_some(number))
     }
 
-    /// The last block live at a tick whose cells are all below the cell, if there is one. Refusals 4, 14.
-    pub fn last(&self, tick: u64, cell: u64) -> Result<Option<u64>, Refusal> {
+    /// The last block of a kind live at a tick whose cells are all below the cell, if there is one. Refusals 4, 25, 14.
+    pub fn last(&self, kind: Kind, tick: u64, cell: u64) -> Result<Option<u64>, Refusal> {
         let (mut found, mut number) = (0, 0);
         Refusal::unless_zero(unsafe {
-            after_test!(servercape_last_tested, self, blocks nodes entries; tick, cell, &mut found, &mut number)
+            after_test!(servercape_last_tested, self, blocks nodes entries; kind.code(), tick, cell, &mut found, &mut number)
         })?;
         Ok((found == 1).then_some(number))
     }
 
-    /// For each cell of the window the byte that it holds at a tick, if it holds one. Refusals 4, 14, 15; 16 where there is no memory for so many cells.
-    pub fn cells(&self, tick: u64, window: Range<u64>) -> Result<Vec<Option<u8>>, Refusal> {
+    /// For each cell of the window of a kind the byte that it holds at a tick, if it holds one. Refusals 4, 25, 14, 15; 16 where there is no memory for so many cells.
+    pub fn cells(&self, kind: Kind, tick: u64, window: Range<u64>) -> Result<Vec<Option<u8>>, Refusal> {
         // into no cells first: a window that is refused takes no memory
-        match self.cells_into(tick, window.clone(), &mut [], &mut []) {
+        match self.cells_into(kind, tick, window.clone(), &mut [], &mut []) {
             Err(Refusal::NoRoomForAnswer) => (),
             other => return other.map(|()| Vec::new()),
         }
@@ -155,18 +155,18 @@ impl Index {
         let mut start = window.start;
         while start < window.end {
             let count = (window.end - start).min(CHUNK as u64);
-            self.cells_into(tick, start..start + count, &mut bytes, &mut held)?;
+            self.cells_into(kind, tick, start..start + count, &mut bytes, &mut held)?;
             cells.extend(bytes.iter().zip(&held).take(count as usize).map(|(&byte, &held)| (held == 1).then_some(byte)));
             start += count;
         }
         Ok(cells)
     }
 
-    /// The same into two slices: the bytes, and 1 where a cell is held; 0 and 0 where it is not. Refusals 4, 14 to 16.
-    pub fn cells_into(&self, tick: u64, window: Range<u64>, bytes: &mut [u8], held: &mut [u8]) -> Result<(), Refusal> {
+    /// The same into two slices: the bytes, and 1 where a cell is held; 0 and 0 where it is not. Refusals 4, 25, 14 to 16.
+    pub fn cells_into(&self, kind: Kind, tick: u64, window: Range<u64>, bytes: &mut [u8], held: &mut [u8]) -> Result<(), Refusal> {
         Refusal::unless_zero(unsafe {
             after_test!(servercape_read_cells_tested, self, blocks store nodes entries;
-                tick, window.start, window.end, bytes.as_mut_ptr(), bytes.len(), held.as_mut_ptr(), held.len())
+                kind.code(), tick, window.start, window.end, bytes.as_mut_ptr(), bytes.len(), held.as_mut_ptr(), held.len())
         })
     }
 }

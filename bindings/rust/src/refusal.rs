@@ -7,7 +7,7 @@ use core::{error::Error, fmt};
 #[non_exhaustive]
 #[derive(Clone, Copy, PartialEq, Eq, Hash, Debug)]
 pub enum Refusal {
-    /// 1, open: the end tick is 0 or above 2^63. (From C also: the kind is above 4.)
+    /// 1, open: the end tick is 0 or above 2^63, or there is no kind. (From C also: a kind is above 4.)
     Opening,
     /// 2, any call: the tables hold no index, since a load into them was refused; or the scratch lent to record has fewer than eight numbers.
     NotWellFormed,
@@ -57,6 +57,8 @@ pub enum Refusal {
     FileEntry,
     /// 24, load: two blocks share a cell at a tick.
     FileOverlap,
+    /// 25, record and every read at a tick: the index was not opened with that kind.
+    KindNotOpened,
     /// 26, record: a byte other than 0 falls on a cell that the installed calendar closes.
     OutsideHours,
     /// 27, install: the calendar has an empty or reversed window, one that ends above 1440, too many windows or special days, or special days that do not ascend.
@@ -69,11 +71,11 @@ pub enum Refusal {
 
 use Refusal::*;
 
-/// By number, of which 25 is given by no call; of the two of 15 the one that most calls mean.
+/// By number; of the two of 15 the one that most calls mean.
 const NUMBERED: [Refusal; 28] = [
     Opening, NotWellFormed, Closed, StillOpen, NoCells, PastLastCell, RecordAtEnd, TickGoesBack, NoRoomForPieces, NoRoomForBlocks, NoRoomForBytes,
     NoRoomForNodes, NoRoomForEntries, ReadAtEnd, WindowReversed, NoRoomForAnswer, FileCut, FileKind, FilePresence, NoRoomForFile, FileTree, FileBlock,
-    FileEntry, FileOverlap, Other(25), OutsideHours, WrongCalendar, WrongDays,
+    FileEntry, FileOverlap, KindNotOpened, OutsideHours, WrongCalendar, WrongDays,
 ];
 
 impl Refusal {
@@ -106,7 +108,7 @@ impl Refusal {
     /// The condition in words.
     fn words(self) -> &'static str {
         match self {
-            Opening => "the end tick is 0 or above 2^63, or a kind is above 4",
+            Opening => "the end tick is 0 or above 2^63, there is no kind, or one is above 4",
             NotWellFormed => "the tables hold no index, or the scratch has fewer than 8 numbers",
             Closed => "the index is finished or loaded, and takes no more bookings",
             StillOpen => "the index is still open, and is not read before it is finished",
@@ -140,6 +142,7 @@ impl Refusal {
                  not ascend, or a block's nodes do not make up its life"
             }
             FileOverlap => "two blocks of the file share a cell at a tick",
+            KindNotOpened => "the index was not opened with that kind",
             OutsideHours => "the booking has a byte other than 0 in a minute at which the station is closed",
             WrongCalendar => {
                 "the calendar is wrong: a window does not end after it starts, or ends above minute 1440 of the day, a day has more than 8 windows, there are \

@@ -1,5 +1,5 @@
 //! How many rows tables have, and how many they need.
-use crate::raw;
+use crate::{raw, Kind};
 use alloc::alloc::{alloc_zeroed, Layout};
 use alloc::vec::Vec;
 
@@ -32,7 +32,7 @@ impl Room {
     ///
     /// let room = Room::enough(8, 4, 9);
     /// assert_eq!((room.pieces, room.blocks, room.bytes), (8, 12, 9));
-    /// assert_eq!((room.nodes, room.entries), (25, 60));
+    /// assert_eq!((room.nodes, room.entries), (28, 60));
     /// ```
     pub fn enough(end_tick: u64, bookings: u64, bytes: u64) -> Room {
         // a booking that splits a piece leaves two rests and itself, and the middle as a block
@@ -40,15 +40,17 @@ impl Room {
         Room { pieces, blocks, bytes, ..Room::default() }.for_finish(end_tick, bookings)
     }
 
-    /// The same with the nodes and entries that finish can need at most: of an index with this end tick, whose bookings have so many different ticks, and
-    /// which has no more blocks than this room.
+    /// The same with the nodes and entries that finish can need at most: of an index with this end tick, whose bookings have so many different ticks, those of each
+    /// kind counted by themselves, and which has no more blocks than this room.
     ///
-    /// It is proved that finish then has room (`law_of_room` of the repository's crate `tree_room`): a node for the root and two for each tick on every
-    /// level below it; for each block an entry, and two on every level below the first.
+    /// It is proved that finish then has room (`law_of_room` of the repository's crate `tree_room`): of each kind a node for the root and two for each tick on
+    /// every level below it; for each block an entry, and two on every level below the first.
     pub fn for_finish(self, end_tick: u64, ticks: u64) -> Room {
         // so often is [0, end tick) halved until it is ticks
         let levels = u64::from(64 - end_tick.saturating_sub(1).leading_zeros());
-        let nodes = levels.saturating_mul(ticks.saturating_mul(2)).saturating_add(1);
+        // a kind that has a tree has a tick
+        let trees = ticks.clamp(1, Kind::ALL.len() as u64);
+        let nodes = levels.saturating_mul(ticks.saturating_mul(2)).saturating_add(trees);
         let entries = self.blocks.saturating_mul(1 + 2 * levels.saturating_sub(1));
         Room { nodes, entries, ..self }
     }
@@ -64,7 +66,7 @@ impl Room {
         }
     }
 
-    /// What the tables must have to take the index that stands in a file from a position on. Of a file that is cut or wrong it counts what can be read.
+    /// What the tables must have to take the index of one kind that stands in a file from a position on. Of a file that is cut or wrong it counts what can be read.
     pub fn of_file(file: &[u8], at: usize) -> Room {
         let mut room = Room::default();
         Reader { file, at }.count(&mut room);

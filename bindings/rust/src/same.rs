@@ -49,13 +49,18 @@ impl Random {
 const END: u64 = 40;
 const CELLS: u64 = 60;
 
+/// The kinds that are opened, and those that are asked for, by turns: the last of them is not opened.
+const KINDS: [Kind; 2] = [Kind::Other, Kind::Memory];
+const ASKED: [Kind; 4] = [Kind::Memory, Kind::Other, Kind::Memory, Kind::Constant];
+
 /// An open index of so many operations, most of them accepted.
 fn played(room: Room, operations: u64) -> Index {
     let mut random = Random(operations);
-    let mut index = Index::open(room, END, Kind::Memory).unwrap();
+    let mut index = Index::open(room, END, &KINDS).unwrap();
     for k in 0..operations {
         let bytes = vec![random.below(3) as u8; 1 + random.below(7) as usize];
-        let _ = index.record(k * END / operations, random.below(CELLS), &bytes);
+        let kind = ASKED[random.below(4) as usize];
+        let _ = index.record(kind, k * END / operations, random.below(CELLS), &bytes);
     }
     index
 }
@@ -100,9 +105,9 @@ fn indices() -> Vec<(&'static str, Index)> {
     let mut zeroed = finished(30);
     assert_eq!(number(&zeroed.reload(&spoiled, 0)), 22);
     let mut opened_anew = finished(30);
-    opened_anew.reopen(END, Kind::Other).unwrap();
+    opened_anew.reopen(END, &[Kind::Other]).unwrap();
     let mut not_opened_anew = finished(30);
-    assert_eq!(number(&not_opened_anew.reopen(0, Kind::Other)), 1);
+    assert_eq!(number(&not_opened_anew.reopen(0, &[Kind::Other])), 1);
     let mut loaded_over = played(room, 30);
     loaded_over.reload(&file, 0).unwrap();
     let mut with_hours = played(room, 30);
@@ -122,12 +127,13 @@ fn indices() -> Vec<(&'static str, Index)> {
     vec![
         ("not opened", Index::lend(room).unwrap()),
         ("opened", played(room, 0)),
-        ("opened, of no rows", Index::open(Room::even(0), 1, Kind::Unique).unwrap()),
+        ("opened, of no rows", Index::open(Room::even(0), 1, &[Kind::Unique]).unwrap()),
         ("recorded", played(room, 30)),
         ("opened anew", opened_anew),
         ("finished", finished(200)),
         ("finished, no blocks", finished(0)),
         ("loaded", Index::load_with(room, &file, 0).unwrap().0),
+        ("loaded, the other kind", Index::load_with(room, &file, Index::load(&file, 0).unwrap().1).unwrap().0),
         ("loaded over an open index", loaded_over),
         ("with station hours", with_hours),
         ("finished, with station hours", finished_with_hours),
@@ -148,8 +154,9 @@ fn indices() -> Vec<(&'static str, Index)> {
 const EDGES: [u64; 9] = [0, 1, 7, 20, 33, 59, 66, u64::MAX - 1, u64::MAX];
 const TICKS: [u64; 6] = [0, 1, 13, END - 1, END, u64::MAX];
 
-fn windows() -> impl Iterator<Item = (u64, u64, u64)> {
-    TICKS.into_iter().flat_map(|tick| EDGES.into_iter().flat_map(move |start| EDGES.into_iter().map(move |end| (tick, start, end))))
+fn windows() -> impl Iterator<Item = (Kind, u64, u64, u64)> {
+    let all = TICKS.into_iter().flat_map(|tick| EDGES.into_iter().flat_map(move |start| EDGES.into_iter().map(move |end| (tick, start, end))));
+    ASKED.into_iter().cycle().zip(all).map(|(kind, (tick, start, end))| (kind, tick, start, end))
 }
 
 /// The first block without a number tells what is said of others too.
@@ -171,27 +178,27 @@ fn same_blocks(what: &str, index: &Index) {
 }
 
 fn same_lists(what: &str, index: &Index) {
-    for (tick, start, end) in windows() {
+    for (kind, tick, start, end) in windows() {
         for room in [0, 1, 3, 4096] {
             let (mut one, mut other) = (vec![7; room], vec![7; room]);
             let (mut count, mut visited) = (7, 7);
-            let by = public!(raw::servercape_find, index, tick, start, end, other.as_mut_ptr(), other.len(), &mut count, &mut visited);
-            let found = index.find_into(tick, start..end, &mut one);
+            let by = public!(raw::servercape_find, index, kind.code(), tick, start, end, other.as_mut_ptr(), other.len(), &mut count, &mut visited);
+            let found = index.find_into(kind, tick, start..end, &mut one);
             assert_eq!((number(&found), &one), (by, &other), "{what}: find at {tick} of {start} to {end}");
             assert!(found.is_err() || found == Ok((count as usize, visited)), "{what}: find counts");
             if room == 4096 {
-                let all = index.find(tick, start..end);
+                let all = index.find(kind, tick, start..end);
                 assert_eq!(number(&all), by, "{what}: find all");
                 assert!(all.is_err() || all.is_ok_and(|all| all.numbers == other[..count as usize] && all.visited == visited), "{what}: find all");
             }
 
             let (mut one, mut other) = (vec![7; room], vec![7; room]);
-            let by = public!(raw::servercape_touching, index, tick, start, end, other.as_mut_ptr(), other.len(), &mut count);
-            let touched = index.touching_into(tick, start..end, &mut one);
+            let by = public!(raw::servercape_touching, index, kind.code(), tick, start, end, other.as_mut_ptr(), other.len(), &mut count);
+            let touched = index.touching_into(kind, tick, start..end, &mut one);
             assert_eq!((number(&touched), &one), (by, &other), "{what}: touching at {tick} of {start} to {end}");
             assert!(touched.is_err() || touched == Ok(count as usize), "{what}: touching counts");
             if room == 4096 {
-                let all = index.touching(tick, start..end);
+                let all = index.touching(kind, tick, start..end);
                 assert_eq!(number(&all), by, "{what}: touching all");
                 assert!(all.is_err() || all.is_ok_and(|all| all == other[..count as usize]), "{what}: touching all");
             }
@@ -200,15 +207,15 @@ fn same_lists(what: &str, index: &Index) {
 }
 
 /// Many finds by one public call, each lent what the ones before have left.
-fn same_lists_of_finds(what: &str, index: &Index) {
-    let queries: Vec<u64> = windows().flat_map(|(tick, start, end)| [tick, start, end]).chain([0, 0]).collect();
+fn same_lists_of_finds(what: &str, index: &Index, kind: Kind) {
+    let queries: Vec<u64> = windows().flat_map(|(_, tick, start, end)| [tick, start, end]).chain([0, 0]).collect();
     for (places, room) in [(0, 0), (1 << 12, 0), (1 << 12, 77), (100, 1 << 14), (1 << 12, 1 << 16)] {
         let (mut answers, mut numbers) = (vec![7; places], vec![7; room]);
-        let asked = public!(raw::servercape_find_all, index, queries.as_ptr(), queries.len(), answers.as_mut_ptr(), answers.len(), numbers.as_mut_ptr(), numbers.len());
+        let asked = public!(raw::servercape_find_all, index, kind.code(), queries.as_ptr(), queries.len(), answers.as_mut_ptr(), answers.len(), numbers.as_mut_ptr(), numbers.len());
         assert_eq!(asked as usize, (queries.len() / 3).min(places / 3), "{what}: finds asked");
         let (mut of_each, mut used) = (vec![7; room], 0);
         for (query, answer) in queries.chunks_exact(3).zip(answers.chunks_exact(3)) {
-            let found = index.find_into(query[0], query[1]..query[2], &mut of_each[used..]);
+            let found = index.find_into(kind, query[0], query[1]..query[2], &mut of_each[used..]);
             let (count, visited) = found.unwrap_or((0, 0));
             assert_eq!(answer, [number(&found), count as u64, visited], "{what}: one of many finds");
             used += count;
@@ -218,28 +225,28 @@ fn same_lists_of_finds(what: &str, index: &Index) {
 }
 
 fn same_neighbours(what: &str, index: &Index) {
-    for (tick, cell) in TICKS.into_iter().flat_map(|tick| EDGES.map(|cell| (tick, cell))) {
+    for (kind, (tick, cell)) in ASKED.into_iter().cycle().zip(TICKS.into_iter().flat_map(|tick| EDGES.map(|cell| (tick, cell)))) {
         let (mut found, mut block) = (7, 7);
-        let by = public!(raw::servercape_next, index, tick, cell, &mut found, &mut block);
-        let next = index.next(tick, cell);
+        let by = public!(raw::servercape_next, index, kind.code(), tick, cell, &mut found, &mut block);
+        let next = index.next(kind, tick, cell);
         assert_eq!(number(&next), by, "{what}: next at {tick} of {cell}");
         assert!(next.is_err() || next == Ok((found == 1).then_some(block)), "{what}: next at {tick} of {cell}");
-        let by = public!(raw::servercape_last, index, tick, cell, &mut found, &mut block);
-        let last = index.last(tick, cell);
+        let by = public!(raw::servercape_last, index, kind.code(), tick, cell, &mut found, &mut block);
+        let last = index.last(kind, tick, cell);
         assert_eq!(number(&last), by, "{what}: last at {tick} of {cell}");
         assert!(last.is_err() || last == Ok((found == 1).then_some(block)), "{what}: last at {tick} of {cell}");
     }
 }
 
 fn same_cells(what: &str, index: &Index) {
-    for (tick, start, end) in windows() {
+    for (kind, tick, start, end) in windows() {
         for (of_bytes, of_held) in [(0, 0), (13, 80), (80, 13), (80, 80)] {
             let [mut one, mut other] = [(); 2].map(|()| (vec![7; of_bytes], vec![7; of_held]));
-            let by = public!(raw::servercape_read_cells, index, tick, start, end, other.0.as_mut_ptr(), other.0.len(), other.1.as_mut_ptr(), other.1.len());
-            let read = index.cells_into(tick, start..end, &mut one.0, &mut one.1);
+            let by = public!(raw::servercape_read_cells, index, kind.code(), tick, start, end, other.0.as_mut_ptr(), other.0.len(), other.1.as_mut_ptr(), other.1.len());
+            let read = index.cells_into(kind, tick, start..end, &mut one.0, &mut one.1);
             assert_eq!((number(&read), &one), (by, &other), "{what}: cells at {tick} of {start} to {end}");
             if (of_bytes, of_held) == (80, 80) && by != 16 {
-                let cells = index.cells(tick, start..end);
+                let cells = index.cells(kind, tick, start..end);
                 let held = other.0.iter().zip(&other.1).map(|(&byte, &held)| (held == 1).then_some(byte));
                 assert_eq!(number(&cells), by, "{what}: all cells");
                 assert!(cells.is_err() || cells.is_ok_and(|cells| cells == held.take((end - start) as usize).collect::<Vec<_>>()), "{what}: all cells");
@@ -289,7 +296,7 @@ fn reads() {
         let before = index.clone();
         same_blocks(what, &index);
         same_lists(what, &index);
-        same_lists_of_finds(what, &index);
+        [Kind::Memory, Kind::Other, Kind::Constant].into_iter().for_each(|kind| same_lists_of_finds(what, &index, kind));
         same_neighbours(what, &index);
         same_cells(what, &index);
         same_file(what, &index);
@@ -316,9 +323,9 @@ macro_rules! writes {
     };
 }
 
-fn public_record(index: &mut Index, scratch: &[u64], tick: u64, first: u64, bytes: &[u8]) -> (u64, Recorded) {
+fn public_record(index: &mut Index, scratch: &[u64], kind: Kind, tick: u64, first: u64, bytes: &[u8]) -> (u64, Recorded) {
     let (mut updated, mut cell) = (0, 0);
-    let by = writes!(raw::servercape_record, index, as_mut_ptr as_ptr, scratch.as_ptr(), scratch.len(), tick, first, bytes.as_ptr(), bytes.len(), &mut updated, &mut cell);
+    let by = writes!(raw::servercape_record, index, as_mut_ptr as_ptr, scratch.as_ptr(), scratch.len(), kind.code(), tick, first, bytes.as_ptr(), bytes.len(), &mut updated, &mut cell);
     (by, Recorded::of(updated, cell))
 }
 
@@ -332,8 +339,9 @@ fn records() {
             let first = if random.below(16) == 0 { u64::MAX - 1 } else { random.below(CELLS) };
             let bytes = vec![random.below(3) as u8; random.below(7) as usize];
             let scratch = vec![0; if random.below(8) == 0 { 7 } else { 8 }];
-            let (by, recorded) = public_record(&mut other, &scratch, tick, first, &bytes);
-            let answer = one.record_with(&scratch, tick, first, &bytes);
+            let kind = ASKED[random.below(4) as usize];
+            let (by, recorded) = public_record(&mut other, &scratch, kind, tick, first, &bytes);
+            let answer = one.record_with(&scratch, kind, tick, first, &bytes);
             assert_eq!(number(&answer), by, "{what}: record {k}");
             assert!(answer.is_err() || answer == Ok(recorded), "{what}: record {k}");
             same_tables(what, &one, &other);
@@ -352,22 +360,22 @@ fn lists_of_records() {
     let whole = list.len();
     put_operation(&mut list, END - 1, 0, &[1, 2]);
     list.pop();
-    for (what, index) in indices() {
+    for (kind, (what, index)) in ASKED.into_iter().cycle().zip(indices()) {
         let (mut one, mut other, mut third) = (index.clone(), index.clone(), index.clone());
-        let Played { answers, next } = one.record_all(&list).unwrap();
+        let Played { answers, next } = one.record_all(kind, &list).unwrap();
         assert_eq!((answers.len(), next), (100, whole), "{what}: the last one is cut");
         let (mut threes, mut behind) = (vec![7; 3 * 41 + 2], 7);
         let scratch = [0; 8];
-        let played = writes!(raw::servercape_record_all, other, as_mut_ptr as_ptr, scratch.as_ptr(), 8, list.as_ptr(), list.len(), threes.as_mut_ptr(), threes.len(), &mut behind);
+        let played = writes!(raw::servercape_record_all, other, as_mut_ptr as_ptr, scratch.as_ptr(), 8, kind.code(), list.as_ptr(), list.len(), threes.as_mut_ptr(), threes.len(), &mut behind);
         assert_eq!((played, &threes[3 * 41..]), (41, &[7, 7][..]), "{what}: as many as there are places");
-        let rest = other.record_all(&list[behind as usize..]).unwrap();
+        let rest = other.record_all(kind, &list[behind as usize..]).unwrap();
         assert_eq!(rest.answers, answers[41..], "{what}: the rest");
         same_tables(what, &one, &other);
         let mut at = 0;
         for answer in &answers {
             let field = |k: usize| u64::from_le_bytes(list[at + 8 * k..at + 8 * k + 8].try_into().unwrap());
             let bytes = &list[at + 24..at + 24 + field(2) as usize];
-            assert_eq!(third.record(field(0), field(1), bytes), *answer, "{what}: each by itself");
+            assert_eq!(third.record(kind, field(0), field(1), bytes), *answer, "{what}: each by itself");
             at += 24 + bytes.len();
         }
         same_tables(what, &one, &third);
@@ -387,9 +395,9 @@ fn installs() {
             let by = writes!(raw::servercape_install_calendar, other, as_ptr as_ptr, numbers.as_ptr(), said);
             assert_eq!(number(&one.install_calendar(&calendar)), by, "{what}: install {calendar:?}");
             same_tables(what, &one, &other);
-            for cell in 0..CELLS {
-                let (by, recorded) = public_record(&mut other, &[0; 8], END - 1, cell, &[cell as u8 % 3]);
-                let answer = one.record(END - 1, cell, &[cell as u8 % 3]);
+            for (kind, cell) in ASKED.into_iter().cycle().zip(0..CELLS) {
+                let (by, recorded) = public_record(&mut other, &[0; 8], kind, END - 1, cell, &[cell as u8 % 3]);
+                let answer = one.record(kind, END - 1, cell, &[cell as u8 % 3]);
                 assert_eq!(number(&answer), by, "{what}: record at {cell}");
                 assert!(answer.is_err() || answer == Ok(recorded), "{what}: record at {cell}");
             }
@@ -416,9 +424,9 @@ fn installs_of_days() {
             // a day without its minutes
             let by = writes!(raw::servercape_install_days, other, as_ptr as_ptr, [9].as_ptr(), 1);
             assert_eq!(by, if one.state == tested::SERVERCAPE_NOT_WELL_FORMED { 2 } else { 28 }, "{what}: an odd list");
-            for cell in (100..260).step_by(7).chain((1_300..1_560).step_by(5)) {
-                let (by, recorded) = public_record(&mut other, &[0; 8], END - 1, cell, &[1]);
-                let answer = one.record(END - 1, cell, &[1]);
+            for (kind, cell) in ASKED.into_iter().cycle().zip((100..260).step_by(7).chain((1_300..1_560).step_by(5))) {
+                let (by, recorded) = public_record(&mut other, &[0; 8], kind, END - 1, cell, &[1]);
+                let answer = one.record(kind, END - 1, cell, &[1]);
                 assert_eq!(number(&answer), by, "{what}: record at {cell}");
                 assert!(answer.is_err() || answer == Ok(recorded), "{what}: record at {cell}");
             }
@@ -434,10 +442,12 @@ fn finishes_opens_and_loads() {
         let (mut one, mut other) = (index.clone(), index.clone());
         assert_eq!(number(&one.finish()), writes!(raw::servercape_finish, other, as_ptr as_mut_ptr), "{what}: finish");
         same_tables(what, &one, &other);
-        for (end, kind) in [(0, Kind::Memory), (1 << 63, Kind::Constant), (u64::MAX, Kind::Other)] {
+        for (end, kinds) in [(0, &KINDS[..]), (1 << 63, &[Kind::Constant]), (u64::MAX, &[Kind::Other]), (8, &[]), (8, &Kind::ALL), (8, &ASKED)] {
+            let codes: Vec<u8> = kinds.iter().map(|kind| kind.code()).collect();
             let (mut one, mut other) = (index.clone(), index.clone());
-            assert_eq!(number(&one.reopen(end, kind)), writes!(raw::servercape_open, other, as_ptr as_mut_ptr, end, kind as u8), "{what}: open");
+            assert_eq!(number(&one.reopen(end, kinds)), writes!(raw::servercape_open, other, as_ptr as_mut_ptr, end, codes.as_ptr(), codes.len()), "{what}: open");
             same_tables(what, &one, &other);
+            assert!(one.state != tested::SERVERCAPE_OPEN || end != 8 || kinds.is_empty() || Kind::ALL.into_iter().filter(|kind| kinds.contains(kind)).eq(one.kinds()), "{what}: its kinds");
         }
         for damaged in (0..file.len()).step_by(1 + file.len() / 64) {
             let mut file = file.clone();
@@ -455,17 +465,17 @@ fn finishes_opens_and_loads() {
 /// All blocks of 12,000 in one pass: with a test for each this takes a minute.
 #[test]
 fn many_blocks() {
-    let mut index = Index::open(Room::even(1 << 17), 12_000, Kind::Memory).unwrap();
+    let mut index = Index::open(Room::even(1 << 17), 12_000, &[Kind::Memory]).unwrap();
     for tick in 0..12_000 {
-        index.record(tick, tick % 600 * 10, &[tick as u8, 1]).unwrap();
+        index.record(Kind::Memory, tick, tick % 600 * 10, &[tick as u8, 1]).unwrap();
     }
     index.finish().unwrap();
     assert_eq!(index.blocks().unwrap().count(), 12_000);
     assert_eq!(index.state, state(&index));
     // more than a find is lent first, and than it is lent then
     let live: Vec<u64> = (11_400..12_000).collect();
-    assert_eq!(index.touching(11_999, 0..u64::MAX).unwrap(), live);
-    let mut found = index.find(11_999, 0..u64::MAX).unwrap().numbers;
+    assert_eq!(index.touching(Kind::Memory, 11_999, 0..u64::MAX).unwrap(), live);
+    let mut found = index.find(Kind::Memory, 11_999, 0..u64::MAX).unwrap().numbers;
     found.sort();
     assert_eq!(found, live);
 }

@@ -24,7 +24,7 @@ extern "C" {
         blocks: *mut u64, blocks_length: usize,
         store: *mut u8, store_length: usize,
         scratch: *const u64, scratch_length: usize,
-        tick: u64, first: u64,
+        kind: u8, tick: u64, first: u64,
         bytes: *const u8, bytes_length: usize,
         updated: &mut u64, cell: &mut u64,
     ) -> u64;
@@ -44,7 +44,7 @@ extern "C" {
         blocks: *const u64, blocks_length: usize,
         nodes: *const u64, nodes_length: usize,
         entries: *const u64, entries_length: usize,
-        tick: u64, start: u64, end: u64,
+        kind: u8, tick: u64, start: u64, end: u64,
         answer: *mut u64, answer_length: usize,
         count: &mut u64, visited: &mut u64,
     ) -> u64;
@@ -56,7 +56,7 @@ extern "C" {
         store: *const u8, store_length: usize,
         nodes: *const u64, nodes_length: usize,
         entries: *const u64, entries_length: usize,
-        tick: u64, start: u64, end: u64,
+        kind: u8, tick: u64, start: u64, end: u64,
         bytes: *mut u8, bytes_length: usize,
         held: *mut u8, held_length: usize,
     ) -> u64;
@@ -67,7 +67,7 @@ extern "C" {
         blocks: *const u64, blocks_length: usize,
         nodes: *const u64, nodes_length: usize,
         entries: *const u64, entries_length: usize,
-        tick: u64, start: u64, end: u64,
+        kind: u8, tick: u64, start: u64, end: u64,
         answer: *mut u64, answer_length: usize,
         count: &mut u64,
     ) -> u64;
@@ -78,7 +78,7 @@ extern "C" {
         blocks: *const u64, blocks_length: usize,
         nodes: *const u64, nodes_length: usize,
         entries: *const u64, entries_length: usize,
-        tick: u64, cell: u64,
+        kind: u8, tick: u64, cell: u64,
         found: &mut u64, number: &mut u64,
     ) -> u64;
 
@@ -88,7 +88,7 @@ extern "C" {
         blocks: *const u64, blocks_length: usize,
         nodes: *const u64, nodes_length: usize,
         entries: *const u64, entries_length: usize,
-        tick: u64, cell: u64,
+        kind: u8, tick: u64, cell: u64,
         found: &mut u64, number: &mut u64,
     ) -> u64;
 

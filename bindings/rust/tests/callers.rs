@@ -25,9 +25,9 @@ fn number<T>(answer: Result<T, Refusal>) -> u64 {
 }
 
 fn closed() -> Index {
-    let mut board = GrowingIndex::open(END, Kind::Memory).unwrap();
+    let mut board = GrowingIndex::open(END, &[Kind::Memory]).unwrap();
     for (tick, first, bytes) in bookings(1, 200) {
-        board.record(tick, first, &bytes).unwrap();
+        board.record(Kind::Memory, tick, first, &bytes).unwrap();
     }
     board.finish().unwrap();
     board.into_index()
@@ -37,7 +37,7 @@ fn closed() -> Index {
 
 #[test]
 fn a_refusal_has_number_and_words() {
-    for number in (1..=24).chain([26, 27, 28]) {
+    for number in 1..=28 {
         let refusal = Refusal::of(number).unwrap();
         assert_eq!(refusal.number(), number);
         let words = refusal.to_string();
@@ -45,38 +45,38 @@ fn a_refusal_has_number_and_words() {
         assert_eq!(refusal.is_no_room(), [9, 10, 11, 12, 13, 16, 20].contains(&number));
     }
     assert_eq!((Refusal::of(0), Refusal::of(77), Refusal::of(u64::MAX)), (None, Some(Refusal::Other(77)), Some(Refusal::Other(u64::MAX))));
-    assert_eq!((Refusal::Other(77).number(), Refusal::of(25), Refusal::Other(25).number()), (77, Some(Refusal::Other(25)), 25));
+    assert_eq!((Refusal::Other(77).number(), Refusal::of(25), Refusal::of(29)), (77, Some(Refusal::KindNotOpened), Some(Refusal::Other(29))));
     assert_ne!(Refusal::RecordAtEnd.to_string()[10..], Refusal::ReadAtEnd.to_string()[11..], "7 and 14");
 }
 
 #[test]
 fn station_hours_have_names() {
-    let mut board = GrowingIndex::open(END, Kind::Memory).unwrap();
+    let mut board = GrowingIndex::open(END, &[Kind::Memory]).unwrap();
     assert_eq!(board.install_calendar(&Calendar { special: vec![(9, vec![]), (9, vec![])], ..Calendar::default() }), Err(Refusal::WrongCalendar));
     board.install_calendar(&Calendar { special: vec![(9, vec![0..5])], ..Calendar::default() }).unwrap();
     // tables that grow keep the calendar, and so does a clone
     let day = Cell::new(3, 9 * 1440).number();
     for tick in 0..500 {
-        board.record(tick, day, &[tick as u8; 5]).unwrap();
-        assert_eq!(board.record(tick, day, &[7; 6]), Err(Refusal::OutsideHours));
+        board.record(Kind::Memory, tick, day, &[tick as u8; 5]).unwrap();
+        assert_eq!(board.record(Kind::Memory, tick, day, &[7; 6]), Err(Refusal::OutsideHours));
     }
     let mut list = vec![];
     put_operation(&mut list, 500, day + 4, &[1, 1]);
     put_operation(&mut list, 500, day + 4, &[1, 0]);
     let mut copy = board.clone();
-    assert_eq!(copy.record_all(&list).unwrap().answers, [Err(Refusal::OutsideHours), Ok(Recorded::Update { cell: day + 4 })]);
+    assert_eq!(copy.record_all(Kind::Memory, &list).unwrap().answers, [Err(Refusal::OutsideHours), Ok(Recorded::Update { cell: day + 4 })]);
     assert_eq!(copy.install_calendar(&Calendar::always_open()), Ok(()));
-    assert_eq!(copy.record(501, day - 3, &[7; 20]).map(Recorded::cell), Ok(Some(day - 3)));
+    assert_eq!(copy.record(Kind::Memory, 501, day - 3, &[7; 20]).map(Recorded::cell), Ok(Some(day - 3)));
     // opened anew it has none
-    board.reopen(END, Kind::Memory).unwrap();
-    assert_eq!(board.record(0, 0, &[7]).map(Recorded::cell), Ok(Some(0)));
+    board.reopen(END, &[Kind::Memory]).unwrap();
+    assert_eq!(board.record(Kind::Memory, 0, 0, &[7]).map(Recorded::cell), Ok(Some(0)));
     board.finish().unwrap();
     assert_eq!(board.install_calendar(&Calendar::default()), Err(Refusal::Closed));
 }
 
 #[test]
 fn days_have_names() {
-    let mut board = GrowingIndex::open(END, Kind::Memory).unwrap();
+    let mut board = GrowingIndex::open(END, &[Kind::Memory]).unwrap();
     assert_eq!(board.install_days(&[(0, 1440)]), Err(Refusal::WrongDays));
     board.install_days(&[(0, 1380), (1, 1500)]).unwrap();
     let labels = |board: &Index| [119, 120, 1380, 1380 + 180].map(|cell| board.label(cell).to_string());
@@ -85,7 +85,7 @@ fn days_have_names() {
     assert_eq!((board.days().list(), board.day(1379), board.day(1380)), (&[(0, 1380), (1, 1500)][..], 0, 1));
     // tables that grow keep the list, and so do a clone and a finished board
     for tick in 0..500 {
-        board.record(tick, 40 * tick, &[7; 5]).unwrap();
+        board.record(Kind::Memory, tick, 40 * tick, &[7; 5]).unwrap();
     }
     let now = board.finished().unwrap();
     assert_eq!((labels(&board), labels(&now)), (listed.map(String::from), listed.map(String::from)));
@@ -93,10 +93,10 @@ fn days_have_names() {
     let mut hours = Calendar::default();
     hours.week = std::array::from_fn(|_| vec![120..180]);
     board.install_calendar(&hours).unwrap();
-    assert!((0..1380).all(|cell| board.record(500, cell, &[9]) == Err(Refusal::OutsideHours)));
-    assert_eq!(board.record(500, 1380 + 120, &[9; 120]).map(Recorded::cell), Ok(Some(1500)));
-    assert_eq!(board.record(500, 1380 + 119, &[9]), Err(Refusal::OutsideHours));
-    assert_eq!(board.record(500, 1380 + 240, &[9]), Err(Refusal::OutsideHours));
+    assert!((0..1380).all(|cell| board.record(Kind::Memory, 500, cell, &[9]) == Err(Refusal::OutsideHours)));
+    assert_eq!(board.record(Kind::Memory, 500, 1380 + 120, &[9; 120]).map(Recorded::cell), Ok(Some(1500)));
+    assert_eq!(board.record(Kind::Memory, 500, 1380 + 119, &[9]), Err(Refusal::OutsideHours));
+    assert_eq!(board.record(Kind::Memory, 500, 1380 + 240, &[9]), Err(Refusal::OutsideHours));
     // a finished board takes another list, and a file holds none
     board.finish().unwrap();
     board.install_days(&[(0, 1500)]).unwrap();
@@ -105,7 +105,7 @@ fn days_have_names() {
     assert_eq!((loaded.days(), loaded.label(180).number()), (Days::regular(), 300));
     loaded.install_days(board.days().list()).unwrap();
     assert_eq!((loaded.days(), loaded.label(180)), (board.days(), board.label(180)));
-    board.reopen(END, Kind::Memory).unwrap();
+    board.reopen(END, &[Kind::Memory]).unwrap();
     assert_eq!((board.days(), board.clock(180).map(|label| label.number())), (Days::regular(), Ok(300)));
     // a load that is refused 22 leaves no index, and the clock is refused 2
     let mut file = loaded.write().unwrap();
@@ -148,9 +148,9 @@ fn the_two_meanings_of_15() {
     let index = closed();
     assert_eq!(index.block(index.block_count()), Err(Refusal::NoSuchBlock));
     let (start, end) = (9, 3);
-    assert_eq!(index.find(0, start..end).unwrap_err(), Refusal::WindowReversed);
-    assert_eq!(index.touching(0, start..end).unwrap_err(), Refusal::WindowReversed);
-    assert_eq!(index.cells(0, start..end).unwrap_err(), Refusal::WindowReversed);
+    assert_eq!(index.find(Kind::Memory, 0, start..end).unwrap_err(), Refusal::WindowReversed);
+    assert_eq!(index.touching(Kind::Memory, 0, start..end).unwrap_err(), Refusal::WindowReversed);
+    assert_eq!(index.cells(Kind::Memory, 0, start..end).unwrap_err(), Refusal::WindowReversed);
     assert_eq!((Refusal::NoSuchBlock.number(), Refusal::WindowReversed.number()), (15, 15));
     assert_ne!(Refusal::NoSuchBlock.to_string(), Refusal::WindowReversed.to_string());
 }
@@ -171,25 +171,25 @@ fn a_refusal_is_an_error() {
 #[test]
 fn no_window_takes_the_memory() {
     let index = closed();
-    assert_eq!(number(index.cells(END, 0..u64::MAX)), 14);
-    assert_eq!(number(index.cells(END, 0..1 << 46)), 14);
-    assert_eq!(number(index.cells(0, 0..u64::MAX)), 16);
-    assert_eq!(number(index.cells(0, 0..1 << 46)), 16);
-    let mut open = Index::open(Room::even(1), 8, Kind::Memory).unwrap();
-    assert_eq!(number(open.cells(0, 0..u64::MAX)), 4);
+    assert_eq!(number(index.cells(Kind::Memory, END, 0..u64::MAX)), 14);
+    assert_eq!(number(index.cells(Kind::Memory, END, 0..1 << 46)), 14);
+    assert_eq!(number(index.cells(Kind::Memory, 0, 0..u64::MAX)), 16);
+    assert_eq!(number(index.cells(Kind::Memory, 0, 0..1 << 46)), 16);
+    let mut open = Index::open(Room::even(1), 8, &[Kind::Memory]).unwrap();
+    assert_eq!(number(open.cells(Kind::Memory, 0, 0..u64::MAX)), 4);
     open.finish().unwrap();
-    assert_eq!(open.cells(0, 5..5), Ok(vec![]));
+    assert_eq!(open.cells(Kind::Memory, 0, 5..5), Ok(vec![]));
 }
 
 #[test]
 fn no_room_takes_the_memory() {
     let none = Room::even(0);
     for rows in [1 << 58, 1 << 62, u64::MAX] {
-        assert_eq!(number(Index::open(Room { pieces: rows, ..none }, 8, Kind::Memory)), 9);
-        assert_eq!(number(Index::open(Room { blocks: rows, ..none }, 8, Kind::Memory)), 10);
-        assert_eq!(number(Index::open(Room { bytes: rows, ..none }, 8, Kind::Memory)), 11);
-        assert_eq!(number(Index::open(Room { nodes: rows, ..none }, 8, Kind::Memory)), 12);
-        assert_eq!(number(Index::open(Room { entries: rows, ..none }, 8, Kind::Memory)), 13);
+        assert_eq!(number(Index::open(Room { pieces: rows, ..none }, 8, &[Kind::Memory])), 9);
+        assert_eq!(number(Index::open(Room { blocks: rows, ..none }, 8, &[Kind::Memory])), 10);
+        assert_eq!(number(Index::open(Room { bytes: rows, ..none }, 8, &[Kind::Memory])), 11);
+        assert_eq!(number(Index::open(Room { nodes: rows, ..none }, 8, &[Kind::Memory])), 12);
+        assert_eq!(number(Index::open(Room { entries: rows, ..none }, 8, &[Kind::Memory])), 13);
         assert_eq!(number(Index::load_with(Room { entries: rows, ..none }, &[], 0)), 20);
         let mut index = closed();
         let (before, blocks) = (index.room(), index.blocks().unwrap().count());
@@ -223,8 +223,13 @@ fn kinds() {
         assert_eq!(kind.to_string().parse(), Ok(kind));
         assert_eq!(kind.to_string().to_uppercase().parse(), Ok(kind));
         assert_eq!(Kind::try_from(kind.code()), Ok(kind));
-        assert_eq!(Index::open(Room::even(1), 8, kind).unwrap().kinds().collect::<Vec<_>>(), [kind]);
+        assert_eq!(Index::open(Room::even(1), 8, &[kind]).unwrap().kinds().collect::<Vec<_>>(), [kind]);
     }
+    let mut board = GrowingIndex::open(8, &[Kind::Other, Kind::Memory, Kind::Other]).unwrap();
+    assert_eq!((board.kinds().collect::<Vec<_>>(), number(GrowingIndex::open(8, &[]))), (vec![Kind::Memory, Kind::Other], 1));
+    assert_eq!((board.record(Kind::Unique, 1, 5, &[]), number(board.reopen(8, &[]))), (Err(Refusal::KindNotOpened), 1), "the index stays");
+    assert_eq!(board.record(Kind::Memory, 1, 5, &[7]).map(Recorded::cell), Ok(Some(5)));
+    assert!(format!("{board:?}").contains("kinds: [Memory, Other]"));
     assert!(Kind::try_from(5).is_err() && "platforms".parse::<Kind>().is_err() && "".parse::<Kind>().is_err());
     assert_eq!(format!("{:>9}", Kind::Memory), "   memory");
 }
@@ -233,13 +238,13 @@ fn kinds() {
 
 #[test]
 fn getters() {
-    let mut index = Opening::new(8, Kind::Register).room(Room::even(9)).open().unwrap();
+    let mut index = Opening::new(8, &[Kind::Register]).room(Room::even(9)).open().unwrap();
     let said = |index: &Index| (index.state(), index.end_tick(), index.last_tick(), index.block_count(), index.used().pieces);
     assert_eq!(said(&index), (State::Open, 8, 0, 0, 0));
-    index.record(3, 10, &[1, 2, 3]).unwrap();
-    index.record(5, 11, &[9]).unwrap();
+    index.record(Kind::Register, 3, 10, &[1, 2, 3]).unwrap();
+    index.record(Kind::Register, 5, 11, &[9]).unwrap();
     assert_eq!(said(&index), (State::Open, 8, 5, 1, 3));
-    assert_eq!(number(index.record(4, 11, &[9])), 8);
+    assert_eq!(number(index.record(Kind::Register, 4, 11, &[9])), 8);
     assert_eq!((said(&index), index.used().bytes), ((State::Open, 8, 5, 1, 3), 4));
     assert_eq!(index.room(), Room::even(9));
     index.finish().unwrap();
@@ -254,14 +259,14 @@ fn getters() {
     file.copy_within(9 + 25..9 + 33, 9 + 17);
     assert_eq!(number(loaded.reload(&file, 0)), 22);
     assert_eq!((loaded.state(), loaded.end_tick(), loaded.kinds().next(), number(loaded.finish())), (State::Empty, 0, None, 2));
-    loaded.reopen(5, Kind::Other).unwrap();
+    loaded.reopen(5, &[Kind::Other]).unwrap();
     assert_eq!((loaded.state(), loaded.end_tick()), (State::Open, 5));
 }
 
 #[test]
 fn an_index_is_shown_without_its_rows() {
-    let mut index = Index::open(Room::even(1 << 12), 8, Kind::Memory).unwrap();
-    index.record(3, 10, &[1]).unwrap();
+    let mut index = Index::open(Room::even(1 << 12), 8, &[Kind::Memory]).unwrap();
+    index.record(Kind::Memory, 3, 10, &[1]).unwrap();
     let shown = format!("{index:?}");
     assert!(shown.starts_with("Index { state: Open, end_tick: 8, kinds: [Memory], last_tick: 3, blocks: 0, room: Room"), "{shown}");
     assert!(shown.len() < 250);
@@ -284,17 +289,37 @@ fn enough_is_enough() {
     let splits: Vec<(u64, u64, Vec<u8>)> = (0..60).map(|k| (k * 17_000, if k == 0 { 0 } else { 2 * k }, vec![k as u8; if k == 0 { 400 } else { 1 }])).collect();
     for list in [splits, bookings(2, 150), bookings(3, 1), vec![]] {
         let bytes = list.iter().map(|(_, _, bytes)| bytes.len() as u64).sum();
-        let mut index = Index::open(Room::enough(END, list.len() as u64, bytes), END, Kind::Memory).unwrap();
+        let mut index = Index::open(Room::enough(END, list.len() as u64, bytes), END, &[Kind::Memory]).unwrap();
         for (tick, first, bytes) in &list {
-            index.record(*tick, *first, bytes).unwrap();
+            index.record(Kind::Memory, *tick, *first, bytes).unwrap();
         }
         let used = index.used();
         assert!(used.pieces <= 2 * list.len() as u64 && used.blocks + used.pieces <= 3 * list.len() as u64);
         index.finish().unwrap();
     }
     assert_eq!(Room::enough(u64::MAX, u64::MAX, u64::MAX), Room::even(u64::MAX), "it stops there");
-    assert_eq!(Room::even(5).for_finish(1, 9), Room { nodes: 1, entries: 5, ..Room::even(5) }, "one tick is not halved");
+    assert_eq!(Room::even(5).for_finish(1, 9), Room { nodes: 5, entries: 5, ..Room::even(5) }, "one tick is not halved, and there are five kinds at most");
     assert_eq!(Room::even(5).for_finish(1 << 63, 1), Room { nodes: 127, entries: 5 * 125, ..Room::even(5) });
+}
+
+/// The same of all kinds by turns: each has a tree of its own, and finish is said to need what all of them use.
+#[test]
+fn enough_for_all_kinds() {
+    for list in [bookings(11, 150), bookings(12, 3), bookings(13, 1)] {
+        let (count, bytes) = (list.len() as u64, list.iter().map(|(_, _, bytes)| bytes.len() as u64).sum());
+        let mut index = Index::open(Room::enough(END, count, bytes), END, &Kind::ALL).unwrap();
+        let mut board = GrowingIndex::open(END, &Kind::ALL).unwrap();
+        for (kind, (tick, first, bytes)) in Kind::ALL.into_iter().cycle().zip(&list) {
+            assert_eq!(board.record(kind, *tick, *first, bytes), index.record(kind, *tick, *first, bytes));
+        }
+        let room = index.room_for_finish();
+        index.finish().unwrap();
+        let used = index.used();
+        assert_eq!(room.entries, used.entries);
+        assert!(used.nodes <= room.nodes && room.nodes <= 2 * used.nodes, "{} of {}", used.nodes, room.nodes);
+        board.finish().unwrap();
+        assert_eq!((board.write(), board.room().entries), (index.write(), used.entries));
+    }
 }
 
 /// What finish is said to need is what it uses: of entries just so many, of nodes at most twice as many.
@@ -305,9 +330,9 @@ fn the_room_of_finish() {
     let at_once = bookings(8, 30).into_iter().map(|(_, first, bytes)| (0, first, bytes)).collect();
     let lists: [Vec<(u64, u64, Vec<u8>)>; 6] = [splits, early, at_once, bookings(9, 300), bookings(10, 1), vec![]];
     for (end, list) in [END, END + 12345, 1 << 63].into_iter().flat_map(|end| lists.iter().map(move |list| (end, list))) {
-        let mut index = Index::open(Room { nodes: 0, entries: 0, ..Room::even(1 << 14) }, end, Kind::Memory).unwrap();
+        let mut index = Index::open(Room { nodes: 0, entries: 0, ..Room::even(1 << 14) }, end, &[Kind::Memory]).unwrap();
         for (tick, first, bytes) in list {
-            index.record(*tick, *first, bytes).unwrap();
+            index.record(Kind::Memory, *tick, *first, bytes).unwrap();
         }
         let room = index.room_for_finish();
         index.grow(room).unwrap();
@@ -344,9 +369,9 @@ fn the_room_of_a_file() {
 /// A damaged file is refused as it is in tables with room for anything.
 #[test]
 fn the_room_of_a_damaged_file() {
-    let mut board = GrowingIndex::open(40, Kind::Memory).unwrap();
+    let mut board = GrowingIndex::open(40, &[Kind::Memory]).unwrap();
     for (k, (_, first, bytes)) in bookings(4, 12).into_iter().enumerate() {
-        board.record(3 * k as u64, first, &bytes).unwrap();
+        board.record(Kind::Memory, 3 * k as u64, first, &bytes).unwrap();
     }
     board.finish().unwrap();
     let file = board.write().unwrap();
@@ -368,12 +393,12 @@ fn the_room_of_a_damaged_file() {
 /// A growing index answers as one of large tables.
 #[test]
 fn grows_by_itself() {
-    let mut whole = Index::open(Room::even(1 << 14), END, Kind::Memory).unwrap();
-    let mut board = GrowingIndex::with(&Opening::new(END, Kind::Memory).room(Room::even(0))).unwrap();
+    let mut whole = Index::open(Room::even(1 << 14), END, &[Kind::Memory]).unwrap();
+    let mut board = GrowingIndex::with(&Opening::new(END, &[Kind::Memory]).room(Room::even(0))).unwrap();
     for (tick, first, bytes) in bookings(5, 400) {
-        assert_eq!(board.record(tick, first, &bytes), whole.record(tick, first, &bytes));
+        assert_eq!(board.record(Kind::Memory, tick, first, &bytes), whole.record(Kind::Memory, tick, first, &bytes));
     }
-    assert_eq!((number(board.record(0, 0, &[1])), number(board.record(END, 0, &[1])), number(board.record(END - 1, 0, &[]))), (8, 7, 5));
+    assert_eq!((number(board.record(Kind::Memory, 0, 0, &[1])), number(board.record(Kind::Memory, END, 0, &[1])), number(board.record(Kind::Memory, END - 1, 0, &[]))), (8, 7, 5));
     let copy = board.finished().unwrap();
     assert_eq!(board.try_clone().map(|clone| format!("{clone:?}")), Ok(format!("{:?}", *board)));
     assert_eq!(board.state(), State::Open);
@@ -384,27 +409,27 @@ fn grows_by_itself() {
         assert_eq!(index.write(), whole.write());
     }
     assert_eq!(board.room().entries, board.used().entries, "what finish needs is counted and not tried");
-    assert_eq!((number(board.finish()), number(board.record(END - 1, 0, &[1])), number(board.finished())), (3, 3, 3));
+    assert_eq!((number(board.finish()), number(board.record(Kind::Memory, END - 1, 0, &[1])), number(board.finished())), (3, 3, 3));
 }
 
 #[test]
 fn grows_for_a_list() {
-    let (mut list, mut each) = (vec![], GrowingIndex::open(END, Kind::Memory).unwrap());
+    let (mut list, mut each) = (vec![], GrowingIndex::open(END, &[Kind::Memory]).unwrap());
     let mut answers = vec![];
     for (tick, first, bytes) in bookings(6, 300).into_iter().chain([(0, 0, vec![1]), (END - 1, 3, vec![])]) {
         put_operation(&mut list, tick, first, &bytes);
-        answers.push(each.record(tick, first, &bytes));
+        answers.push(each.record(Kind::Memory, tick, first, &bytes));
     }
     let whole = list.len();
     put_operation(&mut list, END - 1, 0, &[1, 2]);
     list.pop();
-    let mut board = GrowingIndex::open(END, Kind::Memory).unwrap();
-    let played = board.record_all(&list).unwrap();
+    let mut board = GrowingIndex::open(END, &[Kind::Memory]).unwrap();
+    let played = board.record_all(Kind::Memory, &list).unwrap();
     assert_eq!((&played.answers, played.next), (&answers, whole), "the last one is cut");
     assert_eq!(answers[300..], [Err(Refusal::TickGoesBack), Err(Refusal::NoCells)]);
     // the same into large tables with one test
-    let mut index = Index::open(Room::even(1 << 14), END, Kind::Memory).unwrap();
-    assert_eq!(index.record_all(&list), Ok(played));
+    let mut index = Index::open(Room::even(1 << 14), END, &[Kind::Memory]).unwrap();
+    assert_eq!(index.record_all(Kind::Memory, &list), Ok(played));
     board.finish().unwrap();
     index.finish().unwrap();
     assert_eq!(board.write(), index.write());
@@ -413,13 +438,13 @@ fn grows_for_a_list() {
 #[test]
 fn grows_for_a_file() {
     let file = closed().write().unwrap();
-    let mut board = GrowingIndex::open(1, Kind::Other).unwrap();
+    let mut board = GrowingIndex::open(1, &[Kind::Other]).unwrap();
     assert_eq!(board.reload(&file, 0), Ok(file.len()));
     assert_eq!(board.write().unwrap(), file);
     let (loaded, next) = GrowingIndex::load(&file, 0).unwrap();
     assert_eq!((loaded.write().unwrap(), next), (file, loaded.write().unwrap().len()));
     assert_eq!(number(board.reload(&[], 0)), 17);
-    board.reopen(8, Kind::Memory).unwrap();
-    assert_eq!(board.record(1, 100, &[7; 3]), Ok(Recorded::Update { cell: 100 }));
+    board.reopen(8, &[Kind::Memory]).unwrap();
+    assert_eq!(board.record(Kind::Memory, 1, 100, &[7; 3]), Ok(Recorded::Update { cell: 100 }));
     assert_eq!(GrowingIndex::from(board.into_index()).last_tick(), 1);
 }

@@ -14,9 +14,9 @@ fn number<T>(answer: Result<T, Refusal>) -> u64 {
 
 /// A board of large tables from the start.
 fn board() -> Index {
-    let mut index = Index::open(Room::even(4096), END, Kind::Memory).unwrap();
+    let mut index = Index::open(Room::even(4096), END, &[Kind::Memory]).unwrap();
     for (tick, first, bytes) in operations() {
-        index.record(tick, first, &bytes).unwrap();
+        index.record(Kind::Memory, tick, first, &bytes).unwrap();
     }
     index
 }
@@ -25,10 +25,10 @@ fn board() -> Index {
 fn same(one: &Index, other: &Index) {
     assert_eq!(one.blocks().unwrap().collect::<Vec<Block>>(), other.blocks().unwrap().collect::<Vec<Block>>());
     for tick in (0..END).step_by(997).take(60).chain([END - 1, END]) {
-        assert_eq!(one.find(tick, 90..130), other.find(tick, 90..130));
-        assert_eq!(one.touching(tick, 103..111), other.touching(tick, 103..111));
-        assert_eq!(one.cells(tick, 95..130), other.cells(tick, 95..130));
-        assert_eq!((one.next(tick, 104), one.last(tick, 117)), (other.next(tick, 104), other.last(tick, 117)));
+        assert_eq!(one.find(Kind::Memory, tick, 90..130), other.find(Kind::Memory, tick, 90..130));
+        assert_eq!(one.touching(Kind::Memory, tick, 103..111), other.touching(Kind::Memory, tick, 103..111));
+        assert_eq!(one.cells(Kind::Memory, tick, 95..130), other.cells(Kind::Memory, tick, 95..130));
+        assert_eq!((one.next(Kind::Memory, tick, 104), one.last(Kind::Memory, tick, 117)), (other.next(Kind::Memory, tick, 104), other.last(Kind::Memory, tick, 117)));
     }
     assert_eq!(one.write(), other.write());
 }
@@ -48,9 +48,9 @@ fn one_more(room: Room, refusal: u64) -> Room {
 /// From no rows at all, one row more after each refusal: each of the five is met, the answers are those of large tables.
 #[test]
 fn row_by_row() {
-    let mut whole = Index::open(Room::even(4096), END, Kind::Memory).unwrap();
+    let mut whole = Index::open(Room::even(4096), END, &[Kind::Memory]).unwrap();
     let mut room = Room::even(0);
-    let mut index = Index::open(room, END, Kind::Memory).unwrap();
+    let mut index = Index::open(room, END, &[Kind::Memory]).unwrap();
     let mut met = [0; 14];
     let mut more = |index: &mut Index, refusal: Refusal| {
         met[refusal.number() as usize] += 1;
@@ -59,12 +59,12 @@ fn row_by_row() {
     };
     for (tick, first, bytes) in operations() {
         let recorded = loop {
-            match index.record(tick, first, &bytes) {
+            match index.record(Kind::Memory, tick, first, &bytes) {
                 Err(refusal) => more(&mut index, refusal),
                 Ok(recorded) => break recorded,
             }
         };
-        assert_eq!(Ok(recorded), whole.record(tick, first, &bytes));
+        assert_eq!(Ok(recorded), whole.record(Kind::Memory, tick, first, &bytes));
     }
     while let Err(refusal) = index.finish() {
         more(&mut index, refusal);
@@ -82,13 +82,13 @@ fn finished_and_loaded() {
     let mut finished = whole.clone();
     finished.grow(Room { blocks: 5000, nodes: 7777, ..Room::even(0) }).unwrap();
     same(&finished, &whole);
-    assert_eq!((number(finished.record(END - 1, 0, &[1])), number(finished.finish())), (3, 3));
+    assert_eq!((number(finished.record(Kind::Memory, END - 1, 0, &[1])), number(finished.finish())), (3, 3));
     let (mut loaded, _) = Index::load_with(Room::even(4096), &whole.write().unwrap(), 0).unwrap();
     loaded.grow(Room::even(5000)).unwrap();
     same(&loaded, &whole);
     // and the longer tables take another index
-    loaded.reopen(8, Kind::Other).unwrap();
-    assert_eq!(number(loaded.record(1, 100, &[7; 4500])), 0);
+    loaded.reopen(8, &[Kind::Other]).unwrap();
+    assert_eq!(number(loaded.record(Kind::Other, 1, 100, &[7; 4500])), 0);
 }
 
 /// None gets shorter, and to grow to what there is changes nothing.
@@ -112,9 +112,9 @@ fn room_for_finish() {
         ticks.dedup();
         let (t, blocks) = (ticks.len() as u64, 100);
         let room = Room { pieces: 1, blocks, bytes: 100, nodes: 1 + 2 * n * t, entries: (2 * n - 1) * blocks };
-        let mut index = Index::open(room, end, Kind::Memory).unwrap();
+        let mut index = Index::open(room, end, &[Kind::Memory]).unwrap();
         for (byte, tick) in ticks.into_iter().enumerate() {
-            index.record(tick, 100, &[byte as u8]).unwrap();
+            index.record(Kind::Memory, tick, 100, &[byte as u8]).unwrap();
         }
         assert_eq!(index.finish(), Ok(()));
     }

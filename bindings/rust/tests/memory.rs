@@ -45,16 +45,16 @@ fn refused<T>(number: u64, call: impl FnOnce() -> Result<T, Refusal>) {
 fn as_much_as_the_answer() {
     // a large room, of which little is used
     let room = Room { pieces: 10_000, blocks: 1 << 16, bytes: 1 << 16, nodes: 1 << 16, entries: 1 << 16 };
-    let mut index = Index::open(room, 1000, Kind::Memory).unwrap();
+    let mut index = Index::open(room, 1000, &[Kind::Memory]).unwrap();
     for tick in 0..600 {
-        index.record(tick, tick * 10, &[7; 5]).unwrap();
+        index.record(Kind::Memory, tick, tick * 10, &[7; 5]).unwrap();
     }
-    refused(4, || index.find(0, 0..9));
+    refused(4, || index.find(Kind::Memory, 0, 0..9));
     refused(4, || index.write());
     let wrong = Calendar { special: vec![(1, vec![5..5])], ..Calendar::default() };
     refused(27, || index.install_calendar(&wrong));
     assert_eq!(asked(|| index.install_calendar(&Calendar::default())), (0, Ok(())));
-    refused(26, || index.record(600, 0, &[7]));
+    refused(26, || index.record(Kind::Memory, 600, 0, &[7]));
     refused(28, || index.install_days(&[(0, 1440)]));
     assert_eq!(asked(|| index.install_days(&[(0, 1380)])), (0, Ok(())));
     index.finish().unwrap();
@@ -64,23 +64,23 @@ fn as_much_as_the_answer() {
     assert_eq!(asked(|| index.install_days(&many[1..])), (0, Ok(())));
     assert_eq!(asked(|| (index.label(0).number(), index.day(0))), (0, (0, 0)));
     let window = 0..u64::MAX;
-    refused(14, || index.cells(1000, window.clone()));
-    refused(14, || index.find(1000, window.clone()));
-    refused(14, || index.touching(1000, window.clone()));
-    refused(15, || index.cells(0, u64::MAX..0));
+    refused(14, || index.cells(Kind::Memory, 1000, window.clone()));
+    refused(14, || index.find(Kind::Memory, 1000, window.clone()));
+    refused(14, || index.touching(Kind::Memory, 1000, window.clone()));
+    refused(15, || index.cells(Kind::Memory, 0, u64::MAX..0));
     refused(15, || index.block(600));
 
     for (tick, count) in [(0, 1), (50, 51), (200, 201), (599, 600)] {
-        let (bytes, found) = asked(|| index.find(tick, window.clone()).unwrap().numbers.len());
+        let (bytes, found) = asked(|| index.find(Kind::Memory, tick, window.clone()).unwrap().numbers.len());
         assert!(found == count && bytes <= 4 * 8 * count.max(64), "find of {count}: {bytes} bytes");
-        let (bytes, found) = asked(|| index.touching(tick, window.clone()).unwrap().len());
+        let (bytes, found) = asked(|| index.touching(Kind::Memory, tick, window.clone()).unwrap().len());
         assert!(found == count && bytes <= 4 * 8 * count.max(64), "touching of {count}: {bytes} bytes");
     }
-    assert_eq!(asked(|| index.find(0, 5..5).unwrap().numbers), (0, vec![]));
-    assert_eq!(asked(|| index.next(0, 0)), (0, Ok(Some(0))));
+    assert_eq!(asked(|| index.find(Kind::Memory, 0, 5..5).unwrap().numbers), (0, vec![]));
+    assert_eq!(asked(|| index.next(Kind::Memory, 0, 0)), (0, Ok(Some(0))));
     assert_eq!(asked(|| index.blocks().unwrap().count()), (0, 600));
 
-    let (bytes, cells) = asked(|| index.cells(599, 0..20_000).unwrap());
+    let (bytes, cells) = asked(|| index.cells(Kind::Memory, 599, 0..20_000).unwrap());
     assert_eq!((bytes, cells.len()), (2 * 20_000, 20_000));
     assert_eq!(cells.iter().flatten().count(), 3000);
 

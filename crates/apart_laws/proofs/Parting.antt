@@ -12,7 +12,7 @@ use Rattle.lists.specs.Lists.{Mem}
 use Rattle.lists.proofs.Numbers.{lt_or_le, eq_or_ne}
 use Rattle.lists.proofs.Lists.{all_at, all_mem, mem_at, pairs_of_at}
 use Rattle.history.specs.Words.{Block, size, ends, HasCell}
-use Rattle.history.specs.Tree.{Tree, no_block, block_at, key_in}
+use Rattle.history.specs.Tree.{Tree, no_block, block_at}
 use Rattle.history.specs.Find.{path}
 use Rattle.history.specs.Rules.{Apart}
 use Rattle.apart_laws.specs.Ticks.{Lives, Disjoint, ApartAt, EndsApartAt, ClearOf, ClearAt, Settled}
@@ -35,7 +35,7 @@ pub record LiveBefore (bs : List Block) (t : ℕ) (list : List ℕ) : Type 0 whe
 module _ (bs : List Block) (t : ℕ) (list : List ℕ) (filled : NoneEmpty bs) (before : LiveBefore bs t list)
     (clear : (k : ℕ) → Mem k list → (block_at bs k).destroyed ≡ t → ClearOf t (block_at bs k) bs ⊎ PartedIn bs list k) (apart : ApartAt t bs) where
   -- block k, destroyed at t, shares no cell with what lives on; `most` bounds where k starts
-  unshared : (most k : ℕ) → key_in bs k < most → Mem k list → (block_at bs k).destroyed ≡ t → (j : ℕ) → Mem j list → t < (block_at bs j).destroyed
+  unshared : (most k : ℕ) → (stretch_at bs k).first < most → Mem k list → (block_at bs k).destroyed ≡ t → (j : ℕ) → Mem j list → t < (block_at bs j).destroyed
       → Disjoint (stretch_at bs k) (stretch_at bs j)
   unshared zero k low m dies j n stays cell p q = omega arith
   unshared (suc most) k low m dies j n stays cell p q =
@@ -45,15 +45,15 @@ module _ (bs : List Block) (t : ℕ) (list : List ℕ) (filled : NoneEmpty bs) (
             (all_mem parted n (λ e. omega (arith, ap (λ x. (block_at bs x).destroyed) e)) (omega (arith, p.below, q.from)))
       ]
     where
-      between : ((i : ℕ) → key_in bs i < most → Mem i list → (block_at bs i).destroyed ≡ t → Disjoint (stretch_at bs i) (stretch_at bs j)) → PartedBy bs list k j → ⊥
+      between : ((i : ℕ) → (stretch_at bs i).first < most → Mem i list → (block_at bs i).destroyed ≡ t → Disjoint (stretch_at bs i) (stretch_at bs j)) → PartedBy bs list k j → ⊥
       between earlier w =
           elim (eq_or_ne w.by j) [
-            | inl e ↦ (let to : ends (stretch_at bs j) ≤ key_in bs k = subst (λ x. ends (stretch_at bs x) ≤ key_in bs k) e w.to in omega (arith, p.from, q.below))
+            | inl e ↦ (let to : ends (stretch_at bs j) ≤ (stretch_at bs k).first = subst (λ x. ends (stretch_at bs x) ≤ (stretch_at bs k).first) e w.to in omega (arith, p.from, q.below))
             | inr ne ↦ elim (lt_or_le t (block_at bs w.by).destroyed) [
               | inl on ↦
-                  apart_numbers bs t apart w.by j ne (key_in bs w.by) (record { born = omega (arith, lives_by.0); alive = on; has = has_by })
+                  apart_numbers bs t apart w.by j ne (stretch_at bs w.by).first (record { born = omega (arith, lives_by.0); alive = on; has = has_by })
                   (record { born = omega (arith, (before.lives j n).0); alive = stays; has = has_j })
-              | inr dies-too ↦ earlier w.by (omega (arith, some, w.to)) w.listed (omega (arith, lives_by.1)) (key_in bs w.by) has_by has_j
+              | inr dies-too ↦ earlier w.by (omega (arith, some, w.to)) w.listed (omega (arith, lives_by.1)) (stretch_at bs w.by).first has_by has_j
             ]
           ]
         where
@@ -63,17 +63,17 @@ module _ (bs : List Block) (t : ℕ) (list : List ℕ) (filled : NoneEmpty bs) (
           some : 0 < size (stretch_at bs w.by)
           some = all_at no_block filled w.by (number-below bs (block_at bs w.by).created w.by (omega (arith, lives_by)))
 
-          has_by : HasCell (stretch_at bs w.by) (key_in bs w.by)
+          has_by : HasCell (stretch_at bs w.by) (stretch_at bs w.by).first
           has_by = record { from = omega arith; below = omega (arith, some) }
 
-          has_j : HasCell (stretch_at bs j) (key_in bs w.by)
+          has_j : HasCell (stretch_at bs j) (stretch_at bs w.by).first
           has_j = record { from = w.from; below = omega (arith, some, w.to, p.from, q.below) }
 
   pub parted_clear : ClearAt t bs
   parted_clear =
       by_number (λ (a : Block). Lives a → a.destroyed ≡ t → ClearOf t a bs) bs
       (λ k h lives dies. by_number (λ (b : Block). b.created < t → t < b.destroyed → Disjoint (stretch_at bs k) b.stretch) bs
-      (λ j g born stays. unshared (suc (key_in bs k)) k (omega arith) (before.has k (omega arith) (omega arith)) dies j (before.has j born (omega arith)) stays))
+      (λ j g born stays. unshared (suc (stretch_at bs k).first) k (omega arith) (before.has k (omega arith) (omega arith)) dies j (before.has j born (omega arith)) stays))
 
 -- ── in a tree ──
 

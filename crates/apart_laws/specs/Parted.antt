@@ -3,16 +3,15 @@
 use Rattle.std.specs.Prelude.{◌≡◌, List, ℕ, ◌≤◌, ◌<◌}
 use Rattle.lists.specs.Lists.{All, Mem}
 use Rattle.history.specs.Words.{Block, ends}
-use Rattle.history.specs.Tree.{key_in}
 use Rattle.apart_laws.specs.Slots.{stretch_at}
 
 -- between blocks j and k there is one of the list: it starts where j does or behind, and ends where k starts or before
 pub record PartedBy (bs : List Block) (list : List ℕ) (k j : ℕ) : Type 0 where
   pub by : ℕ
   pub listed : Mem by list
-  pub from : key_in bs j ≤ key_in bs by
-  pub to : ends (stretch_at bs by) ≤ key_in bs k
+  pub from : (stretch_at bs j).first ≤ (stretch_at bs by).first
+  pub to : ends (stretch_at bs by) ≤ (stretch_at bs k).first
 
 -- block k is parted from every other one of the list that starts before its end
 abbrev pub PartedIn : (bs : List Block) (list : List ℕ) (k : ℕ) → Type 0
-PartedIn bs list k = All (λ j. (j ≡ k → ⊥) → key_in bs j < ends (stretch_at bs k) → PartedBy bs list k j) list
+PartedIn bs list k = All (λ j. (j ≡ k → ⊥) → (stretch_at bs j).first < ends (stretch_at bs k) → PartedBy bs list k j) list

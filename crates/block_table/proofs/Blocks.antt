@@ -10,7 +10,7 @@ use Rattle.lists.proofs.Lists.{count_from_length, count_from_at}
 use Rattle.lists.proofs.Counting.{all_count_from, count_from_append}
 use Rattle.lists.proofs.Maps.{map-append, length_of_map, get_d_of_map, map_all}
 use Rattle.lists.proofs.Parts.{drop-take}
-use Rattle.history.specs.Words.{Block, a_block, first_cell}
+use Rattle.history.specs.Words.{Block, cell_place, first_cell}
 use Rattle.history.specs.Tree.{no_block, key_in}
 use Rattle.tables.specs.Columns.{block_column, block_first, block_length, block_created, block_destroyed, block_offset, block_owner, block_next}
 use Rattle.block_table.specs.Blocks.{first_cell_at, length_at, offset_at, BlockRow, shown_block, bytes_at, block_of_row, blocks_of, SameRows, Stored}
@@ -19,10 +19,10 @@ use Rattle.block_table.proofs.Keeping.{kept_column}
 -- ── one row ──
 
 -- a row that says what a block has stands for it
-pub shown_is : (store : List ℕ) (r : BlockRow) (b : Block) → r.owner ≡ b.kind → r.first ≡ first_cell b
+pub shown_is : (store : List ℕ) (r : BlockRow) (b : Block) → r.owner ≡ b.kind → cell_place r.owner r.first ≡ b.stretch.first
     → take r.size (drop r.offset store) ≡ b.stretch.bytes → r.created ≡ b.created → r.destroyed ≡ b.destroyed → shown_block store r ≡ b
 shown_is store r b own first bytes born died =
-    λ i. a_block (own i) (first i) (bytes i) (born i) (died i)
+    λ i. record { kind = own i; stretch = record { first = first i; bytes = bytes i }; created = born i; destroyed = died i }
 
 -- ── how many, and which ──
 
@@ -40,7 +40,7 @@ blocks_at store t n k d h =
 -- its first cell
 pub blocks_key : (store t : List ℕ) (n k : ℕ) → k < n → key_in (blocks_of store t n) k ≡ first_cell_at t (suc k)
 unfolding block_of_row
-blocks_key store t n k h = ap first_cell (blocks_at store t n k no_block h)
+blocks_key store t n k h = ap first_cell (blocks_at store t n k no_block h) ∙ omega arith
 
 -- m rows more, one row more
 pub blocks_more : (store t : List ℕ) (n m : ℕ) → blocks_of store t (n + m) ≡ blocks_of store t n ++ map (block_of_row store t) (count_from (suc n) m)

@@ -1,8 +1,8 @@
 -- The rows of a block table, and the blocks of history that they stand for: their bytes are parts of the store. Definitions alone.
-use Rattle.std.specs.Prelude.{◌≡◌, List, map, ℕ, ◌+◌, ◌*◌, ◌≤◌, ◌<◌, length, get_or, take, drop}
+use Rattle.std.specs.Prelude.{◌≡◌, List, map, ℕ, ◌+◌, ◌*◌, ◌^◌, ◌≤◌, ◌<◌, length, get_or, take, drop}
 use Rattle.lists.specs.Lists.{count_from}
 use Rattle.history.specs.Lent.{row_width, block_head}
-use Rattle.history.specs.Words.{Block, a_block}
+use Rattle.history.specs.Words.{Block, a_block, cell_place}
 use Rattle.block_table.specs.declared.Block.{Block as RowBlock}
 use Rattle.tables.specs.Columns.{block_column, block_base, block_first, block_length, block_created, block_destroyed, block_offset, block_owner, head_count}
 
@@ -26,9 +26,13 @@ offset_at blocks link = block_column blocks link block_offset
 abbrev pub owner_at : (blocks : List ℕ) (link : ℕ) → ℕ
 owner_at blocks link = block_column blocks link block_owner
 
+-- the place that the block of a link starts at
+abbrev pub place_at : (blocks : List ℕ) (link : ℕ) → ℕ
+place_at blocks link = cell_place (owner_at blocks link) (first_cell_at blocks link)
+
 -- the block of `one` starts before that of `other`
 pub record StartsBefore (blocks : List ℕ) (one other : ℕ) : Type 0 where
-  pub is : first_cell_at blocks one < first_cell_at blocks other
+  pub is : place_at blocks one < place_at blocks other
 
 -- ── places ──
 
@@ -91,9 +95,10 @@ blocks_of store blocks n = map (block_of_row store blocks) (count_from 1 n)
 pub record SameRows (blocks blocks' : List ℕ) (n : ℕ) : Type 0 where
   pub same : (i : ℕ) → block_head ≤ i → i < block_head + row_width * n → get_or blocks' i 0 ≡ get_or blocks i 0
 
--- none of the blocks 1 to n is empty
+-- none of the blocks 1 to n is empty, and no end wraps
 pub record Filled (blocks : List ℕ) (n : ℕ) : Type 0 where
   pub filled : (link : ℕ) → 0 < link → link ≤ n → 0 < length_at blocks link
+  pub no_wrap : (link : ℕ) → 0 < link → link ≤ n → first_cell_at blocks link + length_at blocks link ≤ 2 ^ 64
 
 -- the bytes of the blocks 1 to n lie in the first `used` bytes of a store
 pub record Stored (used : ℕ) (blocks : List ℕ) (n : ℕ) : Type 0 where

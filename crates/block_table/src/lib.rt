@@ -14,14 +14,14 @@
 ghost use Rattle.std.specs.Prelude.{◌≡◌, ◌+◌, set, leb, ltb};
 ghost use Rattle.lists.specs.Tests.{Decides};
 ghost use Rattle.tables.specs.Sums.{plus_up_to};
-ghost use Rattle.tables.specs.Columns.{block_column, head_state, head_end, head_kind, head_count, head_used, head_last, block_next};
+ghost use Rattle.tables.specs.Columns.{block_column, head_state, head_end, head_kinds, head_count, head_used, head_last, block_next};
 ghost use Rattle.block_table.specs.Blocks.{head_place, StartsBefore};
 ghost use Rattle.block_table.specs.RowRead.{Reads};
 ghost use Rattle.block_table.specs.Appended.{WroteRow, AppendedRow};
 
 pub mod rows;
 
-use tables::block;
+use tables::{block, place};
 
 // ── the head ──
 // A function for each field: `block::get` with a column says the same, but callers speak of the head by name.
@@ -40,11 +40,11 @@ pub fn end(blocks: &[u64]) -> u64
     block::get(blocks, 0, block::END)
 }
 
-// The kind.
-pub fn kind(blocks: &[u64]) -> u64
-    ensures { result ≡ block_column blocks.now 0 head_kind }
+// The set of kinds, as a mask.
+pub fn kinds(blocks: &[u64]) -> u64
+    ensures { result ≡ block_column blocks.now 0 head_kinds }
 {
-    block::get(blocks, 0, block::KIND)
+    block::get(blocks, 0, block::KINDS)
 }
 
 // How many blocks there are.
@@ -87,10 +87,10 @@ pub fn set_end(blocks: &mut [u64], value: u64)
     block::put(blocks, 0, block::END, value);
 }
 
-pub fn set_kind(blocks: &mut [u64], value: u64)
-    ensures { blocks.new ≡ set blocks.old (head_place head_kind) value }
+pub fn set_kinds(blocks: &mut [u64], value: u64)
+    ensures { blocks.new ≡ set blocks.old (head_place head_kinds) value }
 {
-    block::put(blocks, 0, block::KIND, value);
+    block::put(blocks, 0, block::KINDS, value);
 }
 
 pub fn set_count(blocks: &mut [u64], value: u64)
@@ -137,6 +137,7 @@ pub struct Row {
     pub length: u64,
     pub created: u64,
     pub destroyed: u64,
+    pub owner: u64,
     pub next: u64,
 }
 
@@ -174,6 +175,7 @@ pub fn read(blocks: &[u64], link: u64) -> Row
             length: blocks[tables::ROW * row + (block::BASE + block::LENGTH)],
             created: blocks[tables::ROW * row + (block::BASE + block::CREATED)],
             destroyed: blocks[tables::ROW * row + (block::BASE + block::DESTROYED)],
+            owner: blocks[tables::ROW * row + (block::BASE + block::OWNER)],
             next: blocks[tables::ROW * row + (block::BASE + block::NEXT)],
         };
     }
@@ -182,15 +184,20 @@ pub fn read(blocks: &[u64], link: u64) -> Row
         length: block::get(blocks, link, block::LENGTH),
         created: block::get(blocks, link, block::CREATED),
         destroyed: block::get(blocks, link, block::DESTROYED),
+        owner: block::get(blocks, link, block::OWNER),
         next: block::get(blocks, link, block::NEXT),
     }
 }
 
-// Whether the block of `one` starts before that of `other`. No other function compares the places of blocks.
+// Whether the block of `one` starts before that of `other`: by kind, then by cell. No other function compares the places of blocks.
 pub fn starts_before(blocks: &[u64], one: u64, other: u64) -> bool
     ensures { Decides result (StartsBefore blocks.now one other) }
 {
-    block::get(blocks, one, block::FIRST) < block::get(blocks, other, block::FIRST)
+    let owner = block::get(blocks, one, block::OWNER);
+    let first = block::get(blocks, one, block::FIRST);
+    let kind = block::get(blocks, other, block::OWNER);
+    let cell = block::get(blocks, other, block::FIRST);
+    place::below(owner, first, kind, cell)
 }
 
 // Writes the row of a link. It is in no order yet.

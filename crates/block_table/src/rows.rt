@@ -2,12 +2,12 @@
 ghost use Rattle.lists.specs.Tests.{Decides};
 ghost use Rattle.block_table.specs.Rows.{RowSound, RowsSound};
 
-use tables::block;
+use tables::{block, kinds};
 
-// What is the same for all rows of an index: its kind, end tick and store use.
+// What is the same for all rows of an index: the mask of its kinds, end tick and store use.
 #[derive(Clone, Copy)]
 pub struct Bounds {
-    pub kind: u64,
+    pub kinds: u64,
     pub end: u64,
     pub used: u64,
 }
@@ -25,15 +25,15 @@ fn test_row(blocks: &[u64], link: u64, bounds: Bounds) -> bool
         && block::get(blocks, link, block::OFFSET) <= bounds.used - length
         && block::get(blocks, link, block::CREATED) <= destroyed
         && destroyed <= bounds.end
-        && block::get(blocks, link, block::OWNER) == bounds.kind
+        && kinds::has(bounds.kinds, block::get(blocks, link, block::OWNER))
 }
 
 // Whether the rows 1 to n are sound. Linear in n, and ends at the first fault: from the last row down, so that a count past the table ends at once.
 // A `for` and not `.all(..)`: with that the proof did not close.
-pub fn test_rows(blocks: &[u64], n: u64, kind: u64, end: u64, used: u64) -> bool
-    ensures { Decides result (RowsSound blocks.now (record { kind = kind; end = end; used = used }) 0 n) }
+pub fn test_rows(blocks: &[u64], n: u64, kinds: u64, end: u64, used: u64) -> bool
+    ensures { Decides result (RowsSound blocks.now (record { kinds = kinds; end = end; used = used }) 0 n) }
 {
-    let bounds = Bounds { kind, end, used };
+    let bounds = Bounds { kinds, end, used };
     for k in (0..n).rev() {
         if !test_row(blocks, k + 1, bounds) {
             return false;

@@ -1,16 +1,15 @@
 -- Blocks: one step for each return of `list_one`, `list` and `finish`, and for a turn of the loop of `list`. Assumes nothing.
 use mathlib.Core.Path.{◌≡◌, refl, sym, ◌∙◌, ap, subst}
-use mathlib.Core.Bool.{true, false}
-use mathlib.Core.Option.{Option, none, some}
+use mathlib.Core.Bool.{true}
 use mathlib.Core.List.{List, [], ◌∷◌, ◌++◌, append_assoc, append-nil, flat_map}
 use Prim.Native.Nat.{ℕ, ◌+◌, ◌≤◌, ◌<◌, ◌^◌}
 use native.Mathlib.Numerals.{add-one}
 use native.Mathlib.Omega.{arith}
 use lib.ListN.{length, take, drop}
 use lib.Seq.{take-suc, take_all}
-use Rattle.history.specs.Words.{Block}
-use Rattle.history.specs.Tree.{Tree, no_block}
-use Rattle.history.specs.Ledger.{Ledger, finished, is_some, finish_by}
+use Rattle.history.specs.Words.{Block, cell_of, cell_place}
+use Rattle.history.specs.Tree.{no_block}
+use Rattle.history.specs.Ledger.{Ledger, finished, finish_by}
 use Rattle.history.specs.Reads.{block_by}
 use Rattle.history.specs.Results.{Result, done}
 use Rattle.history.specs.Refusals.{Answer, accepted, refused, finish_answer, block_answer}
@@ -22,11 +21,11 @@ use Rattle.tables.specs.Columns.{block_column, head_count, head_state}
 use Rattle.tables.specs.Parts.{part_of}
 use Rattle.tables.proofs.Parts.{part-whole}
 use Rattle.layout.specs.Tables.{Tables, tables, head_at}
-use Rattle.layout.specs.Encodes.{Encodes, state_of, open_state}
+use Rattle.layout.specs.Encodes.{Encodes, open_state}
 use Rattle.layout.specs.Formed.{WellFormed, WellFormedForFinish}
 use Rattle.layout.specs.Reads.{values_of}
 use Rattle.layout.specs.Relations.{Fields, block_in, FinishLeaves}
-use Rattle.layout.proofs.ReadLaws.{block_there}
+use Rattle.layout.proofs.ReadLaws.{open_without_tree, block_there}
 use Rattle.std.specs.Prelude.{Ok, Err, Result as Told}
 use Rattle.refusals.specs.declared.Refusal.{Refusal}
 use Rattle.refusals.specs.Numbers.{number_of, answer_by}
@@ -67,8 +66,11 @@ module _ {blocks store : List ℕ} {k : ℕ} {r : Told Given Refusal} (d : Block
             ap (values_of (block_in store)) (sym same) ∙ g.bytes_there ∙ block_there enc done k below in
             let block : block_in store f ≡ block_by l k = cc in
             let whole : bytes ≡ take f.length (drop f.offset store) = part ∙ part-whole store f.offset f.length (g.whole f same) in
+            let cell : f.first ≡ cell_of f.kind (cell_place f.kind f.first) = omega arith in
             let text : block_line_of f.first f.created f.destroyed bytes ≡ block_line (block_by l k) =
-            ap (block_line_of f.first f.created f.destroyed) whole ∙ sym (law_of_lines.in_parts (block_in store f)) ∙ ap block_line block in
+            ap (block_line_of f.first f.created f.destroyed) whole
+            ∙ ap (λ (c : ℕ). block_line_of c f.created f.destroyed (take f.length (drop f.offset store))) cell
+            ∙ sym (law_of_lines.in_parts (block_in store f)) ∙ ap block_line block in
             subst (λ (x : List ℕ). Wrote out x out') text put;
       }
 
@@ -124,17 +126,13 @@ module _ {blocks store : List ℕ} {out₀ out : Output} {number : ℕ} (count :
 
 -- ── the returns of `finish` ──
 
-open_state_lem : (x : Option Tree) → is_some x ≡ false → state_of x ≡ open_state
-open_state_lem none e = refl
-open_state_lem (some t) e = let z : ◌≡◌ {A = ℕ} 0 1 = cc in absurd (omega arith)
-
 -- what finish answers and leaves
 given : {pieces blocks store nodes entries pieces' blocks' nodes' entries' : List ℕ} {a : Answer Result} → length store < 2 ^ 64
     → FinishesOpen pieces blocks nodes entries pieces' blocks' nodes' entries' a → (l : Ledger) → Standing (tables pieces blocks store nodes entries) l
     → (a ≡ finish_answer l) × FinishLeaves (finish_answer l) l (tables pieces blocks store nodes entries) (tables pieces' blocks' store nodes' entries')
 given {pieces} {blocks} {store} {nodes} {entries} fits d l s =
     let t : Tables = tables pieces blocks store nodes entries in
-    let state : head_at t head_state ≡ open_state = s.encodes.state ∙ open_state_lem l.tree s.unfinished in
+    let state : head_at t head_state ≡ open_state = s.encodes.state ∙ open_without_tree l.trees s.unfinished in
     let formed : WellFormed t = record { ledger = l; encodes = s.encodes; sound = s.law.sound.sound } in
     let w : WellFormedForFinish t = record { ledger = l; encodes = s.encodes; sound = s.law.sound; blank = λ _. s.blank } in
     (d.done store fits state formed).formed w

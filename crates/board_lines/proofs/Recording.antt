@@ -57,28 +57,28 @@ module _ {pieces blocks store pieces' blocks' store' : List ℕ} {o : Operation}
 -- ── the loop of `record_all` ──
 
 -- from the record at a position on, counted k, what is to be printed of all follows what is put
-pub record Turning (input pieces₀ blocks₀ store₀ : List ℕ) (out₀ : Output) (pieces blocks store : List ℕ) (out : Output) (position k : ℕ) : Type 0 where
+pub record Turning (input pieces₀ blocks₀ store₀ : List ℕ) (kind : ℕ) (out₀ : Output) (pieces blocks store : List ℕ) (out : Output) (position k : ℕ) : Type 0 where
   pub same_loan : out.buffer.ghost_name ≡ out₀.buffer.ghost_name
   pub counted : k ≤ position
   pub turned : (nodes entries : List ℕ) (l : Ledger) (os : List Booking) → Standing (tables pieces₀ blocks₀ store₀ nodes entries) l → Walk input first_record os
-      → (rest : List Booking) × Walk input position rest × Midway (lines_from 1 l os) k rest (tables pieces blocks store nodes entries) out₀ out
+      → (rest : List Booking) × Walk input position rest × Midway kind (lines_from kind 1 l os) k rest (tables pieces blocks store nodes entries) out₀ out
 
-pub turn_first : (input pieces blocks store : List ℕ) (out : Output) → Turning input pieces blocks store out pieces blocks store out first_record 1
-turn_first input pieces blocks store out = record {
+pub turn_first : (input pieces blocks store : List ℕ) (kind : ℕ) (out : Output) → Turning input pieces blocks store kind out pieces blocks store out first_record 1
+turn_first input pieces blocks store kind out = record {
   same_loan = refl;
   counted = omega arith;
   turned = λ nodes entries l os s w. (os, w, record { ledger = l; standing = s; text = []; put = wrote_none out; rest = refl });
 }
 
 -- one record further: its line is put behind the others
-midway_on : {lines pieces blocks store pieces' blocks' store' nodes entries : List ℕ} {out₀ out out' : Output} {k : ℕ} (b : Booking) {bs : List Booking}
-    → RecordedOne pieces blocks store pieces' blocks' store' (operation_of b) k out out'
-    → Midway lines k (b ∷ bs) (tables pieces blocks store nodes entries) out₀ out
-    → Midway lines (suc k) bs (tables pieces' blocks' store' nodes entries) out₀ out'
+midway_on : {lines pieces blocks store pieces' blocks' store' nodes entries : List ℕ} {out₀ out out' : Output} {kind k : ℕ} (b : Booking) {bs : List Booking}
+    → RecordedOne pieces blocks store pieces' blocks' store' (operation_of kind b) k out out'
+    → Midway kind lines k (b ∷ bs) (tables pieces blocks store nodes entries) out₀ out
+    → Midway kind lines (suc k) bs (tables pieces' blocks' store' nodes entries) out₀ out'
 unfolding lines_from
-midway_on {nodes} {entries} {k} b d m =
+midway_on {nodes} {entries} {kind = kind} {k} b d m =
     let l = m.ledger in
-    let call = record_call board_scratch (operation_of b) in
+    let call = record_call board_scratch (operation_of kind b) in
     record {
       ledger = after l call;
       standing = d.left nodes entries l m.standing;
@@ -87,8 +87,8 @@ midway_on {nodes} {entries} {k} b d m =
       rest = m.rest ∙ sym (append_assoc m.text (op_line k (answer_to l call)) _);
     }
 
-module _ {input pieces₀ blocks₀ store₀ pieces blocks store : List ℕ} {out₀ out : Output} {position k : ℕ}
-    (turn : Turning input pieces₀ blocks₀ store₀ out₀ pieces blocks store out position k) where
+module _ {input pieces₀ blocks₀ store₀ pieces blocks store : List ℕ} {out₀ out : Output} {kind position k : ℕ}
+    (turn : Turning input pieces₀ blocks₀ store₀ kind out₀ pieces blocks store out position k) where
   module _ {r : Record} (e : Some (Ok r) ≡ item_at input position) where
     more : OneMore input k position r
     more = records_on input k position e
@@ -107,8 +107,8 @@ module _ {input pieces₀ blocks₀ store₀ pieces blocks store : List ℕ} {ou
     turn_count h = omega (arith, turn.counted, turn_less, turn_inside)
 
     pub turn_on : {pieces' blocks' store' : List ℕ} {out' : Output}
-        → RecordedOne pieces blocks store pieces' blocks' store' (record { tick = r.tick; first = r.first; bytes = take (r.next - r.start) (drop r.start input) }) k out out'
-        → Turning input pieces₀ blocks₀ store₀ out₀ pieces' blocks' store' out' r.next (k + 1)
+        → RecordedOne pieces blocks store pieces' blocks' store' (record { kind = kind; tick = r.tick; first = r.first; bytes = take (r.next - r.start) (drop r.start input) }) k out out'
+        → Turning input pieces₀ blocks₀ store₀ kind out₀ pieces' blocks' store' out' r.next (k + 1)
     turn_on {pieces'} {blocks'} {store'} {out'} d =
         rw (add-one k)
         (record {
@@ -118,22 +118,22 @@ module _ {input pieces₀ blocks₀ store₀ pieces blocks store : List ℕ} {ou
         })
       where
         go : {lines : List ℕ} (r : Record) → Some (Ok r) ≡ item_at input position
-            → RecordedOne pieces blocks store pieces' blocks' store' (record { tick = r.tick; first = r.first; bytes = take (r.next - r.start) (drop r.start input) }) k out out'
-            → (nodes entries : List ℕ) → (rest : List Booking) × Walk input position rest × Midway lines k rest (tables pieces blocks store nodes entries) out₀ out
-            → (rest : List Booking) × Walk input r.next rest × Midway lines (suc k) rest (tables pieces' blocks' store' nodes entries) out₀ out'
+            → RecordedOne pieces blocks store pieces' blocks' store' (record { kind = kind; tick = r.tick; first = r.first; bytes = take (r.next - r.start) (drop r.start input) }) k out out'
+            → (nodes entries : List ℕ) → (rest : List Booking) × Walk input position rest × Midway kind lines k rest (tables pieces blocks store nodes entries) out₀ out
+            → (rest : List Booking) × Walk input r.next rest × Midway kind lines (suc k) rest (tables pieces' blocks' store' nodes entries) out₀ out'
         go r e one nodes entries (rest, walk_end h, m) = let never = e ∙ sym h in cc
         go {lines} r e one nodes entries (rest, walk_on {r = r'} {os = os} h w, m) =
             let same : r' ≡ r = let both = h ∙ sym e in cc in
             let here = subst (λ (x : Record). Walk input x.next os) same w in
-            let met = subst (λ (x : Record). Midway lines k (record { tick = x.tick; first = x.first; bytes = take (x.next - x.start) (drop x.start input) } ∷ os) (tables pieces blocks store nodes entries) out₀ out) same m in
+            let met = subst (λ (x : Record). Midway kind lines k (record { tick = x.tick; first = x.first; bytes = take (x.next - x.start) (drop x.start input) } ∷ os) (tables pieces blocks store nodes entries) out₀ out) same m in
             (os, here, midway_on _ one met)
 
   -- where no record stands, which no bad one can be
-  pub turn_end : ((r : Record) → Some (Ok r) ≡ item_at input position → ⊥) → RecordedAll input pieces₀ blocks₀ store₀ pieces blocks store out₀ out
+  pub turn_end : ((r : Record) → Some (Ok r) ≡ item_at input position → ⊥) → RecordedAll input pieces₀ blocks₀ store₀ pieces blocks store kind out₀ out
   unfolding lines_from
   turn_end none = record { same_loan = turn.same_loan; recorded = λ nodes entries l os s w. go (turn.turned nodes entries l os s w) }
     where
-      go : {lines : List ℕ} {nodes entries : List ℕ} → (rest : List Booking) × Walk input position rest × Midway lines k rest (tables pieces blocks store nodes entries) out₀ out
-          → Midway lines 0 [] (tables pieces blocks store nodes entries) out₀ out
+      go : {lines : List ℕ} {nodes entries : List ℕ} → (rest : List Booking) × Walk input position rest × Midway kind lines k rest (tables pieces blocks store nodes entries) out₀ out
+          → Midway kind lines 0 [] (tables pieces blocks store nodes entries) out₀ out
       go (rest, walk_end h, m) = record { ledger = m.ledger; standing = m.standing; text = m.text; put = m.put; rest = m.rest }
       go (rest, walk_on {r = r} h w, m) = absurd (none r h)

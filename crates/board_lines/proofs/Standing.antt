@@ -1,7 +1,7 @@
 -- The tables between calls: opening makes them stand for the ledger, and record keeps them so. Assumes nothing.
 use mathlib.Core.Path.{◌≡◌, ◌∙◌}
 use mathlib.Core.Bool.{false}
-use mathlib.Core.List.{[], ◌∷◌}
+use mathlib.Core.List.{[], ◌∷◌, List}
 use Prim.Native.Nat.{ℕ}
 use Rattle.history.specs.Words.{Operation}
 use Rattle.history.specs.Lent.{too_short}
@@ -38,14 +38,14 @@ record_stands o t t' l s x = go (record_answer l board_scratch o) (law_after l s
 
 -- ── open ──
 
-pub opened_stands : (end kind : ℕ) (t : Tables) → too_short (lengths_of t) ≡ false → open_answer (opening_of end kind t) ≡ accepted tt
-    → Standing (opened_tables end kind t) (opened (opening_of end kind t))
+pub opened_stands : (end : ℕ) (kinds : List ℕ) (t : Tables) → too_short (lengths_of t) ≡ false → open_answer (opening_of end kinds t) ≡ accepted tt
+    → Standing (opened_tables end kinds t) (opened (opening_of end kinds t))
 unfolding after_all history
-opened_stands end kind t fits taken =
+opened_stands end kinds t fits taken =
     record {
-      encodes = opened_encodes end kind t fits;
+      encodes = opened_encodes end kinds t fits;
       calls = [];
-      law = the_law (opening_of end kind t) taken [];
-      unfinished = opened_open (opening_of end kind t);
-      blank = opened_blank end kind t;
+      law = the_law (opening_of end kinds t) taken [];
+      unfinished = opened_open (opening_of end kinds t);
+      blank = opened_blank end kinds t;
     }

@@ -37,19 +37,19 @@ pub record RecordedOne (pieces blocks store pieces' blocks' store' : List ℕ) (
   pub left : (nodes entries : List ℕ) (l : Ledger) → Standing (tables pieces blocks store nodes entries) l
       → Standing (tables pieces' blocks' store' nodes entries) (after l (record_call board_scratch o))
 
--- of all these lines the first are put, and those from record k on follow
-pub record Midway (lines : List ℕ) (k : ℕ) (os : List Booking) (t : Tables) (out out' : Output) : Type 0 where
+-- of all these lines the first are put, and those from record k on follow; all records are of one kind
+pub record Midway (kind : ℕ) (lines : List ℕ) (k : ℕ) (os : List Booking) (t : Tables) (out out' : Output) : Type 0 where
   pub ledger : Ledger
   pub standing : Standing t ledger
   pub text : List ℕ
   pub put : Wrote out text out'
-  pub rest : lines ≡ text ++ lines_from k ledger os
+  pub rest : lines ≡ text ++ lines_from kind k ledger os
 
 -- `record_all`: the lines of the records are put, and those of finish follow
-pub record RecordedAll (input pieces blocks store pieces' blocks' store' : List ℕ) (out out' : Output) : Type 0 where
+pub record RecordedAll (input pieces blocks store pieces' blocks' store' : List ℕ) (kind : ℕ) (out out' : Output) : Type 0 where
   pub same_loan : out'.buffer.ghost_name ≡ out.buffer.ghost_name
   pub recorded : (nodes entries : List ℕ) (l : Ledger) (os : List Booking) → Standing (tables pieces blocks store nodes entries) l → Walk input first_record os
-      → Midway (lines_from 1 l os) 0 [] (tables pieces' blocks' store' nodes entries) out out'
+      → Midway kind (lines_from kind 1 l os) 0 [] (tables pieces' blocks' store' nodes entries) out out'
 
 -- ── finish and the blocks ──
 

@@ -23,22 +23,24 @@ fn record_one(
     }
 }
 
-// Records the operations of the input, of which none is bad, and puts a line for each refused one.
+// Records the operations of the input, all of one kind and none bad, and puts a line for each refused one.
 // Records have their own lengths: each says where the next one stands.
 pub fn record_all(
     input: &[u8],
     pieces: &mut [u64],
     blocks: &mut [u64],
     store: &mut [u8],
+    kind: u64,
     out: &mut Output<'_>,
 )
-    ensures { RecordedAll input.now pieces.old blocks.old store.old pieces.new blocks.new store.new
+    ensures { RecordedAll input.now pieces.old blocks.old store.old pieces.new blocks.new store.new kind
         out.old out.new }
 {
     let mut position = board_input::RECORDS;
     let mut k = 1;
     while let Some(Ok(record)) = board_input::record_at(input, position) {
         let op = Operation {
+            kind,
             tick: record.tick,
             first: record.first,
             bytes: &input[record.start..record.next],

@@ -126,16 +126,16 @@ last_length l r = go (answer_to l finish_call)
     go (accepted u) = omega (arith, blocks_length bs, few, small)
     go (refused n) = omega (arith, refused_length finish_text n)
 
-lines_length : (bs : List Booking) (k : ℕ) (l : Ledger) → Roomy l → length (lines_from k l bs) ≤ 53 * length bs + last_most
+lines_length : (bs : List Booking) (kind k : ℕ) (l : Ledger) → Roomy l → length (lines_from kind k l bs) ≤ 53 * length bs + last_most
 unfolding lines_from
-lines_length [] k l r = last_length l r
-lines_length (b ∷ bs) k l r =
-    let call = record_call board_scratch (operation_of b) in
+lines_length [] kind k l r = last_length l r
+lines_length (b ∷ bs) kind k l r =
+    let call = record_call board_scratch (operation_of kind b) in
     omega (
       arith,
-      length-append (op_line k (answer_to l call)) (lines_from (suc k) (after l call) bs),
+      length-append (op_line k (answer_to l call)) (lines_from kind (suc k) (after l call) bs),
       op-length k (answer_to l call),
-      lines_length bs (suc k) (after l call) (roomy_record l (operation_of b) r),
+      lines_length bs kind (suc k) (after l call) (roomy_record l (operation_of kind b) r),
     )
 
 -- ── how many records there are ──
@@ -173,8 +173,8 @@ all_length end kind bs few = go (open_answer a) refl
     a : Opening
     a = board_opening end kind
 
-    go : (x : Answer Unit) → open_answer a ≡ x → length (open_lines a bs x) ≤ output_most
-    go (accepted u) e = omega (arith, lines_length bs 1 (opened a) (roomy_opened end kind e))
+    go : (x : Answer Unit) → open_answer a ≡ x → length (open_lines kind a bs x) ≤ output_most
+    go (accepted u) e = omega (arith, lines_length bs kind 1 (opened a) (roomy_opened end kind e))
     go (refused n) e = omega (arith, refused_length open_text n)
 
 pub room : (input : List ℕ) → length input ≤ 65536 → length (printed_of input) ≤ output_most

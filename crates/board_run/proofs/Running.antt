@@ -33,9 +33,9 @@ use Rattle.board_run.proofs.Room.{room}
 
 -- ── `play_open` ──
 
-pub open_lines_lem : {pieces blocks store nodes entries pieces' blocks' store' input : List ℕ} {out o₁ o₂ out' : Output}
-    → Wrote out (header_text ++ (newline ∷ [])) o₁ → RecordedAll input pieces blocks store pieces' blocks' store' o₁ o₂
-    → FinishPut (tables pieces' blocks' store' nodes entries) o₂ out' → OpenPut (tables pieces blocks store nodes entries) input out out'
+pub open_lines_lem : {pieces blocks store nodes entries pieces' blocks' store' input : List ℕ} {kind : ℕ} {out o₁ o₂ out' : Output}
+    → Wrote out (header_text ++ (newline ∷ [])) o₁ → RecordedAll input pieces blocks store pieces' blocks' store' kind o₁ o₂
+    → FinishPut (tables pieces' blocks' store' nodes entries) o₂ out' → OpenPut (tables pieces blocks store nodes entries) input kind out out'
 unfolding lines_from
 open_lines_lem {nodes} {entries} header records last =
     record {
@@ -52,7 +52,7 @@ unfolding record_lines open_lines
 lines_refused end kind n os e = rw e
 
 lines_taken : (end kind : ℕ) (os : List Booking) → open_answer (board_opening end kind) ≡ accepted tt
-    → record_lines end kind (all os) ≡ header_text ++ (newline ∷ lines_from 1 (opened (board_opening end kind)) os)
+    → record_lines end kind (all os) ≡ header_text ++ (newline ∷ lines_from kind 1 (opened (board_opening end kind)) os)
 unfolding record_lines open_lines
 lines_taken end kind os e = rw e
 
@@ -60,7 +60,7 @@ board_fits : too_short board_lent ≡ false
 unfolding too_short
 board_fits = refl
 
-module _ {start : Start} {t t' : Tables} {r : Told Unit Refusal} (d : OpenedBy start.end start.kind t t' (answer_by (λ u. u) r)) where
+module _ {start : Start} {t t' : Tables} {r : Told Unit Refusal} (d : OpenedBy start.end (start.kind ∷ []) t t' (answer_by (λ u. u) r)) where
   pub play_refused : {n : ℕ} {input : List ℕ} {out out' : Output} {x : Refusal} → r ≡ Err x → n ≡ number_of x → Wrote out (refused_line open_text n) out'
       → PlayPut t input start out out'
   play_refused {n} e m put =
@@ -70,11 +70,11 @@ module _ {start : Start} {t t' : Tables} {r : Told Unit Refusal} (d : OpenedBy s
         same_loan = put.same_loan;
         lines = λ lent os w.
             let answer : open_answer (board_opening end kind) ≡ refused n =
-            ap (λ (x : Lent). open_answer (opening_for end kind x)) (sym lent) ∙ sym d.answered ∙ ap (answer_by (λ u. u)) e ∙ ap refused (sym m) in
+            ap (λ (x : Lent). open_answer (opening_for end (kind ∷ []) x)) (sym lent) ∙ sym d.answered ∙ ap (answer_by (λ u. u)) e ∙ ap refused (sym m) in
             rw (lines_refused end kind n os answer) put;
       }
 
-  pub play_opened : {input : List ℕ} {out out' : Output} {u : Unit} → r ≡ Ok u → OpenPut t' input out out' → PlayPut t input start out out'
+  pub play_opened : {input : List ℕ} {out out' : Output} {u : Unit} → r ≡ Ok u → OpenPut t' input start.kind out out' → PlayPut t input start out out'
   unfolding left_by
   play_opened {input} {out} {out'} e puts =
       let end = start.end in
@@ -82,14 +82,14 @@ module _ {start : Start} {t t' : Tables} {r : Told Unit Refusal} (d : OpenedBy s
       record {
         same_loan = puts.same_loan;
         lines = λ lent os w.
-            let taken : open_answer (opening_of end kind t) ≡ accepted tt = sym d.answered ∙ ap (answer_by (λ u. u)) e in
-            let same : opening_of end kind t ≡ board_opening end kind = ap (opening_for end kind) lent in
-            let left : t' ≡ opened_tables end kind t = d.left ∙ ap (λ (x : Answer Unit). left_by x t (opened_tables end kind t)) (ap (answer_by (λ u. u)) e) in
-            let stands : Standing t' (opened (opening_of end kind t)) =
-            subst (λ (x : Tables). Standing x (opened (opening_of end kind t))) (sym left) (opened_stands end kind t (ap too_short lent ∙ board_fits) taken) in
-            let text : record_lines end kind (all os) ≡ header_text ++ (newline ∷ lines_from 1 (opened (opening_of end kind t)) os) =
-            lines_taken end kind os (ap open_answer (sym same) ∙ taken) ∙ ap (λ (a : Opening). header_text ++ (newline ∷ lines_from 1 (opened a) os)) (sym same) in
-            subst (λ (x : List ℕ). Wrote out x out') (sym text) (puts.lines (opened (opening_of end kind t)) stands os w);
+            let taken : open_answer (opening_of end (kind ∷ []) t) ≡ accepted tt = sym d.answered ∙ ap (answer_by (λ u. u)) e in
+            let same : opening_of end (kind ∷ []) t ≡ board_opening end kind = ap (opening_for end (kind ∷ [])) lent in
+            let left : t' ≡ opened_tables end (kind ∷ []) t = d.left ∙ ap (λ (x : Answer Unit). left_by x t (opened_tables end (kind ∷ []) t)) (ap (answer_by (λ u. u)) e) in
+            let stands : Standing t' (opened (opening_of end (kind ∷ []) t)) =
+            subst (λ (x : Tables). Standing x (opened (opening_of end (kind ∷ []) t))) (sym left) (opened_stands end (kind ∷ []) t (ap too_short lent ∙ board_fits) taken) in
+            let text : record_lines end kind (all os) ≡ header_text ++ (newline ∷ lines_from kind 1 (opened (opening_of end (kind ∷ []) t)) os) =
+            lines_taken end kind os (ap open_answer (sym same) ∙ taken) ∙ ap (λ (a : Opening). header_text ++ (newline ∷ lines_from kind 1 (opened a) os)) (sym same) in
+            subst (λ (x : List ℕ). Wrote out x out') (sym text) (puts.lines (opened (opening_of end (kind ∷ []) t)) stands os w);
       }
 
 -- ── `lend` ──

@@ -159,14 +159,14 @@ held-opened a = record { all_there = refl }
 updated : (a b c n k : ℕ) {p q s : ℕ} → p ≡ a + (n + c) → q ≡ k + b → a + (b + c) ≡ s → p + q ≡ (s + k) + n
 updated a b c n k h i j = omega arith
 
-held_update : (kind : ℕ) (m : Moment) (o : Operation) → Held m → Held (update_by kind m o)
+held_update : (m : Moment) (o : Operation) → Held m → Held (update_by m o)
 unfolding update_by stretch_of piece_sizes
-held_update kind m o h =
-    let f = o.first in
-    let e = o.first + length o.bytes in
+held_update m o h =
+    let f = (stretch_of o).first in
+    let e = ends (stretch_of o) in
     let ps = m.pieces in
     record {
-      all_there = updated _ _ _ _ _ (pieces_append (below f ps) (piece_of kind o ∷ above e ps))
+      all_there = updated _ _ _ _ _ (pieces_append (below f ps) (piece_of o ∷ above e ps))
           (blocks_append m.blocks (map (block_of o.tick) (inside f e ps)) ∙ ap (λ (n : ℕ). block_sizes m.blocks + n) (blocks_of_lem o.tick (inside f e ps)))
           (all_parts f e ps (omega arith))
           ∙ ap (λ (n : ℕ). n + length o.bytes) h.all_there
@@ -181,9 +181,9 @@ pub held_record : (l : Ledger) (scratch : ℕ) (o : Operation) → Held l.now �
 unfolding after leaves accepted_by record_by
 held_record l scratch o h = go (answer_to l (record_call scratch o))
   where
-    either : (t : Bool) → Held (cond t (read_by l.now o) (update_by l.opening.kind l.now o))
+    either : (t : Bool) → Held (cond t (read_by l.now o) (update_by l.now o))
     either true = held_read l.now o h
-    either false = held_update l.opening.kind l.now o h
+    either false = held_update l.now o h
 
     go : (a : Answer Result) → Held (leaves a l (record_by l o)).now
     go (accepted u) = either (is_read l.now o)

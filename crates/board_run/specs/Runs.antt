@@ -10,10 +10,10 @@ use Rattle.board_text.specs.declared.Output.{Output}
 use Rattle.board_text.specs.Wrote.{Wrote}
 use Rattle.board_lines.specs.Lines.{Standing}
 
--- `play_open`: all lines of an open index
-pub record OpenPut (t : Tables) (input : List ℕ) (out out' : Output) : Type 0 where
+-- `play_open`: all lines of an open index, the records being of one kind
+pub record OpenPut (t : Tables) (input : List ℕ) (kind : ℕ) (out out' : Output) : Type 0 where
   pub same_loan : out'.buffer.ghost_name ≡ out.buffer.ghost_name
-  pub lines : (l : Ledger) → Standing t l → (os : List Booking) → Walk input first_record os → Wrote out (header_text ++ (newline ∷ lines_from 1 l os)) out'
+  pub lines : (l : Ledger) → Standing t l → (os : List Booking) → Walk input first_record os → Wrote out (header_text ++ (newline ∷ lines_from kind 1 l os)) out'
 
 -- `play`, on tables of the lengths that the program lends
 pub record PlayPut (t : Tables) (input : List ℕ) (start : Start) (out out' : Output) : Type 0 where

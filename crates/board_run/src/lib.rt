@@ -8,8 +8,10 @@
 
 #![tactic(auto)]
 
-ghost use Rattle.std.specs.Prelude.{◌≡◌, length};
+ghost use Rattle.std.specs.Prelude.{◌≡◌, [], ◌∷◌, length};
 ghost use Rattle.layout.specs.Tables.{tables};
+ghost use Rattle.layout.specs.Relations.{OpenedBy};
+ghost use Rattle.refusals.specs.Numbers.{answer_by};
 ghost use Rattle.board_run.specs.Runs.{OpenPut, PlayPut, LendPut, printed_of};
 ghost use Rattle.board_run.specs.Room.{output_most, PrintsBoard};
 ghost use Rattle.board_text.specs.Wrote.{Wrote};
@@ -18,6 +20,7 @@ use board_input::Start;
 use board_lines::{blocks, records};
 use board_text::Output;
 use index::Index;
+use refusals::Refusal;
 use tables::{block, entry, node, piece};
 
 // What is lent: 512 pieces, 1,024 blocks, 65,536 store bytes, 1,024 nodes, 4,096 entries, each table behind its head.
@@ -50,17 +53,35 @@ fn play_open(
     store: &mut [u8],
     nodes: &mut [u64],
     entries: &mut [u64],
+    kind: u64,
     out: &mut Output<'_>,
 )
     ensures { OpenPut (tables pieces.old blocks.old store.old nodes.old entries.old)
-        input.now out.old out.new }
+        input.now kind out.old out.new }
 {
     out.header();
-    records::record_all(input, pieces, blocks, store, out);
+    records::record_all(input, pieces, blocks, store, kind, out);
     blocks::finish(pieces, blocks, store, nodes, entries, out);
 }
 
-// Opens the index and plays the records.
+// Opens an index of one kind: a single kind byte is the set of that kind.
+fn open_one(
+    pieces: &mut [u64],
+    blocks: &mut [u64],
+    store: &[u8],
+    nodes: &mut [u64],
+    entries: &mut [u64],
+    start: Start,
+) -> Result<(), Refusal>
+    ensures { OpenedBy start.end (start.kind ∷ [])
+        (tables pieces.old blocks.old store.now nodes.old entries.old)
+        (tables pieces.new blocks.new store.now nodes.new entries.new) (answer_by (λ u. u) result) }
+{
+    let kinds = [start.kind];
+    Index::open(pieces, blocks, store, nodes, entries, start.end, &kinds)
+}
+
+// Opens the index for the one kind, which is that of all records, and plays them.
 fn play(
     input: &[u8],
     pieces: &mut [u64],
@@ -74,8 +95,9 @@ fn play(
     ensures { PlayPut (tables pieces.old blocks.old store.old nodes.old entries.old)
         input.now start out.old out.new }
 {
-    match Index::open(pieces, blocks, store, nodes, entries, start.end, start.kind) {
-        Ok(()) => play_open(input, pieces, blocks, store, nodes, entries, out),
+    let kind = u64::from(start.kind);
+    match open_one(pieces, blocks, store, nodes, entries, start) {
+        Ok(()) => play_open(input, pieces, blocks, store, nodes, entries, kind, out),
         Err(refusal) => out.open_refused(u64::from(refusal)),
     }
 }

@@ -9,7 +9,7 @@ use borrow.Author.Tests.{le-leb, lt-leb}
 use Rattle.lists.proofs.Numbers.{le_or_lt}
 use Rattle.history.specs.File.{Read, got, fault, onward, ◌>>=◌, give, field, number}
 use Rattle.fields.proofs.Reading.{number_got, number_end}
-use Rattle.call_lists.specs.Operations.{an_operation, read_operation, ItemRead}
+use Rattle.call_lists.specs.Operations.{a_booking, read_operation, ItemRead}
 use Rattle.std.specs.Prelude.{Some, None}
 
 -- ── one field ──
@@ -53,7 +53,7 @@ module _ (list : List ℕ) (at : ℕ) where
         unfolding read_operation ◌>>=◌ onward field
         bytes_end h = rw (h₁, h₂, h₃, lt-leb (c + cells) (length list) h) refl
 
-        bytes_here : c + cells ≤ length list → read_operation list at ≡ got (an_operation tick first (take cells (drop c list))) (c + cells)
+        bytes_here : c + cells ≤ length list → read_operation list at ≡ got (a_booking tick first (take cells (drop c list))) (c + cells)
         unfolding read_operation ◌>>=◌ onward field give
         bytes_here h = rw (h₁, h₂, h₃, le-leb (c + cells) (length list) h) refl
 

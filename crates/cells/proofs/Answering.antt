@@ -15,14 +15,14 @@ use Rattle.cells_read.specs.Answers.{CellsHanded, ReadClosed}
 use Rattle.cells_read.proofs.Reading.{cells_refused}
 use Rattle.cells.specs.Answers.{CellsReadBy}
 
-module _ {pieces blocks store nodes entries : List ℕ} {tick start stop : ℕ} {bytes held : List ℕ} (r : State) {x : Result Unit Refusal}
+module _ {pieces blocks store nodes entries : List ℕ} {kind tick start stop : ℕ} {bytes held : List ℕ} (r : State) {x : Result Unit Refusal}
     (told : Outcome r (tables pieces blocks store nodes entries)) (is : x ≡ when_closed r) where
-  pub cells_not_closed : {e : Refusal} → x ≡ Err e → CellsReadBy (tables pieces blocks store nodes entries) tick start stop bytes bytes held held (refused (number_of e))
+  pub cells_not_closed : {e : Refusal} → x ≡ Err e → CellsReadBy (tables pieces blocks store nodes entries) kind tick start stop bytes bytes held held (refused (number_of e))
   unfolding window_refusals first_of
   cells_not_closed q = record {
     read = read_not_closed (λ n. CellsHanded bytes bytes held held (refused n)) r told (sym is ∙ q) (λ l heads still. rw (heads, still)) (λ n. cells_refused);
   }
 
-  pub cells_read : {u : Unit} {bytes' held' : List ℕ} {a : Answer Unit} → x ≡ Ok u → ReadClosed blocks store nodes entries tick start stop bytes bytes' held held' a
-      → CellsReadBy (tables pieces blocks store nodes entries) tick start stop bytes bytes' held held' a
+  pub cells_read : {u : Unit} {bytes' held' : List ℕ} {a : Answer Unit} → x ≡ Ok u → ReadClosed blocks store nodes entries kind tick start stop bytes bytes' held held' a
+      → CellsReadBy (tables pieces blocks store nodes entries) kind tick start stop bytes bytes' held held' a
   cells_read q f = record { read = closed_read (closed_taken r told (sym is ∙ q)) (f.read pieces) }

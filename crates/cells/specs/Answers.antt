@@ -5,5 +5,5 @@ use Rattle.layout.specs.Tables.{Tables}
 use Rattle.layout.specs.Reads.{ReadBy}
 use Rattle.cells_read.specs.Answers.{CellsHanded}
 
-pub record CellsReadBy (t : Tables) (tick start stop : ℕ) (bytes bytes' held held' : List ℕ) (answer : Answer Unit) : Type 0 where
-  pub read : ReadBy t (λ l. cells_answer l tick start stop (length bytes) (length held)) (CellsHanded bytes bytes' held held' answer)
+pub record CellsReadBy (t : Tables) (kind tick start stop : ℕ) (bytes bytes' held held' : List ℕ) (answer : Answer Unit) : Type 0 where
+  pub read : ReadBy t (λ l. cells_answer l kind tick start stop (length bytes) (length held)) (CellsHanded bytes bytes' held held' answer)

@@ -1,4 +1,4 @@
-// Read cells: for a tick and [start, end) the byte of each cell, and 1 where a live block holds it; 0 and 0 where none does.
+// Read cells: for a kind, a tick and [start, end) the byte of each cell, and 1 where a live block holds it; 0 and 0 where none does.
 //
 //   specs/Answers   the contract
 //   specs/Law       the history is shown (proofs/History): a theorem of crate demand, which links it to lists of calls
@@ -14,16 +14,17 @@ use layout::Tables;
 use refusals::Refusal;
 use segment_table::lent::Closed;
 
-// The cells of [start, end) at a tick, into two lent slices.
+// The cells of [start, end) of a kind at a tick, into two lent slices.
 pub fn read_cells(
     lent: Tables,
+    kind: u8,
     tick: u64,
     start: u64,
     end: u64,
     bytes: &mut [u8],
     held: &mut [u8],
 ) -> Result<(), Refusal>
-    ensures { CellsReadBy (Tables·held lent.entry) tick start end
+    ensures { CellsReadBy (Tables·held lent.entry) kind tick start end
         bytes.old bytes.new held.old held.new (answer_by (λ _. tt) result) }
 {
     index_test::test(lent).closed()?;
@@ -32,5 +33,14 @@ pub fn read_cells(
         nodes: lent.nodes,
         entries: lent.entries,
     };
-    cells_read::read_closed(&closed, lent.store, tick, start, end, bytes, held)
+    cells_read::read_closed(
+        &closed,
+        lent.store,
+        u64::from(kind),
+        tick,
+        start,
+        end,
+        bytes,
+        held,
+    )
 }

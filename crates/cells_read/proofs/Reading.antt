@@ -1,33 +1,35 @@
 -- The returns of `read_closed`: over a closed index they are the ledger's answers. Assumes nothing.
 use mathlib.Core.Path.{◌≡◌, refl, ◌∙◌}
-use mathlib.Core.Bool.{true}
+use mathlib.Core.Bool.{Bool, true, false}
 use mathlib.Core.List.{List}
-use Prim.Native.Nat.{ℕ, ◌-◌, ◌≤◌, ◌<◌}
+use Prim.Native.Nat.{ℕ, ◌-◌, ◌^◌, ◌≤◌, ◌<◌}
 use native.Mathlib.Omega.{arith}
 use lib.ListN.{length}
 use borrow.Author.Tests.{lt-ltb, le-ltb}
 use Rattle.history.specs.Ledger.{Ledger, finished}
 use Rattle.history.specs.Reads.{cells_by}
 use Rattle.history.specs.Refusals.{accepted, refused, cells_answer}
-use Rattle.tables.specs.Columns.{block_column, head_kind, head_end}
+use Rattle.tables.specs.Masks.{opens, Opens}
+use Rattle.tables.specs.Columns.{block_column, head_kinds, head_end}
 use Rattle.layout.specs.Tables.{Tables, tables, head_at}
 use Rattle.layout.specs.Encodes.{Encodes}
-use Rattle.layout.proofs.ReadLaws.{window_14, window_15, window_rest, closed_refuses}
+use Rattle.layout.proofs.ReadLaws.{mask_opens, opens_kind_lem, window_25, window_14, window_15, window_rest, closed_refuses}
 use Rattle.runs.specs.Runs.{ClosedAt}
 use Rattle.cells_read.specs.Shows.{Shown}
 use Rattle.cells_read.specs.Answers.{CellsHanded, ReadClosed}
 
 -- ── what a closed ledger answers ──
 
-module _ {t : Tables} {l : Ledger} (e : Encodes t l) (done : finished l ≡ true) (tick start stop bytes held : ℕ) (h : tick < head_at t head_end) (b : start ≤ stop) where
-  cells_bytes : bytes < stop - start → cells_answer l tick start stop bytes held ≡ refused 16
-  cells_bytes short = window_rest e done _ _ tick start stop h b ∙ rw (lt-ltb bytes (stop - start) short)
+module _ {t : Tables} {l : Ledger} (e : Encodes t l) (done : finished l ≡ true) (kind tick start stop bytes held : ℕ) (k : opens (head_at t head_kinds) kind ≡ true)
+    (h : tick < head_at t head_end) (b : start ≤ stop) where
+  cells_bytes : bytes < stop - start → cells_answer l kind tick start stop bytes held ≡ refused 16
+  cells_bytes short = window_rest e done _ _ kind tick start stop k h b ∙ rw (lt-ltb bytes (stop - start) short)
 
-  cells_held : stop - start ≤ bytes → held < stop - start → cells_answer l tick start stop bytes held ≡ refused 16
-  cells_held room short = window_rest e done _ _ tick start stop h b ∙ rw (le-ltb bytes (stop - start) room, lt-ltb held (stop - start) short)
+  cells_held : stop - start ≤ bytes → held < stop - start → cells_answer l kind tick start stop bytes held ≡ refused 16
+  cells_held room short = window_rest e done _ _ kind tick start stop k h b ∙ rw (le-ltb bytes (stop - start) room, lt-ltb held (stop - start) short)
 
-  pub cells_given : stop - start ≤ bytes → stop - start ≤ held → cells_answer l tick start stop bytes held ≡ accepted (cells_by l tick start stop)
-  cells_given room room' = window_rest e done _ _ tick start stop h b ∙ rw (le-ltb bytes (stop - start) room, le-ltb held (stop - start) room')
+  pub cells_given : stop - start ≤ bytes → stop - start ≤ held → cells_answer l kind tick start stop bytes held ≡ accepted (cells_by l kind tick start stop)
+  cells_given room room' = window_rest e done _ _ kind tick start stop k h b ∙ rw (le-ltb bytes (stop - start) room, le-ltb held (stop - start) room')
 
 -- ── the returns ──
 
@@ -35,37 +37,48 @@ module _ {t : Tables} {l : Ledger} (e : Encodes t l) (done : finished l ≡ true
 pub cells_refused : {bytes held : List ℕ} {n : ℕ} → CellsHanded bytes bytes held held (refused n) (refused n)
 cells_refused = record { answered = refl; in_bytes = refl; in_held = refl }
 
-module _ {blocks store nodes entries : List ℕ} {tick start stop last : ℕ} {bytes held : List ℕ} (e : last ≡ block_column blocks 0 head_end) where
+module _ {blocks store nodes entries : List ℕ} {kind tick start stop mask : ℕ} {bytes held : List ℕ} {o : Bool} (m : mask ≡ block_column blocks 0 head_kinds) (is : Opens mask kind o) where
   -- whatever refuses it
   refuses : (n : ℕ) → ((pieces : List ℕ) (l : Ledger) → Encodes (tables pieces blocks store nodes entries) l → finished l ≡ true
-      → cells_answer l tick start stop (length bytes) (length held) ≡ refused n) → ReadClosed blocks store nodes entries tick start stop bytes bytes held held (refused n)
+      → cells_answer l kind tick start stop (length bytes) (length held) ≡ refused n) → ReadClosed blocks store nodes entries kind tick start stop bytes bytes held held (refused n)
   refuses n by = record { read = λ pieces. closed_refuses (by pieces) cells_refused }
 
-  pub read_14 : last ≤ tick → ReadClosed blocks store nodes entries tick start stop bytes bytes held held (refused 14)
-  read_14 h = refuses 14 (λ pieces l enc done. window_14 enc done _ _ tick start stop (omega arith))
+  pub read_25 : o ≡ false → ReadClosed blocks store nodes entries kind tick start stop bytes bytes held held (refused 25)
+  read_25 q = refuses 25 (λ pieces l enc done. window_25 enc done _ _ kind tick start stop (mask_opens m is q))
 
-  pub read_15 : tick < last → stop < start → ReadClosed blocks store nodes entries tick start stop bytes bytes held held (refused 15)
-  read_15 h b = refuses 15 (λ pieces l enc done. window_15 enc done _ _ tick start stop (omega arith) b)
+  module _ (q : o ≡ true) {last : ℕ} (e : last ≡ block_column blocks 0 head_end) where
+    pub read_14 : last ≤ tick → ReadClosed blocks store nodes entries kind tick start stop bytes bytes held held (refused 14)
+    read_14 h = refuses 14 (λ pieces l enc done. window_14 enc done _ _ kind tick start stop (mask_opens m is q) (omega arith))
 
-  pub read_16_bytes : tick < last → start ≤ stop → length bytes < stop - start
-      → ReadClosed blocks store nodes entries tick start stop bytes bytes held held (refused 16)
-  read_16_bytes h b short = refuses 16 (λ pieces l enc done. cells_bytes enc done tick start stop (length bytes) (length held) (omega arith) b short)
+    pub read_15 : tick < last → stop < start → ReadClosed blocks store nodes entries kind tick start stop bytes bytes held held (refused 15)
+    read_15 h b = refuses 15 (λ pieces l enc done. window_15 enc done _ _ kind tick start stop (mask_opens m is q) (omega arith) b)
 
-  pub read_16_held : tick < last → start ≤ stop → stop - start ≤ length bytes → length held < stop - start
-      → ReadClosed blocks store nodes entries tick start stop bytes bytes held held (refused 16)
-  read_16_held h b room short = refuses 16 (λ pieces l enc done. cells_held enc done tick start stop (length bytes) (length held) (omega arith) b room short)
+    pub read_16_bytes : tick < last → start ≤ stop → length bytes < stop - start
+        → ReadClosed blocks store nodes entries kind tick start stop bytes bytes held held (refused 16)
+    read_16_bytes h b short = refuses 16 (λ pieces l enc done. cells_bytes enc done kind tick start stop (length bytes) (length held) (mask_opens m is q) (omega arith) b short)
 
-  pub read_filled : {bytes' held' : List ℕ} → tick < last → start ≤ stop → stop - start ≤ length bytes
-      → stop - start ≤ length held → Shown blocks store nodes entries (block_column blocks 0 head_kind) tick start stop stop bytes bytes' held held'
-      → ReadClosed blocks store nodes entries tick start stop bytes bytes' held held' (accepted tt)
-  read_filled h b room room' shown = record {
-    read = λ pieces. record {
-      closed = λ l enc s done.
-          let at : ClosedAt blocks store nodes entries (block_column blocks 0 head_kind) tick l = record { pieces = pieces; encodes = enc; sound = s; done = done; own_kind = enc.kind; before_end = omega (arith, enc.end) } in
-          let to = (shown.shown l at room room').0 in
-          rw (cells_given enc done tick start stop (length bytes) (length held) (omega arith) b room room')
-          (record { answered = refl; in_bytes = to.in_bytes; in_held = to.in_held });
-    };
-  }
+    pub read_16_held : tick < last → start ≤ stop → stop - start ≤ length bytes → length held < stop - start
+        → ReadClosed blocks store nodes entries kind tick start stop bytes bytes held held (refused 16)
+    read_16_held h b room short = refuses 16 (λ pieces l enc done. cells_held enc done kind tick start stop (length bytes) (length held) (mask_opens m is q) (omega arith) b room short)
 
-pub ruleset reading = (read_14, read_15, read_16_bytes, read_16_held, read_filled, arith)
+    pub read_filled : {bytes' held' : List ℕ} → tick < last → start ≤ stop → stop < 2 ^ 64 → stop - start ≤ length bytes
+        → stop - start ≤ length held → Shown blocks store nodes entries kind tick start stop stop bytes bytes' held held'
+        → ReadClosed blocks store nodes entries kind tick start stop bytes bytes' held held' (accepted tt)
+    read_filled h b small room room' shown = record {
+      read = λ pieces. record {
+        closed = λ l enc s done.
+            let at : ClosedAt blocks store nodes entries kind tick l = record {
+              pieces = pieces;
+              encodes = enc;
+              sound = s;
+              done = done;
+              opened = opens_kind_lem enc kind ∙ mask_opens m is q;
+              before_end = omega (arith, enc.end);
+            } in
+            let to = (shown.shown l at small room room').0 in
+            rw (cells_given enc done kind tick start stop (length bytes) (length held) (mask_opens m is q) (omega arith) b room room')
+            (record { answered = refl; in_bytes = to.in_bytes; in_held = to.in_held });
+      };
+    }
+
+pub ruleset reading = (read_25, read_14, read_15, read_16_bytes, read_16_held, read_filled, arith)

@@ -1,7 +1,7 @@
 -- Cells written run by run: what a run writes, and that what it shows are the cells of the ledger. Assumes nothing.
 use mathlib.Core.Path.{◌≡◌, ap, sym, ◌∙◌, subst}
 use mathlib.Core.List.{List, ◌++◌, map}
-use Prim.Native.Nat.{ℕ, ◌+◌, ◌-◌, ◌≤◌, ◌<◌, min}
+use Prim.Native.Nat.{ℕ, ◌+◌, ◌-◌, ◌^◌, ◌≤◌, ◌<◌, min}
 use native.Mathlib.Omega.{arith}
 use lib.ListN.{length, get_or, take, drop, replicate, length-replicate, get_or-replicate, length-take, length-drop}
 use lib.Seq.{sets, length-sets, ext_get_or, get_or-take, get_or-drop}
@@ -10,6 +10,7 @@ use Rattle.lists.proofs.Lists.{count_from_length, count_from_at}
 use Rattle.lists.proofs.Maps.{map-append, length_of_map, get_d_of_map}
 use Rattle.lists.proofs.Stores.{sets-append}
 use Rattle.lists.proofs.Counting.{count_from_append}
+use Rattle.history.specs.Words.{cell_place}
 use Rattle.history.specs.Ledger.{Ledger}
 use Rattle.history.specs.Reads.{seen, cells_by}
 use Rattle.runs.specs.declared.Run.{Run}
@@ -74,31 +75,31 @@ length_part : (from many : ℕ) (store : List ℕ) → from + many ≤ length st
 length_part from many store h = length-take many (drop from store) ∙ rw (length-drop from store) (omega arith)
 
 -- a run is what the ledger shows of its cells
-module _ (l : Ledger) {tick start place stop : ℕ} {store : List ℕ} {r : Run} (s : start ≤ place) (laid : Laid store place r)
-    (shown : RunShown l.now.blocks tick store place stop r) where
-  bytes_more : (cells_by l tick start r.past).bytes ≡ (cells_by l tick start place).bytes ++ run_bytes store place r
+module _ (l : Ledger) {kind tick start place stop : ℕ} {store : List ℕ} {r : Run} (s : start ≤ place) (laid : Laid store place r) (small : r.past ≤ 2 ^ 64)
+    (shown : RunShown l.now.blocks kind tick store place stop r) where
+  bytes_more : (cells_by l kind tick start r.past).bytes ≡ (cells_by l kind tick start place).bytes ++ run_bytes store place r
   unfolding cells_by
   bytes_more =
-      map-run (λ c. get_or (seen tick c l.now.blocks) 0 0) start place r.until r.past (replicate (r.until - place) 0)
+      map-run (λ c. get_or (seen tick (cell_place kind c) l.now.blocks) 0 0) start place r.until r.past (replicate (r.until - place) 0)
       (take (r.past - r.until) (drop r.from store)) s laid.goes_on laid.forward (length-replicate (r.until - place) 0)
       (length_part r.from (r.past - r.until) store laid.stored)
-      (λ i b. rw (shown.free (place + i) (omega arith) (omega arith)) (sym (get_or-replicate (r.until - place) i 0 0 b)))
+      (λ i b. rw (shown.free (place + i) (omega arith) (omega arith) (omega (arith, laid.forward))) (sym (get_or-replicate (r.until - place) i 0 0 b)))
       (λ i b.
       let e : r.until + i - r.until ≡ i = omega arith in
       rw (shown.held (r.until + i) (omega arith) (omega arith), e)
       (sym (get_or-take (r.past - r.until) (drop r.from store) i 0 b ∙ get_or-drop r.from store i 0)))
 
-  held_more : (cells_by l tick start r.past).held ≡ (cells_by l tick start place).held ++ run_held place r
+  held_more : (cells_by l kind tick start r.past).held ≡ (cells_by l kind tick start place).held ++ run_held place r
   unfolding cells_by
   held_more =
-      map-run (λ c. min 1 (length (seen tick c l.now.blocks))) start place r.until r.past (replicate (r.until - place) 0)
+      map-run (λ c. min 1 (length (seen tick (cell_place kind c) l.now.blocks))) start place r.until r.past (replicate (r.until - place) 0)
       (replicate (r.past - r.until) 1) s laid.goes_on laid.forward (length-replicate (r.until - place) 0) (length-replicate (r.past - r.until) 1)
-      (λ i b. rw (shown.free (place + i) (omega arith) (omega arith)) (sym (get_or-replicate (r.until - place) i 0 0 b)))
+      (λ i b. rw (shown.free (place + i) (omega arith) (omega arith) (omega (arith, laid.forward))) (sym (get_or-replicate (r.until - place) i 0 0 b)))
       (λ i b. rw (shown.held (r.until + i) (omega arith) (omega arith)) (sym (get_or-replicate (r.past - r.until) i 1 0 b)))
 
-cells_long : (l : Ledger) (tick start place : ℕ) → (length (cells_by l tick start place).bytes ≡ place - start) × (length (cells_by l tick start place).held ≡ place - start)
+cells_long : (l : Ledger) (kind tick start place : ℕ) → (length (cells_by l kind tick start place).bytes ≡ place - start) × (length (cells_by l kind tick start place).held ≡ place - start)
 unfolding cells_by
-cells_long l tick start place =
+cells_long l kind tick start place =
     (length_of_map _ (count_from start (place - start)) ∙ count_from_length start (place - start), length_of_map _ (count_from start (place - start)) ∙ count_from_length start (place - start))
 
 -- a list behind another one that is written from the front on
@@ -106,24 +107,24 @@ behind : (out xs ys : List ℕ) (n : ℕ) → length xs ≡ n → sets (sets out
 behind out xs ys n e = let z : 0 + length xs ≡ n = omega arith in sym (sets-append out 0 xs ys ∙ rw z)
 
 -- one run more
-shown_more : {l : Ledger} {tick start place stop : ℕ} {store : List ℕ} {r : Run} {bytes₀ bytes bytes' held₀ held held' : List ℕ} → start ≤ place → Laid store place r
-    → RunShown l.now.blocks tick store place stop r → r.past - start ≤ length bytes → r.past - start ≤ length held
-    → ShownRun store r start place bytes bytes' held held' → ShownTo l tick start place bytes₀ bytes held₀ held → ShownTo l tick start r.past bytes₀ bytes' held₀ held'
-shown_more {l} {tick} {start} {place} {stop} {store} {r} {bytes₀} {bytes} {bytes'} {held₀} {held} {held'} s laid shown rb rh run before = record {
+shown_more : {l : Ledger} {kind tick start place stop : ℕ} {store : List ℕ} {r : Run} {bytes₀ bytes bytes' held₀ held held' : List ℕ} → start ≤ place → Laid store place r → r.past ≤ 2 ^ 64
+    → RunShown l.now.blocks kind tick store place stop r → r.past - start ≤ length bytes → r.past - start ≤ length held
+    → ShownRun store r start place bytes bytes' held held' → ShownTo l kind tick start place bytes₀ bytes held₀ held → ShownTo l kind tick start r.past bytes₀ bytes' held₀ held'
+shown_more {l} {kind} {tick} {start} {place} {stop} {store} {r} {bytes₀} {bytes} {bytes'} {held₀} {held} {held'} s laid small shown rb rh run before = record {
   in_bytes =
       run.bytes_shown rb
-      ∙ rw (before.in_bytes, bytes_more l s laid shown)
-      (behind bytes₀ (cells_by l tick start place).bytes (run_bytes store place r) (place - start) (cells_long l tick start place).0);
+      ∙ rw (before.in_bytes, bytes_more l s laid small shown)
+      (behind bytes₀ (cells_by l kind tick start place).bytes (run_bytes store place r) (place - start) (cells_long l kind tick start place).0);
   in_held =
       run.held-shown rh
-      ∙ rw (before.in_held, held_more l s laid shown)
-      (behind held₀ (cells_by l tick start place).held (run_held place r) (place - start) (cells_long l tick start place).1);
+      ∙ rw (before.in_held, held_more l s laid small shown)
+      (behind held₀ (cells_by l kind tick start place).held (run_held place r) (place - start) (cells_long l kind tick start place).1);
 }
 
 -- no cell yet
-shown-none : (l : Ledger) (tick start : ℕ) (bytes held : List ℕ) → ShownTo l tick start start bytes bytes held held
+shown-none : (l : Ledger) (kind tick start : ℕ) (bytes held : List ℕ) → ShownTo l kind tick start start bytes bytes held held
 unfolding cells_by count_from
-shown-none l tick start bytes held =
+shown-none l kind tick start bytes held =
     let none_yet : start - start ≡ 0 = omega arith in
     record { in_bytes = rw none_yet; in_held = rw none_yet }
 
@@ -135,10 +136,10 @@ module _ {blocks store nodes entries : List ℕ} {kind tick start stop : ℕ} {r
   shown_first room f run = record {
     bytes_kept = run.bytes_kept;
     held_kept = run.held_kept;
-    shown = λ l c rb rh.
+    shown = λ l c small rb rh.
         let s = f.shown l c room in
         let most = f.stops room in
-        (shown_more (omega arith) f.laid s (omega arith) (omega arith) run (shown-none l tick start bytes held), s.passed);
+        (shown_more (omega arith) f.laid (omega arith) s (omega arith) (omega arith) run (shown-none l kind tick start bytes held), s.passed);
   }
 
   pub shown_next : {place : ℕ} {bytes₀ held₀ : List ℕ} → start ≤ place → place < stop → NextRun blocks store nodes entries kind tick place stop r
@@ -147,13 +148,13 @@ module _ {blocks store nodes entries : List ℕ} {kind tick start stop : ℕ} {r
   shown_next s room f run before = record {
     bytes_kept = run.bytes_kept ∙ before.bytes_kept;
     held_kept = run.held_kept ∙ before.held_kept;
-    shown = λ l c rb rh.
-        let so_far = before.shown l c rb rh in
+    shown = λ l c small rb rh.
+        let so_far = before.shown l c small rb rh in
         let w = f.shown l c (omega arith) (so_far.1 room) in
         let most = f.stops (omega arith) in
         let kb = before.bytes_kept in
         let kh = before.held_kept in
-        (shown_more s (f.laid (omega arith)) w (omega arith) (omega arith) run so_far.0, w.passed);
+        (shown_more s (f.laid (omega arith)) (omega arith) w (omega arith) (omega arith) run so_far.0, w.passed);
   }
 
 -- the whole window

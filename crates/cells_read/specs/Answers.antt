@@ -12,6 +12,6 @@ pub record CellsHanded (bytes bytes' held held' : List ℕ) (answer : Answer Uni
   pub in_held : held' ≡ filled_by (λ c. c.held) x held
 
 -- `read_closed`: the ledger's cells, whatever pieces are lent with the index
-pub record ReadClosed (blocks store nodes entries : List ℕ) (tick start stop : ℕ) (bytes bytes' held held' : List ℕ) (answer : Answer Unit) : Type 0 where
+pub record ReadClosed (blocks store nodes entries : List ℕ) (kind tick start stop : ℕ) (bytes bytes' held held' : List ℕ) (answer : Answer Unit) : Type 0 where
   pub read : (pieces : List ℕ)
-      → ClosedBy (tables pieces blocks store nodes entries) (λ l. cells_answer l tick start stop (length bytes) (length held)) (CellsHanded bytes bytes' held held' answer)
+      → ClosedBy (tables pieces blocks store nodes entries) (λ l. cells_answer l kind tick start stop (length bytes) (length held)) (CellsHanded bytes bytes' held held' answer)

@@ -1,5 +1,5 @@
 -- Cells written into the lent slices. Definitions alone.
-use Rattle.std.specs.Prelude.{◌≡◌, List, ◌++◌, ℕ, ◌+◌, ◌-◌, ◌≤◌, ◌<◌, length, take, drop, replicate}
+use Rattle.std.specs.Prelude.{◌≡◌, List, ◌++◌, ℕ, ◌+◌, ◌-◌, ◌^◌, ◌≤◌, ◌<◌, length, take, drop, replicate}
 use Rattle.std.proofs.lemmas.List.Edits.{sets}
 use Rattle.history.specs.Ledger.{Ledger}
 use Rattle.history.specs.Reads.{cells_by}
@@ -26,13 +26,13 @@ pub record ShownRun (store : List ℕ) (r : Run) (start place : ℕ) (bytes byte
   pub held-shown : r.past - start ≤ length held → held' ≡ sets held (place - start) (run_held place r)
 
 -- the cells of [start, place) are shown, and nothing else has changed
-pub record ShownTo (l : Ledger) (tick start place : ℕ) (bytes bytes' held held' : List ℕ) : Type 0 where
-  pub in_bytes : bytes' ≡ sets bytes 0 (cells_by l tick start place).bytes
-  pub in_held : held' ≡ sets held 0 (cells_by l tick start place).held
+pub record ShownTo (l : Ledger) (kind tick start place : ℕ) (bytes bytes' held held' : List ℕ) : Type 0 where
+  pub in_bytes : bytes' ≡ sets bytes 0 (cells_by l kind tick start place).bytes
+  pub in_held : held' ≡ sets held 0 (cells_by l kind tick start place).held
 
 -- up to the place reached, in slices that have room for the window; and no block that starts before it reaches further
 pub record Shown (blocks store nodes entries : List ℕ) (kind tick start stop place : ℕ) (bytes bytes' held held' : List ℕ) : Type 0 where
   pub bytes_kept : length bytes' ≡ length bytes
   pub held_kept : length held' ≡ length held
-  pub shown : (l : Ledger) → ClosedAt blocks store nodes entries kind tick l → stop - start ≤ length bytes → stop - start ≤ length held
-      → ShownTo l tick start place bytes bytes' held held' × (place < stop → Passed l.now.blocks tick place)
+  pub shown : (l : Ledger) → ClosedAt blocks store nodes entries kind tick l → stop < 2 ^ 64 → stop - start ≤ length bytes → stop - start ≤ length held
+      → ShownTo l kind tick start place bytes bytes' held held' × (place < stop → Passed l.now.blocks kind tick place)

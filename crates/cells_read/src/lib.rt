@@ -3,7 +3,7 @@
 //
 //   specs/Answers   what is handed out
 //   show            specs/Shows   proofs/Filling, Showing   cells written run by run
-//   lib             proofs/Reading                          14, 15 and 16
+//   lib             proofs/Reading                          25, 14, 15 and 16
 
 #![tactic(auto)]
 
@@ -14,20 +14,25 @@ mod show;
 
 use refusals::Refusal;
 use segment_table::lent::Closed;
+use tables::kinds;
 
-// The cells of [start, end) at a tick: 14, 15 and 16 in their order. Both slices are filled, or nothing has changed.
+// The cells of [start, end) of a kind at a tick: 25, 14, 15 and 16 in their order. Both slices are filled, or nothing has changed.
 pub fn read_closed(
     closed: &Closed,
     store: &[u8],
+    kind: u64,
     tick: u64,
     start: u64,
     end: u64,
     bytes: &mut [u8],
     held: &mut [u8],
 ) -> Result<(), Refusal>
-    ensures { ReadClosed closed.now.blocks.now store.now closed.now.nodes.now closed.now.entries.now tick start end
+    ensures { ReadClosed closed.now.blocks.now store.now closed.now.nodes.now closed.now.entries.now kind tick start end
         bytes.old bytes.new held.old held.new (answer_by (λ _. tt) result) }
 {
+    if !kinds::has(block_table::kinds(closed.blocks), kind) {
+        return Err(Refusal::KindNotOpened);
+    }
     if block_table::end(closed.blocks) <= tick {
         return Err(Refusal::NoSuchTick);
     }
@@ -38,6 +43,6 @@ pub fn read_closed(
     if bytes.len() < many || held.len() < many {
         return Err(Refusal::ResultTooLong);
     }
-    show::show(closed, store, tick, start, end, bytes, held);
+    show::show(closed, store, kind, tick, start, end, bytes, held);
     Ok(())
 }

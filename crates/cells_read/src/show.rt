@@ -1,6 +1,5 @@
 // Cells written run by run.
 ghost use Rattle.std.specs.Prelude.{◌≤◌};
-ghost use Rattle.tables.specs.Columns.{block_column, head_kind};
 ghost use Rattle.runs.specs.Runs.{Laid};
 ghost use Rattle.cells_read.specs.Shows.{FilledWith, ShownRun, Shown};
 
@@ -32,10 +31,11 @@ fn show_run(store: &[u8], run: Run, start: u64, place: u64, bytes: &mut [u8], he
     fill(held, middle, count, 1);
 }
 
-// Shows the cells of [start, end) at a tick, if the slices have room for them. Each run goes on where the one before it ended.
+// Shows the cells of [start, end) of a kind at a tick, if the slices have room for them. Each run goes on where the one before it ended.
 pub fn show(
     closed: &Closed,
     store: &[u8],
+    kind: u64,
     tick: u64,
     start: u64,
     end: u64,
@@ -44,14 +44,14 @@ pub fn show(
 )
     requires { start ≤ end }
     ensures { Shown closed.now.blocks.now store.now closed.now.nodes.now closed.now.entries.now
-        (block_column closed.now.blocks.now 0 head_kind) tick start end end
+        kind tick start end end
         bytes.old bytes.new held.old held.new }
 {
-    let first = runs::first_run(closed, store, tick, start, end);
+    let first = runs::first_run(closed, store, kind, tick, start, end);
     show_run(store, first, start, start, bytes, held);
     let mut place = first.past;
     while place < end {
-        let next = runs::next_run(closed, store, tick, place, end);
+        let next = runs::next_run(closed, store, kind, tick, place, end);
         show_run(store, next, start, place, bytes, held);
         place = next.past;
     }

@@ -7,13 +7,15 @@ use Prim.Native.Nat.{ℕ, ◌+◌, ◌-◌, ◌≤◌, ◌<◌, ◌^◌, min}
 use native.Mathlib.Omega.{arith}
 use lib.ListN.{length, get_or}
 use Rattle.lists.proofs.Numbers.{lt_or_le}
-use Rattle.history.specs.Words.{Stretch, byte_at}
+use Rattle.history.specs.Words.{Stretch, line_of, cell_place, byte_at}
+use Rattle.history.proofs.ByKind.{line_next}
 use Rattle.history.proofs.Comparing.{Agrees, Other, differs_nowhere, differs_at}
 use Rattle.tables.specs.Sums.{plus_up_to}
-use Rattle.piece_table.specs.Piece.{PieceRow, Filled}
+use Rattle.piece_table.specs.Piece.{PieceRow, row_of, Filled}
 use Rattle.piece_table.specs.Shown.{shown, Stored}
-use Rattle.piece_table.proofs.Cells.{byte_none, byte_some}
+use Rattle.piece_table.proofs.Cells.{Misses, byte_none, byte_some}
 use Rattle.comparison.specs.Comparison.{Matching, Compared}
+use Rattle.piece_table.specs.declared.Piece.{Piece}
 use Rattle.std.specs.Prelude.{Some, None}
 
 -- ── the cells in common ──
@@ -108,7 +110,30 @@ none_lost offset size was cell many at run left e h a b c d = let z : at + run �
 cell_sum : (first from j low cell many : ℕ) → from + j < many → first + many < 2 ^ 64 → low ≡ plus_up_to first from → cell ≡ plus_up_to low j → cell ≡ first + (from + j)
 cell_sum first from j low cell many a b el ec = let z : low ≡ first + from = omega (arith, a, b, el) in omega (arith, z, a, b, ec)
 
-module _ (bytes : List ℕ) (p : PieceRow) (first : ℕ) where
+line_sum : (l first k : ℕ) → l + (first + k) ≡ l + first + k
+line_sum l first k = omega arith
+
+-- a distance on one line
+moved : (l k first was : ℕ) → k ≡ l → first - was ≡ k + first - (l + was)
+moved l k first was e = omega arith
+
+module _ (bytes : List ℕ) (p : Piece) (kind first : ℕ) where
+  abbrev row : PieceRow
+  row = row_of p
+
+  abbrev start : ℕ
+  start = cell_place kind first
+
+  -- a piece of another kind
+  pub compared_other : {store : List ℕ} → (p.owner ≡ kind → ⊥) → Compared store p kind first bytes None
+  compared_other {store} n = record {
+    is = λ whole st near. sym (differs_nowhere (shown store row).stretch start bytes (λ k h. inl (byte_none store (start + k) row st (away whole near k h (lt_or_le kind p.owner)))));
+  }
+    where
+      away : Filled row → first + length bytes < 2 ^ 64 → (k : ℕ) → k < length bytes → (kind < p.owner) ⊎ (p.owner ≤ kind) → Misses (start + k) row
+      away whole near k h (inl low) = inr (omega (arith, line_next kind p.owner low))
+      away whole near k h (inr high) = inl (omega (arith, whole.near, line_next p.owner kind (omega (arith, n))))
+
   abbrev from : ℕ
   from = p.first - first
 
@@ -118,37 +143,42 @@ module _ (bytes : List ℕ) (p : PieceRow) (first : ℕ) where
   abbrev at : ℕ
   at = plus_up_to p.offset (first - p.first)
 
-  meets : Common p.first p.size p.offset first (length bytes) from run at
-  meets = common refl refl refl refl
+  module _ (own : p.owner ≡ kind) where
+    line : line_of kind ≡ line_of p.owner
+    line = ap line_of (sym own)
 
-  pub compared_apart : {store : List ℕ} → run ≡ 0 → Compared store p first bytes None
-  compared_apart {store} z = record {
-    is = λ whole st near.
-        sym (differs_nowhere (shown store p).stretch first bytes (λ k h.
-        beside store p first bytes from run at meets st k h (elim (lt_or_le k from) [ inl low ↦ inl low | inr high ↦ inr (omega arith) ])));
-  }
+    meets : Common row.first row.size row.offset start (length bytes) from run at
+    meets = common (moved (line_of p.owner) (line_of kind) first p.first line) (moved (line_of kind) (line_of p.owner) p.first first (sym line)) refl refl
 
-  -- what cannot be where the store has the piece's bytes
-  pub compared_lost : {store : List ℕ} → (run ≡ 0 → ⊥) → length store - at < run → Compared store p first bytes None
-  compared_lost {store} nz h = record {
-    is = λ whole st near.
-        let k : run - 1 < run = last_below run nz in
-        let in-piece = meets.inside (run - 1) k in
-        absurd (none_lost _ _ _ _ _ at run _ refl h (meets.place whole.stored (run - 1) k) in-piece.0 in-piece.1 st.has);
-  }
+    pub compared_apart : {store : List ℕ} → run ≡ 0 → Compared store p kind first bytes None
+    compared_apart {store} z = record {
+      is = λ whole st near.
+          sym (differs_nowhere (shown store row).stretch start bytes (λ k h.
+          beside store row start bytes from run at meets st k h (elim (lt_or_le k from) [ inl low ↦ inl low | inr high ↦ inr (omega arith) ])));
+    }
 
-  pub compared_alike : {store : List ℕ} {j : ℕ} → Matching store at bytes from run j → run ≤ j → Compared store p first bytes None
-  compared_alike {store} m all = record {
-    is = λ whole st near. sym (differs_nowhere (shown store p).stretch first bytes (alike store p first bytes from run at meets st whole m all));
-  }
+    -- what cannot be where the store has the piece's bytes
+    pub compared_lost : {store : List ℕ} → (run ≡ 0 → ⊥) → length store - at < run → Compared store p kind first bytes None
+    compared_lost {store} nz h = record {
+      is = λ whole st near.
+          let k : run - 1 < run = last_below run nz in
+          let in-piece = meets.inside (run - 1) k in
+          absurd (none_lost _ _ _ _ _ at run _ refl h (meets.place whole.stored (run - 1) k) in-piece.0 in-piece.1 st.has);
+    }
 
-  pub compared_cell : {store : List ℕ} {j : ℕ} → Matching store at bytes from run j → j < run → Compared store p first bytes (Some (plus_up_to (plus_up_to first from) j))
-  compared_cell {store} {j} m less = record {
-    is = λ whole st near.
-        let small : from + j < length bytes = (meets.inside j less).2 in
-        ap {B = Option ℕ} some (cell_sum first from j _ _ (length bytes) small near refl refl)
-        ∙ sym (differs_at (shown store p).stretch first bytes (from + j) small (λ k h. upto store p first bytes from run at meets st whole m k h (omega arith)) (other store p first bytes from run at meets st whole m less));
-  }
+    pub compared_alike : {store : List ℕ} {j : ℕ} → Matching store at bytes from run j → run ≤ j → Compared store p kind first bytes None
+    compared_alike {store} m all = record {
+      is = λ whole st near. sym (differs_nowhere (shown store row).stretch start bytes (alike store row start bytes from run at meets st whole m all));
+    }
+
+    pub compared_cell : {store : List ℕ} {j : ℕ} → Matching store at bytes from run j → j < run → Compared store p kind first bytes (Some (plus_up_to (plus_up_to first from) j))
+    compared_cell {store} {j} m less = record {
+      is = λ whole st near.
+          let small : from + j < length bytes = (meets.inside j less).2 in
+          let sum : plus_up_to (plus_up_to first from) j ≡ first + (from + j) = cell_sum first from j _ _ (length bytes) small near refl refl in
+          ap {B = Option ℕ} some (ap (cell_place kind) sum ∙ line_sum (line_of kind) first (from + j))
+          ∙ sym (differs_at (shown store row).stretch start bytes (from + j) small (λ k h. upto store row start bytes from run at meets st whole m k h (omega arith)) (other store row start bytes from run at meets st whole m less));
+    }
 
 -- the steps, one for each return
-pub ruleset comparing = (compared_apart, compared_lost, compared_alike, compared_cell)
+pub ruleset comparing = (compared_other, compared_apart, compared_lost, compared_alike, compared_cell)

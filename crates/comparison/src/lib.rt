@@ -24,11 +24,20 @@ fn matching(store: &[u8], at: usize, bytes: &[u8], from: usize, run: usize) -> u
     run
 }
 
-// Compares the operation's bytes from `first` on with a piece: the first cell that differs, or none.
+// Compares the operation's bytes, of a kind from `first` on, with a piece: the first cell that differs, or none. A piece of another kind has no cell in common.
 #[tactic(auto, using(crate::proofs::Comparing::comparing))]
-pub fn first_difference(store: &[u8], piece: Piece, first: u64, bytes: &[u8]) -> Option<u64>
-    ensures { Compared store.now piece first bytes.now result }
+pub fn first_difference(
+    store: &[u8],
+    piece: Piece,
+    kind: u64,
+    first: u64,
+    bytes: &[u8],
+) -> Option<u64>
+    ensures { Compared store.now piece kind first bytes.now result }
 {
+    if piece.owner != kind {
+        return None;
+    }
     let skip = first.saturating_sub(piece.first);
     let from = piece.first.saturating_sub(first);
     let ours = (bytes.len() as u64).saturating_sub(from);

@@ -108,9 +108,9 @@ place_steady from (e ∷ es) m =
           inside = in-it;
           on = λ k h. place_in from e es (m + k) (omega arith) (omega arith) ∙ ap (λ (i : ℕ). record { day = e.day; minute = i; length = e.minutes }) (omega arith);
         })
-        | inr past-it ↦
+        | inr past_it ↦
             let rest = place_steady (suc e.day) es (m - (e.day - from) * day_minutes - e.minutes) in
-            rw (place_after from e es m reach past-it) (record {
+            rw (place_after from e es m reach past_it) (record {
               low = omega (arith, rest.low);
               inside = rest.inside;
               on = λ k h. place_after from e es (m + k) (omega arith) (omega arith) ∙ ap (place_from (suc e.day) es) (omega arith) ∙ rest.on k h;

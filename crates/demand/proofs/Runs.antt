@@ -11,7 +11,7 @@ use borrow.Author.Tests.{le-ltb, lt-ltb}
 use Rattle.lists.proofs.Numbers.{bool_cases}
 use Rattle.history.specs.Words.{Operation, Block}
 use Rattle.history.specs.Lent.{row_width, too_short}
-use Rattle.history.specs.Ledger.{Opening, Ledger, opened, finished, is_read, record_by, finish_by, install_by, install_days_by}
+use Rattle.history.specs.Ledger.{Opening, Ledger, opened, opens_kind, finished, is_read, record_by, finish_by, install_by, install_days_by}
 use Rattle.history.specs.Days.{Day}
 use Rattle.history.specs.Reads.{block_by, find_by, clock_label}
 use Rattle.tables.specs.Columns.{block_column, block_offset, pieces_root}
@@ -34,7 +34,8 @@ use Rattle.layout.specs.Relations.{opening_of, opened_tables, left_by, OpenedBy,
 use Rattle.layout.proofs.Recording.{record_blank, record_open}
 use Rattle.layout.proofs.Installing.{installed_blank, install_open, days_blank, days_open}
 use Rattle.layout.specs.Reads.{values_of}
-use Rattle.layout.proofs.ReadLaws.{clock_there, block_there, block_15, window_rest, into_gives, into_refuses}
+use Rattle.kind_mask.specs.Masks.{Taken}
+use Rattle.layout.proofs.ReadLaws.{opens_kind_lem, clock_there, block_there, block_15, window_25, window_rest, into_gives, into_refuses}
 use Rattle.layout.proofs.Opening.{open_accepted, get_d_zeros, opened_encodes, opened-lengths, opened_blank}
 use Rattle.layout.proofs.Depths.{shallow_trees}
 use Rattle.demand.specs.Theorem.{CallDone, Run, run_nil, run_cons, Finished, Balance, Demand3}
@@ -173,15 +174,16 @@ module _ (l : Ledger) (h : List Operation) (t : Tables) (s : Standing t l h) (do
   sound : Sound l
   sound = s.law.sound.sound
 
-  find-fits : (tick start stop room : ℕ) → tick < l.opening.end → start ≤ stop → length (find_by l tick start stop).numbers ≤ room
-      → find_answer l tick start stop room ≡ accepted (find_by l tick start stop)
-  find-fits tick start stop room a b c =
-      window_rest s.encodes done _ _ tick start stop (omega (arith, s.encodes.end)) b ∙ rw (le-ltb room (length (find_by l tick start stop).numbers) c)
+  module _ (kind : ℕ) (opens : opens_kind l kind ≡ true) (tick start stop room : ℕ) (below : tick < l.opening.end) (ordered : start ≤ stop) where
+    find-fits : length (find_by l kind tick start stop).numbers ≤ room → find_answer l kind tick start stop room ≡ accepted (find_by l kind tick start stop)
+    find-fits c =
+        window_rest s.encodes done _ _ kind tick start stop (sym (opens_kind_lem s.encodes kind) ∙ opens) (omega (arith, s.encodes.end)) ordered
+        ∙ rw (le-ltb room (length (find_by l kind tick start stop).numbers) c)
 
-  find_full : (tick start stop room : ℕ) → tick < l.opening.end → start ≤ stop → room < length (find_by l tick start stop).numbers
-      → find_answer l tick start stop room ≡ refused 16
-  find_full tick start stop room a b c =
-      window_rest s.encodes done _ _ tick start stop (omega (arith, s.encodes.end)) b ∙ rw (lt-ltb room (length (find_by l tick start stop).numbers) c)
+    find_full : room < length (find_by l kind tick start stop).numbers → find_answer l kind tick start stop room ≡ refused 16
+    find_full c =
+        window_rest s.encodes done _ _ kind tick start stop (sym (opens_kind_lem s.encodes kind) ∙ opens) (omega (arith, s.encodes.end)) ordered
+        ∙ rw (lt-ltb room (length (find_by l kind tick start stop).numbers) c)
 
 -- block by number hands out the block that is asked for, and refuses as the ledger does
 block_handed : {t : Tables} {k : ℕ} {answer : Answer Fields} {x : Answer Block} (b : Block) → BlockHanded t k answer x → x ≡ accepted b
@@ -201,11 +203,13 @@ finished_reads l h t s done cells = record {
   blocks = λ k answer d below. block_handed (block_by l k) (d.read.formed l s.encodes (sound l h t s done)) (block_there s.encodes done k below);
   no_more = λ k answer d above. number-handed (d.read.formed l s.encodes (sound l h t s done)) (block_15 s.encodes done k above);
   cells = cells;
-  finds = λ tick start stop below. find_sound l (sound l h t s done) done tick start stop below;
-  found = λ tick start stop out out' answer below ordered d room.
-      into_gives (d.read.formed l s.encodes (sound l h t s done)) (find-fits l h t s done tick start stop (length out) below ordered room);
-  no_room = λ tick start stop out out' answer below ordered d room.
-      into_refuses (d.read.formed l s.encodes (sound l h t s done)) (find_full l h t s done tick start stop (length out) below ordered room);
+  finds = λ kind tick start stop opens below. find_sound l (sound l h t s done) done kind opens tick start stop below;
+  found = λ kind tick start stop out out' answer opens below ordered d room.
+      into_gives (d.read.formed l s.encodes (sound l h t s done)) (find-fits l h t s done kind opens tick start stop (length out) below ordered room);
+  no_room = λ kind tick start stop out out' answer opens below ordered d room.
+      into_refuses (d.read.formed l s.encodes (sound l h t s done)) (find_full l h t s done kind opens tick start stop (length out) below ordered room);
+  unopened = λ kind tick start stop out out' answer other d.
+      into_refuses (d.read.formed l s.encodes (sound l h t s done)) (window_25 s.encodes done _ _ kind tick start stop (sym (opens_kind_lem s.encodes kind) ∙ other));
 }
 
 -- ── the clock ──
@@ -248,20 +252,20 @@ opened_pieces : (a : Opening) → (opened a).now.pieces ≡ []
 unfolding opened
 opened_pieces a = refl
 
-module _ (end kind : ℕ) (some_tick : 1 ≤ end) (end_most : end ≤ max_end_tick) (known_kind : kind ≤ 4) (t t₀ : Tables) (opening : Answer Unit)
-    (d : OpenedBy end kind t t₀ opening) where
+module _ (end : ℕ) (kinds : List ℕ) (some_tick : 1 ≤ end) (end_most : end ≤ max_end_tick) (given-kinds : Taken kinds) (t t₀ : Tables) (opening : Answer Unit)
+    (d : OpenedBy end kinds t t₀ opening) where
   abbrev fed : Opening
-  fed = opening_of end kind t
+  fed = opening_of end kinds t
 
   taken : open_answer fed ≡ accepted tt
-  taken = open_accepted fed some_tick end_most known_kind
+  taken = open_accepted fed some_tick end_most given-kinds.some_kind given-kinds.known
 
   opens : opening ≡ accepted tt
   opens = d.answered ∙ taken
 
-  left : t₀ ≡ opened_tables end kind t
+  left : t₀ ≡ opened_tables end kinds t
   unfolding left_by
-  left = d.left ∙ ap (λ (x : Answer Unit). left_by x t (opened_tables end kind t)) opens
+  left = d.left ∙ ap (λ (x : Answer Unit). left_by x t (opened_tables end kinds t)) opens
 
   same_end : (ks : List Call) → (after_all (opened fed) ks).opening.end ≡ end
   same_end ks = ap (λ (x : Opening). x.end) (opening_kept ks (opened fed) ∙ opened_opening fed)
@@ -270,9 +274,9 @@ module _ (end kind : ℕ) (some_tick : 1 ≤ end) (end_most : end ≤ max_end_ti
   standing : too_short (lengths_of t) ≡ false → Standing t₀ (opened fed) []
   unfolding after_all history
   standing fits = record {
-    encodes = subst (λ (x : Tables). Encodes x (opened fed)) (sym left) (opened_encodes end kind t fits);
+    encodes = subst (λ (x : Tables). Encodes x (opened fed)) (sym left) (opened_encodes end kinds t fits);
     law = the_law fed taken [];
-    blank = λ _. subst Blank (sym left) (opened_blank end kind t);
+    blank = λ _. subst Blank (sym left) (opened_blank end kinds t);
   }
 
   module _ {ks : List Call} {given : List (Answer Result)} {t' : Tables} (r : Run t₀ ks given t') where
@@ -280,19 +284,19 @@ module _ (end kind : ℕ) (some_tick : 1 ≤ end) (end_most : end ≤ max_end_ti
     short : too_short (lengths_of t) ≡ true → (given ≡ answers (opened fed) ks) × (after_all (opened fed) ks ≡ opened fed)
     short e =
         let lent : too_short (opened fed).opening.lent ≡ true = ap (λ (x : Opening). too_short x.lent) (opened_opening fed) ∙ e in
-        let table : too_short (lengths_of t₀) ≡ true = ap too_short (ap lengths_of left ∙ sym (opened-lengths end kind t)) ∙ e in
+        let table : too_short (lengths_of t₀) ≡ true = ap too_short (ap lengths_of left ∙ sym (opened-lengths end kinds t)) ∙ e in
         short_run (opened fed) lent table r
 
     short_balanced : too_short (lengths_of t) ≡ true → Balance (after_all (opened fed) ks) t'
     unfolding opened_tables
     short_balanced e =
-        let table : too_short (lengths_of t₀) ≡ true = ap too_short (ap lengths_of left ∙ sym (opened-lengths end kind t)) ∙ e in
-        let same : t' ≡ opened_tables end kind t = short_same table r ∙ left in
+        let table : too_short (lengths_of t₀) ≡ true = ap too_short (ap lengths_of left ∙ sym (opened-lengths end kinds t)) ∙ e in
+        let same : t' ≡ opened_tables end kinds t = short_same table r ∙ left in
         zeros_balanced (after_all (opened fed) ks) t' (ap (λ (l : Ledger). l.now.pieces) (short e).1 ∙ opened_pieces fed) (λ i. rw same (get_d_zeros (length t.pieces) i))
 
     short_clock : too_short (lengths_of t) ≡ true → (cell : ℕ) (answer : Answer ℕ) → ClockGivenBy t' cell answer → answer ≡ refused 2
     short_clock e cell answer c =
-        let table : too_short (lengths_of t₀) ≡ true = ap too_short (ap lengths_of left ∙ sym (opened-lengths end kind t)) ∙ e in
+        let table : too_short (lengths_of t₀) ≡ true = ap too_short (ap lengths_of left ∙ sym (opened-lengths end kinds t)) ∙ e in
         clock_short t' cell answer c (ap (λ (x : Tables). too_short (lengths_of x)) (short_same table r) ∙ table)
 
     days_are : (after_all (opened fed) ks).days ≡ last_days [] (opened fed) ks
@@ -303,34 +307,34 @@ module _ (end kind : ℕ) (some_tick : 1 ≤ end) (end_most : end ≤ max_end_ti
     short_open e done = false≢true (sym (opened_open fed) ∙ ap finished (sym (short e).1) ∙ done)
 
     -- after the calls the tables stand for the finished ledger
-    pub finished_encodes : finished (after_all (opened (opening_of end kind t)) ks) ≡ true → Encodes t' (after_all (opened (opening_of end kind t)) ks)
+    pub finished_encodes : finished (after_all (opened (opening_of end kinds t)) ks) ≡ true → Encodes t' (after_all (opened (opening_of end kinds t)) ks)
     finished_encodes done =
         elim (bool_cases (too_short (lengths_of t))) [ inl e ↦ absurd (short_open e done) | inr fits ↦ (runs (opened fed) [] (standing fits) r).1.encodes ]
 
 pub demand : Demand3
-demand end kind a b c t t₀ opening d =
+demand end kinds a b c t t₀ opening d =
     elim (bool_cases (too_short (lengths_of t))) [
       | inl e ↦ record {
-        opens = opens end kind a b c t t₀ opening d;
-        answered = λ ks given t' r. (short end kind a b c t t₀ opening d r e).0;
-        balance = λ ks given t' r. short_balanced end kind a b c t t₀ opening d r e;
+        opens = opens end kinds a b c t t₀ opening d;
+        answered = λ ks given t' r. (short end kinds a b c t t₀ opening d r e).0;
+        balance = λ ks given t' r. short_balanced end kinds a b c t t₀ opening d r e;
         clock = λ ks given t' r cell answer x fits. absurd (true≢false (sym e ∙ fits));
-        no_clock = λ ks given t' r cell answer x _. short_clock end kind a b c t t₀ opening d r e cell answer x;
-        done = λ ks given t' r done. absurd (short_open end kind a b c t t₀ opening d r e done);
+        no_clock = λ ks given t' r cell answer x _. short_clock end kinds a b c t t₀ opening d r e cell answer x;
+        done = λ ks given t' r done. absurd (short_open end kinds a b c t t₀ opening d r e done);
       }
       | inr fits ↦ (
-          let begun = opening_of end kind t in
-          let s = standing end kind a b c t t₀ opening d fits in
+          let begun = opening_of end kinds t in
+          let s = standing end kinds a b c t t₀ opening d fits in
           record {
-            opens = opens end kind a b c t t₀ opening d;
+            opens = opens end kinds a b c t t₀ opening d;
             answered = λ ks given t' r. (runs (opened begun) [] s r).0;
             balance = λ ks given t' r. stands_balanced t' (after_all (opened begun) ks) (runs (opened begun) [] s r).1.encodes;
             clock = λ ks given t' r cell answer x _.
                 clock_shows t' (after_all (opened begun) ks) (history [] (opened begun) ks) (runs (opened begun) [] s r).1 cell answer x
-                ∙ ap (λ (days : List Day). accepted (clock_label days cell)) (days_are end kind a b c t t₀ opening d r);
+                ∙ ap (λ (days : List Day). accepted (clock_label days cell)) (days_are end kinds a b c t t₀ opening d r);
             no_clock = λ ks given t' r cell answer x e. absurd (true≢false (sym e ∙ fits));
             done = λ ks given t' r e.
                 finished_reads (after_all (opened begun) ks) (history [] (opened begun) ks) t' (runs (opened begun) [] s r).1 e
-                (subst (λ (n : ℕ). Faithful n (after_all (opened begun) ks).now.blocks (history [] (opened begun) ks)) (sym (same_end end kind a b c t t₀ opening d ks)) ((every_list begun (taken end kind a b c t t₀ opening d) ks).faithful e));
+                (subst (λ (n : ℕ). Faithful n (after_all (opened begun) ks).now.blocks (history [] (opened begun) ks)) (sym (same_end end kinds a b c t t₀ opening d ks)) ((every_list begun (taken end kinds a b c t t₀ opening d) ks).faithful e));
           })
     ]

@@ -8,7 +8,7 @@ use Rattle.demand.proofs.Runs.{finished_encodes}
 pub cells_shown : CellsShown
 cells_shown = record {
   reached = cells_show_history;
-  called = λ end kind some_tick end_most known_kind t t₀ t' opening d ks given r done.
-      cells_show_history (opening_of end kind t) (open_accepted (opening_of end kind t) some_tick end_most known_kind) ks done t'
-      (finished_encodes end kind some_tick end_most known_kind t t₀ opening d r done);
+  called = λ end kinds some_tick end_most given-kinds t t₀ t' opening d ks given r done.
+      cells_show_history (opening_of end kinds t) (open_accepted (opening_of end kinds t) some_tick end_most given-kinds.some_kind given-kinds.known) ks done t'
+      (finished_encodes end kinds some_tick end_most given-kinds t t₀ opening d r done);
 }

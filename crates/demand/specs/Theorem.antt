@@ -3,7 +3,7 @@ use Rattle.std.specs.Prelude.{◌≡◌, true, false, List, [], ◌∷◌, ℕ, 
 use Rattle.std.proofs.lemmas.List.Edits.{sets}
 use Rattle.history.specs.Words.{Operation}
 use Rattle.history.specs.Lent.{too_short}
-use Rattle.history.specs.Ledger.{Ledger, opened, finished}
+use Rattle.history.specs.Ledger.{Ledger, opened, opens_kind, finished}
 use Rattle.history.specs.Reads.{block_by, find_by, clock_label}
 use Rattle.history.specs.Results.{Result}
 use Rattle.history.specs.Refusals.{Answer, accepted, refused, max_end_tick}
@@ -12,6 +12,7 @@ use Rattle.history.specs.Law.{Faithful, FindLaw}
 use Rattle.tables.specs.Columns.{column, pieces_root}
 use Rattle.merge_set.specs.Tree.{Tree, rows, height, Balanced}
 use Rattle.merge_set.specs.Table.{Shape}
+use Rattle.kind_mask.specs.Masks.{Taken}
 use Rattle.layout.specs.Tables.{Tables, lengths_of}
 use Rattle.layout.specs.Relations.{opening_of, OpenedBy, RecordedBy, FinishedBy, InstalledBy, DaysInstalledBy, ClockGivenBy, Counts, FoundBy, Fields, block_in, BlockGivenBy}
 
@@ -38,18 +39,22 @@ module _ (l : Ledger) (h : List Operation) (t : Tables) where
     pub blocks : (k : ℕ) (answer : Answer Fields) → BlockGivenBy t k answer → k < length l.now.blocks
         → (f : Fields) × (answer ≡ accepted f) × (block_in t.store f ≡ block_by l k)
     pub no_more : (k : ℕ) (answer : Answer Fields) → BlockGivenBy t k answer → length l.now.blocks ≤ k → answer ≡ refused 15
-    -- at every tick below the end a live block holds a cell exactly when a call of the history, of that tick or earlier, covered it, and its byte is
-    -- the last such call's; no two live blocks share a cell;
+    -- at every tick below the end a live block holds a kind's cell exactly when a call of the history, of that kind and of that tick or earlier, covered it,
+    -- and its byte is the last such call's; no two live blocks share a kind's cell;
     pub cells : Faithful l.opening.end l.now.blocks h
-    -- for every start ≤ end find lists exactly the live blocks whose first cell is in [start, end), each once, in document 01's order,
-    pub finds : (tick start stop : ℕ) → tick < l.opening.end → FindLaw l tick start stop
+    -- for every opened kind and every start ≤ end find lists exactly the live blocks of the kind whose first cell is in [start, end), each once, in document
+    -- 01's order,
+    pub finds : (kind tick start stop : ℕ) → opens_kind l kind ≡ true → tick < l.opening.end → FindLaw l kind tick start stop
     -- and says how many, if the lent answer holds them, and else refuses 16.
-    pub found : (tick start stop : ℕ) (out out' : List ℕ) (answer : Answer Counts) → tick < l.opening.end → start ≤ stop
-        → FoundBy t tick start stop out out' answer → length (find_by l tick start stop).numbers ≤ length out
-        → (answer ≡ accepted (record { count = length (find_by l tick start stop).numbers; visited = (find_by l tick start stop).visited }))
-        × (out' ≡ sets out 0 (find_by l tick start stop).numbers)
-    pub no_room : (tick start stop : ℕ) (out out' : List ℕ) (answer : Answer Counts) → tick < l.opening.end → start ≤ stop
-        → FoundBy t tick start stop out out' answer → length out < length (find_by l tick start stop).numbers → (answer ≡ refused 16) × (out' ≡ out)
+    pub found : (kind tick start stop : ℕ) (out out' : List ℕ) (answer : Answer Counts) → opens_kind l kind ≡ true → tick < l.opening.end → start ≤ stop
+        → FoundBy t kind tick start stop out out' answer → length (find_by l kind tick start stop).numbers ≤ length out
+        → (answer ≡ accepted (record { count = length (find_by l kind tick start stop).numbers; visited = (find_by l kind tick start stop).visited }))
+        × (out' ≡ sets out 0 (find_by l kind tick start stop).numbers)
+    pub no_room : (kind tick start stop : ℕ) (out out' : List ℕ) (answer : Answer Counts) → opens_kind l kind ≡ true → tick < l.opening.end → start ≤ stop
+        → FoundBy t kind tick start stop out out' answer → length out < length (find_by l kind tick start stop).numbers → (answer ≡ refused 16) × (out' ≡ out)
+    -- A kind that was not opened is refused 25.
+    pub unopened : (kind tick start stop : ℕ) (out out' : List ℕ) (answer : Answer Counts) → opens_kind l kind ≡ false
+        → FoundBy t kind tick start stop out out' answer → (answer ≡ refused 25) × (out' ≡ out)
 
 -- ── the tree of pieces ──
 
@@ -64,25 +69,25 @@ pub record Balance (l : Ledger) (t : Tables) : Type 0 where
 
 -- ── the demand ──
 
--- For one opening: the end tick, the kind, and tables of any lengths and contents.
-pub record Demand (end kind : ℕ) (t t₀ : Tables) (opening : Answer Unit) : Type 0 where
+-- For one opening: the end tick, the kinds, and tables of any lengths and contents.
+pub record Demand (end : ℕ) (kinds : List ℕ) (t t₀ : Tables) (opening : Answer Unit) : Type 0 where
   -- opening is accepted;
   pub opens : opening ≡ accepted tt
   -- each call gets the answer of the ledger (of tables too short, 2 every time);
-  pub answered : (ks : List Call) (given : List (Answer Result)) (t' : Tables) → Run t₀ ks given t' → given ≡ answers (opened (opening_of end kind t)) ks
+  pub answered : (ks : List Call) (given : List (Answer Result)) (t' : Tables) → Run t₀ ks given t' → given ≡ answers (opened (opening_of end kinds t)) ks
   -- after every list of calls the tree of pieces is balanced;
-  pub balance : (ks : List Call) (given : List (Answer Result)) (t' : Tables) → Run t₀ ks given t' → Balance (after_all (opened (opening_of end kind t)) ks) t'
+  pub balance : (ks : List Call) (given : List (Answer Result)) (t' : Tables) → Run t₀ ks given t' → Balance (after_all (opened (opening_of end kinds t)) ks) t'
   -- after every list of calls the clock gives the label of a cell by the list of days that was accepted last, of an open or a closed index; tables too
   -- short give 2;
   pub clock : (ks : List Call) (given : List (Answer Result)) (t' : Tables) → Run t₀ ks given t' → (cell : ℕ) (answer : Answer ℕ) → ClockGivenBy t' cell answer
-      → too_short (lengths_of t) ≡ false → answer ≡ accepted (clock_label (last_days [] (opened (opening_of end kind t)) ks) cell)
+      → too_short (lengths_of t) ≡ false → answer ≡ accepted (clock_label (last_days [] (opened (opening_of end kinds t)) ks) cell)
   pub no_clock : (ks : List Call) (given : List (Answer Result)) (t' : Tables) → Run t₀ ks given t' → (cell : ℕ) (answer : Answer ℕ) → ClockGivenBy t' cell answer
       → too_short (lengths_of t) ≡ true → answer ≡ refused 2
   -- after an accepted finish, and after every list of days that is installed then, all the above.
-  pub done : (ks : List Call) (given : List (Answer Result)) (t' : Tables) → Run t₀ ks given t' → finished (after_all (opened (opening_of end kind t)) ks) ≡ true
-      → Finished (after_all (opened (opening_of end kind t)) ks) (history [] (opened (opening_of end kind t)) ks) t'
+  pub done : (ks : List Call) (given : List (Answer Result)) (t' : Tables) → Run t₀ ks given t' → finished (after_all (opened (opening_of end kinds t)) ks) ≡ true
+      → Finished (after_all (opened (opening_of end kinds t)) ks) (history [] (opened (opening_of end kinds t)) ks) t'
 
--- For every end tick from 1 to 2^63, every kind, every length of all that is lent.
+-- For every end tick from 1 to 2^63, every set of kinds, every length of all that is lent.
 abbrev pub Demand3 : Type 0
-Demand3 = (end kind : ℕ) → 1 ≤ end → end ≤ max_end_tick → kind ≤ 4 → (t t₀ : Tables) (opening : Answer Unit) → OpenedBy end kind t t₀ opening
-    → Demand end kind t t₀ opening
+Demand3 = (end : ℕ) (kinds : List ℕ) → 1 ≤ end → end ≤ max_end_tick → Taken kinds → (t t₀ : Tables) (opening : Answer Unit) → OpenedBy end kinds t t₀ opening
+    → Demand end kinds t t₀ opening

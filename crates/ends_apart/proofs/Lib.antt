@@ -1,1 +1,2 @@
+pub mod Topping
 pub mod Turning

@@ -1,9 +1,10 @@
 // H1 of apart_laws along the rows of a block table: no two blocks with a life that are destroyed at one tick share a cell. In recorded order destroyed
-// ticks rise, and what one update destroys ascends; so each row is held against the one end that the rows of its tick have reached. Where a tick has
-// several updates, a row is held against the rows of its tick one by one.
+// ticks rise, and what one update destroys ascends; so each row is held against the one end that the rows of its tick and kind have reached. Where a tick
+// has several updates of a kind, a row is held against the rows of its tick one by one.
 //
 //   specs/Rows       what a row says, and which cells it has
-//   specs/Turns      H1, the rows of the last tick, and what the test says
+//   specs/Turns      H1, how far each kind has got, the rows of the last tick, and what the test says
+//   proofs/Topping   the ends that the kinds have reached
 //   proofs/Turning   a row more: one step for each turn, and for each return of `with`
 
 #![tactic(auto)]
@@ -20,7 +21,7 @@ const MANY: u64 = 64;
 fn parted(row: Row, own: Row) -> bool
     ensures { Parted row own result }
 {
-    !row.lives() || row.ends_by(own.first) || own.ends_by(row.first)
+    !row.lives() || row.owner != own.owner || row.ends_by(own.first) || own.ends_by(row.first)
 }
 
 // Whether each of the rows above `low` up to k is parted from the other; of many nothing is said.
@@ -33,11 +34,72 @@ fn clear_back(blocks: &[u64], low: u64, k: u64, own: Row) -> bool
     (low..k).all(|i| parted(block_table::read(blocks, i + 1), own))
 }
 
-// The rows of the last tick that was met: those above `low`, none of which ends after `top`.
+// The end that each kind has reached.
+#[derive(Clone, Copy, Default)]
+struct Tops {
+    constant: u64,
+    memory: u64,
+    register: u64,
+    unique: u64,
+    other: u64,
+}
+
+impl Tops {
+    ghost use Rattle.ends_apart.specs.Turns.{TopOf, Raised, Pushed};
+
+    // That of a kind; kinds above 4, which no sound table has, count as the last.
+    #[tactic(auto, using(crate::proofs::Topping::topping))]
+    fn top_of(self, kind: u64) -> u64
+        ensures { TopOf self kind result }
+    {
+        match kind {
+            0 => self.constant,
+            1 => self.memory,
+            2 => self.register,
+            3 => self.unique,
+            _ => self.other,
+        }
+    }
+
+    // With another end for a kind.
+    #[tactic(auto, using(crate::proofs::Topping::topping))]
+    fn raised(self, kind: u64, end: u64) -> Tops
+        ensures { Raised self kind end result }
+    {
+        match kind {
+            0 => Tops {
+                constant: end,
+                ..self
+            },
+            1 => Tops {
+                memory: end,
+                ..self
+            },
+            2 => Tops {
+                register: end,
+                ..self
+            },
+            3 => Tops {
+                unique: end,
+                ..self
+            },
+            _ => Tops { other: end, ..self },
+        }
+    }
+
+    // With the end for a kind, where that is higher.
+    fn pushed(self, kind: u64, end: u64) -> Tops
+        ensures { Pushed self kind end result }
+    {
+        self.raised(kind, self.top_of(kind).max(end))
+    }
+}
+
+// The rows of the last tick that was met: those above `low`, none of which ends after the top of its kind.
 #[derive(Clone, Copy, Default)]
 struct Run {
     tick: u64,
-    top: u64,
+    tops: Tops,
     low: u64,
 }
 
@@ -48,7 +110,7 @@ impl Run {
     fn clear_of(self, blocks: &[u64], k: u64, own: Row) -> bool
         ensures { Follows blocks.now self k own result }
     {
-        self.top <= own.first || clear_back(blocks, self.low, k, own)
+        self.tops.top_of(own.owner) <= own.first || clear_back(blocks, self.low, k, own)
     }
 
     // The last run with the row behind k, or none where that may share a cell with a row of its tick.
@@ -63,7 +125,7 @@ impl Run {
         if self.tick < row.destroyed {
             return Some(Run {
                 tick: row.destroyed,
-                top: end,
+                tops: Tops::default().pushed(row.owner, end),
                 low: k,
             });
         }
@@ -71,7 +133,7 @@ impl Run {
             return None;
         }
         Some(Run {
-            top: self.top.max(end),
+            tops: self.tops.pushed(row.owner, end),
             ..self
         })
     }

@@ -3,10 +3,11 @@ use mathlib.Core.Path.{◌≡◌, refl, sym, ap, ◌∙◌}
 use mathlib.Core.Logic.{inl, inr, ⊎_elim}
 use mathlib.Core.Bool.{Bool, true, false, cond}
 use mathlib.Core.List.{List, [], ◌∷◌, ◌++◌}
-use Prim.Native.Nat.{ℕ, ◌+◌, ◌*◌, ◌<◌}
+use Prim.Native.Nat.{ℕ, ◌+◌, ◌*◌, ◌%◌, ◌≤◌, ◌<◌}
 use native.Mathlib.Omega.{arith}
 use lib.ListN.{length, replicate, length-replicate}
 use lib.Seq.{sets}
+use Rattle.lists.specs.Lists.{all_nil, all_cons}
 use Rattle.std.specs.Prelude.{Option, Some, None, Err, ok_or}
 use Rattle.refusals.specs.declared.Refusal.{Refusal}
 use Rattle.refusals.specs.declared.Refusal.TheVariants.{FileTree}
@@ -28,6 +29,8 @@ use Rattle.layout.specs.Encodes.{closed_state}
 use Rattle.layout.specs.Rows.{head_numbers}
 use Rattle.layout.specs.Files.{loaded_head}
 use Rattle.file_load.specs.Load.{judgement, Judged, HeadPut, verdict, PartsAt, Built}
+use Rattle.kind_mask.specs.Masks.{mask_of, MaskGiven}
+use Rattle.file_load.proofs.OneKind.{blocks_read}
 use Rattle.file_load.proofs.Standing.{Filled, judged_is, loaded}
 
 -- ── the head ──
@@ -36,12 +39,21 @@ use Rattle.file_load.proofs.Standing.{Filled, judged_is, loaded}
 zeros_before : (n : ℕ) (l xs : List ℕ) → sets (sets l 0 (replicate n 0)) n xs ≡ sets l 0 (replicate n 0 ++ xs)
 zeros_before n l xs = sym (sets-append l 0 (replicate n 0) xs ∙ ap (λ (k : ℕ). sets (sets l 0 (replicate n 0)) k xs) (let z = length-replicate {A = ℕ} n 0 in omega arith))
 
-pub head_put : {blocks b₁ b₂ : List ℕ} {e kind n used : ℕ} → ZerosFirst blocks b₁ block_base
-    → b₂ ≡ sets b₁ (row_width * 0 + block_base) (head_numbers closed_state e kind n used 0) → HeadPut blocks b₂ e kind n used
+-- the mask of one kind, as a byte
+one_mask : {kind mask : ℕ} → kind ≤ 4 → MaskGiven (kind % 256 ∷ []) mask → mask ≡ mask_of (kind ∷ [])
+one_mask {kind} {mask} low given =
+    let byte : kind % 256 ≡ kind = omega arith in
+    let m : MaskGiven (kind ∷ []) mask = rw byte at given in
+    (m.some (λ z. m.none z (record { some_kind = omega arith; known = all_cons low all_nil }))).1
+
+pub head_put : {blocks b₁ b₂ : List ℕ} {e kind mask n used : ℕ} → ZerosFirst blocks b₁ block_base → MaskGiven (kind % 256 ∷ []) mask
+    → b₂ ≡ sets b₁ (row_width * 0 + block_base) (head_numbers closed_state e mask n used 0) → HeadPut blocks b₂ e kind n used
 unfolding loaded_head
-head_put {blocks} {b₁} {b₂} {e} {kind} {n} {used} cleared wrote =
-    let row : List ℕ = head_numbers closed_state e kind n used 0 in
-    record { is = wrote ∙ ap (λ (l : List ℕ). sets l block_base row) cleared.is ∙ zeros_before block_base blocks row }
+head_put {blocks} {b₁} {b₂} {e} {kind} {mask} {n} {used} cleared is wrote = record {
+  is = λ low.
+      let row : List ℕ = head_numbers closed_state e (mask_of (kind ∷ [])) n used 0 in
+      (rw (one_mask low is) at wrote) ∙ ap (λ (l : List ℕ). sets l block_base row) cleared.is ∙ zeros_before block_base blocks row;
+}
 
 -- ── the verdict ──
 
@@ -114,7 +126,7 @@ module _ (file : List ℕ) (kind n used start root : ℕ) {blocks store nodes en
 
   module _ {e : ℕ} (some_end : o ≡ Some e) {b₂ : List ℕ}
       (head : HeadPut b₁ b₂ e kind n used)
-      {r : Answer (Unit {0})} (judged : Judged (lent b₂ nodes' entries') kind e n r) where
+      {r : Answer (Unit {0})} (judged : Judged (lent b₂ nodes' entries') e n r) where
     keeps_21 : (f : File) → PartsAt file kind n used start root f → rule21 f.nodes ≡ true
     keeps_21 f q =
         ⊎_elim (λ y. y) (λ y. let ends = sym some_end ∙ filled-nodes.wrong f.nodes q.nodes_end q.nodes y in absurd (cc)) (bool_cases (rule21 f.nodes))
@@ -127,7 +139,7 @@ module _ (file : List ℕ) (kind n used start root : ℕ) {blocks store nodes en
           rows_are = filled_blocks.rows f.blocks root q.blocks;
           bytes_are = filled_blocks.bytes f.blocks root q.blocks;
           tree_is = rw some_end at (filled-nodes.right f.nodes q.nodes_end q.nodes (keeps_21 f q));
-          head_is = head.is;
+          head_is = head.is q.known_kind;
           count = q.count;
           bytes = q.bytes;
           own_kind = q.own_kind;
@@ -137,6 +149,7 @@ module _ (file : List ℕ) (kind n used start root : ℕ) {blocks store nodes en
           entry_room = r20.entries;
           byte_room = r20.bytes;
           rule_21 = (rule21_decides f.nodes).yes (keeps_21 f q);
+          read_as = rw q.own_kind at (blocks_read kind n file start q.blocks);
         }
 
     -- 22 to 24, or none

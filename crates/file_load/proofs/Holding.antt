@@ -30,10 +30,6 @@ module _ {table : List ℕ} {place : ℕ} (xs ys : List ℕ) (h : HoldsAt table 
 pub holds_moved : {table : List ℕ} {p q : ℕ} {xs : List ℕ} → p ≡ q → HoldsAt table p xs → HoldsAt table q xs
 holds_moved e h = rw e at h
 
--- a table that is the same there
-pub holds_same : {t t' : List ℕ} {p : ℕ} {xs : List ℕ} → ((j : ℕ) → j < length xs → get_or t' (p + j) 0 ≡ get_or t (p + j) 0) → HoldsAt t p xs → HoldsAt t' p xs
-holds_same same h = record { says = λ j p. same j p ∙ h.says j p }
-
 -- the part of the table is the numbers
 pub holds_part : (table : List ℕ) (place : ℕ) (xs : List ℕ) → place + length xs ≤ length table → HoldsAt table place xs → take (length xs) (drop place table) ≡ xs
 holds_part table place xs room h =

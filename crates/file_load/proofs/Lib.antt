@@ -1,4 +1,5 @@
 -- Laws that belong to no one function.
+pub mod OneKind
 pub mod Holding
 pub mod Rows
 pub mod Trees

@@ -5,12 +5,12 @@ use mathlib.Core.List.{List, [], ◌∷◌, map, flat_map}
 use Prim.Native.Nat.{ℕ, suc, ◌+◌, ◌*◌, ◌≤◌, ◌<◌}
 use native.Mathlib.Omega.{arith}
 use lib.ListN.{length, get_or, take, drop, length-append}
-use Rattle.lists.specs.Lists.{count_from, sum_of}
+use Rattle.lists.specs.Lists.{All, all_nil, all_cons, count_from, sum_of}
 use Rattle.lists.proofs.Numbers.{eq_or_ne}
 use Rattle.history.specs.Lent.{row_width}
-use Rattle.history.specs.Words.{Block, size}
+use Rattle.history.specs.Words.{Block, line_of, cell_place, size}
 use Rattle.tables.specs.Columns.{block_column, block_base, block_first, block_length, block_created, block_destroyed, block_offset, block_owner}
-use Rattle.block_table.specs.Blocks.{row_at, length_at, offset_at, block_of_row, blocks_of, Stored}
+use Rattle.block_table.specs.Blocks.{row_at, owner_at, first_cell_at, length_at, offset_at, block_of_row, blocks_of, Stored}
 use Rattle.block_table.proofs.Blocks.{shown_is}
 use Rattle.file_scan.specs.Counts.{bytes_in}
 use Rattle.layout.specs.Rows.{block_numbers, blocks_numbers}
@@ -49,13 +49,16 @@ module _ (t store : List ℕ) (rows used : ℕ) (b : Block) (row : HoldsAt t (ro
   unfolding block_numbers
   row_length = at block_length (omega arith)
 
-  -- the row is the block
-  pub row_is : used + size b.stretch ≤ length store → HoldsAt store used b.stretch.bytes → block_of_row store t (suc rows) ≡ b
+  -- the row is the block, which is on its line
+  pub row_is : line_of b.kind ≤ b.stretch.first → used + size b.stretch ≤ length store → HoldsAt store used b.stretch.bytes → block_of_row store t (suc rows) ≡ b
   unfolding block_of_row block_numbers
-  row_is room bytes =
+  row_is line room bytes =
       let part : take (length_at t (suc rows)) (drop (offset_at t (suc rows)) store) ≡ b.stretch.bytes =
       ap₂ (λ (n m : ℕ). take n (drop m store)) row_length row_offset ∙ holds_part store used b.stretch.bytes room bytes in
-      shown_is store (row_at t (suc rows)) b (at block_owner (omega arith)) (at block_first (omega arith)) part (at block_created (omega arith)) (at block_destroyed (omega arith))
+      let own : owner_at t (suc rows) ≡ b.kind = at block_owner (omega arith) in
+      let place : cell_place (owner_at t (suc rows)) (first_cell_at t (suc rows)) ≡ b.stretch.first =
+      ap₂ (λ (k c : ℕ). cell_place k c) own (at block_first (omega arith)) ∙ omega (arith, line) in
+      shown_is store (row_at t (suc rows)) b own place part (at block_created (omega arith)) (at block_destroyed (omega arith))
 
 -- ── all rows ──
 
@@ -65,16 +68,16 @@ row_long rows used b = omega arith
 
 module _ (t store : List ℕ) where
   -- the rows behind so many rows, with bytes behind the used ones
-  rows_are : (rows used : ℕ) (bs : List Block) → used + bytes_in bs ≤ length store → HoldsAt t (row_width * suc rows + block_base) (blocks_numbers used bs)
+  rows_are : (rows used : ℕ) (bs : List Block) → All (λ (b : Block). line_of b.kind ≤ b.stretch.first) bs → used + bytes_in bs ≤ length store → HoldsAt t (row_width * suc rows + block_base) (blocks_numbers used bs)
       → HoldsAt store used (bytes_of_all bs) → map (block_of_row store t) (count_from (suc rows) (length bs)) ≡ bs
   unfolding blocks_numbers flat_map count_from sum_of
-  rows_are rows used [] room h s = refl
-  rows_are rows used (b ∷ bs) room h s =
+  rows_are rows used [] all_nil room h s = refl
+  rows_are rows used (b ∷ bs) (all_cons l ls) room h s =
       let own = holds_left (block_numbers used b) (blocks_numbers (used + size b.stretch) bs) h in
       let rest = holds_moved (row_long rows used b) (holds_right (block_numbers used b) (blocks_numbers (used + size b.stretch) bs) h) in
       ap₂ (λ (x : Block) (xs : List Block). x ∷ xs)
-      (row_is t store rows used b own (omega arith) (holds_left b.stretch.bytes (bytes_of_all bs) s))
-      (rows_are (suc rows) (used + size b.stretch) bs (omega arith) rest (holds_right b.stretch.bytes (bytes_of_all bs) s))
+      (row_is t store rows used b own l (omega arith) (holds_left b.stretch.bytes (bytes_of_all bs) s))
+      (rows_are (suc rows) (used + size b.stretch) bs ls (omega arith) rest (holds_right b.stretch.bytes (bytes_of_all bs) s))
 
   -- their bytes are inside
   rows_stored : (rows used : ℕ) (bs : List Block) → HoldsAt t (row_width * suc rows + block_base) (blocks_numbers used bs)
@@ -92,9 +95,9 @@ module _ (t store : List ℕ) where
       ]
 
   module _ (bs : List Block) (h : HoldsAt t (row_width * 1 + block_base) (blocks_numbers 0 bs)) where
-    pub filled_blocks : bytes_in bs ≤ length store → HoldsAt store 0 (bytes_of_all bs) → blocks_of store t (length bs) ≡ bs
+    pub filled_blocks : All (λ (b : Block). line_of b.kind ≤ b.stretch.first) bs → bytes_in bs ≤ length store → HoldsAt store 0 (bytes_of_all bs) → blocks_of store t (length bs) ≡ bs
     unfolding blocks_of
-    filled_blocks room s = rows_are 0 0 bs (omega arith) h s
+    filled_blocks lines room s = rows_are 0 0 bs lines (omega arith) h s
 
     pub filled_stored : Stored (bytes_in bs) t (length bs)
     filled_stored = record { inside = λ link p q. omega (arith, rows_stored 0 0 bs h link p (omega arith)) }

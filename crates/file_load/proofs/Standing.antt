@@ -3,27 +3,31 @@ use mathlib.Core.Path.{◌≡◌, refl, sym, ◌∙◌, ap, ap₂, subst}
 use mathlib.Core.Logic.{inl, inr, ⊎_elim}
 use mathlib.Core.Bool.{true, false, true≢false, false≢true}
 use mathlib.Core.List.{List, [], ◌∷◌, ◌++◌}
-use Prim.Native.Nat.{ℕ, suc, ◌+◌, ◌*◌, ◌-◌, ◌/◌, ◌≤◌, ◌<◌, max}
+use Prim.Native.Nat.{ℕ, zero, suc, ◌+◌, ◌*◌, ◌-◌, ◌/◌, ◌≤◌, ◌<◌, max}
 use native.Mathlib.Omega.{arith}
 use lib.ListN.{length, get_or, replicate, length-append, length-replicate}
 use lib.Seq.{sets, length-sets}
 use Rattle.std.specs.Prelude.{Some}
-use Rattle.lists.specs.Lists.{All, all_nil, all_cons, has, count_from}
+use Rattle.lists.specs.Lists.{All, all_nil, all_cons, pairs_nil, pairs_cons, has, count_from}
 use Rattle.lists.proofs.Lists.{all_at, all_map, count_from_length}
 use Rattle.lists.proofs.Numbers.{bool_cases, lt_or_le}
 use Rattle.lists.proofs.Stores.{get_d_sets_out, sets_before}
 use Rattle.history.specs.Lent.{row_width, entry_width, block_head, node_head, entry_head, piece_head}
 use Rattle.history.specs.Words.{Block}
-use Rattle.history.specs.Tree.{Tree, hole, node, node_count, entry_count, entries_in, key_in}
+use Rattle.history.specs.Tree.{Tree, hole, node, no_block, block_at, node_count, entry_count, entries_in, key_in}
+use Rattle.history.specs.Sound.{SoundKinds}
 use Rattle.history.specs.Rules.{is_hole, rule23}
-use Rattle.history.specs.File.{Nodes, absent, present, File, tree_from, end_of, rule22, loaded_from, loaded_ledger}
+use Rattle.history.specs.File.{Nodes, absent, present, File, tree_from, end_of, rule22, trees_with, loaded_from, loaded_ledger}
 use Rattle.history.proofs.TreeCounts.{entry_count_in}
 use Rattle.history.proofs.RulesLaws.{numbered_decides, rule23_decides}
 use Rattle.history.proofs.FileRules.{Rule21, Rule22, rule22_decides}
 use Rattle.history.proofs.FileContents.{Entered, rules_enter}
-use Rattle.tables.specs.Columns.{front_calendar, front_days, block_column, block_base, block_first, head_state, head_end, head_kind, head_count, head_used, head_last}
-use Rattle.block_table.specs.Blocks.{Room, blocks_of, Stored}
-use Rattle.block_table.proofs.Blocks.{blocks_key}
+use Rattle.tables.specs.Columns.{block_column, block_base, block_first, head_state, head_end, head_kinds, head_count, head_used, head_last, front_calendar, front_days}
+use Rattle.block_table.specs.Blocks.{owner_at, block_of_row, blocks_of, Stored}
+use Rattle.block_table.proofs.Blocks.{blocks_at, blocks_key}
+use Rattle.history.proofs.ByKind.{set_same}
+use Rattle.kind_mask.specs.Masks.{mask_of}
+use Rattle.kind_mask.proofs.Masks.{mask_below, mask_kinds}
 use Rattle.segment_table.specs.Closed.{first_cell_in, Closed}
 use Rattle.segment_test.specs.Test.{lent}
 use Rattle.file_scan.specs.Counts.{bytes_in}
@@ -40,6 +44,7 @@ use Rattle.layout.proofs.Lengths.{lent_same, fit_heads}
 use Rattle.layout.proofs.Opening.{get_d_zeros, no_links}
 use Rattle.history.specs.Refusals.{Answer}
 use Rattle.file_load.specs.Load.{Ready, Judged, judgement}
+use Rattle.file_load.proofs.OneKind.{ReadAs, read_lined}
 use Rattle.file_load.proofs.Holding.{HoldsAt, written_holds, holds_left, holds_right, holds_moved, holds_part}
 use Rattle.file_load.proofs.Rows.{numbers_length, bytes_length, filled_blocks, filled_stored}
 use Rattle.file_load.proofs.Trees.{entries_used_lem, tree_closed}
@@ -59,6 +64,10 @@ some_node : (T : Tree) → is_hole T ≡ false → 0 < node_count T
 unfolding node_count
 some_node hole h = absurd (true≢false h)
 some_node (node es l r) h = omega arith
+
+-- a known kind alone is a set
+one_sound : (kind : ℕ) → kind ≤ 4 → SoundKinds (kind ∷ [])
+one_sound kind low = record { some_kind = omega arith; known = all_cons low all_nil; ascending = pairs_cons all_nil pairs_nil }
 
 -- ── numbers ──
 
@@ -86,6 +95,7 @@ pub record Filled (f : File) (kind n used e : ℕ) (blocks store nodes entries r
   pub entry_room : entry_count (tree_from f.nodes) ≤ (length entries - entry_head) / entry_width
   pub byte_room : bytes_in f.blocks ≤ length store
   pub rule_21 : Rule21 f.nodes
+  pub read_as : All (ReadAs f.kind) f.blocks
 
 module _ {f : File} {kind n used e : ℕ} {blocks store nodes entries b₁ b₂ store' nodes' entries' : List ℕ}
     (F : Filled f kind n used e blocks store nodes entries b₁ b₂ store' nodes' entries') where
@@ -146,7 +156,7 @@ module _ {f : File} {kind n used e : ℕ} {blocks store nodes entries b₁ b₂ 
   -- ── blocks ──
 
   abbrev head_row : List ℕ
-  head_row = head_numbers closed_state e kind n used 0
+  head_row = head_numbers closed_state e (mask_of (kind ∷ [])) n used 0
 
   abbrev block_list : List ℕ
   block_list = loaded_head e kind n used ++ blocks_numbers 0 bs
@@ -199,9 +209,6 @@ module _ {f : File} {kind n used e : ℕ} {blocks store nodes entries b₁ b₂ 
         (omega (arith, length-replicate {A = ℕ} block_base 0))
         ∙ get_d_zeros block_base i
 
-    rows_room : Room b₂ n
-    rows_room = omega (arith, head_long, block_fits)
-
     -- the head's columns
     head_column : (c : ℕ) → c < row_width → block_column b₂ 0 c ≡ get_or head_row c 0
     head_column c h = let z : row_width * 0 + (block_base + c) ≡ block_base + c = omega arith in rw z (head_hold.says c h)
@@ -212,12 +219,22 @@ module _ {f : File} {kind n used e : ℕ} {blocks store nodes entries b₁ b₂ 
     blocks_are : blocks_of store' b₂ n ≡ bs
     blocks_are =
         ap (blocks_of store' b₂) F.count
-        ∙ filled_blocks b₂ store' bs row_list (omega (arith, store_long, F.byte_room)) store_holds
+        ∙ filled_blocks b₂ store' bs row_list (all_map read_lined F.read_as) (omega (arith, store_long, F.byte_room)) store_holds
 
     stored : Stored used b₂ n
     stored =
         let s : Stored (bytes_in bs) b₂ (length bs) = filled_stored b₂ store' bs row_list in
         rw (← F.bytes, ← F.count) at s
+
+    -- the rows are of the file's kind
+    owners : (link : ℕ) → 0 < link → link ≤ n → owner_at b₂ link ≡ kind
+    unfolding block_of_row
+    owners zero a b = absurd (omega arith)
+    owners (suc k) a b =
+        sym (ap (λ (x : Block). x.kind) (blocks_at store' b₂ n k no_block b))
+        ∙ ap (λ (xs : List Block). (block_at xs k).kind) blocks_are
+        ∙ (all_at no_block F.read_as k (omega (arith, F.count))).own
+        ∙ sym F.own_kind
 
     -- entries carry the first cells of the table
     keys : (k : ℕ) → first_cell_of b₁ k ≡ first_cell_in b₂ k
@@ -227,7 +244,7 @@ module _ {f : File} {kind n used e : ℕ} {blocks store nodes entries b₁ b₂ 
         (ap (λ (u : List ℕ). get_or u i 0) F.head_is
         ∙ get_d_sets_out (loaded_head e kind n used) b₁ 0 i (inr (omega (arith, head_list_long))))
 
-    closed : entry_head ≤ length entries → Closed (lent b₂ nodes' entries') kind (end_of f.nodes) T
+    closed : entry_head ≤ length entries → Closed (lent b₂ nodes' entries') (end_of f.nodes) (trees_with kind T)
     closed h =
         tree_closed (lent b₂ nodes' entries') kind (end_of f.nodes) T (first_cell_of b₁) F.known_kind root_there F.rule_21.halves keys nodes_hold (entries_hold h)
         (omega (arith, nodes_long, node_fits)) (omega (arith, entries_long, entry_fits h))
@@ -252,6 +269,8 @@ module _ {f : File} {kind n used e : ℕ} {blocks store nodes entries b₁ b₂ 
 
     pub ready : Ready (lent b₂ nodes' entries') kind e n store' T
     ready = record {
+      known_kind = F.known_kind;
+      owners = owners;
       room = omega (arith, head_long, block_fits);
       stored = record { inside = λ link a b. omega (arith, stored.inside link a b, used_fits) };
       rooted = root_there;
@@ -267,8 +286,8 @@ module _ {f : File} {kind n used e : ℕ} {blocks store nodes entries b₁ b₂ 
     }
 
     -- so the judgement is the file's
-    pub judged_is : {r : Answer (Unit {0})} → Judged (lent b₂ nodes' entries') kind e n r → r ≡ judgement (end_of f.nodes) bs T
-    judged_is j = j.is store' T ready ∙ ap₂ (λ (x : ℕ) (ys : List Block). judgement x ys T) (end_is F.tree_is.ends) blocks_are
+    pub judged_is : {r : Answer (Unit {0})} → Judged (lent b₂ nodes' entries') e n r → r ≡ judgement (end_of f.nodes) bs T
+    judged_is j = j.is kind store' T ready ∙ ap₂ (λ (x : ℕ) (ys : List Block). judgement x ys T) (end_is F.tree_is.ends) blocks_are
 
     -- ── the index ──
 
@@ -296,6 +315,9 @@ module _ {f : File} {kind n used e : ℕ} {blocks store nodes entries b₁ b₂ 
       count_is : head_at (headed t') head_count ≡ n
       count_is = head_column head_count (omega arith)
 
+      kinds_is : head_at (headed t') head_kinds ≡ mask_of (kind ∷ [])
+      kinds_is = head_column head_kinds (omega arith)
+
       used_same : head_at (headed t') head_used ≡ used
       used_same = head_column head_used (omega arith)
 
@@ -312,7 +334,8 @@ module _ {f : File} {kind n used e : ℕ} {blocks store nodes entries b₁ b₂ 
             });
         state = head_column head_state (omega arith);
         end = head_column head_end (omega arith) ∙ (end_is F.tree_is.ends);
-        kind = head_column head_kind (omega arith) ∙ F.own_kind;
+        mask = rw kinds_is (mask_below (kind ∷ []));
+        kinds = rw kinds_is (ap (λ (k : ℕ). k ∷ []) (sym F.own_kind) ∙ sym (mask_kinds (kind ∷ []) ∙ set_same (kind ∷ []) (one_sound kind F.known_kind)));
         last = head_column head_last (omega arith);
         used = used_is;
         store = rw used_is (sym (holds_part store' 0 (bytes_of_all bs) (omega (arith, bytes_length bs, store_long, F.byte_room)) store_holds));
@@ -323,7 +346,7 @@ module _ {f : File} {kind n used e : ℕ} {blocks store nodes entries b₁ b₂ 
         linked = no_links (headed t').pieces pieces_long (get_d_zeros (max piece_head (length (zeros pieces))));
         pieces = refl;
         pieces_stored = all_nil;
-        tree = subst (λ (k : ℕ). Closed (lent b₂ nodes' entries') k (end_of f.nodes) T) F.own_kind (closed entries_headed);
+        trees = subst (λ (k : ℕ). Closed (lent b₂ nodes' entries') (end_of f.nodes) (trees_with k T)) F.own_kind (closed entries_headed);
         calendar = calendar-none b₂ (front_zero front_calendar (omega arith));
         days = days_none b₂ (front_zero front_days (omega arith));
       }

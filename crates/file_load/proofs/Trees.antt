@@ -1,23 +1,29 @@
 -- Node and entry tables that hold the numbers of a tree hold the tree. Assumes nothing.
 use mathlib.Core.Path.{◌≡◌, refl, sym, ◌∙◌, ap}
 use mathlib.Core.Logic.{inl, inr}
-use mathlib.Core.Bool.{true, false, true≢false}
+use mathlib.Core.Bool.{true, false, cond, true≢false}
 use mathlib.Core.List.{List, [], ◌∷◌, ◌++◌}
 use Prim.Native.Nat.{ℕ, zero, suc, ◌+◌, ◌*◌, ◌-◌, ◌≤◌, ◌<◌}
 use native.Mathlib.Omega.{arith}
 use lib.ListN.{length, get_or, get_or-append}
 use lib.Seq.{get_or-append-add}
+use lib.Dec.{eqb}
 use borrow.Author.Tests.{eq-eqb, ne_eqb}
-use Rattle.lists.proofs.Numbers.{lt_or_le}
+use Rattle.lists.proofs.Numbers.{lt_or_le, eq_or_ne}
+use Rattle.lists.proofs.Lists.{count_from_length}
+use Rattle.lists.proofs.Maps.{length_of_map}
 use Rattle.history.specs.Lent.{row_width, entry_width, entry_head}
-use Rattle.history.specs.Tree.{Tree, hole, node, mid, node_count, entry_count, entries_in}
+use Rattle.history.specs.Words.{all_kinds}
+use Rattle.history.specs.Tree.{Tree, hole, node, mid, tree_at, node_count, entry_count, entries_in}
+use Rattle.history.specs.File.{trees_with}
 use Rattle.history.specs.Rules.{is_hole, halved}
 use Rattle.history.proofs.TreeCounts.{entry_count_in}
 use Rattle.tables.specs.Columns.{column, entry_column, node_first, node_entries, nodes_count, entry_block, entry_key}
-use Rattle.segment_table.specs.Closed.{Tables, nodes_used, entries_used, first_at, count_at, block_in, first_cell_in, Consecutive, Closed}
-use Rattle.layout.proofs.ExistsTree.{link_to, node_rows, node_rows-length, Runs, node_rows_runs, runs_first, runs_next, RowsAt, EntriesAt, rows_tree}
+use Rattle.segment_table.specs.Closed.{Tables, nodes_used, entries_used, first_at, count_at, block_in, first_cell_in, TreeAt, Consecutive, Closed}
+use Rattle.layout.proofs.TreeRows.{link_to, node_rows, node_rows-length, Runs, node_rows_runs, runs_first, runs_next, RowsAt, EntriesAt, rows_tree}
 use Rattle.layout.specs.Rows.{entry_numbers, root_link, node_numbers, root_in, node_head_numbers, entry_head_numbers}
 use Rattle.file_fill.proofs.FillingTrees.{node_numbers_length, entry_numbers_length}
+use Rattle.history.proofs.OneTree.{trees_own, trees_other, sum_with}
 use Rattle.file_load.proofs.Holding.{HoldsAt, holds_left, holds_right, holds_moved}
 
 -- ── rows ──
@@ -136,6 +142,11 @@ unfolding link_to
 root_link_lem hole h = absurd (true≢false h)
 root_link_lem (node es l r) h = refl
 
+-- no link is no tree
+hole_at : (t : Tables) (kind link lo hi : ℕ) → link ≡ 0 → TreeAt t kind link lo hi hole
+unfolding TreeAt
+hole_at t kind link lo hi z = z
+
 -- ── the whole ──
 
 module _ (t : Tables) (kind e : ℕ) (T : Tree) (key : ℕ → ℕ) (known : kind ≤ 4) (rooted : is_hole T ≡ false) (halves : halved 0 e T ≡ true)
@@ -193,16 +204,26 @@ module _ (t : Tables) (kind e : ℕ) (T : Tree) (key : ℕ → ℕ) (known : kin
   pub entries_used_lem : entries_used t.entries ≡ entry_count T
   entries_used_lem = (holds_left (entry_head_numbers (entry_count T)) (entry_numbers key (entries_in T)) entries_are).says 0 (omega arith)
 
-  pub tree_closed : Closed t kind e T
+  -- the tree stands at the kind's root, and no other kind has one
+  pub tree_closed : Closed t e (trees_with kind T)
+  unfolding node_count entry_count
   tree_closed = record {
-    stands =
-        rw root
-        (rows_tree t kind (entry_count T)
-        (λ row p. key_at_lem key t.entries (entries_in T) entries row (omega (arith, many)) ∙ keys (block_in t.entries row))
-        entry_room T 0 e 1 0 (omega arith) (omega (arith, used)) (omega arith) halves rows (entries_there key t.entries (entries_in T) entries));
-    other_kinds = λ k p ne. head_at k (omega arith) ∙ head_root kind (node_count T) k p ∙ rw (ne_eqb kind k (λ z. ne (sym z))) refl;
-    all_rows_lem = used;
+    five = length_of_map (λ k. cond (eqb kind k) T hole) all_kinds ∙ count_from_length 0 5;
+    stands = λ k p. elim (eq_or_ne kind k) [ inl q ↦ rw (← q) own | inr n ↦ other k p n ];
+    all_rows_lem = used ∙ sym (sum_with node_count refl kind T known);
     room = omega (arith, used);
-    all_entries_lem = entries_used_lem;
+    all_entries_lem = entries_used_lem ∙ sym (sum_with entry_count refl kind T known);
     consecutive = consecutive;
   }
+    where
+      own : TreeAt t kind (column t.nodes 0 kind) 0 e (tree_at (trees_with kind T) kind)
+      own =
+          rw (trees_own kind T known, root)
+          (rows_tree t kind (entry_count T)
+          (λ row p. key_at_lem key t.entries (entries_in T) entries row (omega (arith, many)) ∙ keys (block_in t.entries row))
+          entry_room T 0 e 1 0 (omega arith) (omega (arith, used)) (omega arith) halves rows (entries_there key t.entries (entries_in T) entries))
+
+      other : (k : ℕ) → k < nodes_count → (kind ≡ k → ⊥) → TreeAt t k (column t.nodes 0 k) 0 e (tree_at (trees_with kind T) k)
+      other k p n =
+          rw (trees_other kind T k (omega arith) n)
+          (hole_at t k (column t.nodes 0 k) 0 e (head_at k (omega arith) ∙ head_root kind (node_count T) k p ∙ rw (ne_eqb kind k n) refl))

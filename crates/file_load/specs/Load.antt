@@ -6,9 +6,9 @@ use Rattle.history.specs.Refusals.{Answer, accepted, refused}
 use Rattle.history.specs.Words.{Block}
 use Rattle.history.specs.Tree.{Tree}
 use Rattle.history.specs.Rules.{rule23, apart, is_hole}
-use Rattle.history.specs.File.{File, got, many, read_block, read_root, loaded_from, end_of, tree_from, rule20, rule21, rule22}
+use Rattle.history.specs.File.{File, got, many, read_block, read_root, loaded_from, trees_with, end_of, tree_from, rule20, rule21, rule22}
 use Rattle.tables.specs.Columns.{block_column, block_first, block_length, block_created, block_destroyed}
-use Rattle.block_table.specs.Blocks.{Room, blocks_of, Stored}
+use Rattle.block_table.specs.Blocks.{Room, owner_at, blocks_of, Stored}
 use Rattle.segment_table.specs.Closed as closed
 use Rattle.segment_table.specs.Closed.{Closed}
 use Rattle.file_scan.specs.Counts.{bytes_in}
@@ -42,25 +42,27 @@ pub record TestedLives (blocks : List ℕ) (n end : ℕ) (r : Bool) : Type 0 whe
 unfoldable pub judgement : (end : ℕ) → List Block → Tree → Answer (Unit {0})
 judgement e bs tree = cond (rule22 e bs) (cond (rule23 e bs tree) (cond (apart bs) (accepted tt) (refused 24)) (refused 23)) (refused 22)
 
--- Tables that were filled: blocks whose bytes are in a store, and a tree with a root. An entry table without a head goes with no entry at
+-- Tables that were filled: blocks of one kind whose bytes are in a store, and a tree with a root. An entry table without a head goes with no entry at
 -- all, which breaks rule 23.
 pub record Ready (t : closed.Tables) (kind end n : ℕ) (store : List ℕ) (tree : Tree) : Type 0 where
+  pub known_kind : kind ≤ 4
+  pub owners : (link : ℕ) → 0 < link → link ≤ n → owner_at t.blocks link ≡ kind
   pub room : Room t.blocks n
   pub stored : Stored (length store) t.blocks n
   pub rooted : is_hole tree ≡ false
-  pub holds : entry_head ≤ length t.entries → Closed t kind end tree
+  pub holds : entry_head ≤ length t.entries → Closed t end (trees_with kind tree)
   pub inside : entry_head ≤ length t.entries → entry_head + entry_width * closed.entries_used t.entries ≤ length t.entries
   pub headless : length t.entries < entry_head → rule22 end (blocks_of store t.blocks n) ≡ true → rule23 end (blocks_of store t.blocks n) tree ≡ false
 
 -- of no block it is 22
-pub record Judged (t : closed.Tables) (kind end n : ℕ) (r : Answer (Unit {0})) : Type 0 where
-  pub is : (store : List ℕ) (tree : Tree) → Ready t kind end n store tree → r ≡ judgement end (blocks_of store t.blocks n) tree
+pub record Judged (t : closed.Tables) (end n : ℕ) (r : Answer (Unit {0})) : Type 0 where
+  pub is : (kind : ℕ) (store : List ℕ) (tree : Tree) → Ready t kind end n store tree → r ≡ judgement end (blocks_of store t.blocks n) tree
   pub none : n ≡ 0 → r ≡ refused 22
 
 -- ── the head ──
 
 pub record HeadPut (blocks blocks' : List ℕ) (end kind n used : ℕ) : Type 0 where
-  pub is : blocks' ≡ sets blocks 0 (loaded_head end kind n used)
+  pub is : kind ≤ 4 → blocks' ≡ sets blocks 0 (loaded_head end kind n used)
 
 -- ── 21 to 24 ──
 

@@ -36,12 +36,12 @@ fn all_live(blocks: &[u64], n: u64, end: u64) -> bool
 // The first rule of 22 to 24 that the index in the tables breaks.
 pub fn judge(claim: &Claim<'_>) -> Result<(), Refusal>
     ensures { Judged (lent claim.now.tables.blocks.now claim.now.tables.nodes.now claim.now.tables.entries.now)
-        claim.now.kind claim.now.end claim.now.n (answer_by (λ u. u) result) }
+        claim.now.end claim.now.n (answer_by (λ u. u) result) }
 {
     if !all_live(claim.tables.blocks, claim.n, claim.end) {
         return Err(Refusal::FileBlocks);
     }
-    if !segment_test::test_tree(claim) {
+    if !segment_test::test_trees(claim) {
         return Err(Refusal::FileEntries);
     }
     if !segment_apart::apart(claim) {

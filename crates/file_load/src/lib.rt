@@ -9,6 +9,8 @@
 //   room              20
 //   judge             22 to 24, on filled tables
 //   specs/Load        what each part answers
+//   proofs/Faults     the reader of a file gives 17, 18 and 19 alone
+//   proofs/OneKind    an index of one kind
 //   proofs/Holding    numbers that stand in a table
 //   proofs/Rows       the filled block rows are the file's blocks
 //   proofs/Trees      the filled node and entry tables hold the file's tree
@@ -45,12 +47,13 @@ fn zero_all(blocks: &mut [u64], store: &mut [u8], nodes: &mut [u64], entries: &m
     entries.fill(0);
 }
 
-// The head of a loaded index: zeros in its front, and its last row.
+// The head of a loaded index, opened for its kind alone: zeros in its front, and its last row.
 fn put_head(blocks: &mut [u64], end: u64, kind: u64, n: u64, used: u64)
     ensures { HeadPut blocks.old blocks.new end kind n used }
 {
     rows::put_zeros(blocks, block::BASE);
-    let row = [block::CLOSED, end, kind, n, used, 0, 0, 0];
+    let kinds = kind_mask::mask_of(&[(kind % 256) as u8]);
+    let row = [block::CLOSED, end, kinds, n, used, 0, 0, 0];
     rows::put_row(blocks, block::BASE, 0, row);
 }
 
@@ -79,12 +82,7 @@ fn build(
         nodes,
         entries,
     };
-    judge::judge(&Claim {
-        tables,
-        kind,
-        end,
-        n,
-    })
+    judge::judge(&Claim { tables, end, n })
 }
 
 // Loads the file at a position: the next position, and tables that stand for its index; or a refusal. The tables stand one by one: of a struct of `&mut`

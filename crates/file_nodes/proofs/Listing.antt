@@ -22,12 +22,12 @@ use Rattle.file_nodes.specs.Numbering.{Numbering, Listed}
 
 -- ── the returns of `list` ──
 
-pub list_not : (blocks : List ℕ) (n many : ℕ) (out : List ℕ) → many ≡ n → n < 2 ^ 64 → Listed blocks n many out out 0
-list_not blocks n many out e h = record { stands = rw (eq-eqb many n e) refl; count = rw (eq-eqb many n e) refl; few = h }
+pub list_not : (blocks : List ℕ) (kind n many : ℕ) (out : List ℕ) → many ≡ n → n < 2 ^ 64 → Listed blocks kind n many out out 0
+list_not blocks kind n many out e h = record { stands = rw (eq-eqb many n e) refl; count = rw (eq-eqb many n e) refl; few = h }
 
-pub list_put : (blocks : List ℕ) (n many : ℕ) (out out' : List ℕ) (next : ℕ) → (many ≡ n → ⊥) → n < 2 ^ 64
-    → Put out 9 (flat_map (bytes_of 8) (living blocks n)) out' next → Listed blocks n many out out' many
-list_put blocks n many out out' next e h p = record { stands = p.stands ∙ rw (ne_eqb many n e) refl; count = rw (ne_eqb many n e) refl; few = h }
+pub list_put : (blocks : List ℕ) (kind n many : ℕ) (out out' : List ℕ) (next : ℕ) → (many ≡ n → ⊥) → n < 2 ^ 64
+    → Put out 9 (flat_map (bytes_of 8) (living blocks kind n)) out' next → Listed blocks kind n many out out' many
+list_put blocks kind n many out out' next e h p = record { stands = p.stands ∙ rw (ne_eqb many n e) refl; count = rw (ne_eqb many n e) refl; few = h }
 
 pub ruleset telling = (list_not, list_put, arith)
 
@@ -42,41 +42,41 @@ last_pairs : {R : ℕ → ℕ → Type 0} (n : ℕ) (t : Bool) → Pairs R (cond
 last_pairs n true = pairs_cons all_nil pairs_nil
 last_pairs n false = pairs_nil
 
-module _ (blocks : List ℕ) where
-  pub living-below : (n : ℕ) → All (λ k. k < n) (living blocks n)
+module _ (blocks : List ℕ) (kind : ℕ) where
+  pub living-below : (n : ℕ) → All (λ k. k < n) (living blocks kind n)
   unfolding living
   living-below zero = all_nil
-  living-below (suc n) = all_append (all_map (λ k h. omega arith) (living-below n)) (last_all n (lives blocks n) (omega arith))
+  living-below (suc n) = all_append (all_map (λ k h. omega arith) (living-below n)) (last_all n (lives blocks kind n) (omega arith))
 
-  pub living-ascends : (n : ℕ) → Ascending (λ k. k) (living blocks n)
+  pub living-ascends : (n : ℕ) → Ascending (λ k. k) (living blocks kind n)
   unfolding living
   living-ascends zero = pairs_nil
   living-ascends (suc n) =
-      pairs-append (living-ascends n) (last_pairs n (lives blocks n)) (all_map (λ k h. last_all n (lives blocks n) h) (living-below n))
+      pairs-append (living-ascends n) (last_pairs n (lives blocks kind n)) (all_map (λ k h. last_all n (lives blocks kind n) h) (living-below n))
 
-  living_few : (n : ℕ) → length (living blocks n) ≤ n
+  living_few : (n : ℕ) → length (living blocks kind n) ≤ n
   unfolding living
   living_few zero = omega arith
-  living_few (suc n) = go (lives blocks n) (living_few n)
+  living_few (suc n) = go (lives blocks kind n) (living_few n)
     where
-      go : (t : Bool) → length (living blocks n) ≤ n → length (living blocks n ++ cond t (n ∷ []) []) ≤ suc n
-      go true h = rw (length-append (living blocks n) (n ∷ [])) (omega arith)
-      go false h = rw (append-nil (living blocks n)) (omega arith)
+      go : (t : Bool) → length (living blocks kind n) ≤ n → length (living blocks kind n ++ cond t (n ∷ []) []) ≤ suc n
+      go true h = rw (length-append (living blocks kind n) (n ∷ [])) (omega arith)
+      go false h = rw (append-nil (living blocks kind n)) (omega arith)
 
   -- where as many have a life as there are, all have one
-  living_all : (n : ℕ) → length (living blocks n) ≡ n → living blocks n ≡ count_from 0 n
+  living_all : (n : ℕ) → length (living blocks kind n) ≡ n → living blocks kind n ≡ count_from 0 n
   unfolding living count_from
   living_all zero e = refl
-  living_all (suc n) e = go (lives blocks n) e (living_all n)
+  living_all (suc n) e = go (lives blocks kind n) e (living_all n)
     where
-      go : (t : Bool) → length (living blocks n ++ cond t (n ∷ []) []) ≡ suc n → (length (living blocks n) ≡ n → living blocks n ≡ count_from 0 n)
-          → living blocks n ++ cond t (n ∷ []) [] ≡ count_from 0 (suc n)
+      go : (t : Bool) → length (living blocks kind n ++ cond t (n ∷ []) []) ≡ suc n → (length (living blocks kind n) ≡ n → living blocks kind n ≡ count_from 0 n)
+          → living blocks kind n ++ cond t (n ∷ []) [] ≡ count_from 0 (suc n)
       go true q all =
-          let less : length (living blocks n) ≡ n = omega (arith, length-append (living blocks n) (n ∷ [])) in
+          let less : length (living blocks kind n) ≡ n = omega (arith, length-append (living blocks kind n) (n ∷ [])) in
           let more = rw (add-one n) at (count_from_append 0 n 1) in
           let zero : 0 + n ≡ n = omega arith in
           ap (λ (l : List ℕ). l ++ n ∷ []) (all less) ∙ sym (rw zero at more)
-      go false q all = absurd (omega (arith, ap length (append-nil (living blocks n)), living_few n))
+      go false q all = absurd (omega (arith, ap length (append-nil (living blocks kind n)), living_few n))
 
 -- ── numbers in bytes ──
 
@@ -109,15 +109,15 @@ list_at ks out j room h =
 
 -- ── new numbers by the list ──
 
-module _ {blocks out out' : List ℕ} {n many listed at : ℕ} (l : Listed blocks n many out out' listed) (e : many ≡ length (living blocks n))
-    (from : blocks_at + 8 * length (living blocks n) ≤ at) (room : at ≤ length out) where
+module _ {blocks out out' : List ℕ} {kind n many listed at : ℕ} (l : Listed blocks kind n many out out' listed) (e : many ≡ length (living blocks kind n))
+    (from : blocks_at + 8 * length (living blocks kind n) ≤ at) (room : at ≤ length out) where
   -- where all have a life
-  numbering_stay : many ≡ n → Numbering out' at listed (living blocks n)
+  numbering_stay : many ≡ n → Numbering out' at listed (living blocks kind n)
   numbering_stay all =
       let none : listed ≡ 0 = l.count ∙ rw (eq-eqb many n all) refl in
       record {
-        ascend = living-ascends blocks n;
-        stay = λ z k h. rw (living_all blocks n (sym e ∙ all)) (placed k (rw (living_all blocks n (sym e ∙ all)) at h));
+        ascend = living-ascends blocks kind n;
+        stay = λ z k h. rw (living_all blocks kind n (sym e ∙ all)) (placed k (rw (living_all blocks kind n (sym e ∙ all)) at h));
         many = λ s. absurd (omega arith);
         before = λ s. absurd (omega arith);
         inside = λ s. absurd (omega arith);
@@ -129,29 +129,29 @@ module _ {blocks out out' : List ℕ} {n many listed at : ℕ} (l : Listed block
           let low : k < 0 + n = all_mem (all_map (λ j p. p.1) (count_from_below 0 n)) ((has_decides k (count_from 0 n)).yes h) in
           place_in-count_from 0 n k (omega arith) (omega arith) ∙ omega arith
 
-  numbering_listed : (many ≡ n → ⊥) → Numbering out' at listed (living blocks n)
+  numbering_listed : (many ≡ n → ⊥) → Numbering out' at listed (living blocks kind n)
   unfolding has
   numbering_listed some =
       let is : listed ≡ many = l.count ∙ rw (ne_eqb many n some) refl in
-      let stood : out' ≡ sets out 9 (flat_map (bytes_of 8) (living blocks n)) = l.stands ∙ rw (ne_eqb many n some) refl in
-      let same : length out' ≡ length out = ap length stood ∙ length-sets out 9 (flat_map (bytes_of 8) (living blocks n)) in
+      let stood : out' ≡ sets out 9 (flat_map (bytes_of 8) (living blocks kind n)) = l.stands ∙ rw (ne_eqb many n some) refl in
+      let same : length out' ≡ length out = ap length stood ∙ length-sets out 9 (flat_map (bytes_of 8) (living blocks kind n)) in
       let short : 9 + 8 * listed ≤ at = omega arith in
       record {
-        ascend = living-ascends blocks n;
-        stay = λ z k h. absurd (nothing (living blocks n) (omega arith) k h);
+        ascend = living-ascends blocks kind n;
+        stay = λ z k h. absurd (nothing (living blocks kind n) (omega arith) k h);
         many = λ s. sym (is ∙ e);
         before = λ s. short;
         inside = λ s. omega arith;
         stands = λ s j h.
-            let less : j < length (living blocks n) = omega arith in
-            let low : get_or (living blocks n) j 0 < n = all_at 0 (living-below blocks n) j less in
-            ap number_of (ap (λ (o : List ℕ). take 8 (drop (9 + 8 * j) o)) stood ∙ list_at (living blocks n) out j (omega arith) less)
-            ∙ number_of-bytes_of 8 (get_or (living blocks n) j 0) (omega (arith, l.few));
+            let less : j < length (living blocks kind n) = omega arith in
+            let low : get_or (living blocks kind n) j 0 < n = all_at 0 (living-below blocks kind n) j less in
+            ap number_of (ap (λ (o : List ℕ). take 8 (drop (9 + 8 * j) o)) stood ∙ list_at (living blocks kind n) out j (omega arith) less)
+            ∙ number_of-bytes_of 8 (get_or (living blocks kind n) j 0) (omega (arith, l.few));
       }
     where
       nothing : (ks : List ℕ) → length ks ≡ 0 → (k : ℕ) → has k ks ≡ true → ⊥
       nothing [] z k h = false≢true h
       nothing (x ∷ ks) z k h = omega arith
 
-  pub numbering : Numbering out' at listed (living blocks n)
+  pub numbering : Numbering out' at listed (living blocks kind n)
   numbering = ⊎_elim numbering_stay numbering_listed (eq_or_ne many n)

@@ -74,13 +74,13 @@ entries_more entries first count listed out at i o o' next next' k new a less e 
           put_same (sym (entries_one ks entries first i)) (put_append before (rw same at b));
     }
 
-pub entries_all : (entries : List ℕ) (first count listed : ℕ) (out : List ℕ) (at i : ℕ) (o : List ℕ) (next : ℕ)
+pub entries_all_lem : (entries : List ℕ) (first count listed : ℕ) (out : List ℕ) (at i : ℕ) (o : List ℕ) (next : ℕ)
     → EntriesTo entries first count listed out at i o next → i ≤ count → count ≤ i → PutEntries entries first count listed out at o next
-entries_all entries first count listed out at i o next a h g =
+entries_all_lem entries first count listed out at i o next a h g =
     let e : i ≡ count = omega arith in
     record { put = λ ks n room all. rw e at (a.put ks n all) }
 
-pub ruleset entering = (entries_long, entries_past, entries_start, entries_more, entries_all, arith)
+pub ruleset entering = (entries_long, entries_past, entries_start, entries_more, entries_all_lem, arith)
 
 -- ── a node ──
 

@@ -20,8 +20,8 @@ pub record Numbering (out : List ℕ) (at listed : ℕ) (ks : List ℕ) : Type 0
 pub record NewNumber (out : List ℕ) (listed k r : ℕ) : Type 0 where
   pub new : (at : ℕ) (ks : List ℕ) → Numbering out at listed ks → has k ks ≡ true → r ≡ place_in ks k
 
--- The list of the first n blocks that have a life, `many` of them; none is written where all have one.
-pub record Listed (blocks : List ℕ) (n many : ℕ) (out out' : List ℕ) (listed : ℕ) : Type 0 where
-  pub stands : out' ≡ sets out blocks_at (cond (eqb many n) [] (flat_map (bytes_of 8) (living blocks n)))
+-- The list of the first n blocks that are of the kind and have a life, `many` of them; none is written where all are and have one.
+pub record Listed (blocks : List ℕ) (kind n many : ℕ) (out out' : List ℕ) (listed : ℕ) : Type 0 where
+  pub stands : out' ≡ sets out blocks_at (cond (eqb many n) [] (flat_map (bytes_of 8) (living blocks kind n)))
   pub count : listed ≡ cond (eqb many n) 0 many
   pub few : n < 2 ^ 64

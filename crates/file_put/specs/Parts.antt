@@ -1,4 +1,4 @@
--- What is put of a block, and of all blocks that have a life. Definitions alone.
+-- What is put of a block, and of all blocks of a kind that have a life. Definitions alone.
 use mathlib.Core.List.{List, flat_map, ◌++◌}
 use Rattle.std.specs.Prelude.{ℕ, ◌+◌, ◌≤◌, length}
 use Rattle.lists.specs.Puts.{Put}
@@ -14,6 +14,6 @@ row_bytes mark a b c d = bytes_of 1 mark ++ (bytes_of 8 a ++ (bytes_of 8 b ++ (b
 pub record PutBlock (store blocks : List ℕ) (link : ℕ) (out : List ℕ) (at : ℕ) (out' : List ℕ) (next : ℕ) : Type 0 where
   pub put : offset_at blocks link + length_at blocks link ≤ length store → Put out at (block_bytes (block_of_row store blocks link)) out' next
 
--- those of the first n that have a life
-pub record PutBlocks (store blocks : List ℕ) (n : ℕ) (out : List ℕ) (at : ℕ) (out' : List ℕ) (next : ℕ) : Type 0 where
-  pub put : Stored (length store) blocks n → Put out at (flat_map block_bytes (living_blocks store blocks n)) out' next
+-- those of the first n that are of the kind and have a life
+pub record PutBlocks (store blocks : List ℕ) (kind n : ℕ) (out : List ℕ) (at : ℕ) (out' : List ℕ) (next : ℕ) : Type 0 where
+  pub put : Stored (length store) blocks n → Put out at (flat_map block_bytes (living_blocks store blocks kind n)) out' next

@@ -1,16 +1,17 @@
-// The blocks of the file, in recorded order: those that have a life.
-ghost use Rattle.std.specs.Prelude.{◌≡◌, ltb};
-ghost use Rattle.block_table.specs.Blocks.{created_at, destroyed_at};
+// The blocks of a kind's part of the file, in recorded order: those that have a life.
+ghost use Rattle.std.specs.Prelude.{◌≡◌};
+ghost use Rattle.file_put.specs.Living.{lives_at};
 ghost use Rattle.file_put.specs.Parts.{PutBlock, PutBlocks};
 
 use super::put;
 use tables::block;
 
-// Whether the block of a link has a life. In a closed index exactly these blocks have an entry.
-pub fn lives(blocks: &[u64], link: u64) -> bool
-    ensures { result ≡ ltb (created_at blocks.now link) (destroyed_at blocks.now link) }
+// Whether the block of a link is of the kind and has a life. In a closed index exactly these blocks have an entry in the kind's tree.
+pub fn lives(blocks: &[u64], kind: u64, link: u64) -> bool
+    ensures { result ≡ lives_at blocks.now kind link }
 {
-    block::get(blocks, link, block::CREATED) < block::get(blocks, link, block::DESTROYED)
+    block::get(blocks, link, block::OWNER) == kind
+        && block::get(blocks, link, block::CREATED) < block::get(blocks, link, block::DESTROYED)
 }
 
 // The block of a link: its row, and its bytes from the store. Of bytes that are not in the store, which no closed index has, nothing is put.
@@ -36,14 +37,21 @@ fn put_block(blocks: &[u64], store: &[u8], link: u64, out: &mut [u8], at: usize)
     put::bytes(out, next, &store[from..to])
 }
 
-// Those of the first `count` blocks that have a life.
+// Those of the first `count` blocks that are of the kind and have a life.
 #[tactic(auto, using(crate::proofs::Laying::laying))]
-pub fn put_blocks(blocks: &[u64], store: &[u8], count: u64, out: &mut [u8], at: usize) -> usize
-    ensures { PutBlocks store.now blocks.now count out.old at out.new result }
+pub fn put_blocks(
+    blocks: &[u64],
+    store: &[u8],
+    kind: u64,
+    count: u64,
+    out: &mut [u8],
+    at: usize,
+) -> usize
+    ensures { PutBlocks store.now blocks.now kind count out.old at out.new result }
 {
     let mut next = at;
     for k in 0..count {
-        if lives(blocks, k + 1) {
+        if lives(blocks, kind, k + 1) {
             next = put_block(blocks, store, k + 1, out, next);
         }
     }

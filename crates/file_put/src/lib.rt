@@ -1,5 +1,5 @@
-// Parts of the file of a closed index, put into a lent slice one after the other: fields, and the blocks that have a life. Each function answers the
-// place behind what it has put, and puts as far as the slice goes.
+// Parts of the file of a closed index, put into a lent slice one after the other: fields, and the blocks of a kind that have a life. Each function
+// answers the place behind what it has put, and puts as far as the slice goes.
 //
 //   put      proofs/Putting                       bytes and numbers
 //   blocks   specs/Living, Parts  proofs/Laying   the blocks that have a life

@@ -7,7 +7,7 @@ use native.Mathlib.Omega.{arith}
 use lib.ListN.{length}
 use lib.Dec.{eqb}
 use borrow.Author.Tests.{eq-eqb, ne_eqb, le-leb, lt-leb}
-use Rattle.history.specs.Words.{Block, a_block, size}
+use Rattle.history.specs.Words.{Block, a_block, size, cell_of, cell_place}
 use Rattle.history.specs.File.{Read, got, fault, onward, ◌>>=◌, give, refuse◌unless◌, field, number, many, read_block}
 use Rattle.history.proofs.FileYields.{got_value, got_next}
 use Rattle.fields.specs.Fields.{read_of}
@@ -132,7 +132,9 @@ module _ (kind : ℕ) (file : List ℕ) (at : ℕ) where
             let s₂ = four_passes file p (sym g ∙ ap four_of u) in
             let room : q + b ≤ length file = omega arith in
             let place : at + row_head ≡ q = omega arith in
-            rw (block_parts kind file at, ← e, t, eq-eqb own kind same, ← g, u, field_got file q b room, place, taken-length file q b room) refl
+            let cell : a ≡ cell_of own (cell_place own a) = omega arith in
+            rw (block_parts kind file at, ← e, t, eq-eqb own kind same, ← g, u, field_got file q b room, place, taken-length file q b room)
+            (ap (λ (first : ℕ). accepted (block_of first b c d q (q + b))) cell)
 
 -- ── a node ──
 

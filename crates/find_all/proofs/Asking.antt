@@ -38,21 +38,21 @@ same_found : {f g : Found} → ◌≡◌ {A = Answer Found} (accepted f) (accept
 same_found e = cc
 
 -- of the ledger: else it is refused 16
-module _ (l : Ledger) (tick start stop room : ℕ) where
+module _ (l : Ledger) (kind tick start stop room : ℕ) where
   abbrev found : Found
-  found = find_by l tick start stop
+  found = find_by l kind tick start stop
 
   abbrev refusals : List Refusal
-  refusals = window_refusals l tick start stop (ltb room (length found.numbers))
+  refusals = window_refusals l kind tick start stop (ltb room (length found.numbers))
 
-  answer_given : Passed refusals → find_answer l tick start stop room ≡ accepted found
+  answer_given : Passed refusals → find_answer l kind tick start stop room ≡ accepted found
   unfolding window_refusals first_of
-  answer_given p = rw (p.0, p.1.0, p.1.1.0, p.1.1.1.0, p.1.1.1.1.0) refl
+  answer_given p = rw (p.0, p.1.0, p.1.1.0, p.1.1.1.0, p.1.1.1.1.0, p.1.1.1.1.1.0) refl
 
-  answer_fits : (x : Answer Found) → find_answer l tick start stop room ≡ x → taken (values_of counts_of x) ≤ room
+  answer_fits : (x : Answer Found) → find_answer l kind tick start stop room ≡ x → taken (values_of counts_of x) ≤ room
   unfolding window_refusals
   answer_fits (refused n) e = omega arith
-  answer_fits (accepted f) e = let p = passed refusals found e in rw (same_found (sym e ∙ answer_given p)) (ltb-false _ _ p.1.1.1.1.0)
+  answer_fits (accepted f) e = let p = passed refusals found e in rw (same_found (sym e ∙ answer_given p)) (ltb-false _ _ p.1.1.1.1.1.0)
 
 -- tables of which a state is true are well formed, or are not
 formed_or : {t : Tables} (s : State) → Kept s t → WellFormed t ⊎ (WellFormed t → ⊥)
@@ -60,33 +60,33 @@ formed_or Bad k = inr (k.unformed refl)
 formed_or Open k = inl (k.opened refl).formed
 formed_or Closed k = inl (k.closed refl).formed
 
-found_fits : {s : State} {t : Tables} {tick start stop : ℕ} {out out' : List ℕ} {a : Answer Counts} → Kept s t → FoundBy t tick start stop out out' a → taken a ≤ length out
-found_fits {s} {t} {tick} {start} {stop} {out} {out'} {a} k f =
+found_fits : {s : State} {t : Tables} {kind tick start stop : ℕ} {out out' : List ℕ} {a : Answer Counts} → Kept s t → FoundBy t kind tick start stop out out' a → taken a ≤ length out
+found_fits {s} {t} {kind} {tick} {start} {stop} {out} {out'} {a} k f =
     ⊎_elim
-    (λ w. rw (f.read.formed w.ledger w.encodes w.sound).answered (answer_fits w.ledger tick start stop (length out) _ refl))
+    (λ w. rw (f.read.formed w.ledger w.encodes w.sound).answered (answer_fits w.ledger kind tick start stop (length out) _ refl))
     (λ n. rw (f.read.unformed n).answered (omega arith))
     (formed_or s k)
 
 -- ── one query ──
 
 -- the part behind `used` numbers is all that there is
-pub found_behind : {s : State} {blocks nodes entries queries numbers out : List ℕ} {i used : ℕ} {a : Answer Counts} → used ≤ length numbers
-    → FoundTested s blocks nodes entries (get_or queries (3 * i) 0) (get_or queries (3 * i + 1) 0) (get_or queries (3 * i + 2) 0) (take (length numbers - used) (drop used numbers)) out a
-    → FoundBehind s blocks nodes entries queries i numbers used (take used numbers ++ (out ++ drop (length numbers - used) (drop used numbers))) a
-found_behind {queries = queries} {numbers} {out} {i} {used} inside f =
+pub found_behind : {s : State} {blocks nodes entries queries numbers out : List ℕ} {kind i used : ℕ} {a : Answer Counts} → used ≤ length numbers
+    → FoundTested s blocks nodes entries kind (get_or queries (3 * i) 0) (get_or queries (3 * i + 1) 0) (get_or queries (3 * i + 2) 0) (take (length numbers - used) (drop used numbers)) out a
+    → FoundBehind s blocks nodes entries kind queries i numbers used (take used numbers ++ (out ++ drop (length numbers - used) (drop used numbers))) a
+found_behind {queries = queries} {numbers} {out} {i = i} {used} inside f =
     let part : take (length numbers - used) (drop used numbers) ≡ drop used numbers = take_all (length numbers - used) (drop used numbers) (omega (arith, length-drop used numbers)) in
     let rest : drop (length numbers - used) (drop used numbers) ≡ [] = Post-is used (length numbers) numbers inside ∙ drop-length numbers in
     let first : 3 * i + 0 ≡ 3 * i = omega arith in
     record { out = out; tested = rw first (rw part at f); is = rw (rest, append-nil out) refl }
 
-module _ {s : State} {blocks nodes entries queries answers answers' numbers numbers' : List ℕ} {i used : ℕ} {r : Result Told Named} where
-  pub one-listed : {found : Told} {used' : ℕ} → r ≡ Ok found → FoundBehind s blocks nodes entries queries i numbers used numbers' (answer_by counts_given r)
+module _ {s : State} {blocks nodes entries queries answers answers' numbers numbers' : List ℕ} {kind i used : ℕ} {r : Result Told Named} where
+  pub one-listed : {found : Told} {used' : ℕ} → r ≡ Ok found → FoundBehind s blocks nodes entries kind queries i numbers used numbers' (answer_by counts_given r)
       → answers' ≡ sets answers (3 * i) (0 ∷ found.count ∷ found.visited ∷ []) → used' ≡ min (used + found.count) (length numbers)
-      → FoundOne s blocks nodes entries queries i answers answers' numbers numbers' used used'
+      → FoundOne s blocks nodes entries kind queries i answers answers' numbers numbers' used used'
   one-listed {found} e f p b = record { answer = accepted (counts_given found); found = rw e at f; shown = p; behind = b }
 
-  pub one_refused : {x : Named} {n : ℕ} → r ≡ Err x → n ≡ number_of x → FoundBehind s blocks nodes entries queries i numbers used numbers' (answer_by counts_given r)
-      → answers' ≡ sets answers (3 * i) (n ∷ 0 ∷ 0 ∷ []) → used ≤ length numbers → FoundOne s blocks nodes entries queries i answers answers' numbers numbers' used used
+  pub one_refused : {x : Named} {n : ℕ} → r ≡ Err x → n ≡ number_of x → FoundBehind s blocks nodes entries kind queries i numbers used numbers' (answer_by counts_given r)
+      → answers' ≡ sets answers (3 * i) (n ∷ 0 ∷ 0 ∷ []) → used ≤ length numbers → FoundOne s blocks nodes entries kind queries i answers answers' numbers numbers' used used
   one_refused {x} e m f p b = record { answer = refused (number_of x); found = rw e at f; shown = rw m at p; behind = omega arith }
 
 pub ruleset ones = (one-listed, one_refused)
@@ -94,7 +94,7 @@ pub ruleset ones = (one-listed, one_refused)
 -- ── between turns ──
 
 -- i queries have been asked, and whatever is asked from there on completes them
-pub record Turning (s : State) (t : Tables) (queries answers₀ answers numbers₀ numbers : List ℕ) (most i used : ℕ) : Type 0 where
+pub record Turning (s : State) (t : Tables) (kind : ℕ) (queries answers₀ answers numbers₀ numbers : List ℕ) (most i used : ℕ) : Type 0 where
   pub given : List (Answer Counts)
   pub kept : Kept s t
   pub shown : Shown shown_of given answers₀ answers i
@@ -103,10 +103,10 @@ pub record Turning (s : State) (t : Tables) (queries answers₀ answers numbers�
   pub inside : used ≤ length numbers
   pub left : ℕ
   pub room : i + left ≡ most
-  pub whole : (more : List (Answer Counts)) (numbers' : List ℕ) → Finds t queries left i numbers used more numbers' → Finds t queries most 0 numbers₀ 0 (given ++ more) numbers'
+  pub whole : (more : List (Answer Counts)) (numbers' : List ℕ) → Finds t kind queries left i numbers used more numbers' → Finds t kind queries most 0 numbers₀ 0 (given ++ more) numbers'
 
-pub turn_first : {s : State} {t : Tables} {queries answers numbers : List ℕ} {shorter : ℕ} → Outcome s t → length answers < 2 ^ 64
-    → shorter ≡ min (length queries) (length answers) → Turning s t queries answers answers numbers numbers (shorter / 3) 0 0
+pub turn_first : {s : State} {t : Tables} {kind : ℕ} {queries answers numbers : List ℕ} {shorter : ℕ} → Outcome s t → length answers < 2 ^ 64
+    → shorter ≡ min (length queries) (length answers) → Turning s t kind queries answers answers numbers numbers (shorter / 3) 0 0
 turn_first {s} {t} {shorter = shorter} told few e = record {
   given = [];
   kept = test_keeps s t told;
@@ -119,7 +119,7 @@ turn_first {s} {t} {shorter = shorter} told few e = record {
   whole = λ more numbers' p. p;
 }
 
-module _ {s : State} {t : Tables} {queries answers₀ answers numbers₀ numbers : List ℕ} {most i used : ℕ} (turn : Turning s t queries answers₀ answers numbers₀ numbers most i used) where
+module _ {s : State} {t : Tables} {kind : ℕ} {queries answers₀ answers numbers₀ numbers : List ℕ} {most i used : ℕ} (turn : Turning s t kind queries answers₀ answers numbers₀ numbers most i used) where
   -- there is a whole query more, and a place for its answer
   pub turn_query : i < most → 3 * i + 3 ≤ length queries
   turn_query h = omega (arith, turn.places)
@@ -134,25 +134,25 @@ module _ {s : State} {t : Tables} {queries answers₀ answers numbers₀ numbers
   turn_count h = omega (arith, turn.places, turn.few)
 
   -- none is left
-  pub turn_end : most ≤ i → FoundAll t queries answers₀ answers numbers₀ numbers most
+  pub turn_end : most ≤ i → FoundAll t kind queries answers₀ answers numbers₀ numbers most
   turn_end h =
       let none : turn.left ≡ 0 = omega (arith, turn.room) in
-      let all = turn.whole [] numbers (subst (λ (n : ℕ). Finds t queries n i numbers used [] numbers) (sym none) finds_none) in
+      let all = turn.whole [] numbers (subst (λ (n : ℕ). Finds t kind queries n i numbers used [] numbers) (sym none) finds_none) in
       record {
         given = turn.given;
         calls =
-            subst (λ (n : ℕ). Finds t queries n 0 numbers₀ 0 turn.given numbers) turn.places
-            (subst (λ (g : List (Answer Counts)). Finds t queries most 0 numbers₀ 0 g numbers) (append-nil turn.given) all);
+            subst (λ (n : ℕ). Finds t kind queries n 0 numbers₀ 0 turn.given numbers) turn.places
+            (subst (λ (g : List (Answer Counts)). Finds t kind queries most 0 numbers₀ 0 g numbers) (append-nil turn.given) all);
         shown = turn.shown.put;
         counted = omega (arith, turn.shown.counted, turn.room);
       }
 
-module _ {s : State} {pieces blocks store nodes entries queries answers₀ answers numbers₀ numbers : List ℕ} {most i used : ℕ}
-    (turn : Turning s (tables pieces blocks store nodes entries) queries answers₀ answers numbers₀ numbers most i used) (more : i < most) where
+module _ {s : State} {pieces blocks store nodes entries queries answers₀ answers numbers₀ numbers : List ℕ} {kind most i used : ℕ}
+    (turn : Turning s (tables pieces blocks store nodes entries) kind queries answers₀ answers numbers₀ numbers most i used) (more : i < most) where
   -- one query more
   pub turn_on : {answers' numbers' : List ℕ} {used' : ℕ} → length numbers' ≡ length numbers
-      → FoundOne s blocks nodes entries queries i answers answers' numbers numbers' used used'
-      → Turning s (tables pieces blocks store nodes entries) queries answers₀ answers' numbers₀ numbers' most (i + 1) used'
+      → FoundOne s blocks nodes entries kind queries i answers answers' numbers numbers' used used'
+      → Turning s (tables pieces blocks store nodes entries) kind queries answers₀ answers' numbers₀ numbers' most (i + 1) used'
   turn_on {answers'} {numbers'} {used'} long d =
       let t = tables pieces blocks store nodes entries in
       let a = d.answer in
@@ -169,8 +169,8 @@ module _ {s : State} {pieces blocks store nodes entries queries answers₀ answe
         left = turn.left - 1;
         room = omega (arith, turn.room);
         whole = λ others numbers'' p.
-            subst (λ (g : List (Answer Counts)). Finds t queries most 0 numbers₀ 0 g numbers'') (sym (append_assoc turn.given (a ∷ []) others))
+            subst (λ (g : List (Answer Counts)). Finds t kind queries most 0 numbers₀ 0 g numbers'') (sym (append_assoc turn.given (a ∷ []) others))
             (turn.whole (a ∷ others) numbers''
-            (subst (λ (n : ℕ). Finds t queries n i numbers used (a ∷ others) numbers'') (sym one_left)
+            (subst (λ (n : ℕ). Finds t kind queries n i numbers used (a ∷ others) numbers'') (sym one_left)
             (finds_more one (rw (next, sym d.found.is) p))));
       }

@@ -10,6 +10,8 @@ use index::{Index, Operation};
 use tables::{ROW, block};
 use tally::Tally;
 
+const KIND: u8 = 1;
+
 // Tables have up to so many numbers.
 const LENGTHS: usize = 40;
 // The block table is shorter than a row, and again as long behind what stands in front of the last row of its head.
@@ -90,6 +92,7 @@ fn try_record(tally: &mut Tally, t: &mut Tables<'_>, wanted: Option<u64>) {
     let nodes = &mut *t.nodes;
     let entries = &mut *t.entries;
     let op = Operation {
+        kind: u64::from(KIND),
         tick: 0,
         first: 5,
         bytes: b"1",
@@ -124,7 +127,7 @@ fn try_block(tally: &mut Tally, t: &Tables<'_>) {
 
 fn try_find(tally: &mut Tally, t: &Tables<'_>) {
     let mut answer = [0; 9];
-    let asked = index::find(t.lent(), 0, 0, 9, &mut answer);
+    let asked = index::find(t.lent(), KIND, 0, 0, 9, &mut answer);
     let told = match asked {
         Ok(_) => None,
         Err(refusal) => Some(u64::from(refusal)),
@@ -164,8 +167,9 @@ fn comes(length: usize) -> Option<u64> {
 // Garbage is opened.
 fn try_opened(tally: &mut Tally, t: &mut Tables<'_>) {
     let wanted = comes(t.blocks.len());
+    let kinds = [KIND];
     let store = &mut *t.store;
-    let told = match Index::open(t.pieces, t.blocks, store, t.nodes, t.entries, 8, 1) {
+    let told = match Index::open(t.pieces, t.blocks, store, t.nodes, t.entries, 8, &kinds) {
         Ok(()) => None,
         Err(refusal) => Some(u64::from(refusal)),
     };

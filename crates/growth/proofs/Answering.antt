@@ -36,11 +36,11 @@ unfolding find_by live_by cells_by window_refusals neighbour_refusals block_refu
 reads_alike more l here =
     let there = longer-heads more l.opening.lent here in
     record {
-      find = λ t s n answer. rw (here, there);
-      touching = λ t s n answer. rw (here, there);
-      next = λ t c. rw (here, there);
-      last = λ t c. rw (here, there);
-      cells = λ t s n bytes held. rw (here, there);
+      find = λ kind t s n answer. rw (here, there);
+      touching = λ kind t s n answer. rw (here, there);
+      next = λ kind t c. rw (here, there);
+      last = λ kind t c. rw (here, there);
+      cells = λ kind t s n bytes held. rw (here, there);
       block = λ k. rw (here, there);
       clock = λ c. rw (here, there);
       write = λ out. rw (here, there);
@@ -86,9 +86,10 @@ module _ (more : Lent) (l : Ledger) where
         p.1.1.1.1.0,
         p.1.1.1.1.1.0,
         p.1.1.1.1.1.1.0,
-        more_room update (piece_rows here) (piece_rows there) _ (omega arith) p.1.1.1.1.1.1.1.0,
-        more_room update (block_rows here) (block_rows there) _ (omega arith) p.1.1.1.1.1.1.1.1.0,
-        more_room update here.store there.store _ (omega arith) p.1.1.1.1.1.1.1.1.1.0,
+        p.1.1.1.1.1.1.1.0,
+        more_room update (piece_rows here) (piece_rows there) _ (omega arith) p.1.1.1.1.1.1.1.1.0,
+        more_room update (block_rows here) (block_rows there) _ (omega arith) p.1.1.1.1.1.1.1.1.1.0,
+        more_room update here.store there.store _ (omega arith) p.1.1.1.1.1.1.1.1.1.1.0,
       )
       (given (record_refusals l scratch o) _ e)
 

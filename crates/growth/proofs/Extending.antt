@@ -7,6 +7,7 @@ use lib.ListN.{length, get_or, take, drop, length-append, length-replicate}
 use Rattle.lists.specs.Lists.{All}
 use Rattle.lists.proofs.Lists.{all_map}
 use Rattle.lists.proofs.Maps.{map_all}
+use Rattle.history.specs.Words.{cell_place}
 use Rattle.history.specs.Lent.{row_width}
 use Rattle.history.specs.Tree as segment
 use Rattle.tables.specs.Columns.{column, entry_column, pieces_root, pieces_count, piece_length, piece_offset, piece_left, piece_right, piece_depth, entry_key}
@@ -73,7 +74,7 @@ module _ {t t' : List ℕ} (x : Extends t t') where
 
   pub piece_kept : (link : ℕ) → piece_at t' link ≡ piece_at t link
   piece_kept link = λ i. record {
-    first = x.same (row_width * link + 0) i;
+    first = ap₂ cell_place (x.same (row_width * link + 7)) (x.same (row_width * link + 0)) i;
     size = x.same (row_width * link + 1) i;
     written = x.same (row_width * link + 2) i;
     offset = x.same (row_width * link + 3) i;
@@ -123,7 +124,7 @@ module _ {t t' : List ℕ} (x : Extends t t') where
   pub unordered_kept : {n : ℕ} → Unordered t n → Unordered t' n
   unordered_kept h = record { none = λ k l. x.same _ ∙ h.none k l }
 
--- ── the tree of a closed index ──
+-- ── the trees of a closed index ──
 
 module _ {t t' : Tables} (xb : Extends t.blocks t'.blocks) (xn : Extends t.nodes t'.nodes) (xe : Extends t.entries t'.entries) where
   run_kept : (row n : ℕ) → run t'.entries row n ≡ run t.entries row n
@@ -184,12 +185,13 @@ module _ {t t' : Tables} (xb : Extends t.blocks t'.blocks) (xn : Extends t.nodes
           let many : count_at t'.nodes link ≡ count_at t.nodes link = xn.same _ in
           rw (next, from, many) e
 
-  pub closed_kept : {kind e : ℕ} {T : segment.Tree} → Closed t kind e T → Closed t' kind e T
-  closed_kept {kind} {e} {T} h =
-      let root : column t'.nodes 0 kind ≡ column t.nodes 0 kind = xn.same _ in
+  pub closed_kept : {e : ℕ} {trees : List segment.Tree} → Closed t e trees → Closed t' e trees
+  closed_kept {e} {trees} h =
       record {
-        stands = rw root (tree_kept kind (column t.nodes 0 kind) 0 e T h.stands);
-        other_kinds = λ k l n. xn.same _ ∙ h.other_kinds k l n;
+        five = h.five;
+        stands = λ kind low.
+            let root : column t'.nodes 0 kind ≡ column t.nodes 0 kind = xn.same _ in
+            rw root (tree_kept kind (column t.nodes 0 kind) 0 e (segment.tree_at trees kind) (h.stands kind low));
         all_rows_lem = used_kept ∙ h.all_rows_lem;
         room = omega (arith, used_kept, h.room, xn.long);
         all_entries_lem = xe.same _ ∙ h.all_entries_lem;

@@ -9,12 +9,12 @@ use lib.Seq.{take-append-le}
 use Rattle.history.specs.Lent.{Lent}
 use Rattle.history.specs.Tree as segment
 use Rattle.history.specs.Ledger.{Ledger}
-use Rattle.history.specs.Sound.{SoundBoard, SoundTree, Sound, SoundForFinish}
-use Rattle.tables.specs.Columns.{head_state, head_end, head_kind, head_count, head_used, head_last}
+use Rattle.history.specs.Sound.{SoundBoard, SoundTrees, Sound, SoundForFinish}
+use Rattle.tables.specs.Columns.{head_state, head_end, head_kinds, head_count, head_used, head_last}
 use Rattle.day_table.proofs.DayLists.{days_kept}
 use Rattle.calendar_table.proofs.Calendars.{calendar_kept}
 use Rattle.layout.specs.Tables.{Tables, lengths_of, head_at}
-use Rattle.layout.specs.Encodes.{TreeIn, Encodes}
+use Rattle.layout.specs.Encodes.{TreesIn, Encodes}
 use Rattle.layout.specs.Formed.{Blank}
 use Rattle.layout.proofs.Lengths.{lent_same, heads_fit}
 use Rattle.layout.proofs.Pieces.{used_fits}
@@ -47,9 +47,9 @@ module _ (more : Lent) (t : Tables) (l : Ledger) (e : Encodes t l) where
   store_kept : take (head_at t head_used) (longer more t).store ≡ take (head_at t head_used) t.store
   store_kept = take-append-le (head_at t head_used) t.store _ (used_fits t l e)
 
-  tree_kept : (tree : Option segment.Tree) → TreeIn t l tree → TreeIn (longer more t) (lent_more more l) tree
-  tree_kept none h = unordered_kept blocks_longer h
-  tree_kept (some tree) h = closed_kept blocks_longer (zeros_extend more.nodes t.nodes) (zeros_extend more.entries t.entries) h
+  trees_kept : (trees : Option (List segment.Tree)) → TreesIn t l trees → TreesIn (longer more t) (lent_more more l) trees
+  trees_kept none h = unordered_kept blocks_longer h
+  trees_kept (some trees) h = closed_kept blocks_longer (zeros_extend more.nodes t.nodes) (zeros_extend more.entries t.entries) h
 
   pub longer_stand : Encodes (longer more t) (lent_more more l)
   longer_stand =
@@ -58,7 +58,8 @@ module _ (more : Lent) (t : Tables) (l : Ledger) (e : Encodes t l) where
         heads = rw (← longer-lengths more t) (longer-heads more (lengths_of t) e.heads);
         state = same head_state ∙ e.state;
         end = same head_end ∙ e.end;
-        kind = same head_kind ∙ e.kind;
+        mask = rw (same head_kinds) e.mask;
+        kinds = rw (same head_kinds) e.kinds;
         last = same head_last ∙ e.last;
         used = same head_used ∙ e.used;
         store = rw (same head_used) (e.store ∙ sym store_kept);
@@ -69,7 +70,7 @@ module _ (more : Lent) (t : Tables) (l : Ledger) (e : Encodes t l) where
         linked = links_kept pieces_longer e.linked;
         pieces = e.pieces ∙ sym (pieces_kept pieces_longer t.store _ _ store_kept e.pieces_stored);
         pieces_stored = rw (same head_used) (inside_kept pieces_longer _ e.pieces_stored);
-        tree = tree_kept l.tree e.tree;
+        trees = trees_kept l.trees e.trees;
         calendar = calendar_kept t.blocks (longer more t).blocks l.calendar (λ i _ _. blocks_longer.same i) e.calendar;
         days =
             let h = heads_fit (lengths_of t) e.heads in
@@ -84,7 +85,7 @@ board_more more l s =
     record {
       some_tick = s.some_tick;
       end_most = s.end_most;
-      known_kind = s.known_kind;
+      known_kinds = s.known_kinds;
       last_below_end = s.last_below_end;
       pieces = s.pieces;
       in_order = s.in_order;
@@ -96,21 +97,20 @@ board_more more l s =
       days_taken_lem = s.days_taken_lem;
     }
 
-tree_more : (more : Lent) (l : Ledger) (tree : Option segment.Tree) → SoundTree l tree → SoundTree (lent_more more l) tree
-tree_more more l none s = s
-tree_more more l (some tree) s =
+trees_more : (more : Lent) (l : Ledger) (trees : Option (List segment.Tree)) → SoundTrees l trees → SoundTrees (lent_more more l) trees
+trees_more more l none s = s
+trees_more more l (some trees) s =
     record {
       no_pieces = s.no_pieces;
-      rooted = s.rooted;
-      rule_21 = s.rule_21;
-      rule_23 = s.rule_23;
+      five = s.five;
+      each = s.each;
       rule_24 = s.rule_24;
       nodes_fit = omega (arith, s.nodes_fit);
       entries_fit = omega (arith, s.entries_fit);
     }
 
 pub sound_more : (more : Lent) (l : Ledger) → Sound l → Sound (lent_more more l)
-sound_more more l s = record { board = board_more more l s.board; closed = tree_more more l l.tree s.closed }
+sound_more more l s = record { board = board_more more l s.board; closed = trees_more more l l.trees s.closed }
 
 pub sound_for_finish_more : (more : Lent) (l : Ledger) → SoundForFinish l → SoundForFinish (lent_more more l)
 sound_for_finish_more more l s = record { sound = sound_more more l s.sound; apart = s.apart }

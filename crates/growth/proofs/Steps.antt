@@ -21,13 +21,13 @@ use Rattle.growth.proofs.Answering.{takes_alike}
 -- no growth, and growth after growth
 more_none : (l : Ledger) → l ≡ lent_more (grown_by []) l
 unfolding grown_by
-more_none l = λ i. record { opening = record { end = l.opening.end; kind = l.opening.kind; lent = same i }; now = l.now; tree = l.tree; calendar = l.calendar; days = l.days }
+more_none l = λ i. record { opening = record { end = l.opening.end; kinds = l.opening.kinds; lent = same i }; now = l.now; trees = l.trees; calendar = l.calendar; days = l.days }
   where
     same : l.opening.lent ≡ lengthened (grown_by []) l.opening.lent
     same = lent_same _ _ (omega arith) (omega arith) (omega arith) (omega arith) (omega arith)
 
 more_more : (a b : Lent) (l : Ledger) → lent_more b (lent_more a l) ≡ lent_more (lengthened b a) l
-more_more a b l = λ i. record { opening = record { end = l.opening.end; kind = l.opening.kind; lent = same i }; now = l.now; tree = l.tree; calendar = l.calendar; days = l.days }
+more_more a b l = λ i. record { opening = record { end = l.opening.end; kinds = l.opening.kinds; lent = same i }; now = l.now; trees = l.trees; calendar = l.calendar; days = l.days }
   where
     same : lengthened b (lengthened a l.opening.lent) ≡ lengthened (lengthened b a) l.opening.lent
     same = lent_same _ _ (omega arith) (omega arith) (omega arith) (omega arith) (omega arith)
@@ -115,5 +115,5 @@ unfolding opened open_refusals
 grown_boards = record {
   accepts = λ l ss. (grown l ss).accepts;
   same = λ l ss. (grown l ss).same;
-  law = λ a taken_in ss. rw (grown (opened a) ss).same (the_law (opening_for a.end a.kind (lengthened (grown_by ss) a.lent)) taken_in (taken (opened a) ss));
+  law = λ a taken_in ss. rw (grown (opened a) ss).same (the_law (opening_for a.end a.kinds (lengthened (grown_by ss) a.lent)) taken_in (taken (opened a) ss));
 }

@@ -33,13 +33,13 @@ lengthened more n =
       entries = n.entries + more.entries;
     }
 
--- the same ledger, with longer lengths: what it keeps, its tree, its calendar and its list of days stay, so an open index stays open and a closed one closed
+-- the same ledger, with longer lengths: what it keeps, its trees, its calendar and its list of days stay, so an open index stays open and a closed one closed
 abbrev pub lent_more : (more : Lent) → Ledger → Ledger
 lent_more more l =
     record {
-      opening = opening_for l.opening.end l.opening.kind (lengthened more l.opening.lent);
+      opening = opening_for l.opening.end l.opening.kinds (lengthened more l.opening.lent);
       now = l.now;
-      tree = l.tree;
+      trees = l.trees;
       calendar = l.calendar;
       days = l.days;
     }
@@ -48,11 +48,11 @@ lent_more more l =
 
 -- every read of the one is answered as of the other
 pub record ReadsAlike (l m : Ledger) : Type 0 where
-  pub find : (t start stop answer : ℕ) → find_answer m t start stop answer ≡ find_answer l t start stop answer
-  pub touching : (t start stop answer : ℕ) → touching_answer m t start stop answer ≡ touching_answer l t start stop answer
-  pub next : (t cell : ℕ) → next_answer m t cell ≡ next_answer l t cell
-  pub last : (t cell : ℕ) → last_answer m t cell ≡ last_answer l t cell
-  pub cells : (t start stop bytes held : ℕ) → cells_answer m t start stop bytes held ≡ cells_answer l t start stop bytes held
+  pub find : (kind t start stop answer : ℕ) → find_answer m kind t start stop answer ≡ find_answer l kind t start stop answer
+  pub touching : (kind t start stop answer : ℕ) → touching_answer m kind t start stop answer ≡ touching_answer l kind t start stop answer
+  pub next : (kind t cell : ℕ) → next_answer m kind t cell ≡ next_answer l kind t cell
+  pub last : (kind t cell : ℕ) → last_answer m kind t cell ≡ last_answer l kind t cell
+  pub cells : (kind t start stop bytes held : ℕ) → cells_answer m kind t start stop bytes held ≡ cells_answer l kind t start stop bytes held
   pub block : (k : ℕ) → block_answer m k ≡ block_answer l k
   pub clock : (cell : ℕ) → clock_answer m cell ≡ clock_answer l cell
   pub write : (out : ℕ) → write_answer m out ≡ write_answer l out

@@ -11,11 +11,12 @@ use Rattle.lists.proofs.Numbers.{lt_or_le, eq_or_ne}
 use Rattle.lists.proofs.Lists.{all_of_at, pairs_at, pairs_of_at, mem_place}
 use Rattle.lists.proofs.Counting.{count_from_out, count_from_count}
 use Rattle.history.specs.Words as words
-use Rattle.history.specs.Words.{Block, Holds}
+use Rattle.history.specs.Words.{Block, Holds, line_of}
+use Rattle.history.proofs.ByKind.{line_next}
 use Rattle.history.specs.Tree.{no_block, block_at}
 use Rattle.history.specs.Rules.{Apart}
 use Rattle.tables.specs.Columns.{column, piece_written, pieces_count, block_length, block_created, block_destroyed}
-use Rattle.block_table.specs.Blocks.{length_at, created_at, destroyed_at}
+use Rattle.block_table.specs.Blocks.{length_at, created_at, destroyed_at, owner_at}
 use Rattle.ordering.specs.Order.{next_at, Unordered, cleared}
 use Rattle.ordering.specs.Apart.{HoldsAt, Clash}
 use Rattle.ordering.proofs.Keeping.{order_column}
@@ -25,11 +26,11 @@ use Rattle.apart_laws.specs.Ticks.{Lives, DestroyedBy, Disjoint, ApartAt, Handed
 use Rattle.apart_laws.specs.Slots.{stretch_at, Counts}
 use Rattle.apart_laws.proofs.Downward.{theorem_h}
 use Rattle.apart_laws.proofs.Slots.{slot_law}
-use Rattle.ends_apart.specs.Rows.{LivesAt, CellAt}
+use Rattle.ends_apart.specs.Rows.{LivesAt, CellAt, NoWrap}
 use Rattle.ends_apart.specs.Turns as turns
 use Rattle.ends_apart.specs.Turns.{EndsApart}
 use Rattle.handed_rows.specs.Numbered.{Given, all_rows}
-use Rattle.handed_rows.specs.Handed.{slot_at, Tallied, TalliedRows, Written, TalliedPieces, AllTaken, PieceCell, Sound, RowsApart, SeenHanded}
+use Rattle.handed_rows.specs.Handed.{slot_at, Tallied, TalliedRows, Written, TalliedPieces, AllTaken, BlockCell, PieceCell, Sound, RowsApart, SeenHanded}
 use Rattle.handed_rows.proofs.Numbered.{Is, all_many, row_is, piece_is}
 use Rattle.handed_rows.proofs.Along.{only_both}
 
@@ -49,12 +50,30 @@ holds : {bs : List Block} {k first length created destroyed : ℕ} (t cell : ℕ
     → cell < first + length → Holds t cell (block_at bs k)
 holds t cell is a b c d = record { born = omega (arith, is.born); alive = omega (arith, is.dies); has = record { from = omega (arith, is.from); below = omega (arith, is.from, is.many) } }
 
+-- two rows that have one place are of one kind
+one_kind : {b : List ℕ} {n : ℕ} → NoWrap b n → (i j place : ℕ) → 0 < i → i ≤ n → 0 < j → j ≤ n → BlockCell b i place → BlockCell b j place → owner_at b i ≡ owner_at b j
+one_kind {b} w i j place p q r s x y =
+    elim (eq_or_ne (owner_at b i) (owner_at b j)) [
+      | inl e ↦ e
+      | inr f ↦ elim (lt_or_le (owner_at b i) (owner_at b j)) [
+        | inl l ↦ absurd (omega (arith, line_next (owner_at b i) (owner_at b j) l, w.each i p q, x.below, y.from))
+        | inr l ↦ absurd (omega (arith, line_next (owner_at b j) (owner_at b i) (omega arith), w.each j r s, y.below, x.from))
+      ]
+    ]
+
+-- and the place is a cell of that kind
+kind_cell : {b : List ℕ} {link kind place : ℕ} → owner_at b link ≡ kind → BlockCell b link place → CellAt b link kind (place - line_of kind)
+kind_cell {b} {link} {kind} {place} e x =
+    let from = rw e at x.from in
+    let below = rw e at x.below in
+    record { own = e; from = omega arith; below = omega arith }
+
 module _ (g : Given) (end : ℕ) (after : end < g.gone) (sound : Sound g.pieces g.blocks g.n g.m end) (own : EndsApart g.blocks g.n) {b : List ℕ}
     (tallied : Tallied g b (g.n + g.m)) (taken : (link : ℕ) → 0 < link → link ≤ g.n → LivesAt g.blocks link → length_at g.blocks link ≤ next_at b link) where
   abbrev bs : List Block
   bs = all_rows g
 
-  row_cell : {k cell : ℕ} → k < g.n → words.HasCell (stretch_at bs k) cell → CellAt g.blocks (suc k) cell
+  row_cell : {k cell : ℕ} → k < g.n → words.HasCell (stretch_at bs k) cell → BlockCell g.blocks (suc k) cell
   row_cell {k} h c = record { from = cell_from (row_is g k h) c; below = cell_below (row_is g k h) c }
 
   row_lives : {k : ℕ} → k < g.n → Lives (block_at bs k) → LivesAt g.blocks (suc k)
@@ -81,8 +100,10 @@ module _ (g : Given) (end : ℕ) (after : end < g.gone) (sound : Sound g.pieces 
       go : (j k : ℕ) → j < k → Row_or_piece j → Row_or_piece k → Lives (block_at bs j) → Lives (block_at bs k) → (block_at bs j).destroyed ≡ (block_at bs k).destroyed
           → Disjoint (stretch_at bs j) (stretch_at bs k)
       go j k p (inl u) (inl v) lj lk e cell cj ck =
-          own.apart (suc j) (suc k) (omega arith) (omega arith) (omega arith) (row_lives u lj) (row_lives v lk) (omega (arith, (row_is g j u).dies, (row_is g k v).dies)) cell
-          (row_cell u cj) (row_cell v ck)
+          let one : owner_at g.blocks (suc j) ≡ owner_at g.blocks (suc k)
+          = one_kind sound.no_wrap (suc j) (suc k) cell (omega arith) (omega arith) (omega arith) (omega arith) (row_cell u cj) (row_cell v ck) in
+          own.apart (suc j) (suc k) (omega arith) (omega arith) (omega arith) (row_lives u lj) (row_lives v lk) (omega (arith, (row_is g j u).dies, (row_is g k v).dies))
+          (owner_at g.blocks (suc j)) (cell - line_of (owner_at g.blocks (suc j))) (kind_cell refl (row_cell u cj)) (kind_cell (sym one) (row_cell v ck))
       go j k p (inl u) (inr z) lj lk e cell cj ck =
           let at : (block_at bs k).destroyed ≡ g.gone = rw z.2 (piece_is g z.0 z.1).dies in
           omega (arith, (row_is g j u).dies, sound.by_end (suc j) (omega arith) (omega arith))
@@ -110,7 +131,7 @@ module _ (g : Given) (end : ℕ) (after : end < g.gone) (sound : Sound g.pieces 
       go k (inr z) l d = let at : (block_at bs k).destroyed ≡ g.gone = rw z.2 (piece_is g z.0 z.1).dies in absurd (omega arith)
       go k (inl u) l d = λ cell c.
           let tick : destroyed_at g.blocks (suc k) ≡ t = sym (row_is g k u).dies ∙ d in
-          let here : CellAt g.blocks (suc k) cell = row_cell u c in
+          let here : BlockCell g.blocks (suc k) cell = row_cell u c in
           let counts : Counts bs t (count_from 0 (g.n + g.m)) (slot_at g.blocks (suc k) (next_at b (suc k)))
           = rw tick at (tallied.counts (suc k) (omega arith) (omega arith)) in
           slot_law.covers bs t (count_from 0 (g.n + g.m)) (slot_at g.blocks (suc k) (next_at b (suc k))) apart once counts
@@ -145,7 +166,7 @@ module _ (g : Given) (end : ℕ) (after : end < g.gone) (sound : Sound g.pieces 
           ]
 
       across : (link k : ℕ) → 0 < link → link ≤ g.n → 0 < k → k ≤ g.m → LivesAt g.blocks link → column g.pieces k piece_written < destroyed_at g.blocks link
-          → (cell : ℕ) → CellAt g.blocks link cell → PieceCell g.pieces k cell → ⊥
+          → (cell : ℕ) → BlockCell g.blocks link cell → PieceCell g.pieces k cell → ⊥
       across zero k a b c d lives early cell x y = absurd (omega arith)
       across (suc j) zero a b c d lives early cell x y = absurd (omega arith)
       across (suc j) (suc k) a b c d lives early cell x y =

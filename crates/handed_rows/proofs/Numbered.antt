@@ -12,9 +12,10 @@ use Rattle.lists.proofs.Lists.{count_from_length, count_from_at}
 use Rattle.lists.proofs.Maps.{length_of_map, get_d_of_map}
 use Rattle.history.specs.Words.{Block, size}
 use Rattle.history.specs.Tree.{no_block, block_at}
-use Rattle.tables.specs.Columns.{column, piece_first, piece_length, piece_written}
-use Rattle.block_table.specs.Blocks.{first_cell_at, length_at, created_at, destroyed_at}
+use Rattle.tables.specs.Columns.{column, piece_length, piece_written}
+use Rattle.block_table.specs.Blocks.{place_at, length_at, created_at, destroyed_at}
 use Rattle.handed_rows.specs.Numbered.{Given, block_row, piece_row, numbered, all_rows}
+use Rattle.handed_rows.specs.Handed.{piece_place}
 
 -- block k has these cells and this life
 pub record Is (bs : List Block) (k first length created destroyed : ℕ) : Type 0 where
@@ -35,7 +36,7 @@ module _ (g : Given) where
       ∙ ap (numbered g) (let e : 0 + k ≡ k = omega arith in count_from_at 0 (g.n + g.m) k h ∙ e)
 
   pub row_is : (k : ℕ) → k < g.n
-      → Is (all_rows g) k (first_cell_at g.blocks (suc k)) (length_at g.blocks (suc k)) (created_at g.blocks (suc k)) (destroyed_at g.blocks (suc k))
+      → Is (all_rows g) k (place_at g.blocks (suc k)) (length_at g.blocks (suc k)) (created_at g.blocks (suc k)) (destroyed_at g.blocks (suc k))
   unfolding numbered
   row_is k h =
       let low : ltb k g.n ≡ true = lt-ltb k g.n h in
@@ -48,7 +49,7 @@ module _ (g : Given) where
       }
 
   pub piece_is : (k : ℕ) → k < g.m
-      → Is (all_rows g) (g.n + k) (column g.pieces (suc k) piece_first) (column g.pieces (suc k) piece_length) (column g.pieces (suc k) piece_written) g.gone
+      → Is (all_rows g) (g.n + k) (piece_place g.pieces (suc k)) (column g.pieces (suc k) piece_length) (column g.pieces (suc k) piece_written) g.gone
   unfolding numbered
   piece_is k h =
       let high : ltb (g.n + k) g.n ≡ false = le-ltb (g.n + k) g.n (omega arith) in

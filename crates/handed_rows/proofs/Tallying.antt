@@ -10,10 +10,10 @@ use native.Mathlib.Numerals.{add-one}
 use Rattle.lists.specs.Lists.{count_from}
 use Rattle.lists.proofs.Lists.{count-append}
 use Rattle.lists.proofs.Counting.{count_from_append}
-use Rattle.history.specs.Words.{Block}
+use Rattle.history.specs.Words.{Block, cell_place}
 use Rattle.history.specs.Lent.{row_width}
-use Rattle.tables.specs.Columns.{column, block_column, block_first, block_length, block_created, block_destroyed, block_next, piece_first, piece_length, piece_written}
-use Rattle.block_table.specs.Blocks.{first_cell_at, length_at, destroyed_at}
+use Rattle.tables.specs.Columns.{column, block_column, block_first, block_length, block_created, block_destroyed, block_owner, block_next, piece_first, piece_length, piece_written, piece_owner}
+use Rattle.block_table.specs.Blocks.{place_at, length_at, destroyed_at}
 use Rattle.ordering.specs.Order.{next_at, OnlyOrder, Unordered}
 use Rattle.ordering.proofs.Keeping.{order_column}
 use Rattle.apart_laws.specs.Cover.{cut}
@@ -58,12 +58,12 @@ tally_one {g} {b} {b'} {k} {first} {length} {tick} {destroyed} t is lives hands 
     was : (link c : ℕ) → c < row_width → (c ≡ block_next → ⊥) → block_column b link c ≡ block_column g.blocks link c
     was link c = order_column t.only link c
 
-    taken : (link : ℕ) → next_at b' link ≤ next_at b link + in_common (first_cell_at b link) (length_at b link) first length
+    taken : (link : ℕ) → next_at b' link ≤ next_at b link + in_common (place_at b link) (length_at b link) first length
         → TakesIn (stretch_at (all_rows g) k) (slot_at g.blocks link (next_at b link)) (slot_at g.blocks link (next_at b' link))
     taken link h = record {
       lower = omega arith;
       upper = omega arith;
-      adds = rw (is.from, is.many, ← was link block_first (omega arith) (λ z. omega arith), ← was link block_length (omega arith) (λ z. omega arith)) h;
+      adds = rw (is.from, is.many, ← was link block_owner (omega arith) (λ z. omega arith), ← was link block_first (omega arith) (λ z. omega arith), ← was link block_length (omega arith) (λ z. omega arith)) h;
     }
 
     go : (link : ℕ) → Counts (all_rows g) (destroyed_at g.blocks link) (count_from 0 k) (slot_at g.blocks link (next_at b link)) → Grows b b' first length tick link
@@ -97,7 +97,8 @@ module _ {b₀ b : List ℕ} {n k : ℕ} {row : Row} (t : RowsTo b₀ b n k) (h 
   pub rows_pass : RowsTo b₀ b n (k + 1)
   rows_pass = record { within = omega arith; only = t.only; done = λ g eb en u. tally_on (t.done g eb en u) }
 
-  pub rows_count : {b' : List ℕ} {l : Bool} → l ≡ ltb row.created row.destroyed → l ≡ true → HandsOn b b' n row.first row.length row.created → RowsTo b₀ b' n (k + 1)
+  pub rows_count : {b' : List ℕ} {l : Bool} → l ≡ ltb row.created row.destroyed → l ≡ true → HandsOn b b' n (cell_place row.owner row.first) row.length row.created
+      → RowsTo b₀ b' n (k + 1)
   rows_count {b'} el alive hands = record { within = omega arith; only = only_both t.only hands.only; done = go }
     where
       lives : row.created < row.destroyed
@@ -109,8 +110,8 @@ module _ {b₀ b : List ℕ} {n k : ℕ} {row : Row} (t : RowsTo b₀ b n k) (h 
           let was : (c : ℕ) → c < row_width → (c ≡ block_next → ⊥) → block_column b (suc k) c ≡ block_column g.blocks (suc k) c = λ c. order_column s.only (suc k) c in
           let is = row_is g k (omega arith) in
           let e : Reads b (suc k) row = rw (add-one k) at r in
-          let reads : Is (all_rows g) k row.first row.length row.created row.destroyed = record {
-            from = is.from ∙ sym (was block_first (omega arith) (λ z. omega arith)) ∙ sym e.first;
+          let reads : Is (all_rows g) k (cell_place row.owner row.first) row.length row.created row.destroyed = record {
+            from = is.from ∙ rw (← was block_owner (omega arith) (λ z. omega arith), ← was block_first (omega arith) (λ z. omega arith), ← e.owner, ← e.first);
             many = is.many ∙ sym (was block_length (omega arith) (λ z. omega arith)) ∙ sym e.length;
             born = is.born ∙ sym (was block_created (omega arith) (λ z. omega arith)) ∙ sym e.created;
             dies = is.dies ∙ sym (was block_destroyed (omega arith) (λ z. omega arith)) ∙ sym e.destroyed;
@@ -132,16 +133,16 @@ pub record PiecesTo (pieces : List ℕ) (m : ℕ) (b₀ b : List ℕ) (n k : ℕ
 pub pieces_start : {pieces b : List ℕ} {m n : ℕ} → PiecesTo pieces m b b n 0
 pieces_start {n = n} = record { within = omega arith; only = only_same; done = λ g ep em en w t. let e : n + 0 ≡ n = omega arith in rw e t }
 
-pub pieces_count_lem : {pieces b₀ b b' : List ℕ} {m n k first length written : ℕ} → PiecesTo pieces m b₀ b n k → k < m → first ≡ column pieces (k + 1) piece_first
-    → length ≡ column pieces (k + 1) piece_length → written ≡ column pieces (k + 1) piece_written → HandsOn b b' n first length written → PiecesTo pieces m b₀ b' n (k + 1)
-pieces_count_lem {pieces} {b₀} {b} {b'} {m} {n} {k} {first} {length} {written} t h ef el ew hands = record { within = omega arith; only = only_both t.only hands.only; done = go }
+pub pieces_count_lem : {pieces b₀ b b' : List ℕ} {m n k kind first length written : ℕ} → PiecesTo pieces m b₀ b n k → k < m → kind ≡ column pieces (k + 1) piece_owner → first ≡ column pieces (k + 1) piece_first
+    → length ≡ column pieces (k + 1) piece_length → written ≡ column pieces (k + 1) piece_written → HandsOn b b' n (cell_place kind first) length written → PiecesTo pieces m b₀ b' n (k + 1)
+pieces_count_lem {pieces} {b₀} {b} {b'} {m} {n} {k} {kind} {first} {length} {written} t h eo ef el ew hands = record { within = omega arith; only = only_both t.only hands.only; done = go }
   where
     go : (g : Given) → g.pieces ≡ pieces → g.m ≡ m → g.n ≡ n → Written g → Tallied g b₀ n → Tallied g b' (n + (k + 1))
     go g ep em en w s =
         let is = piece_is g k (omega arith) in
         let next : n + (k + 1) ≡ g.n + k + 1 = omega arith in
         let link : suc k ≡ k + 1 = omega arith in
-        let reads : Is (all_rows g) (g.n + k) first length written g.gone = rw (ef, el, ew, ← ep, ← link) is in
+        let reads : Is (all_rows g) (g.n + k) (cell_place kind first) length written g.gone = rw (eo, ef, el, ew, ← ep, ← link) is in
         let so_far : Tallied g b (g.n + k) = subst (λ (x : ℕ). Tallied g b (x + k)) (sym en) (t.done g ep em en w s) in
         rw next (tally_one so_far reads (rw (ew, ← ep, ← link) (w (suc k) (omega arith) (omega arith))) (rw en hands))
 

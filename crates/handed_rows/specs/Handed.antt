@@ -1,14 +1,14 @@
 -- What is counted for each row, and what is shown by it. Definitions alone.
 use Rattle.std.specs.Prelude.{◌≡◌, Bool, true, List, ℕ, ◌+◌, ◌-◌, ◌≤◌, ◌<◌, min, max}
 use Rattle.lists.specs.Lists.{count_from}
-use Rattle.tables.specs.Columns.{column, piece_first, piece_length, piece_written}
-use Rattle.tables.specs.Sums.{plus_up_to}
-use Rattle.block_table.specs.Blocks.{first_cell_at, length_at, destroyed_at}
+use Rattle.history.specs.Words.{cell_place}
+use Rattle.tables.specs.Columns.{column, piece_first, piece_length, piece_written, piece_owner}
+use Rattle.block_table.specs.Blocks.{place_at, length_at, destroyed_at}
 use Rattle.ordering.specs.Order.{next_at, OnlyOrder, Unordered}
 use Rattle.ordering.specs.Apart.{Unshared}
 use Rattle.apart_laws.specs.Slots.{Slot, Counts}
 use Rattle.block_table.specs.declared.Row.{Row}
-use Rattle.ends_apart.specs.Rows.{LivesAt, CellAt, NoWrap}
+use Rattle.ends_apart.specs.Rows.{LivesAt, NoWrap}
 use Rattle.handed_rows.specs.Numbered.{Given, all_rows}
 
 -- ── one stretch ──
@@ -17,14 +17,14 @@ use Rattle.handed_rows.specs.Numbered.{Given, all_rows}
 abbrev pub in_common : (first length first' length' : ℕ) → ℕ
 in_common first length first' length' = min (first + length) (first' + length') - max first first'
 
--- `common`: where an end passes 2^64 − 1, it is cut
-pub record Common (row : Row) (first length : ℕ) (r : ℕ) : Type 0 where
-  pub is : r ≡ min (plus_up_to row.first row.length) (plus_up_to first length) - max row.first first
+-- `common`, of a row and the cells of a kind: no more than they have in common
+pub record Common (row : Row) (kind first length : ℕ) (r : ℕ) : Type 0 where
+  pub most : r ≤ in_common (cell_place row.owner row.first) row.length (cell_place kind first) length
 
 -- what stands in a row's column NEXT grows by the cells in common at most, and only if the row is destroyed at the tick
 pub data Grows (blocks blocks' : List ℕ) (first length tick link : ℕ) : Type 0 where
   stays : next_at blocks' link ≤ next_at blocks link → Grows blocks blocks' first length tick link
-  takes : destroyed_at blocks link ≡ tick → next_at blocks' link ≤ next_at blocks link + in_common (first_cell_at blocks link) (length_at blocks link) first length
+  takes : destroyed_at blocks link ≡ tick → next_at blocks' link ≤ next_at blocks link + in_common (place_at blocks link) (length_at blocks link) first length
       → Grows blocks blocks' first length tick link
 
 -- `hand_on`
@@ -36,7 +36,7 @@ pub record HandsOn (blocks blocks' : List ℕ) (n first length tick : ℕ) : Typ
 
 -- a row is its own slot
 abbrev pub slot_at : (blocks : List ℕ) (link sum : ℕ) → Slot
-slot_at blocks link sum = record { lo = first_cell_at blocks link; hi = first_cell_at blocks link + length_at blocks link; sum = sum }
+slot_at blocks link sum = record { lo = place_at blocks link; hi = place_at blocks link + length_at blocks link; sum = sum }
 
 -- when the first k of all rows are counted: what stands in NEXT counts cells of those that are created when the row is destroyed
 pub record Tallied (g : Given) (blocks : List ℕ) (k : ℕ) : Type 0 where
@@ -67,10 +67,18 @@ pub record AllTaken (blocks : List ℕ) (n : ℕ) (r : Bool) : Type 0 where
 
 -- ── rule 24 ──
 
--- the piece of a link has the cell
-pub record PieceCell (pieces : List ℕ) (link cell : ℕ) : Type 0 where
-  pub from : column pieces link piece_first ≤ cell
-  pub below : cell < column pieces link piece_first + column pieces link piece_length
+-- the block of a link has the place
+pub record BlockCell (blocks : List ℕ) (link place : ℕ) : Type 0 where
+  pub from : place_at blocks link ≤ place
+  pub below : place < place_at blocks link + length_at blocks link
+
+-- so has the piece of a link
+abbrev pub piece_place : (pieces : List ℕ) (link : ℕ) → ℕ
+piece_place pieces link = cell_place (column pieces link piece_owner) (column pieces link piece_first)
+
+pub record PieceCell (pieces : List ℕ) (link place : ℕ) : Type 0 where
+  pub from : piece_place pieces link ≤ place
+  pub below : place < piece_place pieces link + column pieces link piece_length
 
 -- what is known of the rows: no end wraps, none is destroyed or written after the end tick, and no two pieces share a cell
 pub record Sound (pieces blocks : List ℕ) (n m end : ℕ) : Type 0 where
@@ -83,7 +91,7 @@ pub record Sound (pieces blocks : List ℕ) (n m end : ℕ) : Type 0 where
 pub record RowsApart (pieces blocks : List ℕ) (n m : ℕ) : Type 0 where
   pub blocks_apart : Unshared blocks n
   pub pieces_apart : (link k : ℕ) → 0 < link → link ≤ n → 0 < k → k ≤ m → LivesAt blocks link → column pieces k piece_written < destroyed_at blocks link
-      → (cell : ℕ) → CellAt blocks link cell → PieceCell pieces k cell → ⊥
+      → (cell : ℕ) → BlockCell blocks link cell → PieceCell pieces k cell → ⊥
 
 -- `handed_on`: the table is as it was, and yes is said only where that is so
 pub record SeenHanded (pieces blocks : List ℕ) (n m : ℕ) (blocks' : List ℕ) (r : Bool) : Type 0 where

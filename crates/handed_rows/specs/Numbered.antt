@@ -3,8 +3,8 @@
 use Rattle.std.specs.Prelude.{cond, List, map, ℕ, suc, ◌+◌, ◌-◌, ltb, replicate}
 use Rattle.lists.specs.Lists.{count_from}
 use Rattle.history.specs.Words.{Block, a_block}
-use Rattle.tables.specs.Columns.{column, piece_first, piece_length, piece_written}
-use Rattle.block_table.specs.Blocks.{first_cell_at, length_at, created_at, destroyed_at}
+use Rattle.tables.specs.Columns.{column, piece_first, piece_length, piece_written, piece_owner}
+use Rattle.block_table.specs.Blocks.{first_cell_at, length_at, created_at, destroyed_at, owner_at}
 
 -- the tables, how many rows they have, and a tick after all others, at which pieces are destroyed
 pub record Given : Type 0 where
@@ -15,11 +15,12 @@ pub record Given : Type 0 where
   pub gone : ℕ
 
 abbrev pub block_row : (blocks : List ℕ) (link : ℕ) → Block
-block_row blocks link = a_block 0 (first_cell_at blocks link) (replicate (length_at blocks link) 0) (created_at blocks link) (destroyed_at blocks link)
+block_row blocks link =
+    a_block (owner_at blocks link) (first_cell_at blocks link) (replicate (length_at blocks link) 0) (created_at blocks link) (destroyed_at blocks link)
 
 abbrev pub piece_row : (pieces : List ℕ) (gone link : ℕ) → Block
 piece_row pieces gone link =
-    a_block 0 (column pieces link piece_first) (replicate (column pieces link piece_length) 0) (column pieces link piece_written) gone
+    a_block (column pieces link piece_owner) (column pieces link piece_first) (replicate (column pieces link piece_length) 0) (column pieces link piece_written) gone
 
 unfoldable pub numbered : Given → (k : ℕ) → Block
 numbered g k = cond (ltb k g.n) (block_row g.blocks (suc k)) (piece_row g.pieces g.gone (suc (k - g.n)))

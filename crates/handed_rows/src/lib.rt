@@ -12,6 +12,7 @@
 #![tactic(auto)]
 
 ghost use Rattle.std.specs.Prelude.{◌≤◌};
+ghost use Rattle.history.specs.Words.{cell_place};
 ghost use Rattle.tables.specs.Columns.{column, pieces_count};
 ghost use Rattle.handed_rows.specs.Handed.{Common, HandsOn, TalliedRows, TalliedPieces, TakenOver, AllTaken, SeenHanded};
 
@@ -22,18 +23,23 @@ use tables::{block, piece};
 // How many rows of a tick are passed over before the cell is sought among them, and again after that.
 const MANY: u64 = 64;
 
-// Cells that are taken over at a tick by what is created then.
+// Cells of a kind that are taken over at a tick by what is created then.
 #[derive(Clone, Copy)]
 struct Stretch {
+    kind: u64,
     first: u64,
     length: u64,
     tick: u64,
 }
 
 // How many cells the row has in common with a stretch.
+#[tactic(auto, using(crate::proofs::Along::common_told, crate::proofs::Along::common_none))]
 fn common(row: Row, stretch: Stretch) -> u64
-    ensures { Common row stretch.first stretch.length result }
+    ensures { Common row stretch.kind stretch.first stretch.length result }
 {
+    if row.owner != stretch.kind {
+        return 0;
+    }
     let lo = row.first.max(stretch.first);
     let end = stretch.first.saturating_add(stretch.length);
     let hi = row.end().min(end);
@@ -51,7 +57,15 @@ fn passed(blocks: &[u64], i: u64, n: u64, stretch: Stretch, left: u64) -> u64
         row: i,
         tick: stretch.tick,
     };
-    row_seek::search(blocks, from, n, stretch.tick, stretch.first, 0)
+    row_seek::search(
+        blocks,
+        from,
+        n,
+        stretch.tick,
+        stretch.kind,
+        stretch.first,
+        0,
+    )
 }
 
 // Counts a stretch for the rows that are destroyed at its tick and have cells in common with it. Where a row is full already, two stretches have a cell
@@ -59,7 +73,7 @@ fn passed(blocks: &[u64], i: u64, n: u64, stretch: Stretch, left: u64) -> u64
 // No `for` goes over the rows: a turn may jump to where the cell is sought.
 #[tactic(auto, using(crate::proofs::Along::along))]
 fn hand_on(blocks: &mut [u64], n: u64, marks: &[Mark; MARKS], stretch: Stretch)
-    ensures { HandsOn blocks.old blocks.new n stretch.first stretch.length stretch.tick }
+    ensures { HandsOn blocks.old blocks.new n (cell_place stretch.kind stretch.first) stretch.length stretch.tick }
 {
     let mut i = row_seek::seek(blocks, n, marks, stretch.tick);
     let mut left = 2 * MANY;
@@ -94,6 +108,7 @@ fn tally_rows(blocks: &mut [u64], n: u64, marks: &[Mark; MARKS])
         let row = block_table::read(blocks, k + 1);
         if row.lives() {
             let stretch = Stretch {
+                kind: row.owner,
                 first: row.first,
                 length: row.length,
                 tick: row.created,
@@ -110,6 +125,7 @@ fn tally_pieces(pieces: &[u64], m: u64, blocks: &mut [u64], n: u64, marks: &[Mar
 {
     for k in 0..m {
         let stretch = Stretch {
+            kind: tables::get(pieces, k + 1, piece::OWNER),
             first: tables::get(pieces, k + 1, piece::FIRST),
             length: tables::get(pieces, k + 1, piece::LENGTH),
             tick: tables::get(pieces, k + 1, piece::WRITTEN),

@@ -1,4 +1,4 @@
--- What a cell shows is what the history tells: kept by a read, by an update and by finish. Assumes nothing.
+-- What a place shows is what the history tells of it: kept by a read, by an update and by finish. Assumes nothing.
 use mathlib.Core.Path.{◌≡◌, refl, sym, ◌∙◌, ap, ap₂, subst}
 use mathlib.Core.Logic.{◌⊎◌, inl, inr}
 use mathlib.Core.Bool.{Bool, cond, true, false, ◌&&◌, ◌||◌, false≢true}
@@ -14,13 +14,13 @@ use Rattle.history.specs.Words.{within, Operation, Piece, Block, ends, byte_at, 
 use Rattle.history.specs.Ledger.{Opening, Moment, settled, update_by, read_by, is_read, first_change, changed, is_none}
 use Rattle.lists.specs.Lists.{has}
 use Rattle.history.specs.Reads.{shows, seen}
-use Rattle.history.specs.Calls.{value_at}
 use Rattle.lists.specs.Lists.{All, all_nil, all_cons}
 use Rattle.lists.proofs.Numbers.{lt_or_le, cond_same}
 use Rattle.lists.proofs.Lists.{all_map}
 use Rattle.lists.proofs.Maps.{map-append, filter_map_all, filter_map_none}
 use Rattle.history.proofs.Within.{within_in, within_low, within_high}
 use Rattle.history.proofs.Clip.{byte_at_in, byte_at_low, byte_at_high}
+use Rattle.history.proofs.ByKind.{told}
 use Rattle.history.proofs.Seen.{seen-append, seen_cons, shows-none, seen_below, seen-inside, seen-above}
 
 -- ── blocks and pieces at a tick ──
@@ -70,13 +70,13 @@ module _ (a : Opening) (m : Moment) (o : Operation) (t c : ℕ) where
   P D = seen t c (map (block_of D) m.pieces)
 
   new : Block
-  new = block_of a.end (piece_of a.kind o)
+  new = block_of a.end (piece_of o)
 
   seen-settled : seen t c (settled a.end m) ≡ seen t c m.blocks ++ P a.end
   unfolding settled P
   seen-settled = seen-append t c m.blocks (map (block_of a.end) m.pieces)
 
-  seen-updated : seen t c (settled a.end (update_by a.kind m o))
+  seen-updated : seen t c (settled a.end (update_by m o))
       ≡ (seen t c m.blocks ++ (cond (within f e c) (P o.tick) []))
       ++ ((cond (within 0 f c) (P a.end) []) ++ (Option-to_list (shows t c new) ++ (cond (leb e c) (P a.end) [])))
   unfolding settled update_by P f e new
@@ -91,7 +91,7 @@ module _ (a : Opening) (m : Moment) (o : Operation) (t c : ℕ) where
       )
 
   -- a cell left or right of the operation shows what it showed
-  updated_left : c < f → seen t c (settled a.end (update_by a.kind m o)) ≡ seen t c (settled a.end m)
+  updated_left : c < f → seen t c (settled a.end (update_by m o)) ≡ seen t c (settled a.end m)
   unfolding new f e Option-to_list
   updated_left h =
       seen-updated
@@ -104,7 +104,7 @@ module _ (a : Opening) (m : Moment) (o : Operation) (t c : ℕ) where
       ))
       ∙ sym seen-settled
 
-  updated_right : e ≤ c → seen t c (settled a.end (update_by a.kind m o)) ≡ seen t c (settled a.end m)
+  updated_right : e ≤ c → seen t c (settled a.end (update_by m o)) ≡ seen t c (settled a.end m)
   unfolding new f e Option-to_list
   updated_right h =
       seen-updated
@@ -118,7 +118,7 @@ module _ (a : Opening) (m : Moment) (o : Operation) (t c : ℕ) where
       ∙ sym seen-settled
 
   -- a cell of the operation shows before its tick what it showed
-  updated_before : f ≤ c → c < e → t < o.tick → t < a.end → seen t c (settled a.end (update_by a.kind m o)) ≡ seen t c (settled a.end m)
+  updated_before : f ≤ c → c < e → t < o.tick → t < a.end → seen t c (settled a.end (update_by m o)) ≡ seen t c (settled a.end m)
   unfolding new shows f e P Option-to_list
   updated_before p q h h' =
       seen-updated
@@ -134,7 +134,7 @@ module _ (a : Opening) (m : Moment) (o : Operation) (t c : ℕ) where
 
   -- and from its tick on the operation's byte alone
   updated_now : f ≤ c → c < e → o.tick ≤ t → t < a.end → All (λ (b : Block). b.destroyed ≤ t) m.blocks
-      → seen t c (settled a.end (update_by a.kind m o)) ≡ Option-to_list (byte_at c (stretch_of o))
+      → seen t c (settled a.end (update_by m o)) ≡ Option-to_list (byte_at c (stretch_of o))
   unfolding new shows f e P Option-to_list
   updated_now p q h h' x =
       seen-updated
@@ -151,37 +151,37 @@ module _ (a : Opening) (m : Moment) (o : Operation) (t c : ℕ) where
 -- ── the history ──
 
 -- a call that does not cover the cell, or comes after the tick, tells nothing of it
-pub value_uncovered : (o : Operation) (h : List Operation) (t c : ℕ) → byte_at c (stretch_of o) ≡ none → value_at (o ∷ h) t c ≡ value_at h t c
-unfolding value_at or_else
-value_uncovered o h t c e = rw (e, cond_same)
+pub told_uncovered : (o : Operation) (h : List Operation) (t c : ℕ) → byte_at c (stretch_of o) ≡ none → told (o ∷ h) t c ≡ told h t c
+unfolding told or_else
+told_uncovered o h t c e = rw (e, cond_same)
 
-pub value_later : (o : Operation) (h : List Operation) (t c : ℕ) → t < o.tick → value_at (o ∷ h) t c ≡ value_at h t c
-unfolding value_at or_else
-value_later o h t c p = rw (lt-leb o.tick t p)
+pub told-later : (o : Operation) (h : List Operation) (t c : ℕ) → t < o.tick → told (o ∷ h) t c ≡ told h t c
+unfolding told or_else
+told-later o h t c p = rw (lt-leb o.tick t p)
 
-pub value_covered : (o : Operation) (h : List Operation) (t c b : ℕ) → o.tick ≤ t → byte_at c (stretch_of o) ≡ some b → value_at (o ∷ h) t c ≡ some b
-unfolding value_at or_else
-value_covered o h t c b p e = rw (le-leb o.tick t p, e)
+pub told-covered : (o : Operation) (h : List Operation) (t c b : ℕ) → o.tick ≤ t → byte_at c (stretch_of o) ≡ some b → told (o ∷ h) t c ≡ some b
+unfolding told or_else
+told-covered o h t c b p e = rw (le-leb o.tick t p, e)
 
 -- ── the law of cells, kept by each call ──
 
 -- below E the blocks and pieces show what the history tells
 abbrev pub Shown : Opening → Moment → List Operation → Type 0
-Shown a m h = (t c : ℕ) → t < a.end → seen t c (settled a.end m) ≡ Option-to_list (value_at h t c)
+Shown a m h = (t c : ℕ) → t < a.end → seen t c (settled a.end m) ≡ Option-to_list (told h t c)
 
 pub shown-updated : (a : Opening) (m : Moment) (h : List Operation) (o : Operation)
-    → All (λ (b : Block). b.destroyed ≤ m.last) m.blocks → m.last ≤ o.tick → Shown a m h → Shown a (update_by a.kind m o) (o ∷ h)
+    → All (λ (b : Block). b.destroyed ≤ m.last) m.blocks → m.last ≤ o.tick → Shown a m h → Shown a (update_by m o) (o ∷ h)
 unfolding update_by f e Option-to_list
 shown-updated a m h o old later ih t c below_end = go (lt_or_le c (stretch_of o).first) (lt_or_le c (ends (stretch_of o))) (lt_or_le t o.tick)
   where
     go : (c < (stretch_of o).first) ⊎ ((stretch_of o).first ≤ c) → (c < ends (stretch_of o)) ⊎ (ends (stretch_of o) ≤ c) → (t < o.tick) ⊎ (o.tick ≤ t)
-        → seen t c (settled a.end (update_by a.kind m o)) ≡ Option-to_list (value_at (o ∷ h) t c)
-    go (inl x) y z = updated_left a m o t c x ∙ ih t c below_end ∙ ap Option-to_list (sym (value_uncovered o h t c (byte_at_low c (stretch_of o) x)))
-    go (inr x) (inr y) z = updated_right a m o t c y ∙ ih t c below_end ∙ ap Option-to_list (sym (value_uncovered o h t c (byte_at_high c (stretch_of o) y)))
-    go (inr x) (inl y) (inl z) = updated_before a m o t c x y z below_end ∙ ih t c below_end ∙ ap Option-to_list (sym (value_later o h t c z))
+        → seen t c (settled a.end (update_by m o)) ≡ Option-to_list (told (o ∷ h) t c)
+    go (inl x) y z = updated_left a m o t c x ∙ ih t c below_end ∙ ap Option-to_list (sym (told_uncovered o h t c (byte_at_low c (stretch_of o) x)))
+    go (inr x) (inr y) z = updated_right a m o t c y ∙ ih t c below_end ∙ ap Option-to_list (sym (told_uncovered o h t c (byte_at_high c (stretch_of o) y)))
+    go (inr x) (inl y) (inl z) = updated_before a m o t c x y z below_end ∙ ih t c below_end ∙ ap Option-to_list (sym (told-later o h t c z))
     go (inr x) (inl y) (inr z) =
         updated_now a m o t c x y z below_end (all_map (λ b d. omega arith) old)
-        ∙ ap Option-to_list (byte_at_in c (stretch_of o) x y ∙ sym (value_covered o h t c _ z (byte_at_in c (stretch_of o) x y)))
+        ∙ ap Option-to_list (byte_at_in c (stretch_of o) x y ∙ sym (told-covered o h t c _ z (byte_at_in c (stretch_of o) x y)))
 
 -- ── a read ──
 
@@ -232,7 +232,7 @@ unfolding read_by settled P
 shown_read a m h o old written later known ih t c below_end = ih t c below_end ∙ ap Option-to_list (sym (go (lt_or_le c (stretch_of o).first) (lt_or_le c (ends (stretch_of o))) (lt_or_le t o.tick)))
   where
     -- from the last tick on only the pieces show
-    held : o.tick ≤ t → held_at c m.pieces ≡ Option-to_list (value_at h t c)
+    held : o.tick ≤ t → held_at c m.pieces ≡ Option-to_list (told h t c)
     held z =
         sym (
         seen-settled a m o t c
@@ -241,13 +241,13 @@ shown_read a m h o old written later known ih t c below_end = ih t c below_end �
         ∙ ih t c below_end
 
     go : (c < (stretch_of o).first) ⊎ ((stretch_of o).first ≤ c) → (c < ends (stretch_of o)) ⊎ (ends (stretch_of o) ≤ c) → (t < o.tick) ⊎ (o.tick ≤ t)
-        → value_at (o ∷ h) t c ≡ value_at h t c
-    go (inl x) y z = value_uncovered o h t c (byte_at_low c (stretch_of o) x)
-    go (inr x) (inr y) z = value_uncovered o h t c (byte_at_high c (stretch_of o) y)
-    go (inr x) (inl y) (inl z) = value_later o h t c z
+        → told (o ∷ h) t c ≡ told h t c
+    go (inl x) y z = told_uncovered o h t c (byte_at_low c (stretch_of o) x)
+    go (inr x) (inr y) z = told_uncovered o h t c (byte_at_high c (stretch_of o) y)
+    go (inr x) (inl y) (inl z) = told-later o h t c z
     go (inr x) (inl y) (inr z) =
-        value_covered o h t c _ z (byte_at_in c (stretch_of o) x y)
-        ∙ sym (has_to_list _ (value_at h t c)
+        told-covered o h t c _ z (byte_at_in c (stretch_of o) x y)
+        ∙ sym (has_to_list _ (told h t c)
         (subst (λ (r : List ℕ). has (get_or (stretch_of o).bytes (c - (stretch_of o).first) 0) r ≡ true) (held z)
         (subst (λ (n : ℕ). has (get_or (stretch_of o).bytes (c - (stretch_of o).first) 0) (held_at n m.pieces) ≡ true) (omega arith)
         (known_at m.pieces (stretch_of o).first (stretch_of o).bytes (read_known m o known) (c - (stretch_of o).first) (omega arith)))))

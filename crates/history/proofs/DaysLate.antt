@@ -27,10 +27,10 @@ place_late from (e ∷ es) fs m h =
       | inl before ↦ place_before from e (es ++ fs) m before ∙ sym (place_before from e es m before)
       | inr reach ↦ elim (lt_or_le (m - (e.day - from) * day_minutes) e.minutes) [
         | inl in-it ↦ place_in from e (es ++ fs) m reach in-it ∙ sym (place_in from e es m reach in-it)
-        | inr past-it ↦
-            place_after from e (es ++ fs) m reach past-it
-            ∙ place_late (suc e.day) es fs (m - (e.day - from) * day_minutes - e.minutes) (rw (place_after from e es m reach past-it) at h)
-            ∙ sym (place_after from e es m reach past-it)
+        | inr past_it ↦
+            place_after from e (es ++ fs) m reach past_it
+            ∙ place_late (suc e.day) es fs (m - (e.day - from) * day_minutes - e.minutes) (rw (place_after from e es m reach past_it) at h)
+            ∙ sym (place_after from e es m reach past_it)
       ]
     ]
 

@@ -1,4 +1,4 @@
--- The laws of placeFrom: the place of a minute is the day whose stretch has it, and no other. Assumes nothing.
+-- The laws of place_from: the place of a minute is the day whose stretch has it, and no other. Assumes nothing.
 use mathlib.Core.Path.{◌≡◌, refl, sym, ap, ◌∙◌}
 use mathlib.Core.Logic.{inl, inr, ⊎_elim}
 use mathlib.Core.List.{List, [], ◌∷◌}
@@ -77,7 +77,7 @@ lies_in from e es m p q r reach in-it =
 lies_after : (from : ℕ) (e : Day) (es : List Day) (m : ℕ) (place : Place) → from ≤ e.day → Listable e.minutes → Rises (suc e.day) es
     → e.day - from ≤ m / day_minutes → e.minutes ≤ m - (e.day - from) * day_minutes
     → Lies (suc e.day) es (m - (e.day - from) * day_minutes - e.minutes) place → Lies from (e ∷ es) m place
-lies_after from e es m place p q r reach past-it rest =
+lies_after from e es m place p q r reach past_it rest =
     record {
       past = e.day - from + suc rest.past;
       reaches = omega (arith, rest.reaches);
@@ -106,7 +106,7 @@ place_lies m (rises_cons {from} {e} {es} p q r) =
       | inl before ↦ rw (place_before from e es m before) (lies_unlisted from e.day m (e ∷ es) (omega arith) (from_first e es q r))
       | inr reach ↦ elim (lt_or_le (m - (e.day - from) * day_minutes) e.minutes) [
         | inl in-it ↦ rw (place_in from e es m reach in-it) (lies_in from e es m p q r reach in-it)
-        | inr past-it ↦ rw (place_after from e es m reach past-it) (lies_after from e es m _ p q r reach past-it
+        | inr past_it ↦ rw (place_after from e es m reach past_it) (lies_after from e es m _ p q r reach past_it
             (place_lies (m - (e.day - from) * day_minutes - e.minutes) r))
       ]
     ]

@@ -3,7 +3,7 @@ use mathlib.Core.Path.{◌≡◌, refl}
 use mathlib.Core.List.{List, [], ◌∷◌, flatten, flat_map}
 use Rattle.lists.specs.Lists.{has, count, count_from, sum_of}
 use Prim.Native.Nat.{ℕ, ◌+◌, ◌*◌}
-use Rattle.history.specs.Words.{Block, a_block}
+use Rattle.history.specs.Words.{Block, a_block, line_of}
 use Rattle.history.specs.Lent.{Lent, row_width, entry_width, block_head, node_head, entry_head}
 use Rattle.history.specs.Tree.{tree_of, add_all, add_location, insert, entries_in, node_count, entry_count, widths}
 use Rattle.history.specs.Rules.{every, halved, filled, lived, numbered, placed, sorted, ascends, summed, rule23, apart, shares}
@@ -47,8 +47,8 @@ early_file =
     ∷ [])
 
 -- its bytes
-pub early-written : file_of 3 2 early (tree_of 2 early) ≡ early_file
-unfolding file_of contents file_bytes block_bytes node_bytes bytes_of those_with place_in map_tree nodes_of flatten flat_map has count_from tree_of add_all add_location insert entries_in
+pub early-written : file_of 3 2 early (tree_of 3 2 early) ≡ early_file
+unfolding line_of file_of contents file_bytes block_bytes node_bytes bytes_of those_with place_in map_tree nodes_of flatten flat_map has count_from tree_of add_all add_location insert entries_in
 early-written = refl
 
 -- ── the listing ──
@@ -70,7 +70,7 @@ listing =
 abbrev pub listing_lent : Lent
 listing_lent = record { pieces = 0; blocks = block_head + row_width * 6; store = 7; nodes = node_head + row_width * 10; entries = entry_head + entry_width * 12 }
 
-pub listing_loaded : load listing_lent (file_of 1 8 listing (tree_of 8 listing)) 0
-    ≡ got (record { end = 8; kind = 1; blocks = listing; tree = tree_of 8 listing }) 651
-unfolding load read_file read_root read_nodes read_block many number field refuse◌unless◌ give ◌>>=◌ onward number_of tree_from placed_in rule20 rule21 rule22 rule23 halved filled lived every numbered placed sorted ascends summed widths count apart shares node_count entry_count sum_of count_from tree_of add_all add_location insert file_of contents file_bytes block_bytes node_bytes bytes_of those_with place_in map_tree nodes_of flatten flat_map has entries_in
+pub listing_loaded : load listing_lent (file_of 1 8 listing (tree_of 1 8 listing)) 0
+    ≡ got (record { end = 8; kind = 1; blocks = listing; tree = tree_of 1 8 listing }) 651
+unfolding line_of load read_file read_root read_nodes read_block many number field refuse◌unless◌ give ◌>>=◌ onward number_of tree_from placed_in rule20 rule21 rule22 rule23 halved filled lived every numbered placed sorted ascends summed widths count apart shares node_count entry_count sum_of count_from tree_of add_all add_location insert file_of contents file_bytes block_bytes node_bytes bytes_of those_with place_in map_tree nodes_of flatten flat_map has entries_in
 listing_loaded = refl

@@ -14,7 +14,7 @@ use Rattle.lists.proofs.Lists.{all_map, count_from_length, all_at, all_of_map, a
 use Rattle.lists.proofs.Numbers.{eq_or_ne, decided}
 use Rattle.lists.proofs.Maps.{length_of_map, get_d_of_map, pairs_of_map}
 use Rattle.lists.proofs.Counting.{has_decides, count_from_below, has-count_from, count_from_pairs}
-use Rattle.history.specs.Words.{Block, first_cell, life, size}
+use Rattle.history.specs.Words.{Block, line_of, first_cell, life, size}
 use Rattle.history.specs.Tree.{Tree, block_at, key_in, entries_in, entry_count, widths, no_block}
 use Rattle.history.specs.File.{written, written_blocks, renumbered, new_number, place_in, nodes_of, rule21, rule22}
 use Rattle.history.specs.Rules.{halved, filled, rule23, apart, is_hole, Apart}
@@ -27,14 +27,15 @@ use Rattle.history.proofs.FileRenumbered.{map_tree-is_hole, map_tree-halved, map
 
 -- ── an index that can be written ──
 
--- not empty, no end above 2^64 − 1, created ≤ destroyed ≤ E, of the index's kind
+-- not empty, no end above 2^64 − 1, created ≤ destroyed ≤ E; of the tree's kind if it has a life
 pub record WholeBlock (kind end : ℕ) (b : Block) : Type 0 where
   pub full : filled b ≡ true
+  pub line : line_of b.kind ≤ b.stretch.first
   pub forward : b.created ≤ b.destroyed
   pub by_end : b.destroyed ≤ end
-  pub own_kind : b.kind ≡ kind
+  pub own_kind : b.created < b.destroyed → b.kind ≡ kind
 
--- a closed index with blocks, of which some may have no life; its counts fit their fields
+-- a tree of a closed index and the blocks as its kind sees them, of which some may have no life; its counts fit their fields
 pub record Writable (kind end : ℕ) (bs : List Block) (tree : Tree) : Type 0 where
   pub known_kind : kind ≤ 4
   pub some_tick : 0 < end
@@ -108,6 +109,12 @@ module _ (kind e : ℕ) (bs : List Block) (tree : Tree) (w : Writable kind e bs 
   -- so one that lives is
   pub living-written : (k : ℕ) → k < length bs → (block_at bs k).created < (block_at bs k).destroyed → has k (written bs tree) ≡ true
   living-written k less lives = entry_written bs tree k less (entered_lives k less ∙ lt-ltb (block_at bs k).created (block_at bs k).destroyed lives)
+
+  -- what is written lives
+  pub written-lives : All (λ k. (block_at bs k).created < (block_at bs k).destroyed) (written bs tree)
+  written-lives =
+      all_both (λ k less z. ltb-true (block_at bs k).created (block_at bs k).destroyed (sym (entered_lives k less) ∙ z)) (written_below bs tree)
+      (those_with-has (entries_in tree) (count_from 0 (length bs)))
 
   -- 22, if any block is written
   pub written-rule22 : 0 < length (written bs tree) → rule22 e (written_blocks bs tree) ≡ true

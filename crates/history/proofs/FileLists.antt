@@ -1,26 +1,12 @@
 -- Laws of lists, and of tests over lists, that the file's laws use. Assumes nothing.
 use mathlib.Core.Path.{◌≡◌, refl, ap₂}
-use mathlib.Core.Bool.{Bool, true, false, ◌&&◌}
-use mathlib.Core.List.{List, [], ◌∷◌, map}
-use Prim.Native.Nat.{ℕ, ◌<◌}
-use native.Mathlib.Omega.{arith}
-use lib.ListN.{length}
+use mathlib.Core.Bool.{Bool, ◌&&◌}
+use mathlib.Core.List.{List, map}
+use Prim.Native.Nat.{ℕ}
 use lib.Dec.{ltb}
 use Rattle.lists.specs.Lists.{All, all_nil, all_cons}
 use Rattle.lists.proofs.Lists.{all_map}
 use Rattle.history.specs.Rules.{every, ascends}
-use Rattle.history.specs.Sound.{is_empty}
-
--- ── lists without elements ──
-
-module _ {A : Type 0} where
-  pub not-empty : (xs : List A) → 0 < length xs → is_empty xs ≡ false
-  not-empty [] h = absurd (omega arith)
-  not-empty (x ∷ xs) h = refl
-
-  pub none-empty : (xs : List A) → length xs ≡ 0 → is_empty xs ≡ true
-  none-empty [] h = refl
-  none-empty (x ∷ xs) h = absurd (omega arith)
 
 -- ── tests of a mapped list ──
 

@@ -1,5 +1,5 @@
 -- The block numbers with an entry, and a number's place among them. Assumes nothing.
-use mathlib.Core.Path.{◌≡◌, refl, sym, ap}
+use mathlib.Core.Path.{◌≡◌, refl, sym, ◌∙◌, ap, ap₂}
 use mathlib.Core.Logic.{⊎_elim, inl, inr}
 use mathlib.Core.Bool.{Bool, true, false, cond, false≢true}
 use mathlib.Core.Option.{none, Option, Option-elim}
@@ -10,9 +10,9 @@ use lib.ListN.{length, get_or}
 use lib.Dec.{eqb}
 use borrow.Author.Tests.{eq-eqb, ne_eqb}
 use Rattle.lists.specs.Lists.{All, all_nil, has, count_from, sum_of, Ascending, all_cons, Pairs, pairs_nil, pairs_cons}
-use Rattle.lists.proofs.Lists.{all_at}
+use Rattle.lists.proofs.Lists.{all_at, all_map, all_both}
 use Rattle.lists.proofs.Numbers.{eq_or_ne, or_true}
-use Rattle.lists.proofs.Counting.{has_cons}
+use Rattle.lists.proofs.Counting.{has_cons, count_from_below}
 use Rattle.history.specs.File.{place_in, those_with}
 
 -- ── numbers with an entry ──
@@ -86,6 +86,34 @@ pub those_with_same : (es : List ℕ) {ks : List ℕ} → All (λ k. has k es �
 unfolding those_with
 those_with_same es all_nil = refl
 those_with_same es (all_cons {x = k} p ps) = rw p (ap (λ (r : List ℕ). k ∷ r) (those_with_same es ps))
+
+-- of numbers that follow one another, an ascending list of some of them chooses itself
+pub those_with_ascending : (n many : ℕ) {es : List ℕ} → Ascending (λ k. k) es → All (λ k. (n ≤ k) × (k < n + many)) es → those_with es (count_from n many) ≡ es
+unfolding those_with count_from has
+those_with_ascending n many pairs_nil all_nil = none (count_from n many)
+  where
+    none : (ks : List ℕ) → those_with [] ks ≡ []
+    none [] = refl
+    none (k ∷ ks) = none ks
+those_with_ascending n zero (pairs_cons a p) (all_cons b bs) = absurd (omega arith)
+those_with_ascending n (suc many) (pairs_cons {x} {xs} a p) (all_cons b bs) =
+    elim (eq_or_ne n x) [
+      | inl e ↦ rw (eq-eqb n x e)
+          (ap₂ (λ (k : ℕ) (ks : List ℕ). k ∷ ks) e
+          (later x xs (count_from (suc n) many) (all_map (λ k q. omega arith) (count_from_below (suc n) many))
+          ∙ those_with_ascending (suc n) many p (all_both (λ k q r. (omega arith, omega arith)) a bs)))
+      | inr e ↦ rw (ne_eqb n x e, absent n xs (all_map (λ k q. omega arith) a))
+          (those_with_ascending (suc n) many (pairs_cons a p) (all_cons (omega arith, omega arith) (all_both (λ k q r. (omega arith, omega arith)) a bs)))
+    ]
+  where
+    -- above x it does not matter whether x is among them
+    later : (x : ℕ) (xs ks : List ℕ) → All (λ k. x < k) ks → those_with (x ∷ xs) ks ≡ those_with xs ks
+    later x xs [] all_nil = refl
+    later x xs (k ∷ ks) (all_cons q qs) = rw (ne_eqb k x (λ e. omega arith), later x xs ks qs) refl
+
+    absent : (n : ℕ) (xs : List ℕ) → All (λ k. n < k) xs → has n xs ≡ false
+    absent n [] all_nil = refl
+    absent n (x ∷ xs) (all_cons q qs) = rw (ne_eqb n x (λ e. omega arith), absent n xs qs) refl
 
 -- what gives nothing may be left out
 pub those_with-filter_map : {A : Type 0} (g : ℕ → Option A) (es : List ℕ) {ks : List ℕ} → All (λ k. has k es ≡ false → g k ≡ none) ks

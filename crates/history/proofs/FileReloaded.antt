@@ -7,7 +7,7 @@ use Prim.Native.Nat.{ℕ, ◌<◌, ◌≤◌, ◌+◌}
 use native.Mathlib.Omega.{arith}
 use lib.ListN.{length}
 use Rattle.lists.specs.Lists.{count_from, sum_of}
-use Rattle.lists.proofs.Lists.{all_map, all_of_map, all_at}
+use Rattle.lists.proofs.Lists.{all_of_map, all_both, all_at}
 use Rattle.lists.proofs.Maps.{length_of_map, map-map}
 use Rattle.lists.proofs.Numbers.{decided}
 use Rattle.history.specs.Words.{Block, size}
@@ -22,7 +22,7 @@ use Rattle.history.proofs.FileIntervals.{tree_from-nodes_of, end_of-nodes_of}
 use Rattle.history.proofs.FileRenumbered.{map_tree-node_count, map_tree-entry_count}
 use Rattle.history.proofs.FileContents.{map-block_at, IndexFits}
 use Rattle.history.proofs.FileLoad.{read_written, load-taken, Accepted}
-use Rattle.history.proofs.FileKept.{written_few, written_below, renumbered-root, written-rule21, written-rule22, written-rule23, written_apart, WholeBlock, Writable}
+use Rattle.history.proofs.FileKept.{written_few, written_below, written-lives, renumbered-root, written-rule21, written-rule22, written-rule23, written_apart, WholeBlock, Writable}
 
 -- ── room ──
 
@@ -49,11 +49,12 @@ room_written n kind e bs tree a b c d =
 -- ── written and loaded ──
 
 module _ (kind e : ℕ) (bs : List Block) (tree : Tree) (w : Writable kind e bs tree) where
-  block_fits : (b : Block) → WholeBlock kind e b → BlockFits kind b
-  block_fits b h =
+  block_fits : (b : Block) → WholeBlock kind e b → b.created < b.destroyed → BlockFits kind b
+  block_fits b h lives =
       let (filled, no_wrap) = (filled_decides b).yes h.full in
       record {
-        own = h.own_kind;
+        own = h.own_kind lives;
+        line = h.line;
         first = omega (arith, no_wrap);
         cells = omega (arith, no_wrap);
         born = omega (arith, h.forward, h.by_end, w.end_most);
@@ -67,7 +68,8 @@ module _ (kind e : ℕ) (bs : List Block) (tree : Tree) (w : Writable kind e bs 
         last = omega (arith, w.end_most);
         count = w.count;
         entries = w.entries;
-        blocks = all_of_map (block_at bs) (all_map (λ k less. block_fits (block_at bs k) (all_at no_block w.blocks k less)) (written_below bs tree));
+        blocks = all_of_map (block_at bs)
+            (all_both (λ k less lives. block_fits (block_at bs k) (all_at no_block w.blocks k less) lives) (written_below bs tree) (written-lives kind e bs tree w));
       }
 
   end_written : end_of (nodes_of 0 e (renumbered bs tree)) ≡ e

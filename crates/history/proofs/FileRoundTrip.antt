@@ -1,15 +1,15 @@
 -- A file that is written and read is the file, and the bytes of a file that was read are those read: block, nodes, file. Assumes nothing.
-use mathlib.Core.Path.{◌≡◌, refl, ◌∙◌, ap}
+use mathlib.Core.Path.{◌≡◌, refl, ◌∙◌, ap, subst}
 use mathlib.Core.Bool.{true}
 use mathlib.Core.List.{List, [], flatten, ◌++◌, append-nil}
-use Prim.Native.Nat.{ℕ, ◌<◌, ◌≤◌, ◌^◌, ◌+◌, zero, suc}
+use Prim.Native.Nat.{ℕ, ◌<◌, ◌≤◌, ◌^◌, ◌+◌, ◌-◌, zero, suc}
 use native.Mathlib.Omega.{arith}
 use lib.ListN.{length, length-append}
 use lib.Dec.{eqb, leb}
 use borrow.Author.Tests.{eqb-true, eq-eqb, le-leb, leb-true, eqb-false}
 use Rattle.lists.specs.Lists.{All}
 use Rattle.lists.proofs.Lists.{all_map}
-use Rattle.history.specs.Words.{Block, first_cell, size}
+use Rattle.history.specs.Words.{Block, line_of, cell_place, first_cell, size}
 use Rattle.history.specs.File.{file_bytes, block_bytes, node_bytes, bytes_of, number, read_block, read_nodes, read_root, read_file, Nodes, absent, present, File}
 use Rattle.history.proofs.FileNumbers.{bytes_of-length, Bytes}
 use Rattle.history.proofs.FileReads.{stands_fits, reads_give, reads_bind, reads_check, reads_field, reads_number, reads_many, Reads}
@@ -20,6 +20,7 @@ use Rattle.history.proofs.FileYields.{fault_got, yields_give, yields_check, yiel
 -- a block of the file's kind
 pub record BlockFits (kind : ℕ) (b : Block) : Type 0 where
   pub own : b.kind ≡ kind
+  pub line : line_of b.kind ≤ b.stretch.first
   pub first : first_cell b < 2 ^ 64
   pub cells : size b.stretch < 2 ^ 64
   pub born : b.created < 2 ^ 64
@@ -44,12 +45,17 @@ pub record FileFits (f : File) : Type 0 where
 pub reads_block : (kind : ℕ) → kind ≤ 4 → (b : Block) → BlockFits kind b → Reads (read_block kind) (block_bytes b) b
 unfolding read_block block_bytes flatten
 reads_block kind h b f =
-    reads_bind _ (reads_number 1 b.kind (rw f.own (omega arith)))
+    subst (λ (x : Block). Reads (read_block kind) (block_bytes b) x)
+    (ap (λ (place : ℕ). record { kind = b.kind; stretch = record { first = place; bytes = b.stretch.bytes }; created = b.created; destroyed = b.destroyed }) same)
+    (reads_bind _ (reads_number 1 b.kind (rw f.own (omega arith)))
     (reads_check 18 _ (eq-eqb _ _ f.own)
     (reads_bind _ (reads_number 8 _ f.first)
     (reads_bind _ (reads_number 8 _ f.cells)
     (reads_bind _ (reads_number 8 _ f.born)
-    (reads_bind _ (reads_number 8 _ f.died) (reads_bind _ (reads_field _ b.stretch.bytes refl) (reads_give b)))))))
+    (reads_bind _ (reads_number 8 _ f.died) (reads_bind _ (reads_field _ b.stretch.bytes refl) (reads_give _))))))))
+  where
+    same : cell_place b.kind (first_cell b) ≡ b.stretch.first
+    same = omega (arith, f.line)
 
 -- the two children have fewer bytes than their parent
 nodes_shorter : (min max middle : ℕ) (es : List ℕ) (l r : Nodes) → length (node_bytes l) + length (node_bytes r) < length (node_bytes (present min max middle es l r))
@@ -114,7 +120,8 @@ module _ (file : List ℕ) (bytes : Bytes file) where
       yields_bind file _ (gives_number file bytes 8) λ born c.
       yields_bind file _ (gives_number file bytes 8) λ died d.
       yields_bind file _ (gives_field file cells) λ bs e.
-      yields_give file _ (record { own = eqb-true own kind same; first = a; cells = rw e b; born = c; died = d }, rw e refl)
+      let cell : cell_place own first - line_of own ≡ first = omega arith in
+      yields_give file _ (record { own = eqb-true own kind same; line = omega arith; first = rw cell a; cells = rw e b; born = c; died = d }, rw (e, cell) refl)
 
   -- the nodes
   pub gives_nodes : (fuel : ℕ) → Gives file (read_nodes fuel) node_bytes NodesFit

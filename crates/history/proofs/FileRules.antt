@@ -2,12 +2,12 @@
 use mathlib.Core.Path.{◌≡◌}
 use mathlib.Core.Bool.{true, ◌&&◌}
 use mathlib.Core.List.{List, map}
-use Prim.Native.Nat.{ℕ, ◌<◌, ◌≤◌, ◌^◌, ◌-◌}
+use Prim.Native.Nat.{ℕ, ◌<◌, ◌≤◌, ◌^◌, ◌+◌, ◌-◌}
 use lib.ListN.{length}
 use Rattle.lists.specs.Lists.{All, sum_of}
 use Rattle.lists.specs.Tests.{Decides}
 use Rattle.lists.proofs.Numbers.{decides_iff, decides_and, decides_leb, decides_ltb, decides_itself}
-use Rattle.history.specs.Words.{Block, ends, size}
+use Rattle.history.specs.Words.{Block, first_cell, size}
 use Rattle.history.specs.Tree.{node_count, entry_count}
 use Rattle.history.specs.File.{tree_from, rule20, rule21, rule22, Nodes, end_of, File, placed_in}
 use Rattle.history.specs.Rules.{halved, filled, lived}
@@ -53,7 +53,7 @@ rule21_decides t =
 -- length above 0, no end above 2^64 − 1, created < destroyed ≤ E
 pub record LivingBlock (end : ℕ) (b : Block) : Type 0 where
   pub some_cell : 0 < size b.stretch
-  pub no_wrap : ends b.stretch ≤ 2 ^ 64 - 1
+  pub no_wrap : first_cell b + size b.stretch ≤ 2 ^ 64 - 1
   pub lives : b.created < b.destroyed
   pub by_end : b.destroyed ≤ end
 

@@ -1,4 +1,4 @@
--- Over any sound tree, treeOf's or a file's, the way down to a tick meets a block once if it is live then and never else. Assumes nothing.
+-- Over any sound tree, tree_of's or a file's, the way down to a tick meets a block once if it is live then and never else. Assumes nothing.
 --
 -- An entry's block covers its node and not the parent, so below a node that lists it nobody lists it again, and the widths of its nodes lie side by
 -- side within its life: in any interval they are at most the life's part there. They add up to the whole life, so in every half they are all of

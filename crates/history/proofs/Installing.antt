@@ -67,15 +67,15 @@ module _ (l : Ledger) (o : Operation) where
   unfolding record_refusals
   given_outside scratch e =
       only (record_refusals l scratch o) _ 26 (OutsideHours l o) e
-      (all_cons (other refl) (all_cons (other refl) (all_cons (other refl) (all_cons (other refl) (all_cons (other refl) (all_cons (other refl)
+      (all_cons (other refl) (all_cons (other refl) (all_cons (other refl) (all_cons (other refl) (all_cons (other refl) (all_cons (other refl) (all_cons (other refl)
       (all_cons (λ _ c. outside_by c)
-      (all_cons (other refl) (all_cons (other refl) (all_cons (other refl) all_nil))))))))))
+      (all_cons (other refl) (all_cons (other refl) (all_cons (other refl) all_nil)))))))))))
 
   pub outside_refused : (scratch : ℕ) → OutsideHours l o → ByThen (record_answer l scratch o)
   unfolding record_refusals
   outside_refused scratch x =
       let k =
-      by_then (2 if _ ∷ 3 if _ ∷ 5 if _ ∷ 6 if _ ∷ 7 if _ ∷ 8 if _ ∷ []) (26 if _) (9 if _ ∷ 10 if _ ∷ 11 if _ ∷ []) _ (closed_outside x) in
+      by_then (2 if _ ∷ 3 if _ ∷ 25 if _ ∷ 5 if _ ∷ 6 if _ ∷ 7 if _ ∷ 8 if _ ∷ []) (26 if _) (9 if _ ∷ 10 if _ ∷ 11 if _ ∷ []) _ (closed_outside x) in
       record { number = k.0; refuses = k.1; known = k.2 }
 
 -- ── from call to call ──

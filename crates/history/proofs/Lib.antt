@@ -1,6 +1,6 @@
 pub mod Within
-pub mod Clip
 pub mod ByKind
+pub mod Clip
 pub mod Seen
 pub mod Parts
 pub mod Apart
@@ -50,6 +50,7 @@ pub mod FileLoad
 pub mod FileKept
 pub mod FileReloaded
 pub mod FileAlike
+pub mod OneTree
 pub mod FileSound
 pub mod FileBoards
 pub mod DaysRising

@@ -67,9 +67,9 @@ all_above : (P Q : Piece → Type 0) (e : ℕ) (ps : List Piece) → ((p q : Pie
 unfolding above
 all_above P Q e ps h a = all_filter_map (λ p. clip_piece e (ends p.stretch) p) (λ p q x. h p q (clip-part e (ends p.stretch) p q x)) a
 
-module _ (kind : ℕ) (o : Operation) (ps : List Piece) where
+module _ (o : Operation) (ps : List Piece) where
   -- what holds of the operation's piece, and of each part of a piece
-  pub all_updated : (P Q : Piece → Type 0) → ((from to : ℕ) (p q : Piece) → PartOf from to p q → P p → Q q) → Q (piece_of kind o) → All P ps → All Q (below (stretch_of o).first ps ++ (piece_of kind o ∷ above (ends (stretch_of o)) ps))
+  pub all_updated : (P Q : Piece → Type 0) → ((from to : ℕ) (p q : Piece) → PartOf from to p q → P p → Q q) → Q (piece_of o) → All P ps → All Q (below (stretch_of o).first ps ++ (piece_of o ∷ above (ends (stretch_of o)) ps))
   all_updated P Q h here a =
       all_append (all_below P Q (stretch_of o).first ps (h 0 (stretch_of o).first) a) (all_cons here (all_above P Q (ends (stretch_of o)) ps (λ p. h (ends (stretch_of o)) (ends p.stretch) p) a))
 
@@ -82,7 +82,7 @@ module _ (kind : ℕ) (o : Operation) (ps : List Piece) where
   rights : All (λ (q : Piece). ends (stretch_of o) ≤ q.stretch.first) (above (ends (stretch_of o)) ps)
   rights = all_above (λ p. Unit {0}) (λ q. ends (stretch_of o) ≤ q.stretch.first) (ends (stretch_of o)) ps (λ p q r u. r.from_low) any
 
-  pub in-order-updated : InOrder ps → InOrder (below (stretch_of o).first ps ++ (piece_of kind o ∷ above (ends (stretch_of o)) ps))
+  pub in-order-updated : InOrder ps → InOrder (below (stretch_of o).first ps ++ (piece_of o ∷ above (ends (stretch_of o)) ps))
   unfolding below above
   in-order-updated a =
       pairs-append

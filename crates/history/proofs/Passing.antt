@@ -4,18 +4,21 @@ use mathlib.Core.Bool.{Bool, true, false, cond, ◌&&◌, ◌||◌, not}
 use mathlib.Core.List.{List, [], ◌∷◌}
 use Prim.Native.Nat.{ℕ, ◌+◌, ◌-◌, ◌^◌, ◌≤◌, ◌<◌}
 use native.Mathlib.Omega.{arith}
-use lib.Dec.{ltb, eqb}
+use lib.Dec.{leb, ltb, eqb}
 use lib.ListN.{length}
 use borrow.Author.Tests.{ltb-false, leb-false, eqb-false, not-false}
-use Rattle.lists.proofs.Numbers.{or_left, or_right}
-use Rattle.history.specs.Words.{Operation, size, ends, stretch_of}
+use Rattle.lists.specs.Lists.{All}
+use Rattle.lists.proofs.Numbers.{or_left, or_right, decides_leb}
+use Rattle.history.specs.Words.{Operation}
 use Rattle.history.specs.Lent.{Lent, piece_rows, block_rows, node_rows, entry_rows}
-use Rattle.history.specs.Tree.{tree_of, node_count, entry_count}
-use Rattle.history.specs.Days.{days_of, days_taken}
-use Rattle.history.specs.Hours.{calendar_of, calendar_taken}
-use Rattle.history.specs.Ledger.{Opening, Moment, Ledger, finished, is_read, update_by, settled}
+use Rattle.history.specs.Tree.{trees_of, nodes_in, entries_all}
+use Rattle.history.specs.Ledger.{Opening, Moment, Ledger, finished, opens_kind, is_read, update_by, settled}
+use Rattle.history.specs.Rules.{every}
 use Rattle.history.specs.Results.{Result}
 use Rattle.history.specs.Refusals.{accepted, refused, Refusal, first_of, max_end_tick, open_refusals, open_answer, record_refusals, record_answer, finish_refusals, finish_answer, install_refusals, install_answer, days_refusals, days_answer}
+use Rattle.history.proofs.RulesLaws.{every_decides}
+use Rattle.history.specs.Hours.{calendar_of, calendar_taken}
+use Rattle.history.specs.Days.{days_of, days_taken}
 
 -- no condition of the list holds
 abbrev pub Passed : List Refusal → Type 0
@@ -39,26 +42,35 @@ nonzero {n} h = omega arith
 pub record Opens (a : Opening) : Type 0 where
   pub some_tick : 1 ≤ a.end
   pub end_most : a.end ≤ max_end_tick
-  pub known_kind : a.kind ≤ 4
+  pub some_kind : 0 < length a.kinds
+  pub known_kinds : All (λ kind. kind ≤ 4) a.kinds
 
 pub opens : (a : Opening) → open_answer a ≡ accepted tt → Opens a
 unfolding open_refusals
 opens a e =
     let p = (passed _ tt e).0 in
-    let q = or_left (eqb a.end 0 || ltb max_end_tick a.end) (ltb 4 a.kind) p in
+    let q = or_left (ticks || eqb (length a.kinds) 0) (not (every (λ kind. leb kind 4) a.kinds)) p in
+    let r = or_left ticks (eqb (length a.kinds) 0) q in
     record {
-      some_tick = nonzero (eqb-false _ _ (or_left (eqb a.end 0) (ltb max_end_tick a.end) q));
-      end_most = ltb-false _ _ (or_right (eqb a.end 0) (ltb max_end_tick a.end) q);
-      known_kind = ltb-false _ _ (or_right (eqb a.end 0 || ltb max_end_tick a.end) (ltb 4 a.kind) p);
+      some_tick = nonzero (eqb-false _ _ (or_left (eqb a.end 0) (ltb max_end_tick a.end) r));
+      end_most = ltb-false _ _ (or_right (eqb a.end 0) (ltb max_end_tick a.end) r);
+      some_kind = nonzero (eqb-false _ _ (or_right ticks (eqb (length a.kinds) 0) q));
+      known_kinds =
+          (every_decides (λ kind. leb kind 4) (λ kind. decides_leb kind 4) a.kinds).yes
+          (not-false _ (or_right (ticks || eqb (length a.kinds) 0) (not (every (λ kind. leb kind 4) a.kinds)) p));
     }
+  where
+    ticks : Bool
+    ticks = eqb a.end 0 || ltb max_end_tick a.end
 
 -- ── record ──
 
 -- what is known of an accepted operation
 pub record Taken (l : Ledger) (o : Operation) : Type 0 where
   pub still_open : finished l ≡ false
-  pub some_cell : 0 < size (stretch_of o)
-  pub no_wrap : ends (stretch_of o) ≤ 2 ^ 64 - 1
+  pub own_kind : opens_kind l o.kind ≡ true
+  pub some_cell : 0 < length o.bytes
+  pub no_wrap : o.first + length o.bytes ≤ 2 ^ 64 - 1
   pub before_end : o.tick < l.opening.end
   pub not_back : l.now.last ≤ o.tick
 
@@ -69,27 +81,28 @@ pub record Room (lent : Lent) (m : Moment) : Type 0 where
   pub store : length m.store ≤ lent.store
 
 pub taken : (l : Ledger) (scratch : ℕ) (o : Operation) {r : Result} → record_answer l scratch o ≡ accepted r → Taken l o
-unfolding record_refusals stretch_of
+unfolding record_refusals
 taken l scratch o e =
     let p = passed _ _ e in
     record {
       still_open = p.1.0;
-      some_cell = nonzero (eqb-false _ _ p.1.1.0);
-      no_wrap = ltb-false _ _ p.1.1.1.0;
-      before_end = leb-false _ _ p.1.1.1.1.0;
-      not_back = ltb-false _ _ p.1.1.1.1.1.0;
+      own_kind = not-false _ p.1.1.0;
+      some_cell = nonzero (eqb-false _ _ p.1.1.1.0);
+      no_wrap = ltb-false _ _ p.1.1.1.1.0;
+      before_end = leb-false _ _ p.1.1.1.1.1.0;
+      not_back = ltb-false _ _ p.1.1.1.1.1.1.0;
     }
 
 pub room : (l : Ledger) (scratch : ℕ) (o : Operation) {r : Result} → record_answer l scratch o ≡ accepted r → is_read l.now o ≡ false
-    → Room l.opening.lent (update_by l.opening.kind l.now o)
+    → Room l.opening.lent (update_by l.now o)
 unfolding record_refusals
 room l scratch o e u =
     let p = passed _ _ e in
-    let next = update_by l.opening.kind l.now o in
+    let next = update_by l.now o in
     record {
-      pieces = ltb-false _ _ (really p.1.1.1.1.1.1.1.0);
-      blocks = ltb-false _ _ (really p.1.1.1.1.1.1.1.1.0);
-      store = ltb-false _ _ (really p.1.1.1.1.1.1.1.1.1.0);
+      pieces = ltb-false _ _ (really p.1.1.1.1.1.1.1.1.0);
+      blocks = ltb-false _ _ (really p.1.1.1.1.1.1.1.1.1.0);
+      store = ltb-false _ _ (really p.1.1.1.1.1.1.1.1.1.1.0);
     }
   where
     really : {b : Bool} → (not (is_read l.now o) && b) ≡ false → b ≡ false
@@ -99,8 +112,8 @@ room l scratch o e u =
 
 pub record Finishes (l : Ledger) : Type 0 where
   pub still_open : finished l ≡ false
-  pub nodes : node_count (tree_of l.opening.end (settled l.opening.end l.now)) ≤ node_rows l.opening.lent
-  pub entries : entry_count (tree_of l.opening.end (settled l.opening.end l.now)) ≤ entry_rows l.opening.lent
+  pub nodes : nodes_in (trees_of l.opening.end (settled l.opening.end l.now)) ≤ node_rows l.opening.lent
+  pub entries : entries_all (trees_of l.opening.end (settled l.opening.end l.now)) ≤ entry_rows l.opening.lent
 
 pub finishes : (l : Ledger) {r : Result} → finish_answer l ≡ accepted r → Finishes l
 unfolding finish_refusals

@@ -12,7 +12,7 @@ use Rattle.lists.specs.Tests.{Decides}
 use Rattle.lists.specs.Lists.{All, all_nil, all_cons, pairs_nil, pairs_cons, Ascending, count, count_from}
 use Rattle.lists.proofs.Numbers.{bool_cases, and_left, and_right, and_both, or_cases, confirm, decides_iff, decides_leb, decides_ltb, decides_eqb, decides_and, decides_not, decides_itself}
 use Rattle.lists.proofs.Lists.{all_append, all_left, all_right, all_at, all_of_at, count_from_length, count_from_at}
-use Rattle.history.specs.Words.{size, ends, Block, life, Holds, first_cell}
+use Rattle.history.specs.Words.{size, ends, Block, first_cell, life, Holds}
 use Rattle.history.specs.Tree.{Tree, hole, node, mid, halves, covers, block_at, key_in, widths, entries_in}
 use Rattle.history.specs.Rules.{every, is_hole, halved, filled, lived, numbered, placed, ascends, sorted, summed, rule23, shares, apart, Apart}
 

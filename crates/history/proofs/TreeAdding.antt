@@ -10,8 +10,8 @@ use native.Mathlib.Omega.{arith}
 use lib.ListN.{length, get_or}
 use lib.Dec.{ltb, eqb}
 use borrow.Author.Tests.{lt-ltb, le-ltb, le-leb, lt-leb, eq-eqb, ne_eqb, ltb-true, ltb-false}
-use Rattle.lists.proofs.Numbers.{le_or_lt, lt_or_le, eq_or_ne}
-use Rattle.history.specs.Words.{Block}
+use Rattle.lists.proofs.Numbers.{le_or_lt, lt_or_le, eq_or_ne, cond_same}
+use Rattle.history.specs.Words.{Block, of_kind}
 use Rattle.history.specs.Tree.{Tree, hole, node, mid, halves, covers, entries_of, left_of, right_of, insert, add_location, add_all, no_block, block_at, key_in, tree_of}
 
 -- ── lives and nodes ──
@@ -129,39 +129,54 @@ module _ (key : ℕ → ℕ) (b c d : ℕ) (P : (lo hi : ℕ) (before after : Tr
 abbrev pub add_block : (at : ℕ → Block) (key : ℕ → ℕ) (end k : ℕ) → Tree → Tree
 add_block at key e k T = add_location key 63 k (at k).created (at k).destroyed 0 e T
 
-module _ (e : ℕ) (bs : List Block) (Q : (blocks : ℕ) → Tree → Type 0)
-    (step : (k : ℕ) (T : Tree) → k < length bs → Q k T → Q (suc k) (add_block (block_at bs) (key_in bs) e k T)) where
+-- The blocks of the kind are added, the others are passed over.
+module _ (kind e : ℕ) (bs : List Block) (Q : (blocks : ℕ) → Tree → Type 0)
+    (step : (k : ℕ) (T : Tree) → k < length bs → (block_at bs k).kind ≡ kind → Q k T → Q (suc k) (add_block (block_at bs) (key_in bs) e k T))
+    (skip : (k : ℕ) (T : Tree) → k < length bs → ((block_at bs k).kind ≡ kind → ⊥) → Q k T → Q (suc k) T) where
   all_by : (n : ℕ) (cs : List Block) (T : Tree) → n + length cs ≡ length bs → ((j : ℕ) → j < length cs → block_at bs (n + j) ≡ get_or cs j no_block)
-      → Q n T → Q (length bs) (add_all (key_in bs) e n cs T)
+      → Q n T → Q (length bs) (add_all (key_in bs) kind e n cs T)
   unfolding add_all
   all_by n [] T h same q = let z : n ≡ length bs = omega arith in rw z at q
   all_by n (c ∷ cs) T h same q =
-      let z : n + 0 ≡ n = omega arith in
-      let this : block_at bs n ≡ c = rw z at (same 0 (omega arith)) in
       all_by (suc n) cs _ (omega arith) (λ j l. let y : suc n + j ≡ n + suc j = omega arith in rw y (same (suc j) (omega arith)))
-      (rw this at (step n T (omega arith) q))
+      (choose (eq_or_ne c.kind kind))
+    where
+      this : block_at bs n ≡ c
+      this = let z : n + 0 ≡ n = omega arith in rw z at (same 0 (omega arith))
 
-  pub tree_by : Q 0 hole → Q (length bs) (tree_of e bs)
+      choose : (c.kind ≡ kind) ⊎ (c.kind ≡ kind → ⊥) → Q (suc n) (cond (of_kind kind c) (add_location (key_in bs) 63 n c.created c.destroyed 0 e T) T)
+      choose (inl p) = rw (eq-eqb c.kind kind p) (rw this at (step n T (omega arith) (rw this p) q))
+      choose (inr p) = rw (ne_eqb c.kind kind p) (skip n T (omega arith) (rw this p) q)
+
+  pub tree_by : Q 0 hole → Q (length bs) (tree_of kind e bs)
   unfolding tree_of
   tree_by q = all_by 0 bs hole (omega arith) (λ j l. let z : 0 + j ≡ j = omega arith in rw z) q
 
 -- a number of the tree that grows by g k where block j is added, and by nothing where another is
-pub tree_sum : (e : ℕ) (bs : List Block) (f : Tree → ℕ) (g : ℕ → ℕ) (j : ℕ)
-    → ((k : ℕ) (T : Tree) → f (add_block (block_at bs) (key_in bs) e k T) ≡ f T + cond (eqb j k) (g k) 0)
-    → f (tree_of e bs) ≡ f hole + cond (ltb j (length bs)) (g j) 0
-tree_sum e bs f g j grows = tree_by e bs Grown step (rw (le-ltb j 0 (omega arith)) (omega arith))
+pub tree_sum : (kind e : ℕ) (bs : List Block) (f : Tree → ℕ) (g : ℕ → ℕ) (j : ℕ)
+    → ((k : ℕ) (T : Tree) → (block_at bs k).kind ≡ kind → f (add_block (block_at bs) (key_in bs) e k T) ≡ f T + cond (eqb j k) (g k) 0)
+    → ((k : ℕ) → ((block_at bs k).kind ≡ kind → ⊥) → g k ≡ 0)
+    → f (tree_of kind e bs) ≡ f hole + cond (ltb j (length bs)) (g j) 0
+tree_sum kind e bs f g j grows idle = tree_by kind e bs Grown step skip (rw (le-ltb j 0 (omega arith)) (omega arith))
   where
     Grown : (n : ℕ) → Tree → Type 0
     Grown n T = f T ≡ f hole + cond (ltb j n) (g j) 0
 
-    step : (n : ℕ) (T : Tree) → n < length bs → Grown n T → Grown (suc n) (add_block (block_at bs) (key_in bs) e n T)
-    step n T h q =
-        rw grows
-        (rw q
-        (elim (lt_or_le j n) [
+    -- one block more
+    more : (n : ℕ) → cond (ltb j n) (g j) 0 + cond (eqb j n) (g n) 0 ≡ cond (ltb j (suc n)) (g j) 0
+    more n =
+        elim (lt_or_le j n) [
           | inl l ↦ rw (lt-ltb j n l, ne_eqb j n (omega arith), lt-ltb j (suc n) (omega arith)) (omega arith)
           | inr l ↦ elim (eq_or_ne j n) [
             | inl s ↦ rw (le-ltb j n l, eq-eqb j n s, lt-ltb j (suc n) (omega arith), s) (omega arith)
             | inr s ↦ rw (le-ltb j n l, ne_eqb j n s, le-ltb j (suc n) (omega arith)) (omega arith)
           ]
-        ]))
+        ]
+
+    step : (n : ℕ) (T : Tree) → n < length bs → (block_at bs n).kind ≡ kind → Grown n T → Grown (suc n) (add_block (block_at bs) (key_in bs) e n T)
+    step n T h own q = grows n T own ∙ omega (arith, more n)
+
+    skip : (n : ℕ) (T : Tree) → n < length bs → ((block_at bs n).kind ≡ kind → ⊥) → Grown n T → Grown (suc n) T
+    skip n T h other q =
+        let none : cond (eqb j n) (g n) 0 ≡ 0 = rw (idle n other) (cond_same (eqb j n) 0) in
+        omega (arith, more n)

@@ -1,21 +1,19 @@
 -- How many nodes and entries adding a block makes: the nodes that were not there yet, and as many entries as its life has pieces, whatever the
 -- tree. So both counts only grow, in whatever order blocks are added. Assumes nothing.
-use mathlib.Core.Path.{◌≡◌, refl, ap, ◌∙◌}
+use mathlib.Core.Path.{◌≡◌, refl, ◌∙◌}
 use mathlib.Core.Logic.{inl, inr}
 use mathlib.Core.Bool.{Bool, true, false, cond, ◌&&◌}
 use mathlib.Core.List.{List, [], ◌∷◌, ◌++◌, map}
-use Prim.Native.Nat.{ℕ, zero, suc, ◌+◌, ◌≤◌}
+use Prim.Native.Nat.{ℕ, zero, suc, ◌+◌}
 use native.Mathlib.Omega.{arith}
 use lib.ListN.{length, length-append}
 use lib.Dec.{ltb}
-use Rattle.lists.specs.Lists.{count_from, sum_of}
+use Rattle.lists.specs.Lists.{sum_of}
 use Rattle.lists.proofs.Numbers.{bool_cases}
-use Rattle.lists.proofs.Counting.{map_from_at}
-use Rattle.history.specs.Words.{Block}
-use Rattle.history.specs.Tree.{Tree, hole, node, mid, halves, covers, entries_of, left_of, right_of, add_location, no_block, block_at, key_in, tree_of, node_count, entry_count, entries_in}
+use Rattle.history.specs.Words.{Block, of_kind}
+use Rattle.history.specs.Tree.{Tree, hole, node, mid, halves, covers, entries_of, left_of, right_of, add_location, add_all, key_in, tree_of, node_count, entry_count, entries_in}
 use Rattle.history.proofs.TreeInserting.{insert-length}
-use Rattle.history.proofs.TreeAdding.{add_here, add_last, add_below, add_block}
-use Rattle.history.proofs.TreeOrder.{add_each, tree_of_each}
+use Rattle.history.proofs.TreeAdding.{add_here, add_last, add_below}
 
 -- ── what adding makes ──
 
@@ -105,33 +103,16 @@ node_count_hole (node es l r) h = absurd (omega arith)
 
 -- ── all blocks ──
 
-module _ (at : ℕ → Block) (key : ℕ → ℕ) (e : ℕ) where
-  -- a tree to which blocks are added has no fewer nodes, and no fewer entries: what is too much now is too much at the end
-  pub node_count_each : (ks : List ℕ) (T : Tree) → node_count T ≤ node_count (add_each at key e ks T)
-  unfolding add_each
-  node_count_each [] T = omega arith
-  node_count_each (k ∷ ks) T =
-      omega (
-        arith,
-        node_count_add key 63 k (at k).created (at k).destroyed 0 e T,
-        node_count_each ks (add_block at key e k T),
-      )
-
-  pub entry_count_each : (ks : List ℕ) (T : Tree) → entry_count (add_each at key e ks T) ≡ entry_count T + sum_of (map (λ k. new_entries 63 (at k).created (at k).destroyed 0 e) ks)
-  unfolding add_each sum_of
-  entry_count_each [] T = omega arith
-  entry_count_each (k ∷ ks) T =
-      omega (
-        arith,
-        entry_count_add key 63 k (at k).created (at k).destroyed 0 e T,
-        entry_count_each ks (add_block at key e k T),
-      )
-
--- the tree of all blocks has each block's entries
-pub tree_of_entries : (e : ℕ) (bs : List Block) → entry_count (tree_of e bs) ≡ sum_of (map (λ b. new_entries 63 b.created b.destroyed 0 e) bs)
-unfolding entry_count
-tree_of_entries e bs =
-    ap entry_count (tree_of_each e bs)
-    ∙ entry_count_each (block_at bs) (key_in bs) e (count_from 0 (length bs)) hole
-    ∙ ap (λ (l : List ℕ). 0 + sum_of l) (map_from_at (λ b. new_entries 63 b.created b.destroyed 0 e) (block_at bs) no_block 0 bs (λ j l. let z : 0 + j ≡ j = omega arith in rw z))
-    ∙ omega arith
+-- the tree of a kind has the entries of each of its blocks
+pub tree_of_entries : (kind e : ℕ) (bs : List Block)
+    → entry_count (tree_of kind e bs) ≡ sum_of (map (λ b. cond (of_kind kind b) (new_entries 63 b.created b.destroyed 0 e) 0) bs)
+unfolding tree_of add_all sum_of entry_count
+tree_of_entries kind e bs = go 0 bs hole ∙ omega arith
+  where
+    go : (n : ℕ) (cs : List Block) (T : Tree)
+        → entry_count (add_all (key_in bs) kind e n cs T) ≡ entry_count T + sum_of (map (λ b. cond (of_kind kind b) (new_entries 63 b.created b.destroyed 0 e) 0) cs)
+    go n [] T = omega arith
+    go n (c ∷ cs) T =
+        let added = add_location (key_in bs) 63 n c.created c.destroyed 0 e T in
+        let grown = half_count entry_count (of_kind kind c) added T (new_entries 63 c.created c.destroyed 0 e) (entry_count_add (key_in bs) 63 n c.created c.destroyed 0 e T) in
+        omega (arith, go (suc n) cs (cond (of_kind kind c) added T))

@@ -1,7 +1,7 @@
 -- The tree does not depend on the order in which blocks are added, where any two that live together differ in first cell, as rule 24 says: the
 -- tree of finish, which adds in recorded order, is that of any order. Assumes nothing.
 use mathlib.Core.Path.{◌≡◌, refl, ap, sym, ◌∙◌}
-use mathlib.Core.Logic.{inl, inr, ◌≢◌}
+use mathlib.Core.Logic.{◌⊎◌, inl, inr, ◌≢◌}
 use mathlib.Core.Bool.{Bool, true, false, cond, ◌&&◌}
 use mathlib.Core.List.{List, [], ◌∷◌}
 use Prim.Native.Nat.{ℕ, zero, suc, ◌+◌, ◌<◌}
@@ -9,16 +9,17 @@ use native.Mathlib.Omega.{arith}
 use lib.ListN.{length, get_or}
 use lib.Dec.{ltb, eqb}
 use borrow.Author.Tests.{ltb-true, eq-eqb, ne_eqb}
-use Rattle.lists.specs.Lists.{Mem, here, there, count, count_from}
+use Rattle.lists.specs.Lists.{All, Mem, here, there, count}
 use Rattle.lists.proofs.Numbers.{bool_cases, lt_or_le, eq_or_ne, and_left}
 use Rattle.lists.proofs.Counting.{count_here, count_mem}
-use Rattle.history.specs.Words.{Block}
+use Rattle.history.specs.Words.{Block, of_kind, only_kind}
 use Rattle.history.specs.Tree.{Tree, hole, node, mid, halves, covers, entries_of, left_of, right_of, add_location, add_all, no_block, block_at, key_in, tree_of}
 use Rattle.history.specs.Rules.{Apart}
 use Rattle.history.proofs.TreeInserting.{insert-two}
 use Rattle.history.proofs.TreeAdding.{covers-inside, made, listed, deeper, add_here, add_last, add_below, add_block}
 use Rattle.history.proofs.TreePath.{block_none}
-use Rattle.history.proofs.TreeSorted.{Filled, Together, cells_differ}
+use Rattle.history.proofs.TreeSorted.{Standing, Together, cells_differ}
+use Rattle.history.proofs.ByKind.{only_at, only_length, own_same}
 
 -- ── two blocks ──
 
@@ -202,42 +203,61 @@ module _ (at : ℕ → Block) (key : ℕ → ℕ) (e : ℕ) (some : 0 < e) (diff
       each_order xs (without x ys) (add_block at key e x T) (λ k. omega (arith, h k, count-without k x ys m))
       ∙ sym (each_first x ys T m)
 
--- ── the tree of all blocks ──
+-- ── the tree of a kind ──
 
--- finish adds the blocks in recorded order
-pub tree_of_each : (e : ℕ) (bs : List Block) → tree_of e bs ≡ add_each (block_at bs) (key_in bs) e (count_from 0 (length bs)) hole
-unfolding tree_of add_all add_each count_from
-tree_of_each e bs = go 0 bs hole (λ j l. let z : 0 + j ≡ j = omega arith in rw z)
+-- the numbers of the kind's blocks, from number n on
+unfoldable pub numbers_of : (kind n : ℕ) → List Block → List ℕ
+numbers_of kind n [] = []
+numbers_of kind n (b ∷ bs) =
+    let rest = numbers_of kind (suc n) bs in
+    cond (of_kind kind b) (n ∷ rest) rest
+
+-- finish adds the kind's blocks in recorded order
+pub tree_of_each : (kind e : ℕ) (bs : List Block) → tree_of kind e bs ≡ add_each (block_at (only_kind kind bs)) (key_in bs) e (numbers_of kind 0 bs) hole
+unfolding tree_of add_all add_each numbers_of
+tree_of_each kind e bs = go 0 bs hole (λ j l. let z : 0 + j ≡ j = omega arith in rw z)
   where
     go : (n : ℕ) (cs : List Block) (T : Tree) → ((j : ℕ) → j < length cs → block_at bs (n + j) ≡ get_or cs j no_block)
-        → add_all (key_in bs) e n cs T ≡ add_each (block_at bs) (key_in bs) e (count_from n (length cs)) T
+        → add_all (key_in bs) kind e n cs T ≡ add_each (block_at (only_kind kind bs)) (key_in bs) e (numbers_of kind n cs) T
     go n [] T same = refl
     go n (c ∷ cs) T same =
-        let z : n + 0 ≡ n = omega arith in
-        let this : block_at bs n ≡ c = rw z at (same 0 (omega arith)) in
-        go (suc n) cs (add_location (key_in bs) 63 n c.created c.destroyed 0 e T) (λ j l. let q : suc n + j ≡ n + suc j = omega arith in rw q (same (suc j) (omega arith)))
-        ∙ sym (ap (λ (x : Block). add_each (block_at bs) (key_in bs) e (count_from (suc n) (length cs)) (add_location (key_in bs) 63 n x.created x.destroyed 0 e T)) this)
+        choose (eq_or_ne c.kind kind) (λ X. go (suc n) cs X (λ j l. let q : suc n + j ≡ n + suc j = omega arith in rw q (same (suc j) (omega arith))))
+      where
+        this : block_at bs n ≡ c
+        this = let z : n + 0 ≡ n = omega arith in rw z at (same 0 (omega arith))
 
--- blocks that live together differ in first cell, whichever has the lower number
-pub cells_apart : (bs : List Block) → Apart bs → Filled bs → (i j : ℕ) → i ≢ j → Together (block_at bs i) (block_at bs j) → key_in bs i ≢ key_in bs j
-cells_apart bs apart filled i j n both =
+        choose : (c.kind ≡ kind) ⊎ (c.kind ≡ kind → ⊥)
+            → ((X : Tree) → add_all (key_in bs) kind e (suc n) cs X ≡ add_each (block_at (only_kind kind bs)) (key_in bs) e (numbers_of kind (suc n) cs) X)
+            → add_all (key_in bs) kind e (suc n) cs (cond (of_kind kind c) (add_location (key_in bs) 63 n c.created c.destroyed 0 e T) T)
+            ≡ add_each (block_at (only_kind kind bs)) (key_in bs) e (cond (of_kind kind c) (n ∷ numbers_of kind (suc n) cs) (numbers_of kind (suc n) cs)) T
+        choose (inl p) rest =
+            let mine : block_at (only_kind kind bs) n ≡ c = only_at kind bs n ∙ own_same kind (block_at bs n) (rw this p) ∙ this in
+            rw (eq-eqb c.kind kind p)
+            (rest (add_location (key_in bs) 63 n c.created c.destroyed 0 e T)
+            ∙ sym (ap (λ (x : Block). add_each (block_at (only_kind kind bs)) (key_in bs) e (numbers_of kind (suc n) cs) (add_location (key_in bs) 63 n x.created x.destroyed 0 e T)) mine))
+        choose (inr p) rest = rw (ne_eqb c.kind kind p) (rest T)
+
+-- the kind's blocks that live together differ in first cell, whichever has the lower number
+pub cells_apart : (kind : ℕ) (bs : List Block) → Apart bs → All Standing bs → (i j : ℕ) → i ≢ j
+    → Together (block_at (only_kind kind bs) i) (block_at (only_kind kind bs) j) → key_in bs i ≢ key_in bs j
+cells_apart kind bs apart standing i j n both =
     elim (lt_or_le i j) [
-      | inl h ↦ cells_differ bs apart filled i j h (there_is j both.tick both.other_alive) both
-      | inr h ↦ (λ q. cells_differ bs apart filled j i (omega arith) (there_is i both.tick both.alive) (turn both) (sym q))
+      | inl h ↦ cells_differ kind bs apart standing i j h (there_is j both.tick both.other_alive) both
+      | inr h ↦ (λ q. cells_differ kind bs apart standing j i (omega arith) (there_is i both.tick both.alive) (turn both) (sym q))
     ]
   where
-    there_is : (k t : ℕ) → t < (block_at bs k).destroyed → k < length bs
+    there_is : (k t : ℕ) → t < (block_at (only_kind kind bs) k).destroyed → k < length bs
     there_is k t h =
         elim (lt_or_le k (length bs)) [
           | inl l ↦ l
-          | inr l ↦ absurd (let none : (block_at bs k).destroyed ≡ 0 = rw (block_none k bs l) in omega arith)
+          | inr l ↦ absurd (let none : (block_at (only_kind kind bs) k).destroyed ≡ 0 = rw (block_none k (only_kind kind bs) (rw (only_length kind bs) l)) in omega arith)
         ]
 
-    turn : Together (block_at bs i) (block_at bs j) → Together (block_at bs j) (block_at bs i)
+    turn : Together (block_at (only_kind kind bs) i) (block_at (only_kind kind bs) j) → Together (block_at (only_kind kind bs) j) (block_at (only_kind kind bs) i)
     turn b = record { tick = b.tick; born = b.other_born; alive = b.other_alive; other_born = b.born; other_alive = b.alive }
 
--- The same blocks in any order give the tree of finish.
-pub tree_of_order : (e : ℕ) (bs : List Block) → 0 < e → Apart bs → Filled bs → (numbers : List ℕ) → ((k : ℕ) → count k numbers ≡ count k (count_from 0 (length bs)))
-    → tree_of e bs ≡ add_each (block_at bs) (key_in bs) e numbers hole
-tree_of_order e bs some apart filled numbers same =
-    tree_of_each e bs ∙ each_order (block_at bs) (key_in bs) e some (cells_apart bs apart filled) (count_from 0 (length bs)) numbers hole (λ k. sym (same k))
+-- The kind's blocks in any order give the tree of finish.
+pub tree_of_order : (kind e : ℕ) (bs : List Block) → 0 < e → Apart bs → All Standing bs → (numbers : List ℕ) → ((k : ℕ) → count k numbers ≡ count k (numbers_of kind 0 bs))
+    → tree_of kind e bs ≡ add_each (block_at (only_kind kind bs)) (key_in bs) e numbers hole
+tree_of_order kind e bs some apart standing numbers same =
+    tree_of_each kind e bs ∙ each_order (block_at (only_kind kind bs)) (key_in bs) e some (cells_apart kind bs apart standing) (numbers_of kind 0 bs) numbers hole (λ k. sym (same k))

@@ -1,6 +1,6 @@
--- The tree of all blocks keeps the rules: a root exactly where there is a block, no child of a node of width 1, no number too high, each entry's
+-- The tree of a kind keeps the rules: a root exactly where there is a block of the kind, no child of a node of width 1, no number too high, each entry's
 -- block covers its node and not the node's parent. (Strict ascent needs rule 24: TreeSorted.) Assumes nothing.
-use mathlib.Core.Path.{◌≡◌, refl}
+use mathlib.Core.Path.{◌≡◌, refl, sym, ◌∙◌, subst}
 use mathlib.Core.Bool.{Bool, true, false, cond, ◌&&◌, not}
 use mathlib.Core.List.{List, [], ◌∷◌}
 use Prim.Native.Nat.{ℕ, zero, suc, ◌+◌, ◌-◌, ◌^◌, ◌≤◌, ◌<◌}
@@ -9,9 +9,11 @@ use lib.ListN.{length}
 use lib.Dec.{ltb}
 use borrow.Author.Tests.{lt-ltb, ltb-true}
 use Rattle.lists.proofs.Lists.{all_map}
-use Rattle.history.specs.Words.{Block}
+use Rattle.history.specs.Words.{Block, of_kind, only_kind}
 use Rattle.history.specs.Tree.{Tree, hole, node, mid, covers, entries_of, left_of, right_of, insert, add_location, add_all, block_at, key_in, tree_of}
 use Rattle.history.specs.Rules.{every, is_hole, halved, numbered, placed}
+use Rattle.history.specs.Sound.{none_of}
+use Rattle.history.proofs.ByKind.{only_at, own_same}
 use Rattle.history.proofs.RulesLaws.{every_all, all_every, halved_node, halved_left, halved_right, numbered_node, numbered_here, numbered_left, numbered_right, covers_node, placed_node, placed_here, placed_left, placed_right}
 use Rattle.history.proofs.TreeInserting.{insert_all}
 use Rattle.history.proofs.TreeAdding.{Half, went, kept, half_keeps, made, listed, add_by, tree_by}
@@ -36,17 +38,28 @@ add_some key (suc n) b c d lo hi T = choose (covers c d lo hi) _ _
     choose true l r = refl
     choose false l r = refl
 
--- without blocks there is no node
-pub tree_of-none : (e : ℕ) → tree_of e [] ≡ hole
-unfolding tree_of add_all
-tree_of-none e = refl
-
--- with a block there is a root
-pub tree_of-some : (e : ℕ) (b : Block) (bs : List Block) → is_hole (tree_of e (b ∷ bs)) ≡ false
-tree_of-some e b bs =
-    tree_by e (b ∷ bs) (λ n T. 0 < n → is_hole T ≡ false)
-    (λ k T h q z. add_some (key_in (b ∷ bs)) 63 k (block_at (b ∷ bs) k).created (block_at (b ∷ bs) k).destroyed 0 e T)
-    (λ z. absurd (omega arith)) (omega arith)
+-- a root exactly where there is a block of the kind
+pub tree_of_rooted : (kind e : ℕ) (bs : List Block) → is_hole (tree_of kind e bs) ≡ none_of kind bs
+unfolding tree_of add_all every
+tree_of_rooted kind e bs = go 0 bs hole
+  where
+    go : (n : ℕ) (cs : List Block) (T : Tree) → is_hole (add_all (key_in bs) kind e n cs T) ≡ (is_hole T && none_of kind cs)
+    go n [] T = sym (and_true (is_hole T))
+      where
+        and_true : (u : Bool) → (u && true) ≡ u
+        and_true true = refl
+        and_true false = refl
+    go n (c ∷ cs) T =
+        go (suc n) cs (cond (of_kind kind c) (add_location (key_in bs) 63 n c.created c.destroyed 0 e T) T)
+        ∙ choose (of_kind kind c) _ (add_some (key_in bs) 63 n c.created c.destroyed 0 e T)
+      where
+        choose : (u : Bool) (X : Tree) → is_hole X ≡ false → (is_hole (cond u X T) && none_of kind cs) ≡ (is_hole T && (not u && none_of kind cs))
+        choose true X e = rw e (sym (and_false (is_hole T)))
+          where
+            and_false : (u : Bool) → (u && false) ≡ false
+            and_false true = refl
+            and_false false = refl
+        choose false X e = refl
 
 -- ── halved ──
 
@@ -77,11 +90,11 @@ module _ (key : ℕ → ℕ) (b c d : ℕ) where
   halved_add =
       add_by key b c d Halves (λ lo hi T w p q e. halved_here lo hi T) (λ lo hi T w n o. halved_made lo hi T) (λ lo hi T L R w e. halved_down lo hi T L R w)
 
-pub tree_of-halved : (e : ℕ) (bs : List Block) → e ≤ 2 ^ 63 → halved 0 e (tree_of e bs) ≡ true
+pub tree_of-halved : (kind e : ℕ) (bs : List Block) → e ≤ 2 ^ 63 → halved 0 e (tree_of kind e bs) ≡ true
 unfolding halved
-tree_of-halved e bs z =
-    tree_by e bs (λ n T. halved 0 e T ≡ true)
-    (λ k T h q. halved_add (key_in bs) k (block_at bs k).created (block_at bs k).destroyed 63 0 e T (omega arith) (omega arith) q) refl
+tree_of-halved kind e bs z =
+    tree_by kind e bs (λ n T. halved 0 e T ≡ true)
+    (λ k T h own q. halved_add (key_in bs) k (block_at bs k).created (block_at bs k).destroyed 63 0 e T (omega arith) (omega arith) q) (λ k T h other q. q) refl
 
 -- ── numbered ──
 
@@ -125,12 +138,12 @@ module _ (key : ℕ → ℕ) (b c d max : ℕ) (low : b < max) where
   numbered_add =
       add_by key b c d Numbers (λ lo hi T w p q e. numbered-listed T) (λ lo hi T w n o. numbered-made max T) (λ lo hi T L R w e. numbered_down lo hi T L R)
 
-pub tree_of-numbered : (e : ℕ) (bs : List Block) → e ≤ 2 ^ 63 → numbered (length bs) (tree_of e bs) ≡ true
+pub tree_of-numbered : (kind e : ℕ) (bs : List Block) → e ≤ 2 ^ 63 → numbered (length bs) (tree_of kind e bs) ≡ true
 unfolding numbered
-tree_of-numbered e bs z =
-    tree_by e bs (λ n T. numbered n T ≡ true)
-    (λ k T h q. numbered_add (key_in bs) k (block_at bs k).created (block_at bs k).destroyed (suc k) (omega arith) 63 0 e T (omega arith) (omega arith) (numbered_more k (suc k) T (omega arith) q))
-    refl
+tree_of-numbered kind e bs z =
+    tree_by kind e bs (λ n T. numbered n T ≡ true)
+    (λ k T h own q. numbered_add (key_in bs) k (block_at bs k).created (block_at bs k).destroyed (suc k) (omega arith) 63 0 e T (omega arith) (omega arith) (numbered_more k (suc k) T (omega arith) q))
+    (λ k T h other q. numbered_more k (suc k) T (omega arith) q) refl
 
 -- ── placed ──
 
@@ -176,8 +189,17 @@ module _ (at : ℕ → Block) (key : ℕ → ℕ) (b : ℕ) where
       add_by key b (at b).created (at b).destroyed Places (λ lo hi T w p q e. placed-listed lo hi T e)
       (λ lo hi T w n o above u h. placed-made at above lo hi T h) (λ lo hi T L R w e. placed_down lo hi T L R e)
 
-pub tree_of-placed : (e : ℕ) (bs : List Block) → e ≤ 2 ^ 63 → placed (block_at bs) (λ k. false) 0 e (tree_of e bs) ≡ true
+-- the blocks of another kind have no life here, and no entry
+pub placed-own : (kind e : ℕ) (bs : List Block) (k : ℕ) (T : Tree) → e ≤ 2 ^ 63 → (block_at bs k).kind ≡ kind
+    → placed (block_at (only_kind kind bs)) (λ k. false) 0 e T ≡ true
+    → placed (block_at (only_kind kind bs)) (λ k. false) 0 e (add_location (key_in bs) 63 k (block_at bs k).created (block_at bs k).destroyed 0 e T) ≡ true
+placed-own kind e bs k T z own q =
+    subst (λ (b : Block). placed (block_at (only_kind kind bs)) (λ k. false) 0 e (add_location (key_in bs) 63 k b.created b.destroyed 0 e T) ≡ true)
+    (only_at kind bs k ∙ own_same kind (block_at bs k) own)
+    (placed_add (block_at (only_kind kind bs)) (key_in bs) k 63 0 e T (omega arith) (omega arith) (λ k. false) refl q)
+
+pub tree_of-placed : (kind e : ℕ) (bs : List Block) → e ≤ 2 ^ 63 → placed (block_at (only_kind kind bs)) (λ k. false) 0 e (tree_of kind e bs) ≡ true
 unfolding placed
-tree_of-placed e bs z =
-    tree_by e bs (λ n T. placed (block_at bs) (λ k. false) 0 e T ≡ true)
-    (λ k T h q. placed_add (block_at bs) (key_in bs) k 63 0 e T (omega arith) (omega arith) (λ k. false) refl q) refl
+tree_of-placed kind e bs z =
+    tree_by kind e bs (λ n T. placed (block_at (only_kind kind bs)) (λ k. false) 0 e T ≡ true)
+    (λ k T h own q. placed-own kind e bs k T z own q) (λ k T h other q. q) refl

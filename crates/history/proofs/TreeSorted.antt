@@ -1,6 +1,6 @@
--- Where no two live blocks share a cell, first cells ascend strictly in every node of the tree of all blocks: two blocks of one node are live
+-- Where no two live blocks share a cell, first cells ascend strictly in every node of the tree of a kind: two blocks of one node are live
 -- together, so they differ in their first cells. With that the tree keeps rule 23. Assumes nothing.
-use mathlib.Core.Path.{◌≡◌, refl}
+use mathlib.Core.Path.{◌≡◌, refl, sym, ◌∙◌, ap, subst}
 use mathlib.Core.Logic.{◌≢◌}
 use mathlib.Core.Bool.{Bool, true, false, ◌&&◌, not}
 use mathlib.Core.List.{List}
@@ -12,20 +12,22 @@ use borrow.Author.Tests.{ltb-true}
 use Rattle.lists.specs.Lists.{All, Ascending}
 use Rattle.lists.proofs.Numbers.{and_left, decided}
 use Rattle.lists.proofs.Lists.{all_both, all_at, pairs_at}
-use Rattle.history.specs.Words.{size, Block}
+use Rattle.history.specs.Words.{size, Block, line_of, only_kind}
 use Rattle.history.specs.Tree.{Tree, hole, node, mid, entries_of, left_of, right_of, insert, add_location, no_block, block_at, key_in, tree_of}
 use Rattle.history.specs.Rules.{numbered, placed, ascends, sorted, rule23, Apart}
 use Rattle.history.proofs.RulesLaws.{every_all, numbered_here, numbered_left, numbered_right, covers_node, placed_here, placed_left, placed_right, ascends_decides, sorted_node, sorted_here, sorted_left, sorted_right, rule23_decides}
 use Rattle.history.proofs.TreeInserting.{insert_ascending}
 use Rattle.history.proofs.TreeAdding.{covers-inside, Half, went, kept, made, listed, add_by, tree_by, add_block}
-use Rattle.history.proofs.TreePlaced.{numbered-made, numbered_more, numbered_add, tree_of-numbered, placed-made, placed_add, tree_of-placed}
+use Rattle.history.proofs.TreePlaced.{numbered-made, numbered_more, numbered_add, tree_of-numbered, placed-made, placed-own, tree_of-placed}
+use Rattle.history.proofs.ByKind.{only_at, only_length, only_key, own_same, own-ends, own-lives}
 use Rattle.history.proofs.TreeWidths.{widths-life}
 
 -- ── blocks apart ──
 
--- none of them is empty
-abbrev pub Filled : List Block → Type 0
-Filled bs = All (λ (b : Block). 0 < size b.stretch) bs
+-- a block is not empty, and its cells are of its kind
+pub record Standing (b : Block) : Type 0 where
+  pub some_cell : 0 < size b.stretch
+  pub from_line : line_of b.kind ≤ b.stretch.first
 
 -- two blocks that are both live at a tick
 pub record Together (a b : Block) : Type 0 where
@@ -35,14 +37,19 @@ pub record Together (a b : Block) : Type 0 where
   pub other_born : b.created ≤ tick
   pub other_alive : tick < b.destroyed
 
--- Blocks that live together differ in first cell: else both would hold it.
-pub cells_differ : (bs : List Block) → Apart bs → Filled bs → (i j : ℕ) → i < j → j < length bs → Together (block_at bs i) (block_at bs j) → key_in bs i ≢ key_in bs j
-cells_differ bs apart filled i j h z both same =
-    let first : 0 < size (block_at bs i).stretch = all_at no_block filled i (omega arith) in
-    let second : 0 < size (block_at bs j).stretch = all_at no_block filled j z in
-    pairs_at no_block apart i j h z both.tick (key_in bs i)
-    (record { born = both.born; alive = both.alive; has = record { from = omega arith; below = omega arith } })
-    (record { born = both.other_born; alive = both.other_alive; has = record { from = omega arith; below = omega arith } })
+-- Blocks of one kind that live together differ in first cell: else both would hold it.
+pub cells_differ : (kind : ℕ) (bs : List Block) → Apart bs → All Standing bs → (i j : ℕ) → i < j → j < length bs
+    → Together (block_at (only_kind kind bs) i) (block_at (only_kind kind bs) j) → key_in bs i ≢ key_in bs j
+cells_differ kind bs apart standing i j h z both same =
+    let one : (block_at bs i).kind ≡ kind = own-lives kind (block_at bs i) both.tick (rw (only_at kind bs i) at both.alive) in
+    let other : (block_at bs j).kind ≡ kind = own-lives kind (block_at bs j) both.tick (rw (only_at kind bs j) at both.other_alive) in
+    let first : Standing (block_at bs i) = all_at no_block standing i (omega arith) in
+    let second : Standing (block_at bs j) = all_at no_block standing j z in
+    let line : line_of (block_at bs i).kind ≡ line_of (block_at bs j).kind = ap line_of (one ∙ sym other) in
+    let lives : Together (block_at bs i) (block_at bs j) = rw (only_at kind bs i ∙ own_same kind (block_at bs i) one, only_at kind bs j ∙ own_same kind (block_at bs j) other) at both in
+    pairs_at no_block apart i j h z lives.tick (block_at bs i).stretch.first
+    (record { born = lives.born; alive = lives.alive; has = record { from = omega arith; below = omega (arith, first.some_cell) } })
+    (record { born = lives.other_born; alive = lives.other_alive; has = record { from = omega (arith, first.from_line, second.from_line); below = omega (arith, first.from_line, second.from_line, second.some_cell) } })
 
 -- ── adding a block ──
 
@@ -124,29 +131,33 @@ module _ (at : ℕ → Block) (key : ℕ → ℕ) (b : ℕ) (differ : (x : ℕ) 
       add_by key b (at b).created (at b).destroyed Sorts (λ lo hi T w p q e. sorts_listed lo hi T e) (λ lo hi T w n o v above h. sorted-made T h.order)
       (λ lo hi T L R w e. sorts_down lo hi T L R w) n lo hi T (omega arith) v w above (record { numbers = p; places = q; order = r })
 
--- ── the tree of all blocks ──
+-- ── the tree of a kind ──
 
-pub tree_of-sorted : (e : ℕ) (bs : List Block) → 0 < e → e ≤ 2 ^ 63 → Apart bs → Filled bs → sorted (key_in bs) (tree_of e bs) ≡ true
+pub tree_of-sorted : (kind e : ℕ) (bs : List Block) → 0 < e → e ≤ 2 ^ 63 → Apart bs → All Standing bs → sorted (key_in bs) (tree_of kind e bs) ≡ true
 unfolding numbered placed sorted
-tree_of-sorted e bs some z apart filled = (tree_by e bs Sound step (refl, refl, refl)).2
+tree_of-sorted kind e bs some z apart standing = (tree_by kind e bs Sound step (λ k T h other q. (numbered_more k (suc k) T (omega arith) q.0, q.1, q.2)) (refl, refl, refl)).2
   where
     Sound : (n : ℕ) → Tree → Type 0
-    Sound n T = (numbered n T ≡ true) × (placed (block_at bs) (λ k. false) 0 e T ≡ true) × (sorted (key_in bs) T ≡ true)
+    Sound n T = (numbered n T ≡ true) × (placed (block_at (only_kind kind bs)) (λ k. false) 0 e T ≡ true) × (sorted (key_in bs) T ≡ true)
 
-    step : (k : ℕ) (T : Tree) → k < length bs → Sound k T → Sound (suc k) (add_block (block_at bs) (key_in bs) e k T)
-    step k T h q = (
+    step : (k : ℕ) (T : Tree) → k < length bs → (block_at bs k).kind ≡ kind → Sound k T → Sound (suc k) (add_block (block_at bs) (key_in bs) e k T)
+    step k T h mine q = (
       numbered_add (key_in bs) k (block_at bs k).created (block_at bs k).destroyed (suc k) (omega arith) 63 0 e T (omega arith) (omega arith) (numbered_more k (suc k) T (omega arith) q.0),
-      placed_add (block_at bs) (key_in bs) k 63 0 e T (omega arith) (omega arith) (λ k. false) refl q.1,
-      sorted_add (block_at bs) (key_in bs) k (λ x l both. cells_differ bs apart filled x k l h both) 63 0 e T some (omega arith) (λ k. false) q.0 q.1 q.2,
+      placed-own kind e bs k T z mine q.1,
+      subst (λ (b : Block). sorted (key_in bs) (add_location (key_in bs) 63 k b.created b.destroyed 0 e T) ≡ true)
+          (only_at kind bs k ∙ own_same kind (block_at bs k) mine)
+          (sorted_add (block_at (only_kind kind bs)) (key_in bs) k (λ x l both. cells_differ kind bs apart standing x k l h both) 63 0 e T some (omega arith) (λ k. false) q.0 q.1 q.2),
     )
 
--- The tree of blocks that are apart, not empty and destroyed by E keeps rule 23.
-pub tree_of-rule23 : (e : ℕ) (bs : List Block) → 0 < e → e ≤ 2 ^ 63 → Apart bs → Filled bs → All (λ (b : Block). b.destroyed ≤ e) bs → rule23 e bs (tree_of e bs) ≡ true
-tree_of-rule23 e bs some z apart filled ends =
-    decided (rule23 e bs (tree_of e bs)) (rule23_decides e bs (tree_of e bs))
+-- The tree of a kind keeps rule 23 where the blocks are apart, standing and destroyed by E; those of another kind count as of no life.
+pub tree_of-rule23 : (kind e : ℕ) (bs : List Block) → 0 < e → e ≤ 2 ^ 63 → Apart bs → All Standing bs → All (λ (b : Block). b.destroyed ≤ e) bs
+    → rule23 e (only_kind kind bs) (tree_of kind e bs) ≡ true
+tree_of-rule23 kind e bs some z apart standing ends =
+    decided (rule23 e (only_kind kind bs) (tree_of kind e bs)) (rule23_decides e (only_kind kind bs) (tree_of kind e bs))
     (record {
-      numbers = tree_of-numbered e bs z;
-      places = tree_of-placed e bs z;
-      order = tree_of-sorted e bs some z apart filled;
-      sums = λ k h. widths-life e k bs z (all_at no_block ends k h);
+      numbers = rw (only_length kind bs) (tree_of-numbered kind e bs z);
+      places = tree_of-placed kind e bs z;
+      order = rw (only_key kind bs) (tree_of-sorted kind e bs some z apart standing);
+      sums = λ k h. widths-life kind e k bs z
+          (rw (only_at kind bs k) (omega (arith, own-ends kind (block_at bs k), all_at no_block ends k (rw (only_length kind bs) at h))));
     })

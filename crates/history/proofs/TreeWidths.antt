@@ -1,5 +1,5 @@
--- The widths of a block's nodes: in the tree of all blocks they add up to its life. Assumes nothing.
-use mathlib.Core.Path.{◌≡◌, refl, ◌∙◌}
+-- The widths of a block's nodes: in the tree of a kind they add up to its life. Assumes nothing.
+use mathlib.Core.Path.{◌≡◌, refl, sym, ◌∙◌, ap}
 use mathlib.Core.Logic.{◌⊎◌, inl, inr}
 use mathlib.Core.Bool.{Bool, true, false, cond}
 use mathlib.Core.List.{List}
@@ -11,10 +11,11 @@ use lib.Dec.{eqb}
 use borrow.Author.Tests.{lt-ltb, le-ltb}
 use Rattle.lists.specs.Lists.{count}
 use Rattle.lists.proofs.Numbers.{le_or_lt, lt_or_le, cond_same}
-use Rattle.history.specs.Words.{Block, life}
-use Rattle.history.specs.Tree.{Tree, hole, node, mid, covers, entries_of, left_of, right_of, add_location, block_at, key_in, tree_of, widths}
+use Rattle.history.specs.Words.{Block, life, only_kind}
+use Rattle.history.specs.Tree.{Tree, hole, node, mid, covers, entries_of, left_of, right_of, add_location, no_block, block_at, key_in, tree_of, widths}
 use Rattle.history.proofs.TreePath.{block_none}
-use Rattle.history.proofs.TreeAdding.{Half, went, kept, made, listed, add_by, tree_sum}
+use Rattle.history.proofs.TreeAdding.{Half, went, kept, made, listed, add_by, add_block, tree_sum}
+use Rattle.history.proofs.ByKind.{only_at, only_length, own_same, own-lives}
 use Rattle.history.proofs.TreeInserting.{count-insert}
 
 -- ── the part of a life in an interval ──
@@ -112,15 +113,30 @@ module _ (key : ℕ → ℕ) (k b c d : ℕ) where
   unfolding Widens
   widths_add = add_by key b c d Widens widens_here widens_stop widens_down
 
--- ── the tree of all blocks ──
+-- ── the tree of a kind ──
 
--- The widths of a block's nodes add up to its life.
-pub widths-life : (e k : ℕ) (bs : List Block) → e ≤ 2 ^ 63 → (block_at bs k).destroyed ≤ e → widths k 0 e (tree_of e bs) ≡ life (block_at bs k)
+-- The widths of a block's nodes add up to its life in the tree's kind.
+pub widths-life : (kind e k : ℕ) (bs : List Block) → e ≤ 2 ^ 63 → (block_at (only_kind kind bs) k).destroyed ≤ e
+    → widths k 0 e (tree_of kind e bs) ≡ life (block_at (only_kind kind bs) k)
 unfolding widths
-widths-life e k bs z h =
-    tree_sum e bs (widths k 0 e) (λ j. overlap (block_at bs j).created (block_at bs j).destroyed 0 e) k
-    (λ n T. widths_add (key_in bs) k n (block_at bs n).created (block_at bs n).destroyed 63 0 e T (omega arith) (omega arith))
+widths-life kind e k bs z h =
+    tree_sum kind e bs (widths k 0 e) part k grows idle
     ∙ (elim (lt_or_le k (length bs)) [
       | inl l ↦ rw (lt-ltb k (length bs) l) (omega arith)
-      | inr l ↦ rw (le-ltb k (length bs) l) (rw (block_none k bs l))
+      | inr l ↦ rw (le-ltb k (length bs) l) (let none : block_at (only_kind kind bs) k ≡ no_block = block_none k (only_kind kind bs) (rw (only_length kind bs) l) in rw none)
     ])
+  where
+    part : ℕ → ℕ
+    part j = overlap (block_at (only_kind kind bs) j).created (block_at (only_kind kind bs) j).destroyed 0 e
+
+    grows : (n : ℕ) (T : Tree) → (block_at bs n).kind ≡ kind → widths k 0 e (add_block (block_at bs) (key_in bs) e n T) ≡ widths k 0 e T + cond (eqb k n) (part n) 0
+    grows n T own =
+        widths_add (key_in bs) k n (block_at bs n).created (block_at bs n).destroyed 63 0 e T (omega arith) (omega arith)
+        ∙ ap (λ (b : Block). widths k 0 e T + cond (eqb k n) (overlap b.created b.destroyed 0 e) 0) (sym (only_at kind bs n ∙ own_same kind (block_at bs n) own))
+
+    idle : (n : ℕ) → ((block_at bs n).kind ≡ kind → ⊥) → part n ≡ 0
+    idle n other =
+        elim (le_or_lt (block_at (only_kind kind bs) n).destroyed 0) [
+          | inl none ↦ omega arith
+          | inr some ↦ absurd (other (own-lives kind (block_at bs n) 0 (rw (only_at kind bs n) at some)))
+        ]

@@ -3,7 +3,7 @@
 use Rattle.std.specs.Prelude.{◌≡◌, ℕ, ◌+◌, ◌-◌, ◌*◌, ◌^◌, length, take, replicate, set}
 use Rattle.std.proofs.Math.Option.{Option}
 use mathlib.Core.List.{List, [], ◌∷◌, ◌++◌, map, flatten}
-use Rattle.history.specs.Words.{Piece, Block, a_block}
+use Rattle.history.specs.Words.{Piece, Block, a_block, cell_place}
 use Rattle.history.specs.Lent.{Lent, row_width, entry_width, piece_head, block_head, node_head, entry_head}
 use Rattle.history.specs.Tree.{Tree, hole, node}
 use Rattle.history.specs.Ledger.{Opening, opened, opening_for}
@@ -17,11 +17,12 @@ use Rattle.history.specs.Printed.{header_text, bad_record_text, open_text, newli
 -- ── what is asked ──
 
 pub data Question : Type 0 where
-  what_opening what_answers what_pieces what_blocks what_tree : Question
+  what_opening what_answers what_pieces what_blocks : Question
+  what_tree : (kind : ℕ) → Question
   what_block : (number : ℕ) → Question
-  what_find what_touching : (t start stop answer : ℕ) → Question
-  what_next what_last : (t cell : ℕ) → Question
-  what_cells : (t start stop bytes held : ℕ) → Question
+  what_find what_touching : (kind t start stop answer : ℕ) → Question
+  what_next what_last : (kind t cell : ℕ) → Question
+  what_cells : (kind t start stop bytes held : ℕ) → Question
   what_label : (cell : ℕ) → Question
 
 pub data Fact : Type 0 where
@@ -57,13 +58,13 @@ told a ks what_opening = opening (open_answer a)
 told a ks what_answers = answered (answers (opened a) ks)
 told a ks what_pieces = pieces (after_all (opened a) ks).now.pieces
 told a ks what_blocks = blocks (after_all (opened a) ks).now.blocks
-told a ks what_tree = tree (tree_in (after_all (opened a) ks))
+told a ks (what_tree kind) = tree (tree_in (after_all (opened a) ks) kind)
 told a ks (what_block k) = block (block_answer (after_all (opened a) ks) k)
-told a ks (what_find t s n room) = found (find_answer (after_all (opened a) ks) t s n room)
-told a ks (what_touching t s n room) = touching (touching_answer (after_all (opened a) ks) t s n room)
-told a ks (what_next t c) = neighbour (next_answer (after_all (opened a) ks) t c)
-told a ks (what_last t c) = neighbour (last_answer (after_all (opened a) ks) t c)
-told a ks (what_cells t s n bytes held) = cells (cells_answer (after_all (opened a) ks) t s n bytes held)
+told a ks (what_find kind t s n room) = found (find_answer (after_all (opened a) ks) kind t s n room)
+told a ks (what_touching kind t s n room) = touching (touching_answer (after_all (opened a) ks) kind t s n room)
+told a ks (what_next kind t c) = neighbour (next_answer (after_all (opened a) ks) kind t c)
+told a ks (what_last kind t c) = neighbour (last_answer (after_all (opened a) ks) kind t c)
+told a ks (what_cells kind t s n bytes held) = cells (cells_answer (after_all (opened a) ks) kind t s n bytes held)
 told a ks (what_label c) = label (clock_answer (after_all (opened a) ks) c)
 
 unfoldable pub played : Board → List Fact
@@ -89,20 +90,27 @@ lengths p b s n e =
 abbrev pub ample : Lent
 ample = lengths 512 1024 65536 1024 4096
 
--- end tick and lent lengths; the kind is 1
+-- end tick and lent lengths; kind 1 alone
 abbrev pub on : ℕ → Lent → Opening
-on e lent = opening_for e 1 lent
+on e lent = opening_for e (1 ∷ []) lent
 
--- tick, first cell, bytes; with a scratch of so many numbers
+-- kind, tick, first cell, bytes; with a scratch of so many numbers
+abbrev pub op_of : (kind scratch t first : ℕ) → List ℕ → Call
+op_of kind scratch t f bs = record_call scratch (record { kind = kind; tick = t; first = f; bytes = bs })
+
+abbrev pub op_in : (kind t first : ℕ) → List ℕ → Call
+op_in kind t f bs = op_of kind (row_width * 512) t f bs
+
+-- of kind 1
 abbrev pub op_with : (scratch t first : ℕ) → List ℕ → Call
-op_with scratch t f bs = record_call scratch (record { tick = t; first = f; bytes = bs })
+op_with scratch t f bs = op_of 1 scratch t f bs
 
 abbrev pub op : (t first : ℕ) → List ℕ → Call
 op t f bs = op_with (row_width * 512) t f bs
 
 -- first cell, bytes, written
 abbrev piece_on : (first : ℕ) → List ℕ → ℕ → Piece
-piece_on f bs w = record { kind = 1; stretch = record { first = f; bytes = bs }; written = w }
+piece_on f bs w = record { kind = 1; stretch = record { first = cell_place 1 f; bytes = bs }; written = w }
 
 -- first cell, bytes, created, destroyed
 abbrev block_on : (first : ℕ) → List ℕ → ℕ → ℕ → Block
@@ -127,7 +135,7 @@ label! n = label (accepted n)
 abbrev pub listed : List ℕ → (visited : ℕ) → Fact
 listed ks n = found (accepted (record { numbers = ks; visited = n }))
 
-abbrev shown : (bytes held : List ℕ) → Fact
+abbrev pub shown : (bytes held : List ℕ) → Fact
 shown bs hs = cells (accepted (record { bytes = bs; held = hs }))
 
 -- the calls of the listing
@@ -151,8 +159,8 @@ marked =
           ∷ block_on 103 (4 ∷ []) 6 8
           ∷ block_on 104 (9 ∷ []) 3 8
           ∷ [])
-          ∷ what_find 6 100 104 3 is listed (2 ∷ 3 ∷ 4 ∷ []) 3
-          ∷ what_find 6 104 104 0 is listed [] 3
+          ∷ what_find 1 6 100 104 3 is listed (2 ∷ 3 ∷ 4 ∷ []) 3
+          ∷ what_find 1 6 104 104 0 is listed [] 3
           ∷ what_label 102 is label! 142
           ∷ [];
     }
@@ -175,31 +183,31 @@ marked =
       opening = on 8 ample;
       calls = op 3 50 (1 ∷ []) ∷ op 3 50 (2 ∷ []) ∷ finish_call ∷ [];
       cases = what_blocks is blocks (block_on 50 (1 ∷ []) 3 3 ∷ block_on 50 (2 ∷ []) 3 8 ∷ [])
-          ∷ what_find 3 0 100 2 is listed (1 ∷ []) 4
-          ∷ what_cells 3 50 51 1 1 is shown (2 ∷ []) (1 ∷ [])
+          ∷ what_find 1 3 0 100 2 is listed (1 ∷ []) 4
+          ∷ what_cells 1 3 50 51 1 1 is shown (2 ∷ []) (1 ∷ [])
           ∷ [];
     }
     -- * E = 8: life 1 to 8 stands in [1,2), [2,4), [4,8)
     ∷ record {
       opening = on 8 ample;
       calls = op 1 10 (5 ∷ []) ∷ finish_call ∷ [];
-      cases = what_tree is tree (node [] (node [] (node [] hole (node (0 ∷ []) hole hole)) (node (0 ∷ []) hole hole)) (node (0 ∷ []) hole hole)) ∷ [];
+      cases = what_tree 1 is tree (node [] (node [] (node [] hole (node (0 ∷ []) hole hole)) (node (0 ∷ []) hole hole)) (node (0 ∷ []) hole hole)) ∷ [];
     }
     -- * life 0 to 0 makes [0,4), [0,2), [0,1), all empty
     ∷ record {
       opening = on 8 ample;
       calls = op 0 10 (5 ∷ []) ∷ op 0 10 (6 ∷ []) ∷ finish_call ∷ [];
       cases = what_blocks is blocks (block_on 10 (5 ∷ []) 0 0 ∷ block_on 10 (6 ∷ []) 0 8 ∷ [])
-          ∷ what_tree is tree (node (1 ∷ []) (node [] (node [] (node [] hole hole) hole) hole) hole)
+          ∷ what_tree 1 is tree (node (1 ∷ []) (node [] (node [] (node [] hole hole) hole) hole) hole)
           ∷ [];
     }
     -- * cells 1432 to 1445 booked: find over [1440, 1450) lists nothing; read cells shows the train at 1444
     ∷ record {
       opening = on 8 ample;
       calls = op 0 1432 (replicate 14 9) ∷ finish_call ∷ [];
-      cases = what_find 5 1440 1450 9 is listed [] 1
-          ∷ what_find 5 1432 1433 9 is listed (0 ∷ []) 1
-          ∷ what_cells 5 1444 1447 3 3 is shown (9 ∷ 9 ∷ 0 ∷ []) (1 ∷ 1 ∷ 0 ∷ [])
+      cases = what_find 1 5 1440 1450 9 is listed [] 1
+          ∷ what_find 1 5 1432 1433 9 is listed (0 ∷ []) 1
+          ∷ what_cells 1 5 1444 1447 3 3 is shown (9 ∷ 9 ∷ 0 ∷ []) (1 ∷ 1 ∷ 0 ∷ [])
           ∷ what_label 1439 is label! 2359
           ∷ what_label 1440 is label! 0
           ∷ what_label (2 ^ 32 + 61) is label! 101
@@ -224,16 +232,16 @@ scant = lengths 2 3 6 1024 4096
 unfoldable pub edges : List Board
 edges =
     -- 1: E from 1 to 2^63, kinds 0 to 4
-    record { opening = opening_for 0 1 ample; calls = []; cases = what_opening is opening (refused 1) ∷ [] }
-    ∷ record { opening = opening_for 1 0 ample; calls = []; cases = what_opening is opening yes! ∷ [] }
-    ∷ record { opening = opening_for (2 ^ 63 + 1) 1 ample; calls = []; cases = what_opening is opening (refused 1) ∷ [] }
-    ∷ record { opening = opening_for (2 ^ 63) 4 ample; calls = []; cases = what_opening is opening yes! ∷ [] }
-    ∷ record { opening = opening_for 8 5 ample; calls = []; cases = what_opening is opening (refused 1) ∷ [] }
+    record { opening = opening_for 0 (1 ∷ []) ample; calls = []; cases = what_opening is opening (refused 1) ∷ [] }
+    ∷ record { opening = opening_for 1 (0 ∷ []) ample; calls = []; cases = what_opening is opening yes! ∷ [] }
+    ∷ record { opening = opening_for (2 ^ 63 + 1) (1 ∷ []) ample; calls = []; cases = what_opening is opening (refused 1) ∷ [] }
+    ∷ record { opening = opening_for (2 ^ 63) (4 ∷ []) ample; calls = []; cases = what_opening is opening yes! ∷ [] }
+    ∷ record { opening = opening_for 8 (5 ∷ []) ample; calls = []; cases = what_opening is opening (refused 1) ∷ [] }
     -- 2: tables that cannot hold their heads
     ∷ record {
       opening = on 8 (record { pieces = 7; blocks = 8200; store = 65536; nodes = 8200; entries = 8200 });
       calls = op 0 5 [] ∷ finish_call ∷ [];
-      cases = what_answers is answered (refused 2 ∷ refused 2 ∷ []) ∷ what_find 9 1 0 0 is found (refused 2) ∷ what_block 0 is block (refused 2) ∷ [];
+      cases = what_answers is answered (refused 2 ∷ refused 2 ∷ []) ∷ what_find 1 9 1 0 0 is found (refused 2) ∷ what_block 0 is block (refused 2) ∷ [];
     }
     -- 3, 5 and 8, in their order; a finished index keeps its blocks
     ∷ record {
@@ -258,7 +266,7 @@ edges =
     ∷ record {
       opening = on 8 ample;
       calls = op 1 5 (1 ∷ []) ∷ [];
-      cases = what_find 1 0 9 9 is found (refused 4) ∷ what_cells 1 0 9 9 9 is cells (refused 4) ∷ what_block 0 is block (refused 4) ∷ [];
+      cases = what_find 1 1 0 9 9 is found (refused 4) ∷ what_cells 1 1 0 9 9 9 is cells (refused 4) ∷ what_block 0 is block (refused 4) ∷ [];
     }
     -- 9 by the table; an operation that repeats what stands is accepted
     ∷ record {
@@ -289,15 +297,15 @@ edges =
     ∷ record {
       opening = on 8 ample;
       calls = listing;
-      cases = what_find 8 1 0 0 is found (refused 14)
-          ∷ what_find 7 1 0 0 is found (refused 15)
-          ∷ what_find 7 1 1 0 is listed [] 3
-          ∷ what_find 6 100 104 2 is found (refused 16)
-          ∷ what_cells 8 1 0 0 0 is cells (refused 14)
-          ∷ what_cells 7 1 0 0 0 is cells (refused 15)
-          ∷ what_cells 4 102 104 2 1 is cells (refused 16)
-          ∷ what_cells 4 102 104 1 2 is cells (refused 16)
-          ∷ what_cells 4 102 104 2 2 is shown (9 ∷ 9 ∷ []) (1 ∷ 1 ∷ [])
+      cases = what_find 1 8 1 0 0 is found (refused 14)
+          ∷ what_find 1 7 1 0 0 is found (refused 15)
+          ∷ what_find 1 7 1 1 0 is listed [] 3
+          ∷ what_find 1 6 100 104 2 is found (refused 16)
+          ∷ what_cells 1 8 1 0 0 0 is cells (refused 14)
+          ∷ what_cells 1 7 1 0 0 0 is cells (refused 15)
+          ∷ what_cells 1 4 102 104 2 1 is cells (refused 16)
+          ∷ what_cells 1 4 102 104 1 2 is cells (refused 16)
+          ∷ what_cells 1 4 102 104 2 2 is shown (9 ∷ 9 ∷ []) (1 ∷ 1 ∷ [])
           ∷ what_block 6 is block (refused 15)
           ∷ what_block 5 is block (accepted (block_on 104 (9 ∷ []) 3 8))
           ∷ [];

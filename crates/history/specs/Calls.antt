@@ -1,9 +1,9 @@
 -- A call that can change an opened index, a list of calls, and the history that they leave (01, "mod.rs", demand 3's ledger).
-use Rattle.std.specs.Prelude.{cond, List, [], ◌∷◌, ℕ, leb}
+use Rattle.std.specs.Prelude.{cond, ◌&&◌, List, [], ◌∷◌, ℕ, leb, eqb}
 use Rattle.std.proofs.Math.Option.{Option, none, or_else}
-use Rattle.history.specs.Words.{Operation, stretch_of, byte_at}
-use Rattle.history.specs.Days.{Day, days_of}
+use Rattle.history.specs.Words.{Operation, cells_of, byte_at}
 use Rattle.history.specs.Ledger.{Ledger, record_by, finish_by, install_by, install_days_by}
+use Rattle.history.specs.Days.{Day, days_of}
 use Rattle.history.specs.Results.{Result}
 use Rattle.history.specs.Refusals.{Answer, accepted, refused, record_answer, finish_answer, install_answer, days_answer}
 
@@ -61,10 +61,10 @@ unfoldable pub history : List Operation → Ledger → List Call → List Operat
 history h l [] = h
 history h l (k ∷ ks) = history (noted h k (answer_to l k)) (after l k) ks
 
--- What a cell holds at a tick by the history: the byte of the newest call with a tick up to t that covers the cell, or none.
-unfoldable pub value_at : List Operation → (t cell : ℕ) → Option ℕ
-value_at [] t c = none
-value_at (o ∷ h) t c = or_else (cond (leb o.tick t) (byte_at c (stretch_of o)) none) (value_at h t c)
+-- What a kind's cell holds at a tick by the history: the byte of the newest call of that kind with a tick up to t that covers the cell, or none.
+unfoldable pub value_at : List Operation → (kind t cell : ℕ) → Option ℕ
+value_at [] kind t c = none
+value_at (o ∷ h) kind t c = or_else (cond (eqb o.kind kind && leb o.tick t) (byte_at c (cells_of o)) none) (value_at h kind t c)
 
 -- ── the list of days ──
 

@@ -3,12 +3,13 @@
 use Rattle.std.specs.Prelude.{Bool, true, cond, ◌&&◌, ℕ, zero, suc, ◌+◌, ◌*◌, ◌^◌, ◌/◌, ◌%◌, length, take, drop, leb, ltb, eqb}
 use mathlib.Core.List.{List, [], ◌∷◌, map, flat_map, flatten}
 use Rattle.std.proofs.Math.Option.{some}
-use Rattle.lists.specs.Lists.{has, count_from, sum_of}
-use Rattle.history.specs.Words.{Block, a_block, size, first_cell}
+use Rattle.lists.specs.Lists.{count_from, sum_of}
+use Rattle.history.specs.Words.{Block, a_block, all_kinds, size, first_cell}
+unfoldable pub use Rattle.history.specs.Words.{those_with}
 use Rattle.history.specs.Lent.{Lent, block_rows, node_rows, entry_rows}
 use Rattle.history.specs.Tree.{Tree, hole, node, mid, block_at, node_count, entry_count, entries_in}
 use Rattle.history.specs.Rules.{every, halved, filled, lived, rule23, apart}
-use Rattle.history.specs.Ledger.{Ledger, empty, with_blocks, with_store, with_now, with_tree, opening_for}
+use Rattle.history.specs.Ledger.{Ledger, empty, with_blocks, with_store, with_now, with_trees, opening_for}
 use Rattle.history.specs.Reads.{tree_in}
 use Rattle.history.specs.Refusals.{Answer, first_of, write_refusals}
 
@@ -61,13 +62,6 @@ unfoldable pub file_bytes : File → List ℕ
 file_bytes f =
     flatten (bytes_of 1 f.kind ∷ bytes_of 8 (length f.blocks) ∷ flat_map block_bytes f.blocks ∷ node_bytes f.nodes ∷ [])
 
--- those of the block numbers that have an entry
-unfoldable pub those_with : (entries : List ℕ) → List ℕ → List ℕ
-those_with es [] = []
-those_with es (k ∷ ks) =
-    let rest = those_with es ks in
-    cond (has k es) (k ∷ rest) rest
-
 -- Only blocks with an entry are written, in recorded order: their numbers ..
 abbrev pub written : List Block → Tree → List ℕ
 written bs tree = those_with (entries_in tree) (count_from 0 (length bs))
@@ -101,18 +95,26 @@ unfoldable pub nodes_of : (lo hi : ℕ) → Tree → Nodes
 nodes_of lo hi hole = absent
 nodes_of lo hi (node es l r) = present lo hi (mid lo hi) es (nodes_of lo (mid lo hi) l) (nodes_of (mid lo hi) hi r)
 
--- what the file of a closed index says
+-- what the file of one kind's tree says
 unfoldable pub contents : (kind end : ℕ) → List Block → Tree → File
 contents kind e bs tree = record { kind = kind; blocks = written_blocks bs tree; nodes = nodes_of 0 e (renumbered bs tree) }
 
--- An index without blocks has no node, and writes no bytes.
+-- A kind without blocks has no tree, and writes no bytes.
 unfoldable pub file_of : (kind end : ℕ) → List Block → Tree → List ℕ
 file_of kind e bs hole = []
 file_of kind e bs (node es l r) = file_bytes (contents kind e bs (node es l r))
 
--- the file of a ledger
+-- the part of a kind in the file of a ledger
+abbrev pub file_part : Ledger → (kind : ℕ) → List ℕ
+file_part l kind = file_of kind l.opening.end l.now.blocks (tree_in l kind)
+
+-- the file of a ledger: trees are written one after the other by kind code, each numbering its own blocks
 abbrev pub file_by : Ledger → List ℕ
-file_by l = file_of l.opening.kind l.opening.end l.now.blocks (tree_in l)
+file_by l = flat_map (file_part l) all_kinds
+
+-- where a kind's part begins in it
+abbrev pub part_at : Ledger → (kind : ℕ) → ℕ
+part_at l kind = length (flat_map (file_part l) (count_from 0 kind))
 
 -- what write answers: the file's bytes, which go into a slice of so many
 abbrev pub write_answer : Ledger → (out : ℕ) → Answer (List ℕ)
@@ -261,25 +263,26 @@ pub record Loaded : Type 0 where
 abbrev pub loaded_from : File → Loaded
 loaded_from f = record { end = end_of f.nodes; kind = f.kind; blocks = f.blocks; tree = tree_from f.nodes }
 
--- the ledger of a loaded index: no pieces, the last accepted tick 0, the blocks' bytes one after the other
+-- a tree of one kind, among the others' holes
+abbrev pub trees_with : (kind : ℕ) → Tree → List Tree
+trees_with kind tree = map (λ k. cond (eqb kind k) tree hole) all_kinds
+
+-- the ledger of a loaded index, opened for its kind alone: no pieces, the last accepted tick 0, the blocks' bytes one after the other
 abbrev pub loaded_ledger : Lent → Loaded → Ledger
 loaded_ledger n x =
-    let fresh = empty (opening_for x.end x.kind n) in
+    let fresh = empty (opening_for x.end (x.kind ∷ []) n) in
     let bytes = flat_map (λ b. b.stretch.bytes) x.blocks in
-    with_tree (some x.tree) (with_now (with_blocks x.blocks (with_store bytes fresh.now)) fresh)
+    with_trees (some (trees_with x.kind x.tree)) (with_now (with_blocks x.blocks (with_store bytes fresh.now)) fresh)
 
--- the ledger that loading the file of a closed one gives: the blocks with an entry, under their new numbers
-abbrev pub saved_ledger : Lent → Ledger → Ledger
-saved_ledger n l =
-    loaded_ledger n
-    (record {
-      end = l.opening.end;
-      kind = l.opening.kind;
-      blocks = written_blocks l.now.blocks (tree_in l);
-      tree = renumbered l.now.blocks (tree_in l);
-    })
+-- what loading the file of a kind's tree gives: the blocks with an entry, under their new numbers
+abbrev pub reloaded : (kind end : ℕ) → List Block → Tree → Loaded
+reloaded kind e bs tree = record { end = e; kind = kind; blocks = written_blocks bs tree; tree = renumbered bs tree }
 
--- Loading starts at a position and gives the next one; it is refused in checking order.
+-- the ledger that loading a kind's part of the file of a closed one gives
+abbrev pub saved_ledger : Lent → Ledger → (kind : ℕ) → Ledger
+saved_ledger n l kind = loaded_ledger n (reloaded kind l.opening.end l.now.blocks (tree_in l kind))
+
+-- Loading takes one tree: it starts at a position and gives the next one; it is refused in checking order.
 unfoldable pub load : Lent → Reader Loaded
 load n = do
   f ← read_file

@@ -92,7 +92,7 @@ pub record OutsideHours (l : Ledger) (o : Operation) : Type 0 where
 pub record ByThen {A : Type 0} (answer : Answer A) : Type 0 where
   pub number : ℕ
   pub refuses : answer ≡ refused number
-  pub known : Mem number (2 ∷ 3 ∷ 5 ∷ 6 ∷ 7 ∷ 8 ∷ 26 ∷ [])
+  pub known : Mem number (2 ∷ 3 ∷ 25 ∷ 5 ∷ 6 ∷ 7 ∷ 8 ∷ 26 ∷ [])
 
 abbrev pub NotInstall : Call → Type 0
 NotInstall (record_call scratch o) = Unit {0}

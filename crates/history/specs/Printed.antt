@@ -23,8 +23,8 @@ pub record Booking : Type 0 where
   pub bytes : List ℕ
 
 -- the operation that it stands for
-abbrev pub operation_of : Booking → Operation
-operation_of b = record { tick = b.tick; first = b.first; bytes = b.bytes }
+abbrev pub operation_of : (kind : ℕ) → Booking → Operation
+operation_of kind b = record { kind = kind; tick = b.tick; first = b.first; bytes = b.bytes }
 
 -- a record: a mark of two bytes, hexadecimal B7 4F, tick (8), first cell (8), length (2), bytes
 unfoldable pub read_record : Reader Booking
@@ -89,9 +89,9 @@ board_lent =
 abbrev pub board_scratch : ℕ
 board_scratch = row_width * 512
 
--- what it opens with
+-- what it opens with: a single kind byte is the set of that kind
 abbrev pub board_opening : (end kind : ℕ) → Opening
-board_opening e kind = opening_for e kind board_lent
+board_opening e kind = opening_for e (kind ∷ []) board_lent
 
 -- ── texts ──
 
@@ -171,22 +171,22 @@ unfoldable pub last_lines : Ledger → Answer Result → List ℕ
 last_lines l (accepted a) = flat_map block_line l.now.blocks
 last_lines l (refused n) = refused_line finish_text n
 
-unfoldable pub lines_from : (k : ℕ) → Ledger → List Booking → List ℕ
-lines_from k l [] = last_lines (after l finish_call) (answer_to l finish_call)
-lines_from k l (b ∷ bs) =
-    let call = record_call board_scratch (operation_of b) in
-    op_line k (answer_to l call) ++ lines_from (suc k) (after l call) bs
+unfoldable pub lines_from : (kind k : ℕ) → Ledger → List Booking → List ℕ
+lines_from kind k l [] = last_lines (after l finish_call) (answer_to l finish_call)
+lines_from kind k l (b ∷ bs) =
+    let call = record_call board_scratch (operation_of kind b) in
+    op_line k (answer_to l call) ++ lines_from kind (suc k) (after l call) bs
 
 -- a refused opening prints `open refused 1` only
-unfoldable pub open_lines : (a : Opening) → List Booking → Answer Unit → List ℕ
-open_lines a bs (accepted x) = header_text ++ (newline ∷ lines_from 1 (opened a) bs)
-open_lines a bs (refused n) = refused_line open_text n
+unfoldable pub open_lines : (kind : ℕ) (a : Opening) → List Booking → Answer Unit → List ℕ
+open_lines kind a bs (accepted x) = header_text ++ (newline ∷ lines_from kind 1 (opened a) bs)
+open_lines kind a bs (refused n) = refused_line open_text n
 
 unfoldable pub record_lines : (end kind : ℕ) → Records → List ℕ
 record_lines e kind (bad k) = bad_record_text ++ decimal k (newline ∷ [])
 record_lines e kind (all bs) =
     let a = board_opening e kind in
-    open_lines a bs (open_answer a)
+    open_lines kind a bs (open_answer a)
 
 -- all that it prints
 unfoldable pub printed : (standard_input : List ℕ) → List ℕ

@@ -4,19 +4,19 @@ use Rattle.std.specs.Prelude.{Bool, cond, ◌&&◌, ℕ, suc, ◌-◌, ◌+◌, 
 use Rattle.std.proofs.Math.Option.{Option, none, some}
 use mathlib.Core.List.{List, [], ◌∷◌, map, filter_map, head?}
 use Rattle.lists.specs.Lists.{count_from}
-use Rattle.history.specs.Words.{Block, first_cell, ends, live, byte_at}
-use Rattle.history.specs.Tree.{Tree, hole, insert, block_at, key_in}
+use Rattle.history.specs.Words.{Block, cell_place, first_cell, end_cell, live, live_of, byte_at}
+use Rattle.history.specs.Tree.{Tree, tree_at, insert, block_at, key_in}
 use Rattle.history.specs.Find.{find, visited}
 use Rattle.history.specs.Days.{Day, minute_of, label_minute}
 use Rattle.history.specs.Ledger.{Ledger}
 
--- the tree of a closed index
-abbrev pub tree_or_hole : Option Tree → Tree
-tree_or_hole none = hole
-tree_or_hole (some tree) = tree
+-- the trees of a closed index, and that of a kind
+abbrev pub trees_or_none : Option (List Tree) → List Tree
+trees_or_none none = []
+trees_or_none (some trees) = trees
 
-abbrev pub tree_in : Ledger → Tree
-tree_in l = tree_or_hole l.tree
+abbrev pub tree_in : Ledger → (kind : ℕ) → Tree
+tree_in l kind = tree_at (trees_or_none l.trees) kind
 
 -- ── block by number ──
 
@@ -30,11 +30,11 @@ pub record Found : Type 0 where
   pub numbers : List ℕ
   pub visited : ℕ
 
-unfoldable pub find_by : Ledger → (t start stop : ℕ) → Found
-find_by l t s n =
+unfoldable pub find_by : Ledger → (kind t start stop : ℕ) → Found
+find_by l kind t s n =
     record {
-      numbers = find l.opening.end l.now.blocks (tree_in l) t s n;
-      visited = visited t 0 l.opening.end (tree_in l);
+      numbers = find l.opening.end l.now.blocks (tree_in l kind) t s n;
+      visited = visited t 0 l.opening.end (tree_in l kind);
     }
 
 -- ── touching, next, last ──
@@ -46,20 +46,20 @@ ascending_from key test n (b ∷ bs) =
     let later = ascending_from key test (suc n) bs in
     cond (test b) (insert key n later) later
 
--- the numbers of the blocks that are live at t and of which the test holds, ascending by first cell
-unfoldable pub live_by : Ledger → (t : ℕ) → (test : Block → Bool) → List ℕ
-live_by l t test = ascending_from (key_in l.now.blocks) (λ b. live t b && test b) 0 l.now.blocks
+-- the numbers of the blocks of the kind that are live at t and of which the test holds, ascending by first cell
+unfoldable pub live_by : Ledger → (kind t : ℕ) → (test : Block → Bool) → List ℕ
+live_by l kind t test = ascending_from (key_in l.now.blocks) (λ b. live_of kind t b && test b) 0 l.now.blocks
 
 -- the block holds a cell of [start, stop)
 abbrev pub touches : (start stop : ℕ) → Block → Bool
-touches s n b = ltb (max s (first_cell b)) (min n (ends b.stretch))
+touches s n b = ltb (max s (first_cell b)) (min n (end_cell b))
 
 -- it starts at the cell or after it; all its cells are below the cell
 abbrev pub starts_from : (cell : ℕ) → Block → Bool
 starts_from c b = leb c (first_cell b)
 
 abbrev pub ends_by : (cell : ℕ) → Block → Bool
-ends_by c b = leb (ends b.stretch) c
+ends_by c b = leb (end_cell b) c
 
 -- the last of a list
 unfoldable pub last_in : List ℕ → Option ℕ
@@ -67,24 +67,24 @@ last_in [] = none
 last_in (k ∷ []) = some k
 last_in (k ∷ j ∷ ks) = last_in (j ∷ ks)
 
--- all live blocks that hold any cell of [start, stop); the first that starts at or after a cell; the last whose cells are all below it
-abbrev pub touching_by : Ledger → (t start stop : ℕ) → List ℕ
-touching_by l t s n = live_by l t (touches s n)
+-- of the kind all live blocks that hold any cell of [start, stop); the first that starts at or after a cell; the last whose cells are all below it
+abbrev pub touching_by : Ledger → (kind t start stop : ℕ) → List ℕ
+touching_by l kind t s n = live_by l kind t (touches s n)
 
-abbrev pub next_by : Ledger → (t cell : ℕ) → Option ℕ
-next_by l t c = head? (live_by l t (starts_from c))
+abbrev pub next_by : Ledger → (kind t cell : ℕ) → Option ℕ
+next_by l kind t c = head? (live_by l kind t (starts_from c))
 
-abbrev pub last_by : Ledger → (t cell : ℕ) → Option ℕ
-last_by l t c = last_in (live_by l t (ends_by c))
+abbrev pub last_by : Ledger → (kind t cell : ℕ) → Option ℕ
+last_by l kind t c = last_in (live_by l kind t (ends_by c))
 
 -- ── cells ──
 
--- the byte that a block gives a cell at tick t, if it is live then and holds the cell
-unfoldable pub shows : (t cell : ℕ) → Block → Option ℕ
+-- the byte that a block gives a place at tick t, if it is live then and holds the place
+unfoldable pub shows : (t place : ℕ) → Block → Option ℕ
 shows t c b = cond (live t b) (byte_at c b.stretch) none
 
--- the bytes that the blocks live at t have for a cell, one from each block that holds it
-unfoldable pub seen : (t cell : ℕ) → List Block → List ℕ
+-- the bytes that the blocks live at t have for a place, one from each block that holds it
+unfoldable pub seen : (t place : ℕ) → List Block → List ℕ
 seen t c bs = filter_map (shows t c) bs
 
 -- The byte, and 1 where a live block holds the cell. An unheld cell gives 0 and 0.
@@ -92,11 +92,11 @@ pub record Cells : Type 0 where
   pub bytes : List ℕ
   pub held : List ℕ
 
-unfoldable pub cells_by : Ledger → (t start stop : ℕ) → Cells
-cells_by l t s n =
+unfoldable pub cells_by : Ledger → (kind t start stop : ℕ) → Cells
+cells_by l kind t s n =
     record {
-      bytes = map (λ c. get_or (seen t c l.now.blocks) 0 0) (count_from s (n - s));
-      held = map (λ c. min 1 (length (seen t c l.now.blocks))) (count_from s (n - s));
+      bytes = map (λ c. get_or (seen t (cell_place kind c) l.now.blocks) 0 0) (count_from s (n - s));
+      held = map (λ c. min 1 (length (seen t (cell_place kind c) l.now.blocks))) (count_from s (n - s));
     }
 
 -- ── the clock ──

@@ -2,12 +2,13 @@
 -- 17 to 24, the loader's, stand with the file format in File.
 use Rattle.std.specs.Prelude.{Bool, cond, ◌&&◌, ◌||◌, not, List, [], ◌∷◌, ℕ, ◌+◌, ◌-◌, ◌^◌, leb, ltb, eqb, length}
 use Rattle.std.proofs.Math.Option.{Option}
+use Rattle.history.specs.Rules.{every}
 use Rattle.history.specs.Words.{Operation, Block}
 use Rattle.history.specs.Lent.{piece_rows, block_rows, node_rows, entry_rows, too_short, least_scratch}
-use Rattle.history.specs.Tree.{tree_of, node_count, entry_count}
+use Rattle.history.specs.Tree.{trees_of, nodes_in, entries_all}
+use Rattle.history.specs.Ledger.{Opening, Ledger, finished, opens_kind, changed, is_read, update_by, settled}
 use Rattle.history.specs.Days.{days_of, days_taken}
 use Rattle.history.specs.Hours.{calendar_of, calendar_taken, closed_by}
-use Rattle.history.specs.Ledger.{Opening, Ledger, finished, changed, is_read, update_by, settled}
 use Rattle.history.specs.Results.{Result, done, result_of}
 use Rattle.history.specs.Reads.{Found, Cells, find_by, touching_by, next_by, last_by, cells_by, block_by, clock_by}
 
@@ -42,19 +43,21 @@ max_end_tick = 2 ^ 63
 
 unfoldable pub open_refusals : Opening → List Refusal
 open_refusals a =
-    -- E is 0 or above 2^63, or the kind is above 4
-    1 if (eqb a.end 0 || ltb max_end_tick a.end || ltb 4 a.kind)
+    -- E is 0 or above 2^63, or there is no kind, or one above 4
+    1 if (eqb a.end 0 || ltb max_end_tick a.end || eqb (length a.kinds) 0 || not (every (λ kind. leb kind 4) a.kinds))
     ∷ []
 
 unfoldable pub record_refusals : Ledger → (scratch : ℕ) → Operation → List Refusal
 record_refusals l scratch o =
     let lent = l.opening.lent in
     let update = not (is_read l.now o) in
-    let next = update_by l.opening.kind l.now o in
+    let next = update_by l.now o in
     -- its lent tables aren't well formed: of the ledger's, because their lengths are too short; or the scratch is
     2 if (too_short lent || ltb scratch least_scratch)
     -- the index is finished or loaded
     ∷ 3 if finished l
+    -- the kind wasn't opened
+    ∷ 25 if not (opens_kind l o.kind)
     -- no cells
     ∷ 5 if eqb (length o.bytes) 0
     -- first cell + length is above 2^64 − 1
@@ -76,13 +79,13 @@ record_refusals l scratch o =
 unfoldable pub finish_refusals : Ledger → List Refusal
 finish_refusals l =
     let lent = l.opening.lent in
-    let tree = tree_of l.opening.end (settled l.opening.end l.now) in
+    let trees = trees_of l.opening.end (settled l.opening.end l.now) in
     2 if too_short lent
     ∷ 3 if finished l
-    -- more nodes are needed than the table has
-    ∷ 12 if ltb (node_rows lent) (node_count tree)
+    -- more nodes are needed, for all trees together, than the table has
+    ∷ 12 if ltb (node_rows lent) (nodes_in trees)
     -- more entries are needed than the table has
-    ∷ 13 if ltb (entry_rows lent) (entry_count tree)
+    ∷ 13 if ltb (entry_rows lent) (entries_all trees)
     ∷ []
 
 unfoldable pub install_refusals : Ledger → (numbers : List ℕ) → List Refusal
@@ -105,7 +108,7 @@ abbrev pub open_answer : Opening → Answer Unit
 open_answer a = first_of (open_refusals a) tt
 
 abbrev pub record_answer : Ledger → (scratch : ℕ) → Operation → Answer Result
-record_answer l scratch o = first_of (record_refusals l scratch o) (result_of (changed l.now o))
+record_answer l scratch o = first_of (record_refusals l scratch o) (result_of o.kind (changed l.now o))
 
 abbrev pub finish_answer : Ledger → Answer Result
 finish_answer l = first_of (finish_refusals l) done
@@ -126,42 +129,44 @@ read_refusals l own =
     ∷ 4 if not (finished l)
     ∷ own
 
--- of a read at a tick
-abbrev pub tick_refusals : Ledger → (t : ℕ) → List Refusal → List Refusal
-tick_refusals l t own =
+-- of a read of a kind at a tick
+abbrev pub tick_refusals : Ledger → (kind t : ℕ) → List Refusal → List Refusal
+tick_refusals l kind t own =
     read_refusals l
+    -- the kind wasn't opened
+    (25 if not (opens_kind l kind)
     -- tick ≥ E
-    (14 if leb l.opening.end t
+    ∷ 14 if leb l.opening.end t
     ∷ own)
 
 -- of every read of a window alike; `exceeds` says whether the result exceeds a lent slice
-unfoldable pub window_refusals : Ledger → (t start stop : ℕ) → (exceeds : Bool) → List Refusal
-window_refusals l t s n exceeds =
-    tick_refusals l t
+unfoldable pub window_refusals : Ledger → (kind t start stop : ℕ) → (exceeds : Bool) → List Refusal
+window_refusals l kind t s n exceeds =
+    tick_refusals l kind t
     -- start > end
     (15 if ltb n s
     -- the result exceeds a lent slice
     ∷ 16 if exceeds
     ∷ [])
 
-abbrev pub find_answer : Ledger → (t start stop answer : ℕ) → Answer Found
-find_answer l t s n answer = first_of (window_refusals l t s n (ltb answer (length (find_by l t s n).numbers))) (find_by l t s n)
+abbrev pub find_answer : Ledger → (kind t start stop answer : ℕ) → Answer Found
+find_answer l kind t s n answer = first_of (window_refusals l kind t s n (ltb answer (length (find_by l kind t s n).numbers))) (find_by l kind t s n)
 
-abbrev pub touching_answer : Ledger → (t start stop answer : ℕ) → Answer (List ℕ)
-touching_answer l t s n answer = first_of (window_refusals l t s n (ltb answer (length (touching_by l t s n)))) (touching_by l t s n)
+abbrev pub touching_answer : Ledger → (kind t start stop answer : ℕ) → Answer (List ℕ)
+touching_answer l kind t s n answer = first_of (window_refusals l kind t s n (ltb answer (length (touching_by l kind t s n)))) (touching_by l kind t s n)
 
 -- of a neighbour of a cell at a tick: without window or slice there is nothing more to refuse
-unfoldable pub neighbour_refusals : Ledger → (t : ℕ) → List Refusal
-neighbour_refusals l t = tick_refusals l t []
+unfoldable pub neighbour_refusals : Ledger → (kind t : ℕ) → List Refusal
+neighbour_refusals l kind t = tick_refusals l kind t []
 
-abbrev pub next_answer : Ledger → (t cell : ℕ) → Answer (Option ℕ)
-next_answer l t c = first_of (neighbour_refusals l t) (next_by l t c)
+abbrev pub next_answer : Ledger → (kind t cell : ℕ) → Answer (Option ℕ)
+next_answer l kind t c = first_of (neighbour_refusals l kind t) (next_by l kind t c)
 
-abbrev pub last_answer : Ledger → (t cell : ℕ) → Answer (Option ℕ)
-last_answer l t c = first_of (neighbour_refusals l t) (last_by l t c)
+abbrev pub last_answer : Ledger → (kind t cell : ℕ) → Answer (Option ℕ)
+last_answer l kind t c = first_of (neighbour_refusals l kind t) (last_by l kind t c)
 
-abbrev pub cells_answer : Ledger → (t start stop bytes held : ℕ) → Answer Cells
-cells_answer l t s n bytes held = first_of (window_refusals l t s n (ltb bytes (n - s) || ltb held (n - s))) (cells_by l t s n)
+abbrev pub cells_answer : Ledger → (kind t start stop bytes held : ℕ) → Answer Cells
+cells_answer l kind t s n bytes held = first_of (window_refusals l kind t s n (ltb bytes (n - s) || ltb held (n - s))) (cells_by l kind t s n)
 
 unfoldable pub block_refusals : Ledger → (k : ℕ) → List Refusal
 block_refusals l k =

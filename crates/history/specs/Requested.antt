@@ -1,11 +1,16 @@
 -- The boards to try of document 02, request by request. `requested_boards` makes it part of the build that every one comes out as it must.
 use Rattle.std.specs.Prelude.{◌≡◌, List, [], ◌∷◌, ◌++◌, map, ℕ, ◌-◌, ◌*◌, ◌^◌, replicate}
 use Rattle.std.proofs.Math.Option.{none, some}
+use Rattle.history.specs.Words.{Block, a_block}
+use Rattle.history.specs.Lent.{Lent}
+use Rattle.history.specs.Tree.{Tree, hole, node}
+use Rattle.history.specs.Ledger.{Opening, opened, opening_for}
 use Rattle.history.specs.Refusals.{accepted, refused}
-use Rattle.history.specs.Calls.{finish_call, calendar_call, days_call}
+use Rattle.history.specs.Calls.{Call, finish_call, after_all, calendar_call, days_call}
+use Rattle.history.specs.File.{got, file_of, file_by}
+use Rattle.history.specs.Boards.{Fact, opening, answered, blocks, tree, found, touching, neighbour, cells, label, ◌is◌, Board, Load, what_opening, what_answers, what_blocks, what_tree, what_find, what_touching, what_next, what_last, what_cells, what_label, played, expected, loaded_as, lengths, ample, on, op_in, op_with, op, from!, known!, done!, listed, shown, listing, label! }
 use Rattle.history.specs.HoursBoards.{◌to◌, calendar, no_week, monday, special, HoursBoards}
 use Rattle.history.specs.DaysBoards.{DaysBoards}
-use Rattle.history.specs.Boards.{Fact, answered, touching, neighbour, label, ◌is◌, Board, what_answers, what_find, what_touching, what_next, what_last, what_label, played, expected, lengths, ample, on, op_with, op, label!, from!, known!, done!, listed, listing}
 
 -- ── Item 1 ──
 
@@ -25,68 +30,68 @@ touching_boards =
     record {
       opening = on 8 ample;
       calls = listing;
-      cases = what_touching 6 101 103 2 is touched (2 ∷ 3 ∷ [])
-          ∷ what_touching 6 102 105 3 is touched (3 ∷ 4 ∷ 5 ∷ [])
-          ∷ what_touching 6 101 101 0 is touched []
-          ∷ what_touching 2 0 200 2 is touched (2 ∷ 0 ∷ [])
-          ∷ what_touching 8 1 0 0 is touching (refused 14)
-          ∷ what_touching 7 1 0 0 is touching (refused 15)
-          ∷ what_touching 7 1 1 0 is touched []
-          ∷ what_touching 6 101 103 1 is touching (refused 16)
-          ∷ what_next 6 101 is number 3
-          ∷ what_next 6 102 is number 3
-          ∷ what_next 6 105 is missing
-          ∷ what_next 8 1 is neighbour (refused 14)
-          ∷ what_last 6 101 is missing
-          ∷ what_last 6 102 is number 2
-          ∷ what_last 6 103 is number 3
-          ∷ what_last 8 1 is neighbour (refused 14)
+      cases = what_touching 1 6 101 103 2 is touched (2 ∷ 3 ∷ [])
+          ∷ what_touching 1 6 102 105 3 is touched (3 ∷ 4 ∷ 5 ∷ [])
+          ∷ what_touching 1 6 101 101 0 is touched []
+          ∷ what_touching 1 2 0 200 2 is touched (2 ∷ 0 ∷ [])
+          ∷ what_touching 1 8 1 0 0 is touching (refused 14)
+          ∷ what_touching 1 7 1 0 0 is touching (refused 15)
+          ∷ what_touching 1 7 1 1 0 is touched []
+          ∷ what_touching 1 6 101 103 1 is touching (refused 16)
+          ∷ what_next 1 6 101 is number 3
+          ∷ what_next 1 6 102 is number 3
+          ∷ what_next 1 6 105 is missing
+          ∷ what_next 1 8 1 is neighbour (refused 14)
+          ∷ what_last 1 6 101 is missing
+          ∷ what_last 1 6 102 is number 2
+          ∷ what_last 1 6 103 is number 3
+          ∷ what_last 1 8 1 is neighbour (refused 14)
           ∷ [];
     }
     -- 1432 to 1445, through midnight: who asks from 1440 on is told of the train that came before
     ∷ record {
       opening = on 8 ample;
       calls = op 0 1432 (replicate 14 9) ∷ finish_call ∷ [];
-      cases = what_find 5 1440 1450 9 is listed [] 1
-          ∷ what_touching 5 1440 1450 9 is touched (0 ∷ [])
-          ∷ what_touching 5 1446 1450 9 is touched []
-          ∷ what_last 5 1445 is missing
-          ∷ what_last 5 1446 is number 0
+      cases = what_find 1 5 1440 1450 9 is listed [] 1
+          ∷ what_touching 1 5 1440 1450 9 is touched (0 ∷ [])
+          ∷ what_touching 1 5 1446 1450 9 is touched []
+          ∷ what_last 1 5 1445 is missing
+          ∷ what_last 1 5 1446 is number 0
           ∷ [];
     }
     -- two writes at one tick: the block of no life, number 0, never shows
     ∷ record {
       opening = on 8 ample;
       calls = op 3 50 (1 ∷ []) ∷ op 3 50 (2 ∷ []) ∷ finish_call ∷ [];
-      cases = what_touching 3 0 100 2 is touched (1 ∷ []) ∷ what_next 3 50 is number 1 ∷ what_last 3 51 is number 1 ∷ what_next 2 50 is missing ∷ [];
+      cases = what_touching 1 3 0 100 2 is touched (1 ∷ []) ∷ what_next 1 3 50 is number 1 ∷ what_last 1 3 51 is number 1 ∷ what_next 1 2 50 is missing ∷ [];
     }
     -- the last cell that can be booked; a cell of 2^64 - 1 has no next
     ∷ record {
       opening = on 8 ample;
       calls = op 0 (2 ^ 64 - 2) (1 ∷ []) ∷ finish_call ∷ [];
-      cases = what_touching 0 (2 ^ 64 - 2) (2 ^ 64 - 1) 1 is touched (0 ∷ [])
-          ∷ what_next 0 (2 ^ 64 - 2) is number 0
-          ∷ what_next 0 (2 ^ 64 - 1) is missing
-          ∷ what_last 0 (2 ^ 64 - 2) is missing
-          ∷ what_last 0 (2 ^ 64 - 1) is number 0
+      cases = what_touching 1 0 (2 ^ 64 - 2) (2 ^ 64 - 1) 1 is touched (0 ∷ [])
+          ∷ what_next 1 0 (2 ^ 64 - 2) is number 0
+          ∷ what_next 1 0 (2 ^ 64 - 1) is missing
+          ∷ what_last 1 0 (2 ^ 64 - 2) is missing
+          ∷ what_last 1 0 (2 ^ 64 - 1) is number 0
           ∷ [];
     }
     -- an index without blocks
     ∷ record {
       opening = on 8 ample;
       calls = finish_call ∷ [];
-      cases = what_touching 0 0 (2 ^ 64 - 1) 0 is touched [] ∷ what_next 0 0 is missing ∷ what_last 0 (2 ^ 64 - 1) is missing ∷ [];
+      cases = what_touching 1 0 0 (2 ^ 64 - 1) 0 is touched [] ∷ what_next 1 0 0 is missing ∷ what_last 1 0 (2 ^ 64 - 1) is missing ∷ [];
     }
     -- 4: an open index; 2: tables that cannot hold their heads
     ∷ record {
       opening = on 8 ample;
       calls = op 1 5 (1 ∷ []) ∷ [];
-      cases = what_touching 9 1 0 0 is touching (refused 4) ∷ what_next 9 0 is neighbour (refused 4) ∷ what_last 9 0 is neighbour (refused 4) ∷ [];
+      cases = what_touching 1 9 1 0 0 is touching (refused 4) ∷ what_next 1 9 0 is neighbour (refused 4) ∷ what_last 1 9 0 is neighbour (refused 4) ∷ [];
     }
     ∷ record {
       opening = on 8 (record { pieces = 7; blocks = 8200; store = 65536; nodes = 8200; entries = 8200 });
       calls = finish_call ∷ [];
-      cases = what_touching 9 1 0 0 is touching (refused 2) ∷ what_next 9 0 is neighbour (refused 2) ∷ what_last 9 0 is neighbour (refused 2) ∷ [];
+      cases = what_touching 1 9 1 0 0 is touching (refused 2) ∷ what_next 1 9 0 is neighbour (refused 2) ∷ what_last 1 9 0 is neighbour (refused 2) ∷ [];
     }
     ∷ []
 
@@ -117,6 +122,102 @@ change_boards =
       opening = on 8 ample;
       calls = op 0 (2 ^ 64 - 3) (1 ∷ []) ∷ op 1 (2 ^ 64 - 3) (1 ∷ 1 ∷ []) ∷ [];
       cases = what_answers is answered (from! (2 ^ 64 - 3) ∷ from! (2 ^ 64 - 2) ∷ []) ∷ [];
+    }
+    ∷ []
+
+-- ── Item 3 ──
+
+-- kinds 0, 3 and 4, named in any order and twice
+abbrev pub several : Lent → Opening
+several lent = opening_for 8 (4 ∷ 0 ∷ 3 ∷ 0 ∷ []) lent
+
+-- the same cell and byte in two kinds are two bookings
+abbrev pub mixed : List Call
+mixed = op_in 3 1 5 (8 ∷ []) ∷ op_in 0 3 9 (8 ∷ []) ∷ op_in 0 4 5 (8 ∷ []) ∷ finish_call ∷ []
+
+-- finish goes by kind code, then by cell
+abbrev mixed_blocks : List Block
+mixed_blocks = a_block 0 5 (8 ∷ []) 4 8 ∷ a_block 0 9 (8 ∷ []) 3 8 ∷ a_block 3 5 (8 ∷ []) 1 8 ∷ []
+
+-- 5 nodes and 3 entries; 6 nodes and 3 entries
+abbrev tree_of_zero : Tree
+tree_of_zero = node [] (node [] hole (node [] hole (node (1 ∷ []) hole hole))) (node (0 ∷ 1 ∷ []) hole hole)
+
+abbrev tree_of_three : Tree
+tree_of_three = node [] (node [] (node [] hole (node (2 ∷ []) hole hole)) (node (2 ∷ []) hole hole)) (node (2 ∷ []) hole hole)
+
+unfoldable pub kind_boards : List Board
+kind_boards =
+    -- 1: an empty set, and any kind above 4
+    record { opening = opening_for 8 [] ample; calls = []; cases = what_opening is opening (refused 1) ∷ [] }
+    ∷ record { opening = opening_for 8 (1 ∷ 5 ∷ []) ample; calls = []; cases = what_opening is opening (refused 1) ∷ [] }
+    ∷ record { opening = opening_for 8 (4 ∷ 0 ∷ 1 ∷ 1 ∷ []) ample; calls = []; cases = what_opening is opening (accepted tt) ∷ [] }
+    -- two kinds with blocks and one without; 25 before 14, for kinds above 4 too
+    ∷ record {
+      opening = several ample;
+      calls = mixed;
+      cases = what_answers is answered (from! 5 ∷ from! 9 ∷ from! 5 ∷ done! ∷ [])
+          ∷ what_blocks is blocks mixed_blocks
+          ∷ what_tree 0 is tree tree_of_zero
+          ∷ what_tree 3 is tree tree_of_three
+          ∷ what_tree 4 is tree hole
+          ∷ what_find 0 5 0 10 2 is listed (0 ∷ 1 ∷ []) 2
+          ∷ what_find 3 5 0 10 1 is listed (2 ∷ []) 2
+          ∷ what_find 4 5 0 10 0 is listed [] 0
+          ∷ what_touching 0 5 5 10 2 is touched (0 ∷ 1 ∷ [])
+          ∷ what_touching 3 5 5 10 1 is touched (2 ∷ [])
+          ∷ what_next 3 5 6 is missing
+          ∷ what_next 0 5 6 is number 1
+          ∷ what_last 3 5 9 is number 2
+          ∷ what_last 0 3 9 is missing
+          ∷ what_cells 0 3 5 6 1 1 is shown (0 ∷ []) (0 ∷ [])
+          ∷ what_cells 3 3 5 6 1 1 is shown (8 ∷ []) (1 ∷ [])
+          ∷ what_cells 4 3 5 6 1 1 is shown (0 ∷ []) (0 ∷ [])
+          ∷ what_find 1 8 0 10 0 is found (refused 25)
+          ∷ what_find 7 8 0 10 0 is found (refused 25)
+          ∷ what_touching 1 8 0 10 0 is touching (refused 25)
+          ∷ what_next 1 8 0 is neighbour (refused 25)
+          ∷ what_last 1 8 0 is neighbour (refused 25)
+          ∷ what_cells 1 8 0 10 0 0 is cells (refused 25)
+          ∷ [];
+    }
+    -- 25 before 5, and after 3 and 4; the last accepted tick is common to all kinds
+    ∷ record {
+      opening = several ample;
+      calls = op_in 1 0 5 [] ∷ op_in 7 0 5 (8 ∷ []) ∷ op_in 3 4 5 (8 ∷ []) ∷ op_in 0 3 5 (8 ∷ []) ∷ finish_call ∷ op_in 1 0 5 [] ∷ [];
+      cases = what_answers is answered (refused 25 ∷ refused 25 ∷ from! 5 ∷ refused 8 ∷ done! ∷ refused 3 ∷ []) ∷ [];
+    }
+    ∷ record { opening = several ample; calls = []; cases = what_find 1 8 0 10 0 is found (refused 4) ∷ what_next 1 8 0 is neighbour (refused 4) ∷ [] }
+    -- 12 and 13 count the trees together: 11 nodes and 6 entries
+    ∷ record { opening = several (lengths 9 9 9 10 6); calls = mixed; cases = what_answers is answered (from! 5 ∷ from! 9 ∷ from! 5 ∷ refused 12 ∷ []) ∷ [] }
+    ∷ record { opening = several (lengths 9 9 9 11 5); calls = mixed; cases = what_answers is answered (from! 5 ∷ from! 9 ∷ from! 5 ∷ refused 13 ∷ []) ∷ [] }
+    ∷ record { opening = several (lengths 9 9 9 11 6); calls = mixed; cases = what_answers is answered (from! 5 ∷ from! 9 ∷ from! 5 ∷ done! ∷ []) ∷ [] }
+    ∷ []
+
+-- the file of two kinds, kind 0 before kind 3
+unfoldable pub mixed_file : List ℕ
+mixed_file = file_of 0 8 mixed_blocks tree_of_zero ++ file_of 3 8 mixed_blocks tree_of_three
+
+unfoldable pub kind_files : List Load
+unfolding mixed_file
+kind_files =
+    -- the trees one after the other, each numbering its own blocks: a load takes one
+    record {
+      lent = ample;
+      file = mixed_file;
+      at = 0;
+      comes = got (record { end = 8; kind = 0; blocks = a_block 0 5 (8 ∷ []) 4 8 ∷ a_block 0 9 (8 ∷ []) 3 8 ∷ []; tree = tree_of_zero }) 272;
+    }
+    ∷ record {
+      lent = ample;
+      file = mixed_file;
+      at = 272;
+      comes = got (record {
+        end = 8;
+        kind = 3;
+        blocks = a_block 3 5 (8 ∷ []) 1 8 ∷ [];
+        tree = node [] (node [] (node [] hole (node (0 ∷ []) hole hole)) (node (0 ∷ []) hole hole)) (node (0 ∷ []) hole hole);
+      }) 544;
     }
     ∷ []
 
@@ -214,7 +315,7 @@ days_boards =
     ∷ record {
       opening = on 8 ample;
       calls = op 0 120 (1 ∷ []) ∷ finish_call ∷ days_call (0 ∷ 1500 ∷ []) ∷ days_call (0 ∷ 1439 ∷ []) ∷ calendar_call [] ∷ [];
-      cases = what_answers is answered (from! 120 ∷ done! ∷ done! ∷ refused 28 ∷ refused 3 ∷ []) ∷ what_label 180 is label! 200 ∷ what_touching 1 0 999 1 is touched (0 ∷ []) ∷ [];
+      cases = what_answers is answered (from! 120 ∷ done! ∷ done! ∷ refused 28 ∷ refused 3 ∷ []) ∷ what_label 180 is label! 200 ∷ what_touching 1 1 0 999 1 is touched (0 ∷ []) ∷ [];
     }
     -- a booking is judged by the list as it stands: Mondays from 03:00 on
     ∷ record {
@@ -244,7 +345,7 @@ scratch_boards =
     ∷ record {
       opening = on 8 ample;
       calls = op_with 8 4 5 (1 ∷ []) ∷ op_with 7 4 5 (1 ∷ []) ∷ op_with 0 3 5 [] ∷ finish_call ∷ op_with 7 5 5 (1 ∷ []) ∷ op_with 8 5 5 (1 ∷ []) ∷ [];
-      cases = what_answers is answered (from! 5 ∷ refused 2 ∷ refused 2 ∷ done! ∷ refused 2 ∷ refused 3 ∷ []) ∷ what_next 4 0 is number 0 ∷ [];
+      cases = what_answers is answered (from! 5 ∷ refused 2 ∷ refused 2 ∷ done! ∷ refused 2 ∷ refused 3 ∷ []) ∷ what_next 1 4 0 is number 0 ∷ [];
     }
     ∷ []
 
@@ -253,6 +354,9 @@ scratch_boards =
 pub record RequestedBoards : Type 0 where
   pub item_1 : map played touching_boards ≡ map expected touching_boards
   pub item_2 : map played change_boards ≡ map expected change_boards
+  pub item_3 : map played kind_boards ≡ map expected kind_boards
+  pub item_3_written : file_by (after_all (opened (several ample)) mixed) ≡ mixed_file
+  pub item_3_loaded : map loaded_as kind_files ≡ map (λ (x : Load). x.comes) kind_files
   pub item_4 : map played label_boards ≡ map expected label_boards
   pub item_5 : map played hours_boards ≡ map expected hours_boards
   pub calendars : HoursBoards

@@ -1,7 +1,7 @@
 -- The segment tree as plain data, and what adding a block does to it (01, "segment_tree.rs"). The interval of a node is passed down from the root.
-use Rattle.std.specs.Prelude.{Bool, cond, ◌&&◌, List, [], ◌∷◌, ◌++◌, ℕ, zero, suc, ◌+◌, ◌*◌, ◌-◌, ◌/◌, length, get_or, leb, ltb}
-use Rattle.lists.specs.Lists.{count}
-use Rattle.history.specs.Words.{Block, a_block, first_cell}
+use Rattle.std.specs.Prelude.{Bool, cond, ◌&&◌, List, [], ◌∷◌, ◌++◌, map, ℕ, zero, suc, ◌+◌, ◌*◌, ◌-◌, ◌/◌, length, get_or, leb, ltb}
+use Rattle.lists.specs.Lists.{count, sum_of}
+use Rattle.history.specs.Words.{Block, a_block, first_cell, of_kind, all_kinds}
 
 -- no node; or a node: its entries, which are block numbers, and its two halves
 pub data Tree : Type 0 where
@@ -57,10 +57,12 @@ add_location key (suc n) b c d lo hi t =
     (cond (halves lo hi && ltb (mid lo hi) d) r (right_of t)) in
     cond (covers c d lo hi) (node (insert key b (entries_of t)) (left_of t) (right_of t)) below
 
--- the blocks from number n on, added in recorded order; 2^63 ticks have 63 levels below the root
-unfoldable pub add_all : (key : ℕ → ℕ) (end n : ℕ) → List Block → Tree → Tree
-add_all key e n [] t = t
-add_all key e n (b ∷ bs) t = add_all key e (suc n) bs (add_location key 63 n b.created b.destroyed 0 e t)
+-- those of a kind among the blocks from number n on, added in recorded order; 2^63 ticks have 63 levels below the root
+unfoldable pub add_all : (key : ℕ → ℕ) (kind end n : ℕ) → List Block → Tree → Tree
+add_all key kind e n [] t = t
+add_all key kind e n (b ∷ bs) t =
+    let added = add_location key 63 n b.created b.destroyed 0 e t in
+    add_all key kind e (suc n) bs (cond (of_kind kind b) added t)
 
 abbrev pub no_block : Block
 no_block = a_block 0 0 [] 0 0
@@ -72,9 +74,17 @@ block_at bs k = get_or bs k no_block
 abbrev pub key_in : List Block → (k : ℕ) → ℕ
 key_in bs k = first_cell (block_at bs k)
 
--- the tree of all blocks: the root is [0, E); without blocks there is no node
-unfoldable pub tree_of : (end : ℕ) → List Block → Tree
-tree_of e bs = add_all (key_in bs) e 0 bs hole
+-- the tree of a kind's blocks, under their common numbers: the root is [0, E); without blocks of the kind there is no node
+unfoldable pub tree_of : (kind end : ℕ) → List Block → Tree
+tree_of kind e bs = add_all (key_in bs) kind e 0 bs hole
+
+-- a tree for each kind, by kind code
+unfoldable pub trees_of : (end : ℕ) → List Block → List Tree
+trees_of e bs = map (λ kind. tree_of kind e bs) all_kinds
+
+-- the tree of a kind
+abbrev pub tree_at : List Tree → (kind : ℕ) → Tree
+tree_at trees kind = get_or trees kind hole
 
 -- ── counts ──
 
@@ -85,6 +95,13 @@ node_count (node es l r) = suc (node_count l + node_count r)
 unfoldable pub entry_count : Tree → ℕ
 entry_count hole = 0
 entry_count (node es l r) = length es + (entry_count l + entry_count r)
+
+-- of all trees together
+abbrev pub nodes_in : List Tree → ℕ
+nodes_in trees = sum_of (map node_count trees)
+
+abbrev pub entries_all : List Tree → ℕ
+entries_all trees = sum_of (map entry_count trees)
 
 -- the entries of all nodes, root first, left before right
 unfoldable pub entries_in : Tree → List ℕ

@@ -1,25 +1,25 @@
 // What is right, said once, over plain lists, and its laws. There is no code here: the functions below do nothing, and their contracts make the laws
 // part of the build.
 //
-//   specs/Words      operations, pieces, blocks, cells; the part of a stretch in a range
+//   specs/Words      kinds, places, operations, pieces, blocks, cells; the part of a stretch in a range
 //   specs/Lent       lengths of what is lent, and rows
 //   specs/Tree       the segment tree as data; Find: the walk of find; Rules: rules 21 to 24 as tests
 //   specs/Days       days of 23 and 25 hours: lists of days, the day of a minute, what the clock shows; DaysLaw: what is proved of them
 //   specs/Hours      station hours: calendars, open cells, what install takes; HoursLaw: what is proved of them
 //   specs/Ledger     what is kept, and what an accepted call leaves; Reads: what the reads give
-//   specs/Refusals   refusals 1 to 16 and 26 to 28, a list for each call; Calls: lists of calls, the history, the value of a cell
+//   specs/Refusals   refusals 1 to 16 and 25 to 28, a list for each call; Calls: lists of calls, the history, the value of a cell
 //   specs/File       the file's bytes, its reader, the loader with refusals 17 to 24
 //   specs/Sound      what makes a set of tables well formed
 //   specs/Printed    the input and the output of the program `board`
 //   specs/Law        what is proved of all this
 //   specs/Boards     the boards to try, with what must come of them; Requested, HoursBoards, DaysBoards: those of document 02
 //
+//   proofs/ByKind                      places, sets of kinds, the blocks as one kind sees them: one proof for every kind
 //   proofs/Clip, Parts, Split, Seen, Cells, Storing, Apart, Reading, Value   pieces and cells
-//   proofs/ByKind                      the blocks as one kind sees them
 //   proofs/Passing, Steps, EveryList   the law, from call to call
 //   proofs/Tree*, Find*, RulesLaws     the segment tree and find
 //   proofs/Touching                    touching, next and last
-//   proofs/File*                       the file, there and back
+//   proofs/File*, OneTree              the file, there and back
 //   proofs/HoursLaws, Installing       station hours, and the calls that go by them
 //   proofs/Days*                       lists of days, and the call that installs one
 
@@ -44,7 +44,6 @@ pub fn law_of_change()
 {}
 
 // The ledger after every list of calls: sound, showing what the history has, and faithful to it once finished.
-#[tactic(auto, using(crate::proofs::EveryList::every_list))]
 pub fn law_of_calls()
     ensures { LawOfCalls }
 {}

@@ -40,17 +40,17 @@ module _ {pieces blocks store nodes entries : List ℕ} {k : ℕ} (r : State) {s
 
 -- ── find ──
 
-pub find_4 : (tick start stop room : ℕ) → Refuses (λ l. find_answer l tick start stop room) false 4
+pub find_4 : (kind tick start stop room : ℕ) → Refuses (λ l. find_answer l kind tick start stop room) false 4
 unfolding window_refusals first_of
-find_4 tick start stop room l held still = rw (held, still)
+find_4 kind tick start stop room l held still = rw (held, still)
 
-module _ {pieces blocks store nodes entries : List ℕ} {tick start stop : ℕ} {out : List ℕ} (r : State) {s : Result Unit Refusal} (told : Outcome r (tables pieces blocks store nodes entries)) (is : s ≡ when_closed r) where
-  pub find_not_closed : {e : Refusal} → s ≡ Err e → FoundBy (tables pieces blocks store nodes entries) tick start stop out out (refused (number_of e))
+module _ {pieces blocks store nodes entries : List ℕ} {kind tick start stop : ℕ} {out : List ℕ} (r : State) {s : Result Unit Refusal} (told : Outcome r (tables pieces blocks store nodes entries)) (is : s ≡ when_closed r) where
+  pub find_not_closed : {e : Refusal} → s ≡ Err e → FoundBy (tables pieces blocks store nodes entries) kind tick start stop out out (refused (number_of e))
   find_not_closed q =
-      record { read = read_not_closed (λ n. HandedInto counts_of (λ f. f.numbers) out out (refused n)) r told (sym is ∙ q) (find_4 tick start stop (length out)) (λ n. into_refused) }
+      record { read = read_not_closed (λ n. HandedInto counts_of (λ f. f.numbers) out out (refused n)) r told (sym is ∙ q) (find_4 kind tick start stop (length out)) (λ n. into_refused) }
 
-  pub find_found : {u : Unit} {out' : List ℕ} {a : Answer Counts} → s ≡ Ok u → FindClosed blocks nodes entries tick start stop out out' a
-      → FoundBy (tables pieces blocks store nodes entries) tick start stop out out' a
+  pub find_found : {u : Unit} {out' : List ℕ} {a : Answer Counts} → s ≡ Ok u → FindClosed blocks nodes entries kind tick start stop out out' a
+      → FoundBy (tables pieces blocks store nodes entries) kind tick start stop out out' a
   find_found q f = record { read = closed_read (closed_taken r told (sym is ∙ q)) (f.found pieces store) }
 
 -- ── the bytes of a block ──

@@ -11,7 +11,7 @@ use Rattle.history.specs.Tree.{Tree}
 use Rattle.history.specs.Ledger.{Ledger, is_some, settled}
 use Rattle.history.specs.Results.{Result}
 use Rattle.history.specs.Refusals.{Answer, refused, first_of, finish_refusals, finish_answer}
-use Rattle.history.specs.Sound.{SoundTree}
+use Rattle.history.specs.Sound.{SoundTrees}
 use Rattle.layout.specs.Tables.{tables}
 use Rattle.layout.specs.Relations.{FinishedBy}
 use Rattle.index_finish.specs.Answers.{FinishesOpen}
@@ -30,10 +30,10 @@ unfolding finish_refusals first_of
 finish_3 l held done = rw (held, done)
 
 -- the blocks of a closed ledger are all there are
-closed_apart : (l : Ledger) (x : Option Tree) → is_some x ≡ true → SoundTree l x → Apart (settled l.opening.end l.now)
+closed_apart : (l : Ledger) (x : Option (List Tree)) → is_some x ≡ true → SoundTrees l x → Apart (settled l.opening.end l.now)
 unfolding settled
 closed_apart l none e s = absurd (true≢false (sym e))
-closed_apart l (some tree) e s = subst Apart (sym all) s.rule_24
+closed_apart l (some trees) e s = subst Apart (sym all) s.rule_24
   where
     all : settled l.opening.end l.now ≡ l.now.blocks
     all = rw s.no_pieces (append-nil l.now.blocks)
@@ -58,7 +58,7 @@ module _ {pieces blocks store nodes entries : List ℕ} (r : State) {s : Told Un
         encodes = p.0.formed.encodes;
         sound = record {
           sound = p.0.formed.sound;
-          apart = closed_apart p.0.formed.ledger p.0.formed.ledger.tree (p.0.state p.0.formed.ledger p.0.formed.encodes) p.0.formed.sound.closed;
+          apart = closed_apart p.0.formed.ledger p.0.formed.ledger.trees (p.0.state p.0.formed.ledger p.0.formed.encodes) p.0.formed.sound.closed;
         };
         blank = λ still. absurd (true≢false (sym (p.0.state p.0.formed.ledger p.0.formed.encodes) ∙ still));
       }));

@@ -32,7 +32,7 @@ record_short {t} {scratch} {o} short = record {
 }
 
 -- a finished ledger answers 3 where it is not
-record_3 : (scratch : ℕ) (o : Operation) → least_scratch ≤ scratch → Refuses (λ l. record_answer l scratch o) true 3
+pub record_3 : (scratch : ℕ) (o : Operation) → least_scratch ≤ scratch → Refuses (λ l. record_answer l scratch o) true 3
 unfolding record_refusals first_of
 record_3 scratch o long l held done = rw (held, le-ltb scratch least_scratch long, done)
 

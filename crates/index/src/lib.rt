@@ -24,7 +24,6 @@ use layout::Tables;
 use refusals::Refusal;
 use segment_table::lent::Closed;
 use tables::block;
-use tables::kind::Kind;
 
 // The type that the calls on an index belong to. It holds nothing: the state stands in the lent tables.
 #[derive(Clone, Copy)]
@@ -34,7 +33,7 @@ impl Index {
     // The largest end tick.
     pub const MAX_END_TICK: u64 = tables::block::MAX_END_TICK;
 
-    // Opens an index of a kind with an end tick in the lent tables.
+    // Opens an index of a set of kinds with an end tick in the lent tables.
     // They stand one by one, as in all calls that change them: of a struct of `&mut` slices each contract would have to say that every one stays lent.
     pub fn open(
         pieces: &mut [u64],
@@ -43,9 +42,9 @@ impl Index {
         nodes: &mut [u64],
         entries: &mut [u64],
         end_tick: u64,
-        kind: u8,
+        kinds: &[u8],
     ) -> Result<(), Refusal>
-        ensures { OpenedBy end_tick kind
+        ensures { OpenedBy end_tick kinds.now
             (tables pieces.old blocks.old store.now nodes.old entries.old)
             (tables pieces.new blocks.new store.now nodes.new entries.new) (answer_by (λ u. u) result) }
     {
@@ -55,16 +54,17 @@ impl Index {
         if Self::MAX_END_TICK < end_tick {
             return Err(Refusal::BadOpening);
         }
-        let Ok(kind) = Kind::try_from(kind) else {
+        let mask = kind_mask::mask_of(kinds);
+        if mask == 0 {
             return Err(Refusal::BadOpening);
-        };
+        }
         tables::zero(pieces);
         tables::zero(blocks);
         tables::zero(nodes);
         tables::zero(entries);
         block_table::set_state(blocks, block::OPEN);
         block_table::set_end(blocks, end_tick);
-        block_table::set_kind(blocks, u64::from(kind));
+        block_table::set_kinds(blocks, mask);
         Ok(())
     }
 }
@@ -102,7 +102,7 @@ pub fn record_op(
     index_record::record_open(pieces, blocks, store, op)
 }
 
-// Finishes an index: the pieces become blocks, and the blocks get their tree.
+// Finishes an index: the pieces become blocks, and the blocks get the trees of their kinds.
 pub fn finalize(
     pieces: &mut [u64],
     blocks: &mut [u64],
@@ -132,16 +132,17 @@ pub fn block(lent: Tables, number: u64) -> Result<Block, Refusal>
     index_read::block_closed(lent.blocks, number)
 }
 
-// The live blocks whose first cell is in [start, end) at a tick: their numbers go into the lent answer. The window is three numbers here and in the other
-// reads, as callers pass them.
+// The live blocks of a kind whose first cell is in [start, end) at a tick: their numbers go into the lent answer. The window is three numbers here and in the
+// other reads, as callers pass them.
 pub fn find(
     lent: Tables,
+    kind: u8,
     tick: u64,
     start: u64,
     end: u64,
     answer: &mut [u64],
 ) -> Result<Found, Refusal>
-    ensures { FoundBy (held lent.entry) tick start end
+    ensures { FoundBy (held lent.entry) kind tick start end
         answer.old answer.new (answer_by counts_given result) }
 {
     index_test::test(lent).closed()?;
@@ -150,7 +151,7 @@ pub fn find(
         nodes: lent.nodes,
         entries: lent.entries,
     };
-    index_read::find_closed(&closed, tick, start, end, answer)
+    index_read::find_closed(&closed, u64::from(kind), tick, start, end, answer)
 }
 
 // The bytes of the block of a number, as that part of the store; the empty part where `block` refuses. The tables stand one by one, as the store alone is

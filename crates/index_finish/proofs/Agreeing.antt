@@ -11,7 +11,7 @@ use Rattle.history.specs.Words.{Block, block_of, size, Holds}
 use Rattle.history.specs.Rules.{Apart}
 use Rattle.history.specs.Tree.{no_block}
 use Rattle.history.specs.Ledger.{Ledger}
-use Rattle.block_table.specs.Blocks.{first_cell_at, length_at, offset_at, created_at, destroyed_at, block_of_row, blocks_of, Filled, Stored}
+use Rattle.block_table.specs.Blocks.{place_at, length_at, offset_at, created_at, destroyed_at, block_of_row, blocks_of, Filled, Stored}
 use Rattle.block_table.proofs.Blocks.{blocks_at, blocks_length}
 use Rattle.ordering.specs.Apart.{HoldsAt}
 use Rattle.ordering.proofs.Agreeing.{row_holds, holds_row, unshared_apart, apart_unshared}
@@ -56,7 +56,7 @@ module _ (store : List ℕ) (e : ℕ) (p : PieceRow) (has : p.offset + p.size �
     pub crosses_shared : 0 < length_at b link → 0 < p.size → destroyed_at b link ≤ e → Crosses b link p → Apart₂ (block_of_row store b link) (settled_row store e p) → ⊥
     crosses_shared some full end c apart =
         let tick : ℕ = max (created_at b link) p.written in
-        let cell : ℕ = max (first_cell_at b link) p.first in
+        let cell : ℕ = max (place_at b link) p.first in
         let h : HoldsAt b tick cell link = record {
           from = omega arith;
           below = omega (arith, c.meets.before);

@@ -13,9 +13,9 @@ use Rattle.history.specs.Rules.{Apart}
 use Rattle.history.specs.Ledger.{Ledger}
 use Rattle.history.specs.Results.{done}
 use Rattle.history.specs.Refusals.{accepted, refused}
-use Rattle.tables.specs.Columns.{column, block_column, pieces_count, head_count, head_end, head_kind}
+use Rattle.tables.specs.Columns.{column, block_column, pieces_count, head_count, head_end}
 use Rattle.handed_rows.specs.Handed.{SeenHanded}
-use Rattle.segment_tree.specs.Lives.{rows_to_count, CountedTree, CountedAs}
+use Rattle.segment_tree.specs.Lives.{rows_to_count, CountedTrees, CountedAs}
 use Rattle.std.specs.Prelude.{Ok, Err, Result as Told}
 use Rattle.refusals.specs.declared.Refusal.{Refusal}
 use Rattle.refusals.specs.Numbers.{number_of, answer_by}
@@ -23,8 +23,8 @@ use Rattle.layout.specs.Tables.{tables}
 use Rattle.layout.specs.Formed.{Blank}
 use Rattle.index_finish.specs.Apart.{BlocksClear}
 use Rattle.index_finish.specs.Trial.{Tried, BlocksApart}
-use Rattle.index_finish.specs.Finish.{StandsOpen, all_blocks, whole_tree, Finishing, FinishedOpen, TestedBlank, TriedAll, AllApart, Accepted, Prepared, Finished, SettledTables}
-use Rattle.index_finish.proofs.Standing.{unordered, piece_rows, rep, piece-count}
+use Rattle.index_finish.specs.Finish.{StandsOpen, all_blocks, whole_trees, Finishing, FinishedOpen, TestedBlank, TriedAll, AllApart, Accepted, Prepared, Finished, SettledTables}
+use Rattle.index_finish.proofs.Standing.{unordered, no_wrap, piece_rows, rep, piece-count}
 use Rattle.index_finish.proofs.Agreeing.{unshared_all, all_unshared}
 use Rattle.index_finish.proofs.Handed.{handed-apart}
 use Rattle.index_finish.proofs.Trying.{tryable}
@@ -50,11 +50,11 @@ seen : {pieces blocks b : List ℕ} {n : ℕ} {known : Bool} → SeenHanded piec
     → SeenHanded pieces blocks (length l.now.blocks) (column pieces 0 pieces_count) b known
 seen handed l same = rw same at handed
 
-module _ {pieces blocks nodes entries : List ℕ} {kind e n : ℕ} (few_pieces : length pieces < 2 ^ 64) {b₀ : List ℕ} {known : Bool}
+module _ {pieces blocks nodes entries : List ℕ} {e n : ℕ} (few_pieces : length pieces < 2 ^ 64) {b₀ : List ℕ} {known : Bool}
     (handed : SeenHanded pieces blocks n (column pieces 0 pieces_count) b₀ known) where
-  pub apart_handed : known ≡ true → AllApart pieces blocks nodes entries kind e n b₀ nodes entries true
+  pub apart_handed : known ≡ true → AllApart pieces blocks nodes entries e n b₀ nodes entries true
   apart_handed y = record {
-    done = λ store l s blank ek ee en. record {
+    done = λ store l s blank ee en. record {
       blocks_same = (seen handed l en).kept (unordered s);
       nodes_same = refl;
       entries_same = refl;
@@ -62,19 +62,19 @@ module _ {pieces blocks nodes entries : List ℕ} {kind e n : ℕ} (few_pieces :
     };
   }
 
-  module _ {b₁ nodes₁ entries₁ : List ℕ} {q : Bool} (few_blocks : length blocks < 2 ^ 64) (tried : BlocksApart b₀ nodes entries kind e n b₁ nodes₁ entries₁ q) where
+  module _ {b₁ nodes₁ entries₁ : List ℕ} {q : Bool} (few_blocks : length blocks < 2 ^ 64) (tried : BlocksApart b₀ nodes entries e n b₁ nodes₁ entries₁ q) where
     trial : {store : List ℕ} {l : Ledger} → StandsOpen (tables pieces blocks store nodes entries) l → Blank (tables pieces blocks store nodes entries)
-        → kind ≡ l.opening.kind → e ≡ l.opening.end → n ≡ length l.now.blocks
+        → e ≡ l.opening.end → n ≡ length l.now.blocks
         → Tried blocks nodes entries (length l.now.blocks) b₁ nodes₁ entries₁ q
-    trial {store} {l} s blank ek ee en =
-        let here : BlocksApart blocks nodes entries l.opening.kind l.opening.end (length l.now.blocks) b₁ nodes₁ entries₁ q =
-        rw (← ek, ← ee, ← en, ← (seen handed l en).kept (unordered s)) tried in
+    trial {store} {l} s blank ee en =
+        let here : BlocksApart blocks nodes entries l.opening.end (length l.now.blocks) b₁ nodes₁ entries₁ q =
+        rw (← ee, ← en, ← (seen handed l en).kept (unordered s)) tried in
         here.done store (tryable s blank few_blocks)
 
-    pub apart_fails : q ≡ false → AllApart pieces blocks nodes entries kind e n b₁ nodes₁ entries₁ false
+    pub apart_fails : q ≡ false → AllApart pieces blocks nodes entries e n b₁ nodes₁ entries₁ false
     apart_fails f = record {
-      done = λ store l s blank ek ee en.
-          let t = trial s blank ek ee en in
+      done = λ store l s blank ee en.
+          let t = trial s blank ee en in
           record {
             blocks_same = t.blocks_same;
             nodes_same = t.nodes_same;
@@ -83,17 +83,17 @@ module _ {pieces blocks nodes entries : List ℕ} {kind e n : ℕ} (few_pieces :
           };
     }
 
-    pub apart_rest : {r : Bool} → q ≡ true → BlocksClear pieces b₁ n r → AllApart pieces blocks nodes entries kind e n b₁ nodes₁ entries₁ r
+    pub apart_rest : {r : Bool} → q ≡ true → BlocksClear pieces b₁ n r → AllApart pieces blocks nodes entries e n b₁ nodes₁ entries₁ r
     apart_rest {r} f c = record {
-      done = λ store l s blank ek ee en.
-          let t = trial s blank ek ee en in
+      done = λ store l s blank ee en.
+          let t = trial s blank ee en in
           let clear : BlocksClear pieces blocks (length l.now.blocks) r = rw (← t.blocks_same, ← en) c in
           record {
             blocks_same = t.blocks_same;
             nodes_same = t.nodes_same;
             entries_same = t.entries_same;
             decides = decides_iff r (λ u. unshared_all s (record { blocks_apart = t.decides.yes f; pieces_apart = u })) (λ a. (all_unshared s a).pieces_apart)
-                (clear.decides (piece_rows s) (rep s few_pieces));
+                (clear.decides (piece_rows s) (rep s few_pieces) (record { each = no_wrap s }));
           };
     }
 
@@ -113,9 +113,9 @@ prepare_unformed {pieces} {blocks} {q = q} d f = record {
   };
 }
 
-module _ {pieces blocks nodes entries b nodes₁ entries₁ : List ℕ} {n e kind : ℕ} {q p : Bool} (few_pieces : length pieces < 2 ^ 64) (few_blocks : length blocks < 2 ^ 64)
+module _ {pieces blocks nodes entries b nodes₁ entries₁ : List ℕ} {n e : ℕ} {q p : Bool} (few_pieces : length pieces < 2 ^ 64) (few_blocks : length blocks < 2 ^ 64)
     (zeros : TestedBlank nodes entries q) (f : q ≡ true) (count : n ≡ block_column blocks 0 head_count) (ee : e ≡ block_column blocks 0 head_end)
-    (ek : kind ≡ block_column blocks 0 head_kind) (test : AllApart pieces blocks nodes entries kind e n b nodes₁ entries₁ p) where
+    (test : AllApart pieces blocks nodes entries e n b nodes₁ entries₁ p) where
   module _ {store : List ℕ} {l : Ledger} (s : StandsOpen (tables pieces blocks store nodes entries) l) where
     n_is : n ≡ length l.now.blocks
     n_is = count ∙ s.encodes.count
@@ -123,14 +123,11 @@ module _ {pieces blocks nodes entries b nodes₁ entries₁ : List ℕ} {n e kin
     e_is : e ≡ l.opening.end
     e_is = ee ∙ s.encodes.end
 
-    k_is : kind ≡ l.opening.kind
-    k_is = ek ∙ s.encodes.kind
-
     still_blank : Blank (tables pieces blocks store nodes entries)
     still_blank = (zeros.decides pieces blocks store).yes f
 
     tried : TriedAll l (tables pieces blocks store nodes entries) b nodes₁ entries₁ p
-    tried = test.done store l s still_blank k_is e_is n_is
+    tried = test.done store l s still_blank e_is n_is
 
   pub prepare_shared : p ≡ false → Prepared pieces blocks nodes entries b nodes₁ entries₁ (refused 2)
   prepare_shared g = record {
@@ -145,17 +142,17 @@ module _ {pieces blocks nodes entries b nodes₁ entries₁ : List ℕ} {n e kin
   }
 
   module _ {nodes' : List ℕ} {m : ℕ} {r : Told Unit Refusal} (g : p ≡ true) (em : m ≡ column pieces 0 pieces_count)
-      (tree : CountedTree (rows_to_count b n pieces m e kind) nodes₁ entries₁ nodes' r) (long : length nodes' ≡ length nodes) where
+      (tree : CountedTrees (rows_to_count b n pieces m e) nodes₁ entries₁ nodes' r) (long : length nodes' ≡ length nodes) where
     module _ {store : List ℕ} {l : Ledger} (s : StandsOpen (tables pieces blocks store nodes entries) l) where
       is_apart : Apart (all_blocks l)
       is_apart = (tried s).decides.yes g
 
-      counted : CountedAs nodes entries nodes' l.opening.kind l.opening.end (whole_tree l) r
+      counted : CountedAs nodes entries nodes' l.opening.end (whole_trees l) r
       counted =
           let t = tried s in
           let m_is : m ≡ length l.now.pieces = em ∙ piece-count s in
-          let c : CountedTree (rows_to_count blocks (length l.now.blocks) pieces (length l.now.pieces) l.opening.end l.opening.kind) nodes entries nodes' r
-          = rw (← n_is s, ← m_is, ← e_is s, ← k_is s, ← t.blocks_same, ← t.nodes_same, ← t.entries_same) tree in
+          let c : CountedTrees (rows_to_count blocks (length l.now.blocks) pieces (length l.now.pieces) l.opening.end) nodes entries nodes' r
+          = rw (← n_is s, ← m_is, ← e_is s, ← t.blocks_same, ← t.nodes_same, ← t.entries_same) tree in
           rw (counted_all l) at (c.done l.now.blocks (map (block_of l.opening.end) l.now.pieces) s.encodes.links
           (countable s (still_blank s) few_pieces few_blocks))
 

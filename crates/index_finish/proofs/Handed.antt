@@ -11,7 +11,7 @@ use Rattle.history.specs.Rules.{Apart}
 use Rattle.history.specs.Ledger.{Ledger}
 use Rattle.history.specs.Sound.{SoundPiece}
 use Rattle.tables.specs.Columns.{column, pieces_count}
-use Rattle.block_table.specs.Blocks.{first_cell_at}
+use Rattle.block_table.specs.Blocks.{place_at}
 use Rattle.piece_table.specs.Piece.{row_end, piece_at, Filled, Follow}
 use Rattle.piece_table.specs.Rep.{Linked}
 use Rattle.piece_table.specs.Shown.{shown}
@@ -45,10 +45,10 @@ module _ {t : Tables} {l : Ledger} (s : StandsOpen t l) (few : length t.pieces <
   is_linked : Linked t.pieces s.encodes.links
   is_linked = linked s few
 
-  piece_sound : (k : ℕ) → Mem k s.encodes.links → SoundPiece l.opening.kind l.now (shown t.store (piece_at t.pieces k))
+  piece_sound : (k : ℕ) → Mem k s.encodes.links → SoundPiece l.opening.kinds l.now (shown t.store (piece_at t.pieces k))
   piece_sound k h =
       all_mem (all_un_map (piece_at t.pieces) s.encodes.links
-      (all_un_map (shown t.store) (piece_rows s) (subst (All (SoundPiece l.opening.kind l.now)) (are_pieces s) s.sound.board.pieces))) h
+      (all_un_map (shown t.store) (piece_rows s) (subst (All (SoundPiece l.opening.kinds l.now)) (are_pieces s) s.sound.board.pieces))) h
 
   pub rows_sound : Sound t.pieces t.blocks n m l.opening.end
   rows_sound = record {
@@ -72,7 +72,7 @@ module _ {t : Tables} {l : Ledger} (s : StandsOpen t l) (few : length t.pieces <
       clear : (link : ℕ) → 0 < link → link ≤ n → (k : ℕ) → Mem k s.encodes.links → Crosses t.blocks link (piece_at t.pieces k) → ⊥
       clear link p q k h c =
           a.pieces_apart link k p q (linked_valid is_linked h).some (is_linked.dense.within k h) c.lives c.meets.early
-          (max (first_cell_at t.blocks link) (piece_at t.pieces k).first)
+          (max (place_at t.blocks link) (piece_at t.pieces k).first)
           (record { from = omega arith; below = omega (arith, c.meets.before, (filled s).filled link p q) })
           (record { from = omega arith; below = omega (arith, c.meets.after, (some k h).some) })
 

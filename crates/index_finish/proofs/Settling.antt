@@ -1,4 +1,4 @@
--- What an accepted finish does: the pieces' blocks appended, all rows in order, the counted tree closed. Assumes nothing.
+-- What an accepted finish does: the pieces' blocks appended, all rows in order, the counted trees closed. Assumes nothing.
 use mathlib.Core.Path.{◌≡◌, refl, sym, ap, ◌∙◌}
 use mathlib.Core.Logic.{◌⊎◌, inl, inr, ⊎_elim}
 use mathlib.Core.List.{List, [], ◌++◌, map}
@@ -12,18 +12,18 @@ use Rattle.lists.proofs.Lists.{all_at, all_of_map}
 use Rattle.lists.proofs.Maps.{length_of_map, get_d_of_map}
 use Rattle.lists.proofs.Numbers.{le_or_lt}
 use Rattle.history.specs.Lent.{row_width, block_head, node_head, entry_head}
-use Rattle.history.specs.Words.{Block, first_cell}
-use Rattle.history.specs.Tree.{tree_of, no_block, key_in, entry_count}
-use Rattle.history.specs.Ledger.{Ledger, finish_by}
-use Rattle.tables.specs.Columns.{block_column, block_base, block_length, block_offset, block_next, block_spare, head_state, head_end, head_kind, head_count, head_used, head_last}
+use Rattle.history.specs.Words.{Block}
+use Rattle.history.specs.Tree.{trees_of, key_in, entries_all}
+use Rattle.history.specs.Ledger.{Ledger, settled, finish_by}
+use Rattle.tables.specs.Columns.{block_column, block_base, block_length, block_offset, block_next, block_spare, nodes_count, head_state, head_end, head_kinds, head_count, head_used, head_last}
 use Rattle.block_table.specs.Blocks.{Room, length_at, offset_at, block_of_row, blocks_of, SameRows, Stored, block_count}
 use Rattle.block_table.proofs.Keeping.{rows-set, rows_then, kept_column}
-use Rattle.block_table.proofs.Blocks.{blocks_length, blocks_at, blocks_kept}
+use Rattle.block_table.proofs.Blocks.{blocks_length, blocks_key, blocks_kept}
 use Rattle.block_table.specs.Appended.{block_row}
 use Rattle.block_table.proofs.Appending.{appended_kept, appended-length, appended_other}
 use Rattle.segment_table.specs.Closed as closed
 use Rattle.segment_table.specs.Alone.{TreeAlone}
-use Rattle.piece_table.specs.Piece.{PieceRow, piece_at}
+use Rattle.piece_table.specs.Piece.{PieceRow, piece_at, Filled}
 use Rattle.piece_table.specs.Rep.{Links}
 use Rattle.piece_table.specs.Shown.{shown}
 use Rattle.block_table.specs.Appended as appending
@@ -31,7 +31,7 @@ use Rattle.recording.specs.Calls.{ExtractedMembers}
 use Rattle.recording.specs.Recorded.{block_row_of, recorded}
 use Rattle.recording.proofs.Recorded.{recorded_out, recorded_blocks, recorded-count, recorded_row}
 use Rattle.segment_tree.specs.Lives.{Counted, entry_rows_in}
-use Rattle.segment_tree.specs.Fill.{lent_tables, Closable, ClosedTree}
+use Rattle.segment_tree.specs.Fill.{lent_tables, Closable, ClosedTrees}
 use Rattle.day_table.proofs.DayLists.{days_kept}
 use Rattle.calendar_table.proofs.Calendars.{calendar_kept}
 use Rattle.layout.specs.Tables.{Tables, tables, lengths_of, head_at}
@@ -40,10 +40,10 @@ use Rattle.layout.specs.Relations.{AppendedRows, SameBytes}
 use Rattle.layout.proofs.Lengths.{lent_same}
 use Rattle.layout.proofs.Unique.{links_one}
 use Rattle.layout.proofs.Opening.{get_d_zeros, no_links}
-use Rattle.index_finish.specs.Finish.{StandsOpen, all_blocks, whole_tree, Accepted, Finished, SettledTables}
-use Rattle.index_finish.proofs.Standing.{heads, room, piece_rows, are_pieces, rep}
+use Rattle.index_finish.specs.Finish.{StandsOpen, all_blocks, whole_trees, Accepted, Finished, SettledTables}
+use Rattle.index_finish.proofs.Standing.{heads, room, piece_rows, are_pieces, pieces_whole, rep}
 use Rattle.index_finish.proofs.Agreeing.{settled_row, all_blocks_lem}
-use Rattle.index_finish.proofs.Counting.{row_lives}
+use Rattle.index_finish.proofs.Counting.{row_lives, all_known}
 
 -- ── the rows appended, and the state ──
 
@@ -87,10 +87,10 @@ module _ (e : ℕ) (rs : List PieceRow) (b : List ℕ) where
         ∙ rw q (recorded_row e rs b (omega arith) no_piece i c h k)
 
     -- the rows are the old blocks, and the pieces' behind them
-    grown_blocks : (store : List ℕ) → blocks_of store (grown e rs b) (block_count b + length rs) ≡ blocks_of store b (block_count b) ++ map (settled_row store e) rs
-    grown_blocks store =
+    grown_blocks : (store : List ℕ) → All Filled rs → blocks_of store (grown e rs b) (block_count b + length rs) ≡ blocks_of store b (block_count b) ++ map (settled_row store e) rs
+    grown_blocks store whole =
         blocks_kept store (rows-set (recorded e rs b) (block_count b + length rs) state_place closed_state (inl (omega arith)))
-        ∙ recorded_blocks e rs b (omega arith) store
+        ∙ recorded_blocks e rs b (omega arith) store whole
 
     grown_stored : (used : ℕ) → Stored used b (block_count b) → All (λ (p : PieceRow). p.offset + p.size ≤ used) rs → Stored used (grown e rs b) (block_count b + length rs)
     grown_stored used old new = record {
@@ -103,24 +103,25 @@ module _ (e : ℕ) (rs : List PieceRow) (b : List ℕ) where
         behind : (link i : ℕ) → link ≡ suc (block_count b) + i → i < length rs → offset_at (grown e rs b) link + length_at (grown e rs b) link ≤ used
         behind link i at h = rw (at, grown-column i block_offset h (omega arith), grown-column i block_length h (omega arith)) (all_at no_piece new i h)
 
--- ── the blocks, as the closing of the tree asks for them ──
+-- ── the blocks, as the closing of the trees asks for them ──
 
 module _ (store b : List ℕ) {n : ℕ} {bs : List Block} (is : bs ≡ blocks_of store b n) where
   bs_length : length bs ≡ n
   bs_length = ap length is ∙ blocks_length store b n
 
-  pub closable : {nodes entries : List ℕ} {e kind : ℕ} → e ≤ 2 ^ 63 → Counted nodes kind e (tree_of e bs) → node_head ≤ length nodes → entry_head ≤ length entries
-      → entry_count (tree_of e bs) ≤ entry_rows_in entries → Closable (lent_tables b nodes entries) n e kind bs
+  pub closable : {nodes entries : List ℕ} {e : ℕ} → e ≤ 2 ^ 63 → All (λ (x : Block). x.kind < nodes_count) bs → Counted nodes e (trees_of e bs) → node_head ≤ length nodes
+      → entry_head ≤ length entries → entries_all (trees_of e bs) ≤ entry_rows_in entries → Closable (lent_tables b nodes entries) n e bs
   unfolding block_of_row
-  closable small counted nodes_headed entries_headed space = record {
+  closable small known counted nodes_headed entries_headed space = record {
     small = small;
+    known = known;
     counted = counted;
     nodes_headed = nodes_headed;
     entries_headed = entries_headed;
     space = space;
     many = sym bs_length;
     lives_are = rw (bs_length, is) (row_lives store b n);
-    cells_are = λ k h. sym (ap (λ (l : List Block). key_in l k) is ∙ ap first_cell (blocks_at store b n k no_block (omega (arith, bs_length))));
+    cells_are = λ k h. sym (ap (λ (l : List Block). key_in l k) is ∙ blocks_key store b n k (omega (arith, bs_length)));
   }
 
 -- ── the finished tables ──
@@ -163,7 +164,7 @@ module _ {pieces was store blank entries nodes : List ℕ} {l : Ledger} (a : Acc
   blocks_are =
       all_blocks_lem s
       ∙ ap (λ (k : ℕ). blocks_of store was k ++ map (settled_row store e) rs) (sym count_is)
-      ∙ sym (grown_blocks e rs was fits store)
+      ∙ sym (grown_blocks e rs was fits store (pieces_whole s))
 
   all_many : length (all_blocks l) ≡ n + length rs
   all_many = ap length blocks_are ∙ blocks_length store g (n + length rs)
@@ -211,18 +212,22 @@ module _ {pieces was store blank entries nodes : List ℕ} {l : Ledger} (a : Acc
     rest = λ i h. let z : length (all_blocks l) ≡ n + length rs = all_many in grown_rest e rs was i (omega arith);
   }
 
-  tree_closable : Closable (lent_tables g nodes entries) (n + length rs) e l.opening.kind (all_blocks l)
-  tree_closable =
-      closable store g blocks_are s.sound.board.end_most a.tallied.counted (omega (arith, a.nodes_long, (heads s).nodes)) (heads s).entries a.tallied.space
+  trees_closable : Closable (lent_tables g nodes entries) (n + length rs) e (all_blocks l)
+  unfolding settled
+  trees_closable =
+      closable store g blocks_are s.sound.board.end_most (all_known s) a.tallied.counted (omega (arith, a.nodes_long, (heads s).nodes)) (heads s).entries a.tallied.space
 
   module _ {nodes' entries' : List ℕ} (nodes_long : length nodes' ≡ length nodes) (entries_long : length entries' ≡ length entries)
-      (tree : closed.Closed (lent_tables g nodes' entries') l.opening.kind e (whole_tree l)) (alone : TreeAlone nodes' entries' (whole_tree l)) where
+      (trees : closed.Closed (lent_tables g nodes' entries') e (whole_trees l)) (alone : TreeAlone nodes' entries' (whole_trees l)) where
     abbrev t' : Tables
     t' = tables (replicate (length pieces) 0) g store nodes' entries'
 
     same_lengths : lengths_of t ≡ lengths_of t'
     same_lengths =
         lent_same (lengths_of t) (lengths_of t') (sym (length-replicate (length pieces) 0)) (sym (grown-length e rs was)) refl (sym (nodes_long ∙ a.nodes_long)) (sym entries_long)
+
+    kinds_same : block_column g 0 head_kinds ≡ head_at t head_kinds
+    kinds_same = head_kept head_kinds (omega arith) (λ z. omega arith) (λ z. omega arith)
 
     finished_encodes : Encodes t' (finish_by l)
     unfolding finish_by
@@ -231,7 +236,8 @@ module _ {pieces was store blank entries nodes : List ℕ} {l : Ledger} (a : Acc
       heads = rw (← same_lengths) s.encodes.heads;
       state = grown_state e rs was headed;
       end = head_kept head_end (omega arith) (λ z. omega arith) (λ z. omega arith) ∙ s.encodes.end;
-      kind = head_kept head_kind (omega arith) (λ z. omega arith) (λ z. omega arith) ∙ s.encodes.kind;
+      mask = rw kinds_same s.encodes.mask;
+      kinds = rw kinds_same s.encodes.kinds;
       last = head_kept head_last (omega arith) (λ z. omega arith) (λ z. omega arith) ∙ s.encodes.last;
       used = head_used_lem ∙ s.encodes.used;
       store = s.encodes.store ∙ ap (λ (k : ℕ). take k store) (sym head_used_lem);
@@ -242,7 +248,7 @@ module _ {pieces was store blank entries nodes : List ℕ} {l : Ledger} (a : Acc
       linked = no_links (replicate (length pieces) 0) (omega (arith, length-replicate {A = ℕ} (length pieces) 0, (heads s).pieces)) (get_d_zeros (length pieces));
       pieces = refl;
       pieces_stored = all_nil;
-      tree = tree;
+      trees = trees;
       calendar = calendar_kept was g l.calendar (λ i lo hi. appended-rows.head i (omega arith) (λ z. omega arith) (λ z. omega arith)) s.encodes.calendar;
       days =
           days_kept was g l.days (omega (arith, headed)) (omega (arith, headed, grown-length e rs was))
@@ -251,28 +257,27 @@ module _ {pieces was store blank entries nodes : List ℕ} {l : Ledger} (a : Acc
 
     finished-tables : Finished l t t'
     unfolding finish_by
-    finished-tables = record { encodes = finished_encodes; tables_are = record { pieces = refl; store = refl; blocks = appended-rows; bytes = same_bytes; tree = alone } }
+    finished-tables = record { encodes = finished_encodes; tables_are = record { pieces = refl; store = refl; blocks = appended-rows; bytes = same_bytes; trees = alone } }
 
 -- ── the return of `settle` ──
 
-pub settle_done : {pieces b nodes entries b₁ b₂ nodes' entries' pieces' : List ℕ} {end kind all : ℕ} → length pieces < 2 ^ 64 → length b < 2 ^ 64
-    → length nodes' ≡ length nodes → length entries' ≡ length entries → end ≡ block_column b 0 head_end → kind ≡ block_column b 0 head_kind
+pub settle_done : {pieces b nodes entries b₁ b₂ nodes' entries' pieces' : List ℕ} {end all : ℕ} → length pieces < 2 ^ 64 → length b < 2 ^ 64
+    → length nodes' ≡ length nodes → length entries' ≡ length entries → end ≡ block_column b 0 head_end
     → ExtractedMembers pieces b b₁ end → b₂ ≡ set b₁ state_place closed_state → all ≡ block_count b₂
-    → ClosedTree (lent_tables b₂ nodes entries) (lent_tables b₂ nodes' entries') all end kind → pieces' ≡ replicate (length pieces) 0 → SettledTables pieces b nodes entries pieces' b₂ nodes' entries'
-settle_done {pieces} {b} {nodes} {entries} {b₁} {b₂} {nodes'} {entries'} {pieces'} {end} {kind} {all} few_pieces few_blocks nodes_long entries_long
-    ee ek ex put count close zeros = record { done = go }
+    → ClosedTrees (lent_tables b₂ nodes entries) (lent_tables b₂ nodes' entries') all end → pieces' ≡ replicate (length pieces) 0 → SettledTables pieces b nodes entries pieces' b₂ nodes' entries'
+settle_done {pieces} {b} {nodes} {entries} {b₁} {b₂} {nodes'} {entries'} {pieces'} {end} {all} few_pieces few_blocks nodes_long entries_long
+    ee ex put count close zeros = record { done = go }
   where
     go : (blank store : List ℕ) (l : Ledger) → Accepted (tables pieces b store blank entries) nodes l
         → Finished l (tables pieces b store blank entries) (tables pieces' b₂ store nodes' entries')
     go blank store l a =
         let end_is : end ≡ l.opening.end = ee ∙ a.stands.encodes.end in
-        let kind_is : kind ≡ l.opening.kind = ek ∙ a.stands.encodes.kind in
         let b₁_is : b₁ ≡ recorded end (rs a) b = ex.done (rs a) (rep a.stands few_pieces) (countable a few_blocks) in
         let b₂_is : b₂ ≡ g a = put ∙ ap (λ (x : List ℕ). set x state_place closed_state) (b₁_is ∙ ap (λ (k : ℕ). recorded k (rs a) b) end_is) in
         let all_is : all ≡ n a + length (rs a) = count ∙ ap block_count b₂_is ∙ grown-count l.opening.end (rs a) b (headed a) in
-        let made : ClosedTree (lent_tables (g a) nodes entries) (lent_tables (g a) nodes' entries') (n a + length (rs a)) l.opening.end l.opening.kind
-        = rw (← b₂_is, ← all_is, ← end_is, ← kind_is) close in
-        let c = tree_closable a in
+        let made : ClosedTrees (lent_tables (g a) nodes entries) (lent_tables (g a) nodes' entries') (n a + length (rs a)) l.opening.end
+        = rw (← b₂_is, ← all_is, ← end_is) close in
+        let c = trees_closable a in
         rw (zeros, b₂_is)
         (finished-tables a nodes_long entries_long (made.done (all_blocks l) c)
         (made.alone (all_blocks l) c a.entry_zeros))

@@ -3,14 +3,17 @@
 use Rattle.std.specs.Prelude.{Bool, List, ℕ, ◌+◌, ◌≤◌, ◌<◌}
 use Rattle.lists.specs.Lists.{All}
 use Rattle.lists.specs.Tests.{Decides}
-use Rattle.block_table.specs.Blocks.{first_cell_at, length_at, created_at, destroyed_at}
+use Rattle.history.specs.Words.{cell_place}
+use Rattle.tables.specs.Sums.{most}
+use Rattle.block_table.specs.Blocks.{first_cell_at, place_at, length_at, created_at, destroyed_at}
 use Rattle.piece_table.specs.Piece.{PieceRow, row_end}
 use Rattle.piece_table.specs.Rep.{Rep}
 use Rattle.ordering.specs.Apart.{Unshared}
+use Rattle.ends_apart.specs.Rows.{NoWrap}
 
 -- ── a block and a piece ──
 
--- the piece ends after `first`, starts before `end`, and was written before the tick `destroyed`
+-- the piece ends after the place `first`, starts before `end`, and was written before the tick `destroyed`
 pub record Meets (first end destroyed : ℕ) (p : PieceRow) : Type 0 where
   pub after : first < row_end p
   pub before : p.first < end
@@ -19,7 +22,7 @@ pub record Meets (first end destroyed : ℕ) (p : PieceRow) : Type 0 where
 -- the block of a link, which has a life, shares a cell at a tick with the piece
 pub record Crosses (blocks : List ℕ) (link : ℕ) (p : PieceRow) : Type 0 where
   pub lives : created_at blocks link < destroyed_at blocks link
-  pub meets : Meets (first_cell_at blocks link) (first_cell_at blocks link + length_at blocks link) (destroyed_at blocks link) p
+  pub meets : Meets (place_at blocks link) (place_at blocks link + length_at blocks link) (destroyed_at blocks link) p
 
 -- none of the blocks 1 to n does, with any of the pieces
 pub record Uncrossed (blocks : List ℕ) (n : ℕ) (ps : List PieceRow) : Type 0 where
@@ -27,17 +30,17 @@ pub record Uncrossed (blocks : List ℕ) (n : ℕ) (ps : List PieceRow) : Type 0
 
 -- ── what the tests decide, of a table that stands for pieces ──
 
--- `pieces_clear`
-pub record PiecesClear (pieces : List ℕ) (first end destroyed : ℕ) (r : Bool) : Type 0 where
-  pub decides : (ps : List PieceRow) → Rep pieces ps → Decides r (All (λ (p : PieceRow). Meets first end destroyed p → ⊥) ps)
+-- `pieces_clear`, of a kind's cells
+pub record PiecesClear (pieces : List ℕ) (kind first end destroyed : ℕ) (r : Bool) : Type 0 where
+  pub decides : (ps : List PieceRow) → Rep pieces ps → Decides r (All (λ (p : PieceRow). Meets (cell_place kind first) (cell_place kind end) destroyed p → ⊥) ps)
 
--- `block_clear`
+-- `block_clear`, of a block that does not wrap
 pub record BlockClear (pieces blocks : List ℕ) (link : ℕ) (r : Bool) : Type 0 where
-  pub decides : (ps : List PieceRow) → Rep pieces ps → Decides r (All (λ (p : PieceRow). Crosses blocks link p → ⊥) ps)
+  pub decides : (ps : List PieceRow) → Rep pieces ps → first_cell_at blocks link + length_at blocks link ≤ most → Decides r (All (λ (p : PieceRow). Crosses blocks link p → ⊥) ps)
 
 -- `blocks_clear`
 pub record BlocksClear (pieces blocks : List ℕ) (n : ℕ) (r : Bool) : Type 0 where
-  pub decides : (ps : List PieceRow) → Rep pieces ps → Decides r (Uncrossed blocks n ps)
+  pub decides : (ps : List PieceRow) → Rep pieces ps → NoWrap blocks n → Decides r (Uncrossed blocks n ps)
 
 -- no two of the blocks 1 to n share a cell at a tick, nor does one with a piece
 pub record NoneShared (blocks : List ℕ) (n : ℕ) (ps : List PieceRow) : Type 0 where

@@ -3,7 +3,7 @@
 use Rattle.std.specs.Prelude.{◌≡◌, Bool, false, List, ℕ, ◌≤◌, ◌<◌, ◌^◌, length, replicate}
 use Rattle.lists.specs.Tests.{Decides}
 use Rattle.history.specs.Words.{Block}
-use Rattle.history.specs.Tree.{Tree, entry_count, tree_of}
+use Rattle.history.specs.Tree.{Tree, entries_all, trees_of}
 use Rattle.history.specs.Rules.{Apart}
 use Rattle.history.specs.Ledger.{Ledger, finished, settled, finish_by}
 use Rattle.history.specs.Results.{Result, done}
@@ -29,9 +29,9 @@ pub record StandsOpen (t : Tables) (l : Ledger) : Type 0 where
 abbrev pub all_blocks : Ledger → List Block
 all_blocks l = settled l.opening.end l.now
 
--- and their tree
-abbrev pub whole_tree : Ledger → Tree
-whole_tree l = tree_of l.opening.end (all_blocks l)
+-- and their trees
+abbrev pub whole_trees : Ledger → List Tree
+whole_trees l = trees_of l.opening.end (all_blocks l)
 
 -- ── finish ──
 
@@ -56,12 +56,12 @@ pub record FinishedOpen (pieces blocks nodes entries pieces' blocks' nodes' entr
 pub record TestedBlank (nodes entries : List ℕ) (r : Bool) : Type 0 where
   pub decides : (pieces blocks store : List ℕ) → Decides r (Blank (tables pieces blocks store nodes entries))
 
--- Finish is accepted: the tree of all blocks is counted, and the entry table has room for it.
+-- Finish is accepted: the trees of all blocks are counted, and the entry table has room for them.
 pub record Tallied (t : Tables) (nodes : List ℕ) (l : Ledger) : Type 0 where
   pub answer : finish_answer l ≡ accepted done
   pub apart : Apart (all_blocks l)
-  pub counted : Counted nodes l.opening.kind l.opening.end (whole_tree l)
-  pub space : entry_count (whole_tree l) ≤ entry_rows_in t.entries
+  pub counted : Counted nodes l.opening.end (whole_trees l)
+  pub space : entries_all (whole_trees l) ≤ entry_rows_in t.entries
 
 -- the tables are as they were, and rule 24 is decided, each piece counted as live up to the end
 pub record TriedAll (l : Ledger) (t : Tables) (blocks nodes entries : List ℕ) (r : Bool) : Type 0 where
@@ -71,11 +71,11 @@ pub record TriedAll (l : Ledger) (t : Tables) (blocks nodes entries : List ℕ) 
   pub decides : Decides r (Apart (all_blocks l))
 
 -- `all_apart`
-pub record AllApart (pieces blocks nodes entries : List ℕ) (kind end n : ℕ) (blocks' nodes' entries' : List ℕ) (r : Bool) : Type 0 where
+pub record AllApart (pieces blocks nodes entries : List ℕ) (end n : ℕ) (blocks' nodes' entries' : List ℕ) (r : Bool) : Type 0 where
   pub done : (store : List ℕ) (l : Ledger) → StandsOpen (tables pieces blocks store nodes entries) l → Blank (tables pieces blocks store nodes entries)
-      → kind ≡ l.opening.kind → end ≡ l.opening.end → n ≡ length l.now.blocks → TriedAll l (tables pieces blocks store nodes entries) blocks' nodes' entries' r
+      → end ≡ l.opening.end → n ≡ length l.now.blocks → TriedAll l (tables pieces blocks store nodes entries) blocks' nodes' entries' r
 
--- Nothing is changed yet but that the tree is counted.
+-- Nothing is changed yet but that the trees are counted.
 pub record Accepted (t : Tables) (nodes : List ℕ) (l : Ledger) : Type 0 where
   pub stands : StandsOpen t l
   pub tallied : Tallied t nodes l

@@ -1,7 +1,7 @@
 // The work of finish on tables that stand for an open index. Ports `Indexer::finalize` of mod.rs and the building of spacetime_index.rs.
 //
 //   rule              rule 24, each piece counted as live up to the end
-//   trial             rule 24 of the blocks alone, by a tree of theirs, where the rows do not show it
+//   trial             rule 24 of the blocks alone, by trees of theirs, where the rows do not show it
 //   specs/Apart       which blocks and pieces share a cell at a tick, and what the tests decide
 //   specs/Trial       the same of blocks alone
 //   specs/Finish      what finish answers and leaves
@@ -11,7 +11,7 @@
 //   proofs/Standing   what tables that stand for an open ledger have
 //   proofs/Agreeing   rule 24 over rows is history's over all blocks
 //   proofs/Handed     what is seen along the rows is rule 24
-//   proofs/Counting   the tree that is counted is that of all blocks, and the answer is the ledger's
+//   proofs/Counting   the trees that are counted are those of all blocks, and the answer is the ledger's
 //   proofs/Settling   an accepted finish leaves the tables of the finished ledger
 //   proofs/Trying     one step for each return of the trial
 //   proofs/Finishing  one step for each return of the others
@@ -20,7 +20,7 @@
 #![tactic(auto)]
 
 ghost use Rattle.std.specs.Prelude.{◌≡◌};
-ghost use Rattle.tables.specs.Columns.{block_column, head_end, head_kind, head_count};
+ghost use Rattle.tables.specs.Columns.{block_column, head_end, head_count};
 ghost use Rattle.history.specs.Results.{done};
 ghost use Rattle.refusals.specs.Numbers.{answer_by};
 ghost use Rattle.index_finish.specs.Finish.{TestedBlank, Prepared, SettledTables};
@@ -37,19 +37,16 @@ mod trial;
 // What the tests and the tree take from the head of the block table.
 #[derive(Clone, Copy)]
 struct Head {
-    kind: u64,
     end: u64,
     count: u64,
 }
 
 impl Head {
     fn of(blocks: &[u64]) -> Head
-        ensures kind { result.kind ≡ block_column blocks.now 0 head_kind }
         ensures end { result.end ≡ block_column blocks.now 0 head_end }
         ensures count { result.count ≡ block_column blocks.now 0 head_count }
     {
         Head {
-            kind: block_table::kind(blocks),
             end: block_table::end(blocks),
             count: block_table::count(blocks),
         }
@@ -64,7 +61,8 @@ fn blank(nodes: &[u64], entries: &[u64]) -> bool
     tables::all_zero(nodes) && tables::all_zero(entries)
 }
 
-// Tests rule 24 and counts the tree of all blocks and pieces; or gives the refusal, and leaves everything as it was. Refusals 12 and 13 come from the count.
+// Tests rule 24 and counts the trees of all blocks and pieces; or gives the refusal, and leaves everything as it was. Refusals 12 and 13 come from the
+// count.
 #[tactic(auto, using(crate::proofs::Finishing::preparing))]
 fn prepare(
     pieces: &[u64],
@@ -83,30 +81,28 @@ fn prepare(
         return Err(Refusal::Malformed);
     }
     let m = tables::get(pieces, 0, piece::COUNT);
-    let Head { kind, end, count } = head;
+    let Head { end, count } = head;
     let rows = Rows {
         blocks,
         n: count,
         pieces,
         m,
         end,
-        kind,
     };
-    build::count_tree(nodes, entries, &rows)
+    build::count_trees(nodes, entries, &rows)
 }
 
-// Turns the pieces into blocks, and closes the tree that is counted already.
+// Turns the pieces into blocks, and closes the trees that are counted already.
 #[tactic(auto, using(crate::proofs::Settling::settle_done))]
 fn settle(pieces: &mut [u64], blocks: &mut [u64], nodes: &mut [u64], entries: &mut [u64])
     ensures { SettledTables pieces.old blocks.old nodes.old entries.old
         pieces.new blocks.new nodes.new entries.new }
 {
     let end = block_table::end(blocks);
-    let kind = block_table::kind(blocks);
     recording::extract_members(pieces, blocks, end);
     block_table::set_state(blocks, block::CLOSED);
     let all = block_table::count(blocks);
-    close::close_tree(nodes, entries, blocks, all, end, kind);
+    close::close_trees(nodes, entries, blocks, all, end);
     tables::zero(pieces);
 }
 

@@ -4,19 +4,19 @@ ghost use Rattle.index_finish.specs.Finish.{AllApart};
 
 use crate::Head;
 
-// Whether no piece that ends after `first` and starts before `end` was written before the tick `destroyed`. A seek for the first of them, and one
-// for each that follows.
+// Whether no piece that ends after the kind's cell `first` and starts before `end` was written before the tick `destroyed`. A seek for the first of them,
+// and one for each that follows.
 // No `for` goes over them: the next place is where a piece ends.
 #[tactic(auto, using(crate::proofs::Clearing::seeking))]
-fn pieces_clear(pieces: &[u64], first: u64, end: u64, destroyed: u64) -> bool
-    ensures { PiecesClear pieces.now first end destroyed result }
+fn pieces_clear(pieces: &[u64], kind: u64, first: u64, end: u64, destroyed: u64) -> bool
+    ensures { PiecesClear pieces.now kind first end destroyed result }
 {
     let mut place = first;
     while place < u64::MAX {
-        let Some(link) = piece_table::seek(pieces, place) else {
+        let Some(link) = piece_table::seek(pieces, kind, place) else {
             return true;
         };
-        if !merge_set::starts_below(pieces, link, end) {
+        if !merge_set::starts_below(pieces, link, kind, end) {
             return true;
         }
         let piece = piece_table::read(pieces, link);
@@ -39,7 +39,7 @@ fn block_clear(pieces: &[u64], blocks: &[u64], link: u64) -> bool
     ensures { BlockClear pieces.now blocks.now link result }
 {
     let row = block_table::read(blocks, link);
-    !row.lives() || pieces_clear(pieces, row.first, row.end(), row.destroyed)
+    !row.lives() || pieces_clear(pieces, row.owner, row.first, row.end(), row.destroyed)
 }
 
 // Whether none of the blocks 1 to `n` shares a cell at a tick with a piece.
@@ -65,7 +65,7 @@ pub fn all_apart(
     entries: &mut [u64],
     head: Head,
 ) -> bool
-    ensures { AllApart pieces.now blocks.old nodes.old entries.old head.kind head.end head.count
+    ensures { AllApart pieces.now blocks.old nodes.old entries.old head.end head.count
         blocks.new nodes.new entries.new result }
 {
     handed_rows::handed_on(pieces, blocks, head.count)

@@ -1,5 +1,5 @@
-// Rule 24 of the blocks of an open index, where the rows do not show it: the tree of the blocks is built in the tables that finish builds in, which are zeros,
-// is asked, and is taken away again.
+// Rule 24 of the blocks of an open index, where the rows do not show it: the trees of the blocks are built in the tables that finish builds in, which are
+// zeros, are asked, and are taken away again.
 ghost use Rattle.segment_test.specs.Test.{lent};
 ghost use Rattle.index_finish.specs.Trial.{StandsApart, OrderApart, BlocksApart};
 
@@ -8,16 +8,16 @@ use segment_table::lent::{Claim, Closed};
 use segment_tree::build::Rows;
 use segment_tree::{build, close};
 
-// Whether a tree of the blocks stands in the tables and shows that no two of them share a cell at a tick.
+// Whether trees of the blocks stand in the tables and show that no two of them share a cell at a tick.
 #[tactic(auto, using(crate::proofs::Trying::asking))]
-fn tree_apart(claim: &Claim<'_>) -> bool
+fn trees_apart(claim: &Claim<'_>) -> bool
     ensures { StandsApart (lent claim.now.tables.blocks.now claim.now.tables.nodes.now claim.now.tables.entries.now)
-        claim.now.kind claim.now.end claim.now.n result }
+        claim.now.end claim.now.n result }
 {
-    segment_test::test_tree(claim) && segment_apart::birth::all_clear(claim)
+    segment_test::test_trees(claim) && segment_apart::birth::all_clear(claim)
 }
 
-// Whether no two of the n blocks share a cell at a tick, along their order by first cell, which is taken away again.
+// Whether no two of the n blocks share a cell at a tick, along their order by place, which is taken away again.
 #[tactic(auto, using(crate::proofs::Trying::order_tried))]
 fn order_apart(blocks: &mut [u64], n: u64) -> bool
     ensures { OrderApart blocks.old n blocks.new result }
@@ -28,14 +28,14 @@ fn order_apart(blocks: &mut [u64], n: u64) -> bool
     apart
 }
 
-// Whether no two of the blocks share a cell at a tick. The tables of zeros are zeros again. Only where they have too little room for the tree, so that finish
+// Whether no two of the blocks share a cell at a tick. The tables of zeros are zeros again. Only where they have too little room for the trees, so that finish
 // is refused in any case, is it along the order of the blocks: n * n / 2 steps for n versions of one cell.
 #[tactic(auto, using(crate::proofs::Trying::trying))]
 pub fn blocks_apart(blocks: &mut [u64], nodes: &mut [u64], entries: &mut [u64], head: Head) -> bool
-    ensures { BlocksApart blocks.old nodes.old entries.old head.kind head.end head.count
+    ensures { BlocksApart blocks.old nodes.old entries.old head.end head.count
         blocks.new nodes.new entries.new result }
 {
-    let Head { kind, end, count } = head;
+    let Head { end, count } = head;
     let none = [0; 8];
     let rows = Rows {
         blocks,
@@ -43,19 +43,17 @@ pub fn blocks_apart(blocks: &mut [u64], nodes: &mut [u64], entries: &mut [u64], 
         pieces: &none,
         m: 0,
         end,
-        kind,
     };
-    if build::count_tree(nodes, entries, &rows).is_err() {
+    if build::count_trees(nodes, entries, &rows).is_err() {
         return order_apart(blocks, count);
     }
-    close::close_tree(nodes, entries, blocks, count, end, kind);
-    let apart = tree_apart(&Claim {
+    close::close_trees(nodes, entries, blocks, count, end);
+    let apart = trees_apart(&Claim {
         tables: Closed {
             blocks,
             nodes,
             entries,
         },
-        kind,
         end,
         n: count,
     });

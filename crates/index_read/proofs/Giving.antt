@@ -5,7 +5,7 @@ use Prim.Native.Nat.{ℕ, suc, ◌+◌, ◌≤◌, ◌<◌}
 use native.Mathlib.Omega.{arith}
 use native.Mathlib.Numerals.{add-one}
 use lib.ListN.{length, get_or}
-use Rattle.history.specs.Words.{Block}
+use Rattle.history.specs.Words.{Block, cell_place, cell_of}
 use Rattle.history.specs.Tree.{no_block}
 use Rattle.history.specs.Reads.{block_by}
 use Rattle.history.specs.Refusals.{Answer, accepted, refused}
@@ -40,7 +40,9 @@ fields_of blocks link =
 row_fields : (store blocks : List ℕ) (link : ℕ) → offset_at blocks link + length_at blocks link ≤ length store
     → fields_of blocks link ≡ fields_at (offset_at blocks link) (block_of_row store blocks link)
 unfolding block_of_row
-row_fields store blocks link h = rw (bytes_length store blocks link h)
+row_fields store blocks link h =
+    let cell : cell_of (owner_at blocks link) (cell_place (owner_at blocks link) (first_cell_at blocks link)) ≡ first_cell_at blocks link = omega arith in
+    rw (cell, bytes_length store blocks link h)
 
 row_handed : (t : Tables) (k : ℕ) → offset_at t.blocks (suc k) + length_at t.blocks (suc k) ≤ length t.store
     → BlockHanded t k (accepted (fields_of t.blocks (suc k))) (accepted (block_of_row t.store t.blocks (suc k)))

@@ -11,6 +11,6 @@ pub record BlockClosed (blocks : List ℕ) (k : ℕ) (answer : Answer Fields) : 
       → ClosedBy (tables pieces blocks store nodes entries) (λ l. block_answer l k) (BlockHanded (tables pieces blocks store nodes entries) k answer)
 
 -- `find_closed`: the ledger's counts, and its numbers in the lent slice
-pub record FindClosed (blocks nodes entries : List ℕ) (tick start stop : ℕ) (out out' : List ℕ) (answer : Answer Counts) : Type 0 where
+pub record FindClosed (blocks nodes entries : List ℕ) (kind tick start stop : ℕ) (out out' : List ℕ) (answer : Answer Counts) : Type 0 where
   pub found : (pieces store : List ℕ)
-      → ClosedBy (tables pieces blocks store nodes entries) (λ l. find_answer l tick start stop (length out)) (HandedInto counts_of (λ f. f.numbers) out out' answer)
+      → ClosedBy (tables pieces blocks store nodes entries) (λ l. find_answer l kind tick start stop (length out)) (HandedInto counts_of (λ f. f.numbers) out out' answer)

@@ -14,7 +14,7 @@ ghost use Rattle.index_read.specs.Reads.{BlockClosed, FindClosed};
 use refusals::Refusal;
 use segment_table::lent::Closed;
 use segment_walk::walk::Query;
-use tables::block;
+use tables::{block, kinds};
 
 // What find gives: how many block numbers it lists, and how many nodes it visited.
 #[derive(Clone, Copy)]
@@ -52,18 +52,22 @@ pub fn block_closed(blocks: &[u64], number: u64) -> Result<Block, Refusal>
     })
 }
 
-// The live blocks whose first cell is in [start, end): 14, 15 and 16 in their order.
+// The live blocks of a kind whose first cell is in [start, end): 25, 14, 15 and 16 in their order.
 pub fn find_closed(
     closed: &Closed,
+    kind: u64,
     tick: u64,
     start: u64,
     end: u64,
     answer: &mut [u64],
 ) -> Result<Found, Refusal>
-    ensures { FindClosed closed.now.blocks.now closed.now.nodes.now closed.now.entries.now tick start end
+    ensures { FindClosed closed.now.blocks.now closed.now.nodes.now closed.now.entries.now kind tick start end
         answer.old answer.new (answer_by counts_given result) }
 {
-    let tree = closed.tree();
+    if !kinds::has(block_table::kinds(closed.blocks), kind) {
+        return Err(Refusal::KindNotOpened);
+    }
+    let tree = closed.tree(kind);
     if tree.end <= tick {
         return Err(Refusal::NoSuchTick);
     }

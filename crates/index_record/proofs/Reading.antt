@@ -2,6 +2,7 @@
 use mathlib.Core.Path.{◌≡◌, refl, sym, subst, ◌∙◌}
 use mathlib.Core.Bool.{true, false}
 use mathlib.Core.Option.{Option}
+use mathlib.Core.List.{List}
 use Prim.Native.Nat.{ℕ, ◌+◌, ◌*◌, ◌≤◌}
 use native.Mathlib.Omega.{arith}
 use lib.ListN.{length, get_or, set, length-set}
@@ -10,7 +11,7 @@ use Rattle.history.specs.Lent.{row_width, block_head}
 use Rattle.history.specs.Words.{Operation}
 use Rattle.history.specs.Tree as segment
 use Rattle.history.specs.Ledger.{Ledger, with_now, finished, is_read, read_by, update_by, record_by}
-use Rattle.tables.specs.Columns.{block_base, head_state, head_end, head_kind, head_count, head_used, head_last, block_next}
+use Rattle.tables.specs.Columns.{block_base, head_state, head_end, head_kinds, head_count, head_used, head_last, block_next}
 use Rattle.block_table.specs.Blocks.{SameRows, head_place}
 use Rattle.block_table.proofs.Blocks.{blocks_kept}
 use Rattle.block_table.proofs.Keeping.{stored_kept}
@@ -18,7 +19,7 @@ use Rattle.ordering.proofs.Keeping.{unordered_kept}
 use Rattle.day_table.proofs.DayLists.{days_kept}
 use Rattle.calendar_table.proofs.Calendars.{calendar_kept}
 use Rattle.layout.specs.Tables.{Tables, lengths_of, head_at}
-use Rattle.layout.specs.Encodes.{Encodes, TreeIn}
+use Rattle.layout.specs.Encodes.{Encodes, TreesIn}
 use Rattle.layout.specs.Relations.{read_tables}
 use Rattle.layout.proofs.Lengths.{lent_same, heads_fit}
 use Rattle.layout.proofs.Installing.{still_none, open_unordered}
@@ -30,7 +31,7 @@ unfolding record_by
 record_read l o e = rw e
 
 pub record_update : (l : Ledger) (o : Operation) → is_read l.now o ≡ false
-    → record_by l o ≡ with_now (update_by l.opening.kind l.now o) l
+    → record_by l o ≡ with_now (update_by l.now o) l
 unfolding record_by
 record_update l o e = rw e
 
@@ -56,6 +57,7 @@ module _ (t : Tables) (l : Ledger) (o : Operation) (e : Encodes t l) (still : fi
   pub read_encodes : Encodes (read_tables o.tick t) (record_by l o)
   unfolding read_by
   read_encodes =
+      let kinds : head_at (read_tables o.tick t) head_kinds ≡ head_at t head_kinds = head_other head_kinds (λ z. omega arith) in
       let used : head_at (read_tables o.tick t) head_used ≡ head_at t head_used = head_other head_used (λ z. omega arith) in
       let count : head_at (read_tables o.tick t) head_count ≡ head_at t head_count = head_other head_count (λ z. omega arith) in
       let there : Encodes (read_tables o.tick t) (with_now (read_by l.now o) l) = record {
@@ -63,7 +65,8 @@ module _ (t : Tables) (l : Ledger) (o : Operation) (e : Encodes t l) (still : fi
         heads = rw (← lens) e.heads;
         state = head_other head_state (λ z. omega arith) ∙ e.state;
         end = head_other head_end (λ z. omega arith) ∙ e.end;
-        kind = head_other head_kind (λ z. omega arith) ∙ e.kind;
+        mask = rw kinds e.mask;
+        kinds = rw kinds e.kinds;
         last = get_or-set_same t.blocks (head_place head_last) o.tick 0 (omega (arith, head_there));
         used = used ∙ e.used;
         store = rw used e.store;
@@ -74,7 +77,7 @@ module _ (t : Tables) (l : Ledger) (o : Operation) (e : Encodes t l) (still : fi
         linked = e.linked;
         pieces = e.pieces;
         pieces_stored = rw used e.pieces_stored;
-        tree = subst (λ (x : Option segment.Tree). TreeIn (read_tables o.tick t) (with_now (read_by l.now o) l) x) (sym (still_none l.tree still))
+        trees = subst (λ (x : Option (List segment.Tree)). TreesIn (read_tables o.tick t) (with_now (read_by l.now o) l) x) (sym (still_none l.trees still))
             (unordered_kept (same_rows (length l.now.blocks)) (other (row_width * 0 + (block_base + block_next)) (λ z. omega arith)) (open_unordered t l e still));
         calendar = calendar_kept t.blocks (set t.blocks (head_place head_last) o.tick) l.calendar (λ i lo hi. other i (λ z. omega arith)) e.calendar;
         days = days_kept t.blocks (set t.blocks (head_place head_last) o.tick) l.days (omega (arith, head_there)) (omega (arith, head_there, length-set t.blocks (head_place head_last) o.tick))

@@ -11,7 +11,7 @@ use borrow.Author.Tests.{ltb-false, eqb-false}
 use Rattle.history.specs.Words.{Operation}
 use Rattle.history.specs.Hours.{closed_by}
 use Rattle.history.specs.Lent.{too_short, piece_rows, block_rows, least_scratch}
-use Rattle.history.specs.Ledger.{changed, Ledger, finished, is_read, update_by}
+use Rattle.history.specs.Ledger.{changed, Ledger, finished, opens_kind, is_read, update_by}
 use Rattle.history.specs.Results.{Result, result_of}
 use Rattle.history.specs.Refusals.{Answer, accepted, refused, Refusal, ◌if◌, first_of, record_refusals, record_answer}
 use Rattle.history.proofs.Passing.{passed}
@@ -62,16 +62,16 @@ value_accepted {A} (r ∷ rs) a e = go r.holds e (value_accepted rs a)
 
 -- ── the call ──
 
--- what is known of a call that passes 5 to 8
+-- what is known of a call that passes 25 and 5 to 8
 pub record Sized (first size : ℕ) : Type 0 where
   pub some : 0 < size
   pub near : first + size < 2 ^ 64
 
-pub call_sized : (end last tick first size : ℕ) → first_answer (call_refusals end last tick first size) ≡ accepted tt → Sized first size
+pub call_sized : (opened : Bool) (end last tick first size : ℕ) → first_answer (call_refusals opened end last tick first size) ≡ accepted tt → Sized first size
 unfolding call_refusals
-call_sized end last tick first size e =
+call_sized opened end last tick first size e =
     let p = passed _ tt e in
-    record { some = above (eqb-false _ _ p.0); near = omega (arith, ltb-false (2 ^ 64 - 1) (first + size) p.1.0) }
+    record { some = above (eqb-false _ _ p.1.0); near = omega (arith, ltb-false (2 ^ 64 - 1) (first + size) p.1.1.0) }
   where
     above : (size ≡ 0 → ⊥) → 0 < size
     above h = omega arith
@@ -86,12 +86,12 @@ answer_finished l scratch o fits long done = rw (fits, long, done)
 -- of an open one
 module _ (l : Ledger) (scratch : ℕ) (o : Operation) (fits : too_short l.opening.lent ≡ false) (long : ltb scratch least_scratch ≡ false) (still : finished l ≡ false) where
   abbrev of_call : List Refusal
-  of_call = call_refusals l.opening.end l.now.last o.tick o.first (length o.bytes)
+  of_call = call_refusals (opens_kind l o.kind) l.opening.end l.now.last o.tick o.first (length o.bytes)
 
   -- those of space, if it is an update
   abbrev of_update : (update : Bool) → List Refusal
   of_update update =
-      let next = update_by l.opening.kind l.now o in
+      let next = update_by l.now o in
       9 if (update && ltb (piece_rows l.opening.lent) (length next.pieces))
       ∷ 10 if (update && ltb (block_rows l.opening.lent) (length next.blocks + length next.pieces))
       ∷ 11 if (update && ltb l.opening.lent.store (length next.store))
@@ -99,7 +99,7 @@ module _ (l : Ledger) (scratch : ℕ) (o : Operation) (fits : too_short l.openin
 
   abbrev of_space_lem : List Refusal
   of_space_lem =
-      let next = update_by l.opening.kind l.now o in
+      let next = update_by l.now o in
       space_refusals (piece_rows l.opening.lent) (block_rows l.opening.lent) l.opening.lent.store (length next.pieces) (length next.blocks) (length next.store)
 
   -- 26 in front of them
@@ -111,7 +111,7 @@ module _ (l : Ledger) (scratch : ℕ) (o : Operation) (fits : too_short l.openin
 
   -- what an accepted call gives
   abbrev given : Result
-  given = result_of (changed l.now o)
+  given = result_of o.kind (changed l.now o)
 
   split : record_answer l scratch o ≡ first_of (of_call ++ rest) given
   unfolding record_refusals call_refusals first_of
@@ -126,7 +126,7 @@ module _ (l : Ledger) (scratch : ℕ) (o : Operation) (fits : too_short l.openin
     answer_closed out = split ∙ value_refused (of_call ++ rest) given 26 (first_back of_call rest e ∙ rw out)
 
     module _ (inside : outside ≡ false) where
-      pub answer_read : is_read l.now o ≡ true → record_answer l scratch o ≡ accepted (result_of (changed l.now o))
+      pub answer_read : is_read l.now o ≡ true → record_answer l scratch o ≡ accepted (result_of o.kind (changed l.now o))
       unfolding first_of
       answer_read read = split ∙ value_accepted (of_call ++ rest) given (first_back of_call rest e ∙ rw (inside, read))
 
@@ -137,5 +137,5 @@ module _ (l : Ledger) (scratch : ℕ) (o : Operation) (fits : too_short l.openin
       pub answer_space : is_read l.now o ≡ false → (n : ℕ) → first_answer of_space_lem ≡ refused n → record_answer l scratch o ≡ refused n
       answer_space read n full = split ∙ value_refused (of_call ++ rest) given n (of_space read ∙ full)
 
-      pub answer_update : is_read l.now o ≡ false → first_answer of_space_lem ≡ accepted tt → record_answer l scratch o ≡ accepted (result_of (changed l.now o))
+      pub answer_update : is_read l.now o ≡ false → first_answer of_space_lem ≡ accepted tt → record_answer l scratch o ≡ accepted (result_of o.kind (changed l.now o))
       answer_update read free = split ∙ value_accepted (of_call ++ rest) given (of_space read ∙ free)

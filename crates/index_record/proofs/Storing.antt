@@ -1,9 +1,9 @@
--- Bytes written behind the used part of the store, and parts of pieces that stay in it. Assumes nothing.
+-- Bytes written behind the used part of the store, and parts of pieces that stay in it and on their line. Assumes nothing.
 use mathlib.Core.Path.{◌≡◌, refl, ap, ap₂, subst, ◌∙◌}
 use mathlib.Core.Bool.{Bool, true, false, cond}
 use mathlib.Core.Option.{none, some, some-injective, none-ne-some}
 use mathlib.Core.List.{List, ◌++◌}
-use Prim.Native.Nat.{ℕ, ◌+◌, ◌-◌, ◌≤◌, ◌<◌, min, max}
+use Prim.Native.Nat.{ℕ, ◌+◌, ◌-◌, ◌^◌, ◌≤◌, ◌<◌, min, max}
 use native.Mathlib.Omega.{arith}
 use lib.Dec.{ltb}
 use lib.ListN.{length, take, drop, length-append}
@@ -12,7 +12,8 @@ use borrow.Author.Tests.{ltb-true}
 use Rattle.lists.specs.Lists.{All}
 use Rattle.lists.proofs.Maps.{all_filter_map}
 use Rattle.lists.proofs.Parts.{part-sets}
-use Rattle.piece_table.specs.Piece.{PieceRow, row_end, part, clip_row, rows_below, rows_inside, rows_above}
+use Rattle.history.specs.Words.{line_of}
+use Rattle.piece_table.specs.Piece.{PieceRow, row_end, part, clip_row, rows_below, rows_inside, rows_above, Filled}
 
 -- ── bytes written at a place ──
 
@@ -58,3 +59,24 @@ module _ (used : ℕ) {ps : List PieceRow} (h : All (Within used) ps) where
   pub above_stored : (e : ℕ) → All (Within used) (rows_above e ps)
   unfolding rows_above
   above_stored e = all_filter_map (λ p. clip_row e (row_end p) p) (λ p q z k. clip-within used e (row_end p) p q z k) h
+
+-- ── parts stay on their line ──
+
+clip-filled : (from to : ℕ) (p q : PieceRow) → clip_row from to p ≡ some q → Filled p → Filled q
+unfolding clip_row
+clip-filled from to p q e h = go (ltb (max from p.first) (min to (row_end p))) refl e
+  where
+    go : (t : Bool) → ltb (max from p.first) (min to (row_end p)) ≡ t → cond t (some (part (max from p.first) (min to (row_end p)) p)) none ≡ some q → Filled q
+    go false l e = absurd (none-ne-some q e)
+    go true l e =
+        let lt : max from p.first < min to (row_end p) = ltb-true _ _ l in
+        let low : line_of p.owner ≤ p.first = h.line in
+        let high : row_end p < line_of p.owner + 2 ^ 64 = h.near in
+        let inside : p.offset + p.size < 2 ^ 64 = h.stored in
+        let made : Filled (part (max from p.first) (min to (row_end p)) p) =
+        record { some = omega arith; line = omega arith; near = omega arith; stored = omega arith } in
+        subst Filled (some-injective (part (max from p.first) (min to (row_end p)) p) q e) made
+
+pub inside-filled : (f e : ℕ) {ps : List PieceRow} → All Filled ps → All Filled (rows_inside f e ps)
+unfolding rows_inside
+inside-filled f e h = all_filter_map (clip_row f e) (λ p q z k. clip-filled f e p q z k) h

@@ -13,14 +13,14 @@ use Rattle.lists.proofs.Lists.{all_map, all_append, all_of_map, all_un_map, all_
 use Rattle.lists.proofs.Numbers.{le_or_lt}
 use Rattle.lists.proofs.Parts.{part-sets}
 use Rattle.history.specs.Lent.{row_width, block_head}
-use Rattle.history.specs.Words.{Operation, Piece, Block, stretch_of, piece_of, block_of}
+use Rattle.history.specs.Words.{Operation, Piece, Block, cell_place, stretch_of, piece_of, block_of}
 use Rattle.history.specs.Tree as segment
 use Rattle.history.specs.Ledger.{Ledger, with_now, Moment, finished, is_read, update_by, record_by}
 use Rattle.history.specs.Results.{Result}
 use Rattle.history.specs.Refusals.{accepted, record_answer}
 use Rattle.history.specs.Sound.{Sound}
 use Rattle.history.proofs.Passing.{Taken, taken, Room, room}
-use Rattle.tables.specs.Columns.{block_column, block_base, head_state, head_end, head_kind, head_count, head_used, head_last, block_next, block_length, block_offset}
+use Rattle.tables.specs.Columns.{block_column, block_base, head_state, head_end, head_kinds, head_count, head_used, head_last, block_next, block_length, block_offset}
 use Rattle.block_table.specs.Blocks.{blocks_of, SameRows, offset_at, length_at, block_at, block_count, head_place}
 use Rattle.block_table.proofs.Blocks.{blocks_kept, blocks_store}
 use Rattle.block_table.proofs.Keeping.{kept_column}
@@ -28,9 +28,10 @@ use Rattle.block_table.specs.Appended.{block_row, Countable, Appended}
 use Rattle.block_table.proofs.Appending.{appended-length, appended_other, appended_kept}
 use Rattle.ordering.specs.Order.{next_at, Unordered}
 use Rattle.block_table.specs.Blocks as blocks
-use Rattle.piece_table.specs.Piece.{PieceRow, row_end, piece_at, rows_below, rows_inside, rows_above, Filled}
+use Rattle.piece_table.specs.Piece.{PieceRow, row_of, row_end, piece_at, rows_below, rows_inside, rows_above, Filled}
 use Rattle.piece_table.specs.Shown.{shown, Stored}
 use Rattle.piece_table.specs.Rep.{Rep}
+use Rattle.piece_table.proofs.Order.{follow_filled}
 use Rattle.recording.specs.Calls.{Updated, AppliedUpdate}
 use Rattle.recording.proofs.Telling.{shown_kept, update_pieces, update_blocks}
 use Rattle.recording.specs.Recorded.{block_row_of, recorded}
@@ -38,12 +39,12 @@ use Rattle.recording.proofs.Recorded.{recorded-count, recorded_row, recorded_out
 use Rattle.day_table.proofs.DayLists.{days_kept}
 use Rattle.calendar_table.proofs.Calendars.{calendar_kept}
 use Rattle.layout.specs.Tables.{Tables, tables, lengths_of, head_at}
-use Rattle.layout.specs.Encodes.{Encodes, TreeIn}
+use Rattle.layout.specs.Encodes.{Encodes, TreesIn}
 use Rattle.layout.specs.Relations.{UpdatedTables}
 use Rattle.layout.proofs.Lengths.{lent_same, Heads, heads_fit}
-use Rattle.layout.proofs.Pieces.{pieces_rep, pieces_shown}
+use Rattle.layout.proofs.Pieces.{pieces_linked, pieces_rep, pieces_shown}
 use Rattle.index_record.specs.Calls.{operation, UpdateApplied}
-use Rattle.index_record.proofs.Storing.{sets-part, sets_grow, Within, below_stored, inside_stored, above_stored}
+use Rattle.index_record.proofs.Storing.{sets-part, sets_grow, Within, below_stored, inside_stored, above_stored, inside-filled}
 use Rattle.layout.proofs.Installing.{still_none, open_unordered}
 use Rattle.index_record.proofs.Reading.{record_update}
 
@@ -113,8 +114,8 @@ module _ (tick used : ℕ) (ps : List PieceRow) (b : List ℕ) (there : block_he
         ∙ ap (λ (k : ℕ). block_column (recorded tick ps b) k c) (sym e)
         ∙ recorded_row tick ps b fits none_row (link - suc (block_count b)) c (omega arith) h
 
-    left_blocks_lem : (store : List ℕ) → blocks_of store (left_blocks tick used ps b) (block_count b + length ps) ≡ blocks_of store b (block_count b) ++ map (λ p. block_of tick (shown store p)) ps
-    left_blocks_lem store = blocks_kept store (left_rows (block_count b + length ps)) ∙ recorded_blocks tick ps b fits store
+    left_blocks_lem : (store : List ℕ) → All Filled ps → blocks_of store (left_blocks tick used ps b) (block_count b + length ps) ≡ blocks_of store b (block_count b) ++ map (λ p. block_of tick (shown store p)) ps
+    left_blocks_lem store filled = blocks_kept store (left_rows (block_count b + length ps)) ∙ recorded_blocks tick ps b fits store filled
 
     left_stored : (old : ℕ) → old ≤ used → blocks.Stored old b (block_count b) → All (Within old) ps → blocks.Stored used (left_blocks tick used ps b) (block_count b + length ps)
     left_stored old le was parts = record { inside = λ link lo hi. go link lo hi (le_or_lt link (block_count b)) }
@@ -137,8 +138,8 @@ module _ (tick used : ℕ) (ps : List PieceRow) (b : List ℕ) (there : block_he
 -- ── the whole ──
 
 -- the row of the operation's piece, whose bytes stand at `used`
-abbrev pub new_row : Operation → (used kind : ℕ) → PieceRow
-new_row o used kind = record { first = o.first; size = length o.bytes; written = o.tick; offset = used; owner = kind }
+abbrev pub new_row : Operation → (used : ℕ) → PieceRow
+new_row o used = row_of (record { first = o.first; size = length o.bytes; written = o.tick; offset = used; owner = o.kind })
 
 module _ (t : Tables) (l : Ledger) (o : Operation) (scratch : ℕ) (e : Encodes t l) (s : Sound l) {r : Result} (took : record_answer l scratch o ≡ accepted r) (update : is_read l.now o ≡ false)
     (few : length t.pieces < 2 ^ 64) (fewer : length t.blocks < 2 ^ 64) (fits : length t.store < 2 ^ 64) where
@@ -148,14 +149,11 @@ module _ (t : Tables) (l : Ledger) (o : Operation) (scratch : ℕ) (e : Encodes 
   abbrev size : ℕ
   size = length o.bytes
 
-  abbrev kind : ℕ
-  kind = head_at t head_kind
-
   abbrev row : PieceRow
-  row = new_row o used kind
+  row = new_row o used
 
   abbrev next : Moment
-  next = update_by l.opening.kind l.now o
+  next = update_by l.now o
 
   abbrev store' : List ℕ
   store' = sets t.store used o.bytes
@@ -194,19 +192,19 @@ module _ (t : Tables) (l : Ledger) (o : Operation) (scratch : ℕ) (e : Encodes 
   shown-after = pieces_shown t l e ∙ sym (shown_kept t.store store' used same_front stored_before)
 
   -- the operation's piece is the row's
-  new_shown : piece_of l.opening.kind o ≡ shown store' row
+  new_shown : piece_of o ≡ shown store' row
   unfolding stretch_of
   new_shown =
-      rw (← e.kind)
-      (ap {B = Piece} (λ (bs : List ℕ). record { kind = kind; stretch = record { first = o.first; bytes = bs }; written = o.tick }) (sym (sets-part used t.store o.bytes bytes_fit)))
+      ap {B = Piece} (λ (bs : List ℕ). record { kind = o.kind; stretch = record { first = cell_place o.kind o.first; bytes = bs }; written = o.tick })
+      (sym (sets-part used t.store o.bytes bytes_fit))
 
   pieces_after : next.pieces ≡ map (shown store') left
   unfolding stretch_of
-  pieces_after = update_pieces store' ps stored_after l.opening.kind l.now o row shown-after new_shown refl refl
+  pieces_after = update_pieces store' ps stored_after l.now o row shown-after new_shown refl refl
 
   blocks_after : next.blocks ≡ l.now.blocks ++ map (λ q. block_of o.tick (shown store' q)) gone
   unfolding stretch_of
-  blocks_after = update_blocks store' ps stored_after l.opening.kind l.now o row shown-after refl refl
+  blocks_after = update_blocks store' ps stored_after l.now o row shown-after refl refl
 
   count-after : length next.blocks ≡ block_count t.blocks + length gone
   count-after =
@@ -225,7 +223,10 @@ module _ (t : Tables) (l : Ledger) (o : Operation) (scratch : ℕ) (e : Encodes 
   -- what recording asks
   new_filled : Filled row
   unfolding stretch_of
-  new_filled = let k : Taken l o = taken l scratch o took in record { some = k.some_cell; near = omega (arith, k.no_wrap); stored = omega (arith, bytes_fit) }
+  new_filled = let k : Taken l o = taken l scratch o took in record { some = k.some_cell; line = omega arith; near = omega (arith, k.no_wrap); stored = omega (arith, bytes_fit) }
+
+  gone_filled : All Filled gone
+  gone_filled = inside-filled row.first (row_end row) (follow_filled 0 ps (pieces_linked t l e s.board few fits).order)
 
   countable : Countable t.blocks (length gone)
   countable = record { head = there.blocks; fits = omega (arith, blocks_fit) }
@@ -256,6 +257,9 @@ module _ (t : Tables) (l : Ledger) (o : Operation) (scratch : ℕ) (e : Encodes 
     head_same : (c : ℕ) → c < row_width → (c ≡ head_count → ⊥) → (c ≡ head_used → ⊥) → (c ≡ head_last → ⊥) → head_at t' c ≡ head_at t c
     head_same = left_head o.tick (used + size) gone t.blocks there.blocks
 
+    kinds_same : head_at t' head_kinds ≡ head_at t head_kinds
+    kinds_same = head_same head_kinds (omega arith) (λ z. omega arith) (λ z. omega arith) (λ z. omega arith)
+
     used_after : head_at t' head_used ≡ used + size
     used_after = left_used o.tick (used + size) gone t.blocks there.blocks
 
@@ -271,7 +275,7 @@ module _ (t : Tables) (l : Ledger) (o : Operation) (scratch : ℕ) (e : Encodes 
         blocks_after
         ∙ ap (λ (m : List Block). m ++ map (λ q. block_of o.tick (shown store' q)) gone)
         (e.blocks ∙ sym (blocks_store t.store store' t.blocks (head_at t head_count) used e.blocks_stored same_front))
-        ∙ sym (left_blocks_lem o.tick (used + size) gone t.blocks there.blocks blocks_fit store')
+        ∙ sym (left_blocks_lem o.tick (used + size) gone t.blocks there.blocks blocks_fit store' gone_filled)
 
     stored_left : All (Within (used + size)) left
     stored_left =
@@ -298,7 +302,8 @@ module _ (t : Tables) (l : Ledger) (o : Operation) (scratch : ℕ) (e : Encodes 
           heads = rw (← lens) e.heads;
           state = head_same head_state (omega arith) (λ z. omega arith) (λ z. omega arith) (λ z. omega arith) ∙ e.state;
           end = head_same head_end (omega arith) (λ z. omega arith) (λ z. omega arith) (λ z. omega arith) ∙ e.end;
-          kind = head_same head_kind (omega arith) (λ z. omega arith) (λ z. omega arith) (λ z. omega arith) ∙ e.kind;
+          mask = rw kinds_same e.mask;
+          kinds = rw kinds_same e.kinds;
           last = last_after ∙ sym next_last;
           used = used_after ∙ sym next_store;
           store = rw used_after store_after;
@@ -310,7 +315,7 @@ module _ (t : Tables) (l : Ledger) (o : Operation) (scratch : ℕ) (e : Encodes 
           linked = rep.linked.dense;
           pieces = pieces_after ∙ ap (map (shown store')) (sym linked) ∙ map-map (shown store') (piece_at pieces') rep.links;
           pieces_stored = rw used_after (all_un_map (piece_at pieces') rep.links inside);
-          tree = subst (λ (x : Option segment.Tree). TreeIn t' l' x) (sym (still_none l.tree still))
+          trees = subst (λ (x : Option (List segment.Tree)). TreesIn t' l' x) (sym (still_none l.trees still))
               (rw count-after (left_unordered o.tick (used + size) gone t.blocks there.blocks blocks_fit (rw e.count (open_unordered t l e still))));
           calendar =
               calendar_kept t.blocks blocks' l.calendar
@@ -336,23 +341,23 @@ module _ (t : Tables) (l : Ledger) (o : Operation) (scratch : ℕ) (e : Encodes 
 
 -- ── `enter_update` ──
 
-module _ {p b s bytes : List ℕ} {tick first used : ℕ} (eu : used ≡ block_column b 0 head_used) (few : length p < 2 ^ 64) (fewer : length b < 2 ^ 64) (fits : length s < 2 ^ 64) where
+module _ {p b s bytes : List ℕ} {kind tick first used : ℕ} (eu : used ≡ block_column b 0 head_used) (few : length p < 2 ^ 64) (fewer : length b < 2 ^ 64) (fits : length s < 2 ^ 64) where
   -- an accepted update has room in the store
-  pub update_far : 18446744073709551615 - used < length bytes → UpdateApplied p b s p b s (operation tick first bytes)
+  pub update_far : 18446744073709551615 - used < length bytes → UpdateApplied p b s p b s (operation kind tick first bytes)
   update_far h = record {
     done = λ nodes entries l scratch r e sound took update.
-        absurd (omega (arith, bytes_fit (tables p b s nodes entries) l (operation tick first bytes) scratch e sound took update few fewer fits));
+        absurd (omega (arith, bytes_fit (tables p b s nodes entries) l (operation kind tick first bytes) scratch e sound took update few fewer fits));
   }
 
-  pub update_done : {kind : ℕ} {p₁ b₁ b₂ b₃ s₁ : List ℕ} → kind ≡ block_column b 0 head_kind → s₁ ≡ sets s used bytes → AppliedUpdate p p₁ b b₁ (new_row (operation tick first bytes) used kind)
-      → b₂ ≡ set b₁ (head_place head_used) (used + length bytes) → b₃ ≡ set b₂ (head_place head_last) tick → UpdateApplied p b s p₁ b₃ s₁ (operation tick first bytes)
+  pub update_done : {p₁ b₁ b₂ b₃ s₁ : List ℕ} → s₁ ≡ sets s used bytes → AppliedUpdate p p₁ b b₁ (new_row (operation kind tick first bytes) used)
+      → b₂ ≡ set b₁ (head_place head_used) (used + length bytes) → b₃ ≡ set b₂ (head_place head_last) tick → UpdateApplied p b s p₁ b₃ s₁ (operation kind tick first bytes)
   unfolding left_blocks
-  update_done {kind} {p₁} {b₁} {b₂} {b₃} {s₁} ek es rec e₂ e₃ = record {
+  update_done {p₁} {b₁} {b₂} {b₃} {s₁} es rec e₂ e₃ = record {
     done = λ nodes entries l scratch r e sound took update.
-        let o : Operation = operation tick first bytes in
+        let o : Operation = operation kind tick first bytes in
         let t : Tables = tables p b s nodes entries in
-        let rec' : AppliedUpdate p p₁ b b₁ (new_row (operation tick first bytes) (block_column b 0 head_used) (block_column b 0 head_kind)) = rw (eu, ek) at rec in
-        let is : b₃ ≡ left_blocks tick (block_column b 0 head_used + length bytes) (rows_inside first (first + length bytes) (map (piece_at p) e.links)) b
+        let rec' : AppliedUpdate p p₁ b b₁ (new_row (operation kind tick first bytes) (block_column b 0 head_used)) = rw eu at rec in
+        let is : b₃ ≡ left_blocks tick (block_column b 0 head_used + length bytes) (rows_inside (cell_place kind first) (cell_place kind first + length bytes) (map (piece_at p) e.links)) b
         = e₃ ∙ ap (λ (m : List ℕ). set m (head_place head_last) tick) (e₂ ∙ ap₂ (λ (m : List ℕ) (n : ℕ). set m (head_place head_used) (n + length bytes)) (blocks_left t l o scratch e sound took update few fewer fits p₁ b₁ rec') eu) in
         let store : s₁ ≡ sets s (block_column b 0 head_used) bytes = es ∙ ap (λ (n : ℕ). sets s n bytes) eu in
         rw (is, store) (update_encodes t l o scratch e sound took update few fewer fits p₁ b₁ rec', update_tables t l o scratch e sound took update few fewer fits p₁ b₁ rec');

@@ -18,12 +18,12 @@ use Rattle.refusals.specs.Numbers.{number_of, answer_by}
 use Rattle.index_record.specs.declared.Change.{Change}
 use Rattle.index_record.specs.declared.Operation.{Operation as LentOperation}
 
-abbrev pub operation : (tick first : ℕ) (bytes : List ℕ) → Operation
-operation tick first bytes = record { tick = tick; first = first; bytes = bytes }
+abbrev pub operation : (kind tick first : ℕ) (bytes : List ℕ) → Operation
+operation kind tick first bytes = record { kind = kind; tick = tick; first = first; bytes = bytes }
 
 -- the operation that a call is lent
 abbrev pub lent_operation : LentOperation → Operation
-lent_operation o = operation o.tick o.first o.bytes.now
+lent_operation o = operation o.kind o.tick o.first o.bytes.now
 
 -- ── refusals ──
 

@@ -1,16 +1,18 @@
--- The refusals of record that depend on the call and the board, 5 to 11 but for 26, by the numbers that they compare. Definitions alone: that they are the ledger's
+-- The refusals of record that depend on the call and the board, 25 and 5 to 11 but for 26, by the numbers that they compare. Definitions alone: that they are the ledger's
 -- stands in proofs/Refusing.antt.
-use Rattle.std.specs.Prelude.{◌≡◌, List, [], ◌∷◌, ℕ, ◌+◌, ◌-◌, ◌/◌, ◌^◌, leb, ltb, eqb, length, Result}
+use Rattle.std.specs.Prelude.{◌≡◌, Bool, not, List, [], ◌∷◌, ℕ, ◌+◌, ◌-◌, ◌/◌, ◌^◌, leb, ltb, eqb, length, Result}
 use Rattle.history.specs.Lent.{row_width, piece_head, block_head}
 use Rattle.history.specs.Refusals.{Answer, Refusal, ◌if◌, first_of}
 use Rattle.refusals.specs.declared.Refusal.{Refusal as Named}
 use Rattle.refusals.specs.Numbers.{answer_by}
-use Rattle.tables.specs.Columns.{block_column, head_end, head_last, head_count, head_used}
+use Rattle.tables.specs.Masks.{opens}
+use Rattle.tables.specs.Columns.{block_column, head_end, head_kinds, head_last, head_count, head_used}
 
--- of the call itself: 5 to 8
-unfoldable pub call_refusals : (end last tick first size : ℕ) → List Refusal
-call_refusals end last tick first size =
-    5 if eqb size 0
+-- of the call itself: 25, where its kind is not opened, and 5 to 8
+unfoldable pub call_refusals : (opened : Bool) (end last tick first size : ℕ) → List Refusal
+call_refusals opened end last tick first size =
+    25 if not opened
+    ∷ 5 if eqb size 0
     ∷ 6 if ltb (2 ^ 64 - 1) (first + size)
     ∷ 7 if leb end tick
     ∷ 8 if ltb tick last
@@ -39,8 +41,8 @@ abbrev pub First : (r : Result Unit Named) (rs : List Refusal) → Type 0
 First r rs = first_answer rs ≡ answer_by (λ u. u) r
 
 -- `call_refusal`
-pub record CallTested (blocks : List ℕ) (tick first size : ℕ) (r : Result Unit Named) : Type 0 where
-  pub finds : First r (call_refusals (block_column blocks 0 head_end) (block_column blocks 0 head_last) tick first size)
+pub record CallTested (blocks : List ℕ) (kind tick first size : ℕ) (r : Result Unit Named) : Type 0 where
+  pub finds : First r (call_refusals (opens (block_column blocks 0 head_kinds) kind) (block_column blocks 0 head_end) (block_column blocks 0 head_last) tick first size)
 
 -- `space_refusal`
 pub record SpaceTested (pieces blocks store : List ℕ) (left made size : ℕ) (r : Result Unit Named) : Type 0 where

@@ -18,11 +18,12 @@ ghost use Rattle.index_record.specs.Calls.{lent_operation, Judged, ReadApplied, 
 
 use piece_table::Piece;
 use refusals::Refusal;
-use tables::{block, piece};
+use tables::{block, kinds, piece};
 
-// What is recorded: at a tick, the bytes of the cells from the first on.
+// What is recorded: at a tick, the bytes of a kind's cells from the first on.
 #[derive(Clone, Copy)]
 pub struct Operation<'a> {
+    pub kind: u64,
     pub tick: u64,
     pub first: u64,
     pub bytes: &'a [u8],
@@ -44,11 +45,14 @@ fn exceeds(limit: u64, a: u64, b: u64) -> bool
     a.checked_add(b).is_none_or(|sum| limit < sum)
 }
 
-// Which of 5 to 8 the call is refused for.
+// Whether 25 or which of 5 to 8 the call is refused for.
 #[tactic(auto, using(crate::proofs::Judging::calling))]
 fn call_refusal(blocks: &[u64], op: Operation) -> Result<(), Refusal>
-    ensures { CallTested blocks.now op.entry.tick op.entry.first (length op.entry.bytes.now) result }
+    ensures { CallTested blocks.now op.entry.kind op.entry.tick op.entry.first (length op.entry.bytes.now) result }
 {
+    if !kinds::has(block_table::kinds(blocks), op.kind) {
+        return Err(Refusal::KindNotOpened);
+    }
     let size = op.bytes.len() as u64;
     if size == 0 {
         return Err(Refusal::NoCells);
@@ -108,7 +112,7 @@ pub fn refusal(
     if calendar_table::closed(blocks, op.first, op.bytes) {
         return Err(Refusal::CellClosed);
     }
-    let after = survey::survey(pieces, store, op.first, op.bytes);
+    let after = survey::survey(pieces, store, op.kind, op.first, op.bytes);
     let size = op.bytes.len() as u64;
     let same = after.same;
     let near = after.near;
@@ -145,7 +149,6 @@ pub fn enter_update(
         (lent_operation op.entry) }
 {
     let used = block_table::used(blocks);
-    let kind = block_table::kind(blocks);
     let size = op.bytes.len() as u64;
     let Some(after) = used.checked_add(size) else {
         return;
@@ -156,7 +159,7 @@ pub fn enter_update(
         size,
         written: op.tick,
         offset: used,
-        owner: kind,
+        owner: op.kind,
     };
     recording::apply_update(pieces, blocks, piece, near);
     block_table::set_used(blocks, after);

@@ -9,7 +9,7 @@ use Rattle.lists.specs.Tests.{Decides}
 use Rattle.lists.proofs.Numbers.{confirm, refute, decides_iff}
 use Rattle.history.specs.Lent.{Lent, too_short, block_rows, piece_head, block_head, node_head, entry_head}
 use Rattle.history.specs.Refusals.{max_end_tick}
-use Rattle.tables.specs.Columns.{column, pieces_count, head_end, head_kind, head_count, head_used, head_last}
+use Rattle.tables.specs.Columns.{column, pieces_count, head_end, head_kinds, head_count, head_used, head_last}
 use Rattle.block_table.specs.Rows.{RowsSound}
 use Rattle.piece_table.specs.Test as piece
 use Rattle.day_table.specs.DayLists.{DaysFormed}
@@ -39,17 +39,18 @@ pub ruleset fitting = (short_pieces, short_blocks, short_nodes, short_entries, l
 
 -- ── numbers ──
 
-module _ (t : Tables) (end used kind last : ℕ) (a : end ≡ head_at t head_end) (b : used ≡ head_at t head_used) (c : kind ≡ head_at t head_kind)
+module _ (t : Tables) (end used kinds last : ℕ) (a : end ≡ head_at t head_end) (b : used ≡ head_at t head_used) (c : kinds ≡ head_at t head_kinds)
     (d : last ≡ head_at t head_last) where
   pub numbers_rest : (r : Bool) (count pieces : ℕ) → count ≡ head_at t head_count → pieces ≡ column t.pieces 0 pieces_count
-      → (end ≡ 0 → ⊥) → end ≤ max_end_tick → kind ≤ 4 → last < end → used ≤ length t.store
+      → (end ≡ 0 → ⊥) → end ≤ max_end_tick → (kinds ≡ 0 → ⊥) → kinds ≤ 31 → last < end → used ≤ length t.store
       → Decides r (count + pieces ≤ block_rows (lengths_of t)) → Decides r (Numbers t)
-  numbers_rest r count pieces p q some most known before fits k =
+  numbers_rest r count pieces p q some most any few before fits k =
       decides_iff r
       (λ h. record {
         some_tick = omega arith;
         end_most = omega arith;
-        known_kind = omega arith;
+        some_kind = omega arith;
+        kinds_most = omega arith;
         last_below_end = omega arith;
         used_fits = omega arith;
         rows_fit = rw (← p, ← q) h;
@@ -62,8 +63,11 @@ end_none t end a e = refute (λ s. omega (arith, s.some_tick))
 pub end_high : (t : Tables) (end : ℕ) → end ≡ head_at t head_end → max_end_tick < end → Decides false (Numbers t)
 end_high t end a h = refute (λ s. omega (arith, s.end_most))
 
-pub kind_high : (t : Tables) (kind : ℕ) → kind ≡ head_at t head_kind → 4 < kind → Decides false (Numbers t)
-kind_high t kind a h = refute (λ s. omega (arith, s.known_kind))
+pub kinds_none : (t : Tables) (kinds : ℕ) → kinds ≡ head_at t head_kinds → kinds ≡ 0 → Decides false (Numbers t)
+kinds_none t kinds a e = refute (λ s. omega (arith, s.some_kind))
+
+pub kinds_high : (t : Tables) (kinds : ℕ) → kinds ≡ head_at t head_kinds → 31 < kinds → Decides false (Numbers t)
+kinds_high t kinds a h = refute (λ s. omega (arith, s.kinds_most))
 
 pub last_late : (t : Tables) (end last : ℕ) → end ≡ head_at t head_end → last ≡ head_at t head_last → end ≤ last → Decides false (Numbers t)
 last_late t end last a b h = refute (λ s. omega (arith, s.last_below_end))
@@ -71,7 +75,7 @@ last_late t end last a b h = refute (λ s. omega (arith, s.last_below_end))
 pub used_past : (t : Tables) (used : ℕ) → used ≡ head_at t head_used → length t.store < used → Decides false (Numbers t)
 used_past t used a h = refute (λ s. omega (arith, s.used_fits))
 
-pub ruleset numbering = (numbers_rest, end_none, end_high, kind_high, last_late, used_past, arith)
+pub ruleset numbering = (numbers_rest, end_none, end_high, kinds_none, kinds_high, last_late, used_past, arith)
 
 -- ── the heads ──
 
@@ -97,13 +101,13 @@ pub ruleset heading = (head_heads, head_numbers_lem, head_calendar, head_rest)
 pub board_head : (t : Tables) (r : Bool) → not r ≡ true → Decides r (HeadFormed t) → Decides false (BoardFormed t)
 board_head t r e d = refute (λ s. d.not (not-true r e) (record { heads = s.heads; numbers = s.numbers; calendar = s.calendar; days = s.days }))
 
-module _ (t : Tables) (kind end used last count : ℕ) (a : kind ≡ head_at t head_kind) (b : end ≡ head_at t head_end) (c : used ≡ head_at t head_used)
+module _ (t : Tables) (kinds end used last count : ℕ) (a : kinds ≡ head_at t head_kinds) (b : end ≡ head_at t head_end) (c : used ≡ head_at t head_used)
     (d : last ≡ head_at t head_last) (n : count ≡ head_at t head_count) where
-  pub board_rows : (r : Bool) → not r ≡ true → Decides r (RowsSound t.blocks (record { kind = kind; end = end; used = used }) 0 count) → Decides false (BoardFormed t)
+  pub board_rows : (r : Bool) → not r ≡ true → Decides r (RowsSound t.blocks (record { kinds = kinds; end = end; used = used }) 0 count) → Decides false (BoardFormed t)
   board_rows r e k = refute (λ s. k.not (not-true r e) (rw (a, b, c, n) s.rows))
 
   pub board_rest : (h r p : Bool) → not h ≡ false → not r ≡ false → Decides h (HeadFormed t)
-      → Decides r (RowsSound t.blocks (record { kind = kind; end = end; used = used }) 0 count) → Decides p (piece.WellFormed t.pieces kind used last)
+      → Decides r (RowsSound t.blocks (record { kinds = kinds; end = end; used = used }) 0 count) → Decides p (piece.WellFormed t.pieces kinds used last)
       → Decides p (BoardFormed t)
   board_rest h r p eh er dh dr dp =
       let head = dh.yes (not-false h eh) in

@@ -1,7 +1,8 @@
 -- The test behind refusal 2 decides exactly: tables that pass stand for a sound ledger, and the state in the head tells open from closed. Assumes nothing.
 use mathlib.Core.Path.{◌≡◌, refl, ap, ◌∙◌}
-use mathlib.Core.Bool.{Bool, true, false, true≢false, false≢true}
+use mathlib.Core.Bool.{Bool, true, false, false≢true}
 use mathlib.Core.Option.{Option, none, some}
+use mathlib.Core.List.{List}
 use native.Mathlib.Omega.{arith}
 use Rattle.history.specs.Tree.{Tree}
 use Rattle.history.specs.Ledger.{is_some}
@@ -9,8 +10,9 @@ use Rattle.tables.specs.Columns.{head_state}
 use Rattle.layout.specs.Tables.{Tables, head_at}
 use Rattle.layout.specs.Encodes.{open_state, closed_state, state_of}
 use Rattle.layout.specs.Formed.{WellFormed}
+use Rattle.layout.proofs.ReadLaws.{open_without_tree}
 use Rattle.index_test.specs.Law.{FormedAs, TestDecides}
-use Rattle.index_test.specs.States.{number_of}
+use Rattle.index_test.specs.States.{state_number}
 use Rattle.index_test.specs.declared.State.{State}
 use Rattle.index_test.specs.declared.State.TheVariants.{Bad, Open, Closed}
 use Rattle.index_test.proofs.Tested.{Passes, open_passes, closed_passes}
@@ -18,30 +20,26 @@ use Rattle.index_test.proofs.Tested.{Passes, open_passes, closed_passes}
 -- ── three answers ──
 
 -- no two are the same
-other : {A : Type 0} (x y : State) → (number_of x ≡ number_of y → ⊥) → x ≡ y → A
-other x y differ e = absurd (differ (ap number_of e))
+other : {A : Type 0} (x y : State) → (state_number x ≡ state_number y → ⊥) → x ≡ y → A
+other x y differ e = absurd (differ (ap state_number e))
 
 -- ── tables of an open and of a closed index ──
 
 as_formed : {t : Tables} {b : Bool} → FormedAs t b → WellFormed t
 as_formed w = record { ledger = w.ledger; encodes = w.encodes; sound = w.sound }
 
-passed : {t : Tables} {x : Option Tree} → Passes t x → FormedAs t (is_some x)
-passed p = record { ledger = p.ledger; encodes = p.encodes; sound = p.sound; is = ap is_some p.tree }
+passed : {t : Tables} {x : Option (List Tree)} → Passes t x → FormedAs t (is_some x)
+passed p = record { ledger = p.ledger; encodes = p.encodes; sound = p.sound; is = ap is_some p.trees }
 
-open_state_lem : (x : Option Tree) → is_some x ≡ false → state_of x ≡ open_state
-open_state_lem none e = refl
-open_state_lem (some tree) e = absurd (true≢false e)
-
-closed_state_lem : (x : Option Tree) → is_some x ≡ true → state_of x ≡ closed_state
+closed_state_lem : (x : Option (List Tree)) → is_some x ≡ true → state_of x ≡ closed_state
 closed_state_lem none e = absurd (false≢true e)
-closed_state_lem (some tree) e = refl
+closed_state_lem (some trees) e = refl
 
 -- one head does not say both
 one_state : {t : Tables} → FormedAs t false → FormedAs t true → ⊥
 one_state {t} w v =
-    let open' : head_at t head_state ≡ open_state = w.encodes.state ∙ open_state_lem w.ledger.tree w.is in
-    let closed : head_at t head_state ≡ closed_state = v.encodes.state ∙ closed_state_lem v.ledger.tree v.is in
+    let open' : head_at t head_state ≡ open_state = w.encodes.state ∙ open_without_tree w.ledger.trees w.is in
+    let closed : head_at t head_state ≡ closed_state = v.encodes.state ∙ closed_state_lem v.ledger.trees v.is in
     omega arith
 
 -- ── exact ──

@@ -5,7 +5,7 @@ use native.Mathlib.Omega.{arith}
 use borrow.Author.Tests.{ne_eqb}
 use Rattle.index_test.specs.declared.State.{State}
 use Rattle.index_test.specs.declared.State.TheVariants.{Bad, Open, Closed}
-use Rattle.index_test.specs.States.{number_of, state_numbered}
+use Rattle.index_test.specs.States.{state_number, state_numbered}
 
 pub state_open : {n : ℕ} → n ≡ 1 → Open ≡ state_numbered n
 unfolding state_numbered
@@ -21,7 +21,7 @@ state_bad {n} one two = rw (ne_eqb n 1 one, ne_eqb n 2 two) refl
 
 pub ruleset states = (state_open, state_closed, state_bad, arith)
 
-pub number_back : (s : State) → state_numbered (number_of s) ≡ s
+pub number_back : (s : State) → state_numbered (state_number s) ≡ s
 unfolding state_numbered
 number_back Bad = refl
 number_back Open = refl

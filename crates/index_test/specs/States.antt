@@ -25,10 +25,10 @@ when_closed Closed = Ok tt
 
 -- ── its number ──
 
-abbrev pub number_of : State → ℕ
-number_of Bad = 0
-number_of Open = 1
-number_of Closed = 2
+abbrev pub state_number : State → ℕ
+state_number Bad = 0
+state_number Open = 1
+state_number Closed = 2
 
 -- 1 open, 2 closed; any other number stands for tables that are not well formed
 unfoldable pub state_numbered : ℕ → State

@@ -6,8 +6,10 @@ ghost use Rattle.layout.specs.Tables.{held, lengths_of};
 ghost use Rattle.index_test.specs.Board.{Numbers, HeadFormed, BoardFormed};
 
 use layout::Tables;
-use tables::kind::Kind;
 use tables::{block, entry, node, piece};
+
+// The mask of all five kinds.
+const ALL_KINDS: u64 = 31;
 
 // Whether each table holds its head.
 #[tactic(auto, using(crate::proofs::BoardTested::fitting))]
@@ -49,9 +51,13 @@ fn test_numbers(lent: Tables) -> bool
     if block::MAX_END_TICK < end {
         return false;
     }
-    let Ok(_) = Kind::try_from(block_table::kind(lent.blocks)) else {
+    let kinds = block_table::kinds(lent.blocks);
+    if kinds == 0 {
         return false;
-    };
+    }
+    if ALL_KINDS < kinds {
+        return false;
+    }
     if end <= block_table::last(lent.blocks) {
         return false;
     }
@@ -91,13 +97,13 @@ pub fn test_board(lent: Tables) -> bool
     if !test_head(lent) {
         return false;
     }
-    let kind = block_table::kind(lent.blocks);
+    let kinds = block_table::kinds(lent.blocks);
     let end = block_table::end(lent.blocks);
     let used = block_table::used(lent.blocks);
     let last = block_table::last(lent.blocks);
     let count = block_table::count(lent.blocks);
-    if !block_table::rows::test_rows(lent.blocks, count, kind, end, used) {
+    if !block_table::rows::test_rows(lent.blocks, count, kinds, end, used) {
         return false;
     }
-    piece_table::test_pieces(lent.pieces, kind, used, last)
+    piece_table::test::test_pieces(lent.pieces, kinds, used, last)
 }

@@ -22,7 +22,7 @@ ghost use Rattle.std.specs.Prelude.{◌≡◌};
 ghost use Rattle.layout.specs.Tables.{held};
 ghost use Rattle.index_test.specs.Board.{Outcome, TestedClosed};
 ghost use Rattle.index_test.specs.Law.{TestDecides};
-ghost use Rattle.index_test.specs.States.{when_formed, when_open, when_closed, number_of, state_numbered};
+ghost use Rattle.index_test.specs.States.{when_formed, when_open, when_closed, state_number, state_numbered};
 
 mod board;
 
@@ -54,7 +54,7 @@ impl From<u64> for State {
 }
 
 impl From<State> for u64 {
-    ghost from_gives = { λ state n. n ≡ number_of state };
+    ghost from_gives = { λ state n. n ≡ state_number state };
 
     fn from(state: State) -> u64 {
         state as u64
@@ -97,7 +97,7 @@ impl State {
 }
 
 // Whether the tables that pass as a board are those of a closed index. Linear in the rows in use for whatever calls leave; rule 24 of other tables may take
-// O(n log E log n) steps. It is tested last, as it goes by the tree.
+// O(n log E log n) steps. It is tested last, as it goes by the trees.
 #[tactic(auto, using(crate::proofs::Tested::closing))]
 fn test_closed(lent: Tables) -> bool
     ensures { TestedClosed (held lent.entry) result }
@@ -111,11 +111,10 @@ fn test_closed(lent: Tables) -> bool
             nodes: lent.nodes,
             entries: lent.entries,
         },
-        kind: block_table::kind(lent.blocks),
         end: block_table::end(lent.blocks),
         n: block_table::count(lent.blocks),
     };
-    segment_test::test_tree(&claim) && segment_apart::apart(&claim)
+    segment_test::test_trees(&claim) && segment_apart::apart(&claim)
 }
 
 // What the tables are: of an open index, of a closed one, or not well formed.

@@ -74,7 +74,7 @@ module _ {t : Tables} (w : WellFormed t) where
 never : {r : Result} {n : ℕ} → ◌≡◌ {A = Answer Result} (accepted r) (refused n) → ⊥
 never e = let z : ◌≡◌ {A = ℕ} 0 1 = cc in omega arith
 
-closed_after : (l : Ledger) → state_of (finish_by l).tree ≡ closed_state
+closed_after : (l : Ledger) → state_of (finish_by l).trees ≡ closed_state
 unfolding finish_by
 closed_after l = refl
 

@@ -18,7 +18,7 @@ use Rattle.std.specs.Prelude.{Ok, Err}
 use Rattle.refusals.specs.declared.Refusal.{Refusal}
 use Rattle.refusals.specs.declared.Refusal.TheVariants.{Malformed, NotFinished}
 use Rattle.refusals.specs.Numbers.{number_of}
-use Rattle.index_test.specs.States.{when_formed, when_closed, number_of as state_number}
+use Rattle.index_test.specs.States.{when_formed, when_closed, state_number}
 use Rattle.tables.specs.Columns.{column, pieces_count, block_column, head_count}
 use Rattle.piece_table.specs.Piece.{piece_at}
 use Rattle.piece_table.specs.Shown.{shown}

@@ -26,16 +26,16 @@ use Rattle.index_tested.proofs.Keeping.{kept_not_closed, kept_closed_taken}
 
 -- ── find ──
 
-module _ (s : State) {x : Result Unit Refusal} {blocks nodes entries : List ℕ} {tick start stop : ℕ} {out : List ℕ} (is : x ≡ when_closed s) where
-  pub found_not_closed : {e : Refusal} → x ≡ Err e → FoundTested s blocks nodes entries tick start stop out out (refused (number_of e))
+module _ (s : State) {x : Result Unit Refusal} {blocks nodes entries : List ℕ} {kind tick start stop : ℕ} {out : List ℕ} (is : x ≡ when_closed s) where
+  pub found_not_closed : {e : Refusal} → x ≡ Err e → FoundTested s blocks nodes entries kind tick start stop out out (refused (number_of e))
   found_not_closed {e} q = record {
     done = λ pieces store k. record {
-      read = kept_not_closed e s k (sym is ∙ q) (λ n. HandedInto counts_of (λ f. f.numbers) out out (refused n)) (find_4 tick start stop (length out)) (λ n. into_refused);
+      read = kept_not_closed e s k (sym is ∙ q) (λ n. HandedInto counts_of (λ f. f.numbers) out out (refused n)) (find_4 kind tick start stop (length out)) (λ n. into_refused);
     };
   }
 
-  pub found_closed : {u : Unit} {out' : List ℕ} {a : Answer Counts} → x ≡ Ok u → FindClosed blocks nodes entries tick start stop out out' a
-      → FoundTested s blocks nodes entries tick start stop out out' a
+  pub found_closed : {u : Unit} {out' : List ℕ} {a : Answer Counts} → x ≡ Ok u → FindClosed blocks nodes entries kind tick start stop out out' a
+      → FoundTested s blocks nodes entries kind tick start stop out out' a
   found_closed q f = record { done = λ pieces store k. record { read = closed_read (kept_closed_taken s k (sym is ∙ q)) (f.found pieces store) } }
 
 -- ── in the store ──

@@ -1,7 +1,7 @@
 -- The returns of `record_tested`. Assumes nothing.
 use mathlib.Core.Logic.{◌⊎◌, inl, inr}
 use mathlib.Core.Path.{◌≡◌, refl, sym, ◌∙◌}
-use mathlib.Core.Bool.{Bool, true, false}
+use mathlib.Core.Bool.{Bool, false}
 use mathlib.Core.List.{List}
 use Prim.Native.Nat.{ℕ, ◌≤◌, ◌<◌}
 use borrow.Author.Tests.{le-ltb}
@@ -10,7 +10,7 @@ use Rattle.history.specs.Words.{Operation}
 use Rattle.history.specs.Lent.{least_scratch}
 use Rattle.history.specs.Ledger.{Ledger, record_by}
 use Rattle.history.specs.Results.{Result}
-use Rattle.history.specs.Refusals.{Answer, accepted, refused, first_of, record_refusals, record_answer}
+use Rattle.history.specs.Refusals.{Answer, accepted, refused, record_answer}
 use Rattle.history.specs.Sound.{Sound}
 use Rattle.history.proofs.EveryList.{record_sound}
 use Rattle.tables.specs.Columns.{head_state}
@@ -25,8 +25,8 @@ use Rattle.index_record.specs.Calls.{recorded, RecordedOpen}
 use Rattle.index_test.specs.declared.State.{State}
 use Rattle.index_test.specs.declared.State.TheVariants.{Bad, Open, Closed}
 use Rattle.index_test.specs.States.{when_open}
-use Rattle.index_test.proofs.Told.{Refuses, stands_refuses}
-use Rattle.index.proofs.Recording.{record_short}
+use Rattle.index_test.proofs.Told.{stands_refuses}
+use Rattle.index.proofs.Recording.{record_short, record_3}
 use Rattle.index.proofs.Finishing.{is_open}
 use Rattle.index_tested.specs.Kept.{StandsIn, CountsFit}
 use Rattle.index_tested.specs.Tested.{RecordedTested}
@@ -34,7 +34,7 @@ use Rattle.index_tested.proofs.Keeping.{stands_open, stands_closed, kept_open, f
 
 -- ── the state stays ──
 
-same_state : (l : Ledger) (o : Operation) → state_of (record_by l o).tree ≡ state_of l.tree
+same_state : (l : Ledger) (o : Operation) → state_of (record_by l o).trees ≡ state_of l.trees
 unfolding record_by
 same_state l o = refl
 
@@ -48,11 +48,6 @@ stays_open scratch o t t' l e s h (accepted r) q left = record {
 stays_open scratch o t t' l e s h (refused n) q left = rw left (record { formed = record { ledger = l; encodes = e; sound = s }; state = h })
 
 -- ── the returns ──
-
--- a finished ledger answers 3
-record_3 : (scratch : ℕ) (o : Operation) → least_scratch ≤ scratch → Refuses (λ l. record_answer l scratch o) true 3
-unfolding record_refusals first_of
-record_3 scratch o long l held done = rw (held, le-ltb scratch least_scratch long, done)
 
 module _ {s : State} {pieces blocks store : List ℕ} {scratch : ℕ} {o : Operation} where
   pub tested_short : scratch < least_scratch → RecordedTested s pieces blocks store pieces blocks store scratch o (refused 2)

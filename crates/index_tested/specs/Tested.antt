@@ -21,8 +21,8 @@ pub record RecordedTested (s : State) (pieces blocks store pieces' blocks' store
       × Kept s (tables pieces' blocks' store' nodes entries)
 
 -- `find_tested`
-pub record FoundTested (s : State) (blocks nodes entries : List ℕ) (tick start stop : ℕ) (out out' : List ℕ) (answer : Answer Counts) : Type 0 where
-  pub done : (pieces store : List ℕ) → Kept s (tables pieces blocks store nodes entries) → FoundBy (tables pieces blocks store nodes entries) tick start stop out out' answer
+pub record FoundTested (s : State) (blocks nodes entries : List ℕ) (kind tick start stop : ℕ) (out out' : List ℕ) (answer : Answer Counts) : Type 0 where
+  pub done : (pieces store : List ℕ) → Kept s (tables pieces blocks store nodes entries) → FoundBy (tables pieces blocks store nodes entries) kind tick start stop out out' answer
 
 -- ── block by number ──
 

@@ -66,19 +66,20 @@ pub fn record_tested(
     index_record::record_open(pieces, blocks, store, op)
 }
 
-// The live blocks whose first cell is in [start, end) at a tick.
+// The live blocks of a kind whose first cell is in [start, end) at a tick.
 pub fn find_tested(
     state: State,
     closed: &Closed<'_>,
+    kind: u8,
     tick: u64,
     start: u64,
     end: u64,
     answer: &mut [u64],
 ) -> Result<Found, Refusal>
-    ensures { FoundTested state closed.now.blocks.now closed.now.nodes.now closed.now.entries.now tick start end answer.old answer.new (answer_by counts_given result) }
+    ensures { FoundTested state closed.now.blocks.now closed.now.nodes.now closed.now.entries.now kind tick start end answer.old answer.new (answer_by counts_given result) }
 {
     state.closed()?;
-    index_read::find_closed(closed, tick, start, end, answer)
+    index_read::find_closed(closed, u64::from(kind), tick, start, end, answer)
 }
 
 // A block whose bytes lie in the store; any other is refused 2.

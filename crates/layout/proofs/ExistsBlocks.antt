@@ -29,14 +29,14 @@ pub record BlockRows (store : List ℕ) (used : ℕ) (bs : List Block) : Type 0 
   pub inside : All (λ (f : BlockRow). f.offset + f.size ≤ used) rows
 
 -- every sound block has a row; the store may go on behind the used part
-pub block_rows_lem : (kind end : ℕ) (store rest : List ℕ) (bs : List Block) → All (sound.SoundBlock kind end store) bs → BlockRows (store ++ rest) (length store) bs
-block_rows_lem kind end store rest [] all_nil = record { rows = []; shows = refl; inside = all_nil }
-block_rows_lem kind end store rest (b ∷ bs) (all_cons h hs) =
+pub block_rows_lem : (kinds : List ℕ) (end : ℕ) (store rest : List ℕ) (bs : List Block) → All (sound.SoundBlock kinds end store) bs → BlockRows (store ++ rest) (length store) bs
+block_rows_lem kinds end store rest [] all_nil = record { rows = []; shows = refl; inside = all_nil }
+block_rows_lem kinds end store rest (b ∷ bs) (all_cons h hs) =
     let stored = h.stretch.stored in
-    let more = block_rows_lem kind end store rest bs hs in
+    let more = block_rows_lem kinds end store rest bs hs in
     let row : BlockRow =
     record { first = first_cell b; size = size b.stretch; created = b.created; destroyed = b.destroyed; offset = stored.offset; owner = b.kind } in
-    let is : shown_block (store ++ rest) row ≡ b = shown_is (store ++ rest) row b refl refl (part_in store rest b.stretch stored) refl refl in
+    let is : shown_block (store ++ rest) row ≡ b = shown_is (store ++ rest) row b refl (omega (arith, h.stretch.from_line)) (part_in store rest b.stretch stored) refl refl in
     record {
       rows = row ∷ more.rows;
       shows = ap₂ (λ (q : Block) (qs : List Block). q ∷ qs) is more.shows;
@@ -49,7 +49,7 @@ block_rows_lem kind end store rest (b ∷ bs) (all_cons h hs) =
 pub record Head : Type 0 where
   pub state : ℕ
   pub end : ℕ
-  pub kind : ℕ
+  pub kinds : ℕ
   pub used : ℕ
   pub last : ℕ
   -- what stands in its front: at the calendar's place no more than a calendar takes, and behind it no more than a list of days
@@ -60,7 +60,7 @@ pub record Head : Type 0 where
 
 -- the head, then a row for each block; what is not used is 0
 unfoldable pub block_row : Head → (fs : List BlockRow) (link : ℕ) → List ℕ
-block_row h fs zero = h.state ∷ h.end ∷ h.kind ∷ length fs ∷ h.used ∷ h.last ∷ []
+block_row h fs zero = h.state ∷ h.end ∷ h.kinds ∷ length fs ∷ h.used ∷ h.last ∷ []
 block_row h fs (suc k) =
     let f = get_or fs k no_row in
     f.first ∷ f.size ∷ f.created ∷ f.destroyed ∷ f.offset ∷ f.owner ∷ []
@@ -146,7 +146,7 @@ pub record RowWords (f : BlockRow) : Type 0 where
 pub record HeadWords (h : Head) : Type 0 where
   pub state : h.state < 2 ^ 64
   pub end : h.end < 2 ^ 64
-  pub kind : h.kind < 2 ^ 64
+  pub kinds : h.kinds < 2 ^ 64
   pub used : h.used < 2 ^ 64
   pub last : h.last < 2 ^ 64
   pub calendar : All Word h.calendar
@@ -164,7 +164,7 @@ block_table_words many h fs w few a =
 
     words : (link : ℕ) → All Word (block_row h fs link)
     words zero =
-        all_cons w.state (all_cons w.end (all_cons w.kind (all_cons few (all_cons w.used (all_cons w.last all_nil)))))
+        all_cons w.state (all_cons w.end (all_cons w.kinds (all_cons few (all_cons w.used (all_cons w.last all_nil)))))
     words (suc k) =
         let f : RowWords (get_or fs k no_row) = all_get no_row none a k in
         all_cons f.first

@@ -20,8 +20,9 @@ use Rattle.history.specs.Days.{Day, most_days, days_of}
 use Rattle.history.specs.Hours.{Calendar, calendar_width}
 use Rattle.history.specs.Ledger.{Ledger}
 use Rattle.history.specs.Sound.{SoundPiece, SoundBlock, SoundBoard}
+use Rattle.tables.specs.Columns.{head_state, head_end, head_kinds, head_count, head_used, head_last, block_base, front_calendar, front_days, front_mark_count}
+use Rattle.history.proofs.ByKind.{kind_known, set_same}
 use Rattle.history.proofs.DaysRising.{days_taken_decides}
-use Rattle.tables.specs.Columns.{block_base, front_calendar, front_days, front_mark_count, head_state, head_end, head_kind, head_count, head_used, head_last}
 use Rattle.block_table.specs.Blocks.{BlockRow, shown_block}
 use Rattle.piece_table.specs.Piece.{PieceRow}
 use Rattle.piece_table.specs.Shown.{shown}
@@ -29,9 +30,11 @@ use Rattle.day_table.specs.DayLists.{DaysIn, day_numbers}
 use Rattle.day_table.proofs.DayLists.{days_installed_in_lem}
 use Rattle.calendar_table.specs.Calendars.{CalendarIn, calendar_numbers}
 use Rattle.calendar_table.proofs.Calendars.{calendar-none, calendar_kept, written-length, installed_in_lem}
+use Rattle.kind_mask.specs.Masks.{mask_of}
 use Rattle.layout.specs.Tables.{Tables, tables, lengths_of, head_at}
-use Rattle.layout.specs.Encodes.{state_of, TreeIn, Encodes}
+use Rattle.layout.specs.Encodes.{state_of, Encodes, TreesIn}
 use Rattle.layout.specs.Law.{Word, Fits, NoneOrOfWords, DaysOfWords, Lendable}
+use Rattle.kind_mask.proofs.Masks.{mask_below, mask_kinds}
 use Rattle.layout.proofs.Lengths.{lent_same, Heads, heads_fit}
 use Rattle.layout.proofs.ExistsTable.{table_by, table_by_length, word_at}
 use Rattle.layout.proofs.ExistsPieces.{PieceRows, piece-rows, piece_table, piece_table_length, piece_links, pieces_shown, pieces_inside, PieceWords, piece_table_words}
@@ -97,9 +100,9 @@ front_of l s f = record {
 
 unfoldable pub head_of : (l : Ledger) → Front l → Head
 head_of l w = record {
-  state = state_of l.tree;
+  state = state_of l.trees;
   end = l.opening.end;
-  kind = l.opening.kind;
+  kinds = mask_of l.opening.kinds;
   used = length l.now.store;
   last = l.now.last;
   calendar = w.calendar.numbers;
@@ -111,10 +114,10 @@ head_of l w = record {
 module _ (l : Ledger) (s : SoundBoard l) where
   -- pieces and blocks with the offsets of their bytes
   pub piece_rows_of : PieceRows (l.now.store ++ unused l) (length l.now.store) l.now.pieces
-  piece_rows_of = piece-rows l.opening.kind l.now (unused l) l.now.pieces s.pieces
+  piece_rows_of = piece-rows l.opening.kinds l.now (unused l) l.now.pieces s.pieces
 
   pub block_rows_of : BlockRows (l.now.store ++ unused l) (length l.now.store) l.now.blocks
-  block_rows_of = block_rows_lem l.opening.kind l.opening.end l.now.store (unused l) l.now.blocks s.blocks
+  block_rows_of = block_rows_lem l.opening.kinds l.opening.end l.now.store (unused l) l.now.blocks s.blocks
 
   -- the tables of the board, with any order column, nodes and entries
   unfoldable pub tables_by : Front l → (nodes entries : List ℕ) → Tables
@@ -177,17 +180,18 @@ module _ (l : Ledger) (s : SoundBoard l) where
             table_by_length block_base l.opening.lent.blocks (block_row (head_of l w) block_rows_of.rows),
           ))
 
-      -- the board is as it should be, whatever tree there is
+      -- the board is as it should be, whatever trees there are
       pub board_encodes : length nodes ≡ l.opening.lent.nodes → length entries ≡ l.opening.lent.entries
-          → TreeIn (tables_by w nodes entries) l l.tree → Encodes (tables_by w nodes entries) l
+          → TreesIn (tables_by w nodes entries) l l.trees → Encodes (tables_by w nodes entries) l
       unfolding tables_by block_row head_of
-      board_encodes n e tree =
+      board_encodes n e trees =
           record {
             lengths = long;
             heads = rw (← long) fits;
             state = head_column head_state (omega arith);
             end = head_column head_end (omega arith);
-            kind = head_column head_kind (omega arith);
+            mask = rw (head_column head_kinds (omega arith)) (mask_below l.opening.kinds);
+            kinds = rw (head_column head_kinds (omega arith)) (sym (mask_kinds l.opening.kinds ∙ set_same l.opening.kinds s.known_kinds));
             last = head_column head_last (omega arith);
             used = used_is;
             store = rw used_is (sym (take-append_seam l.now.store (unused l)));
@@ -200,10 +204,10 @@ module _ (l : Ledger) (s : SoundBoard l) where
                 (blocks_inside l.opening.lent.blocks (head_of l w) block_rows_of.rows block_room (length l.now.store) block_rows_of.inside);
             links = count_from 1 (length piece_rows_of.rows);
             linked = piece_links l.opening.lent.pieces piece_rows_of.rows piece_room;
-            pieces = sym (pieces_shown l.opening.lent.pieces piece_rows_of.rows piece_room (l.now.store ++ unused l) ∙ piece_rows_of.shows);
+            pieces = sym (pieces_shown l.opening.lent.pieces piece_rows_of.rows piece_room piece_rows_of.lines (l.now.store ++ unused l) ∙ piece_rows_of.shows);
             pieces_stored =
-                rw used_is (pieces_inside l.opening.lent.pieces piece_rows_of.rows piece_room (length l.now.store) piece_rows_of.inside);
-            tree = tree;
+                rw used_is (pieces_inside l.opening.lent.pieces piece_rows_of.rows piece_room piece_rows_of.lines (length l.now.store) piece_rows_of.inside);
+            trees = trees;
             calendar = calendar_there;
             days = days_there;
           }
@@ -225,24 +229,24 @@ unfolding head_of
 head_words l s f w =
     let last : l.now.last < 2 ^ 64 = omega (arith, s.last_below_end, s.end_most) in
     let e : l.opening.end < 2 ^ 64 = omega (arith, s.end_most) in
-    let k : l.opening.kind < 2 ^ 64 = omega (arith, s.known_kind) in
+    let k : mask_of l.opening.kinds < 2 ^ 64 = omega (arith, mask_below l.opening.kinds) in
     let used : length l.now.store < 2 ^ 64 = omega (arith, s.store_fits, f.store) in
-    record { state = state l.tree; end = e; kind = k; used = used; last = last; calendar = w.calendar.words; days = w.days.words }
+    record { state = state l.trees; end = e; kinds = k; used = used; last = last; calendar = w.calendar.words; days = w.days.words }
   where
-    state : (tree : Option segment.Tree) → state_of tree < 2 ^ 64
+    state : (trees : Option (List segment.Tree)) → state_of trees < 2 ^ 64
     state none = omega arith
-    state (some tree) = omega arith
+    state (some trees) = omega arith
 
 module _ (l : Ledger) (s : SoundBoard l) (f : Lendable l) where
   piece_words : All PieceWords (piece_rows_of l s).rows
   piece_words = all_both words sounds (piece_rows_of l s).inside
     where
-      sounds : All (λ (p : PieceRow). SoundPiece l.opening.kind l.now (shown (l.now.store ++ unused l) p)) (piece_rows_of l s).rows
+      sounds : All (λ (p : PieceRow). SoundPiece l.opening.kinds l.now (shown (l.now.store ++ unused l) p)) (piece_rows_of l s).rows
       sounds =
           all_un_map (shown (l.now.store ++ unused l)) (piece_rows_of l s).rows
-          (subst (λ (ps : List Piece). All (SoundPiece l.opening.kind l.now) ps) (sym (piece_rows_of l s).shows) s.pieces)
+          (subst (λ (ps : List Piece). All (SoundPiece l.opening.kinds l.now) ps) (sym (piece_rows_of l s).shows) s.pieces)
 
-      words : (p : PieceRow) → SoundPiece l.opening.kind l.now (shown (l.now.store ++ unused l) p) → p.offset + p.size ≤ length l.now.store
+      words : (p : PieceRow) → SoundPiece l.opening.kinds l.now (shown (l.now.store ++ unused l) p) → p.offset + p.size ≤ length l.now.store
           → PieceWords p
       words p h i =
           record {
@@ -250,23 +254,23 @@ module _ (l : Ledger) (s : SoundBoard l) (f : Lendable l) where
             size = omega (arith, s.store_fits, f.store);
             written = omega (arith, h.written_by_last, s.last_below_end, s.end_most);
             offset = omega (arith, s.store_fits, f.store);
-            owner = omega (arith, h.own_kind, s.known_kind);
+            owner = omega (arith, kind_known l.opening.kinds p.owner s.known_kinds h.own_kind);
           }
 
   block_words : All RowWords (block_rows_of l s).rows
   block_words = all_both words sounds (block_rows_of l s).inside
     where
       sounds :
-          All (λ (b : BlockRow). SoundBlock l.opening.kind l.opening.end l.now.store (shown_block (l.now.store ++ unused l) b)) (block_rows_of l s).rows
+          All (λ (b : BlockRow). SoundBlock l.opening.kinds l.opening.end l.now.store (shown_block (l.now.store ++ unused l) b)) (block_rows_of l s).rows
       sounds =
           all_un_map (shown_block (l.now.store ++ unused l)) (block_rows_of l s).rows
-          (subst (λ (bs : List Block). All (SoundBlock l.opening.kind l.opening.end l.now.store) bs) (sym (block_rows_of l s).shows) s.blocks)
+          (subst (λ (bs : List Block). All (SoundBlock l.opening.kinds l.opening.end l.now.store) bs) (sym (block_rows_of l s).shows) s.blocks)
 
-      words : (b : BlockRow) → SoundBlock l.opening.kind l.opening.end l.now.store (shown_block (l.now.store ++ unused l) b)
+      words : (b : BlockRow) → SoundBlock l.opening.kinds l.opening.end l.now.store (shown_block (l.now.store ++ unused l) b)
           → b.offset + b.size ≤ length l.now.store → RowWords b
       words b h i =
           record {
-            owner = omega (arith, h.own_kind, s.known_kind);
+            owner = omega (arith, kind_known l.opening.kinds b.owner s.known_kinds h.own_kind);
             first = omega (arith, h.stretch.no_wrap);
             size = omega (arith, s.store_fits, f.store);
             created = omega (arith, h.forward, h.by_end, s.end_most);

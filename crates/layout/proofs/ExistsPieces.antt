@@ -12,7 +12,7 @@ use Rattle.lists.specs.Lists.{All, all_nil, all_cons, Mem, here, there, Ascendin
 use Rattle.lists.proofs.Lists.{all_left, all_right, all_mem, all_at, mem_left, mem_right, count_from_length, ascending_distinct}
 use Rattle.lists.proofs.Counting.{map_from_at, all_count_from}
 use Rattle.history.specs.Lent.{row_width}
-use Rattle.history.specs.Words.{Piece, size}
+use Rattle.history.specs.Words.{Piece, size, line_of, cell_place, cell_of}
 use Rattle.history.specs.Ledger.{Moment}
 use Rattle.history.specs.Sound as sound
 use Rattle.tables.specs.Columns.{column, piece_first, piece_length, piece_written, piece_offset, piece_left, piece_right, piece_depth, piece_owner, pieces_root, pieces_count}
@@ -154,18 +154,23 @@ says_links t n root count room f =
 
 -- ── the table ──
 
+-- the piece starts on the line of its kind
+pub record OnLine (p : PieceRow) : Type 0 where
+  pub from : line_of p.owner ≤ p.first
+
 -- the rows of pieces whose bytes lie in the first `used` bytes of a store
 pub record PieceRows (store : List ℕ) (used : ℕ) (ps : List Piece) : Type 0 where
   pub rows : List PieceRow
   pub shows : map (shown store) rows ≡ ps
   pub inside : All (λ (p : PieceRow). p.offset + p.size ≤ used) rows
+  pub lines : All OnLine rows
 
 -- every sound piece has a row; the store may go on behind the used part
-pub piece-rows : (kind : ℕ) (m : Moment) (rest : List ℕ) (ps : List Piece) → All (sound.SoundPiece kind m) ps → PieceRows (m.store ++ rest) (length m.store) ps
-piece-rows kind m rest [] all_nil = record { rows = []; shows = refl; inside = all_nil }
-piece-rows kind m rest (p ∷ ps) (all_cons h hs) =
+pub piece-rows : (kinds : List ℕ) (m : Moment) (rest : List ℕ) (ps : List Piece) → All (sound.SoundPiece kinds m) ps → PieceRows (m.store ++ rest) (length m.store) ps
+piece-rows kinds m rest [] all_nil = record { rows = []; shows = refl; inside = all_nil; lines = all_nil }
+piece-rows kinds m rest (p ∷ ps) (all_cons h hs) =
     let stored = h.stretch.stored in
-    let more = piece-rows kind m rest ps hs in
+    let more = piece-rows kinds m rest ps hs in
     let row : PieceRow = record { first = p.stretch.first; size = size p.stretch; written = p.written; offset = stored.offset; owner = p.kind } in
     let is : shown (m.store ++ rest) row ≡ p =
     λ i. record { kind = p.kind; stretch = record { first = p.stretch.first; bytes = part_in m.store rest p.stretch stored i }; written = p.written } in
@@ -173,6 +178,7 @@ piece-rows kind m rest (p ∷ ps) (all_cons h hs) =
       rows = row ∷ more.rows;
       shows = ap₂ (λ (q : Piece) (qs : List Piece). q ∷ qs) is more.shows;
       inside = all_cons stored.inside more.inside;
+      lines = all_cons {x = row} (record { from = omega (arith, h.stretch.from_line) }) more.lines;
     }
 
 abbrev pub no_piece : PieceRow
@@ -184,7 +190,7 @@ piece_row ps zero = root_of (tree_to (length ps)) ∷ length ps ∷ []
 piece_row ps (suc k) =
     let p = get_or ps k no_piece in
     let part = part_at (suc k) (tree_to (length ps)) in
-    p.first ∷ p.size ∷ p.written ∷ p.offset ∷ root_of (left_of part) ∷ root_of (right_of part) ∷ height part ∷ p.owner ∷ []
+    cell_of p.owner p.first ∷ p.size ∷ p.written ∷ p.offset ∷ root_of (left_of part) ∷ root_of (right_of part) ∷ height part ∷ p.owner ∷ []
 
 -- as long as it is lent
 unfoldable pub piece_table : (many : ℕ) (ps : List PieceRow) → List ℕ
@@ -218,29 +224,34 @@ module _ (many : ℕ) (ps : List PieceRow) (room : row_width * length ps + row_w
       says_links (piece_table many ps) (length ps) (piece-column 0 pieces_root (omega arith) (omega arith)) (piece-column 0 pieces_count (omega arith) (omega arith))
       (omega (arith, piece_table_length many ps)) piece_says
 
-  pub piece_at_lem : (k : ℕ) → k < length ps → piece_at (piece_table many ps) (suc k) ≡ get_or ps k no_piece
+  pub piece_at_lem : All OnLine ps → (k : ℕ) → k < length ps → piece_at (piece_table many ps) (suc k) ≡ get_or ps k no_piece
   unfolding piece_row
-  piece_at_lem k h = λ i. record {
-    first = piece-column (suc k) piece_first h (omega arith) i;
+  piece_at_lem lines k h = λ i. record {
+    first = first i;
     size = piece-column (suc k) piece_length h (omega arith) i;
     written = piece-column (suc k) piece_written h (omega arith) i;
     offset = piece-column (suc k) piece_offset h (omega arith) i;
     owner = piece-column (suc k) piece_owner h (omega arith) i;
   }
+    where
+      first : cell_place (column (piece_table many ps) (suc k) piece_owner) (column (piece_table many ps) (suc k) piece_first) ≡ (get_or ps k no_piece).first
+      first =
+          rw (piece-column (suc k) piece_owner h (omega arith), piece-column (suc k) piece_first h (omega arith))
+          (let on = all_at no_piece lines k h in omega (arith, on.from))
 
   -- all pieces are shown, and their bytes are inside the used part
-  pub pieces_shown : (store : List ℕ) → map (λ link. shown store (piece_at (piece_table many ps) link)) (count_from 1 (length ps)) ≡ map (shown store) ps
-  pieces_shown store =
-      map_from_at (shown store) (piece_at (piece_table many ps)) no_piece 1 ps (λ k p. let z : 1 + k ≡ suc k = omega arith in rw z (piece_at_lem k p))
+  pub pieces_shown : All OnLine ps → (store : List ℕ) → map (λ link. shown store (piece_at (piece_table many ps) link)) (count_from 1 (length ps)) ≡ map (shown store) ps
+  pieces_shown lines store =
+      map_from_at (shown store) (piece_at (piece_table many ps)) no_piece 1 ps (λ k p. let z : 1 + k ≡ suc k = omega arith in rw z (piece_at_lem lines k p))
 
-  pub pieces_inside : (used : ℕ) → All (λ (p : PieceRow). p.offset + p.size ≤ used) ps
+  pub pieces_inside : All OnLine ps → (used : ℕ) → All (λ (p : PieceRow). p.offset + p.size ≤ used) ps
       → All (λ link. (piece_at (piece_table many ps) link).offset + (piece_at (piece_table many ps) link).size ≤ used) (count_from 1 (length ps))
-  pieces_inside used a = all_count_from 1 (length ps) inside
+  pieces_inside lines used a = all_count_from 1 (length ps) inside
     where
       inside : (link : ℕ) → 1 ≤ link → link < 1 + length ps → (piece_at (piece_table many ps) link).offset + (piece_at (piece_table many ps) link).size ≤ used
       inside zero p q = absurd (omega arith)
       inside (suc k) p q =
-          let same = piece_at_lem k (omega arith) in
+          let same = piece_at_lem lines k (omega arith) in
           let off : (piece_at (piece_table many ps) (suc k)).offset ≡ (get_or ps k no_piece).offset = ap (λ (r : PieceRow). r.offset) same in
           let long : (piece_at (piece_table many ps) (suc k)).size ≡ (get_or ps k no_piece).size = ap (λ (r : PieceRow). r.size) same in
           rw (off, long) (all_at no_piece a k (omega arith))
@@ -296,7 +307,7 @@ right_all {P} (node l x r) a = tail (all_right (rows l) (x ∷ rows r) a)
 
 -- the numbers of a piece are words
 pub record PieceWords (p : PieceRow) : Type 0 where
-  pub first : p.first < 2 ^ 64
+  pub first : cell_of p.owner p.first < 2 ^ 64
   pub size : p.size < 2 ^ 64
   pub written : p.written < 2 ^ 64
   pub offset : p.offset < 2 ^ 64

@@ -12,7 +12,7 @@ use Rattle.history.specs.Days.{Day, most_days, days_of}
 use Rattle.history.specs.Hours.{Calendar, calendar_of}
 use Rattle.history.specs.Tree as segment
 use Rattle.history.specs.Ledger.{Ledger, with_calendar, with_days, is_some, finished, install_by, install_days_by}
-use Rattle.tables.specs.Columns.{column, block_base, block_first, head_state, head_end, head_kind, head_count, head_used, head_last, block_next}
+use Rattle.tables.specs.Columns.{column, block_base, block_first, head_state, head_end, head_kinds, head_count, head_used, head_last, block_next}
 use Rattle.block_table.specs.Blocks.{SameRows}
 use Rattle.block_table.proofs.Blocks.{blocks_kept}
 use Rattle.block_table.proofs.Keeping.{stored_kept}
@@ -24,20 +24,20 @@ use Rattle.day_table.proofs.DayLists.{days_kept, days_installed_in_lem, days_ins
 use Rattle.calendar_table.specs.Calendars.{CalendarIn, installed_in}
 use Rattle.calendar_table.proofs.Calendars.{calendar_kept, installed_in_lem, installed_other, installed_length}
 use Rattle.layout.specs.Tables.{Tables, tables, lengths_of, head_at, tree_tables}
-use Rattle.layout.specs.Encodes.{Encodes, TreeIn}
+use Rattle.layout.specs.Encodes.{Encodes, TreesIn}
 use Rattle.layout.specs.Formed.{Blank}
 use Rattle.layout.specs.Relations.{installed_tables, days_tables}
 use Rattle.layout.proofs.Lengths.{lent_same, heads_fit}
 
 -- ── an open ledger ──
 
-pub still_none : (tree : Option segment.Tree) → is_some tree ≡ false → tree ≡ none
+pub still_none : (trees : Option (List segment.Tree)) → is_some trees ≡ false → trees ≡ none
 still_none none e = refl
-still_none (some tree) e = absurd (true≢false e)
+still_none (some trees) e = absurd (true≢false e)
 
 -- its tables have no order
 pub open_unordered : (t : Tables) (l : Ledger) → Encodes t l → finished l ≡ false → Unordered t.blocks (length l.now.blocks)
-open_unordered t l e still = subst (λ (x : Option segment.Tree). TreeIn t l x) (still_none l.tree still) e.tree
+open_unordered t l e still = subst (λ (x : Option (List segment.Tree)). TreesIn t l x) (still_none l.trees still) e.trees
 
 -- ── another front ──
 
@@ -65,10 +65,10 @@ module _ (t : closed.Tables) (blocks' : List ℕ) (same : (k : ℕ) → closed.f
   tree_same kind link lo hi (segment.node es l r) h =
       (row_same h.0, tree_same kind (closed.left_at t.nodes link) lo (segment.mid lo hi) l h.1, tree_same kind (closed.right_at t.nodes link) (segment.mid lo hi) hi r h.2)
 
-  closed_same : {kind e : ℕ} {T : segment.Tree} → closed.Closed t kind e T → closed.Closed other kind e T
-  closed_same {kind} {e} {T} h = record {
-    stands = tree_same kind (column t.nodes 0 kind) 0 e T h.stands;
-    other_kinds = h.other_kinds;
+  closed_same : {e : ℕ} {trees : List segment.Tree} → closed.Closed t e trees → closed.Closed other e trees
+  closed_same {e} {trees} h = record {
+    five = h.five;
+    stands = λ kind low. tree_same kind (column t.nodes 0 kind) 0 e (segment.tree_at trees kind) (h.stands kind low);
     all_rows_lem = h.all_rows_lem;
     room = h.room;
     all_entries_lem = h.all_entries_lem;
@@ -96,7 +96,8 @@ module _ (t : Tables) (l : Ledger) (e : Encodes t l) (blocks' : List ℕ) (long 
     heads = rw (← lens) e.heads;
     state = head_same head_state ∙ e.state;
     end = head_same head_end ∙ e.end;
-    kind = head_same head_kind ∙ e.kind;
+    mask = rw (head_same head_kinds) e.mask;
+    kinds = rw (head_same head_kinds) e.kinds;
     last = head_same head_last ∙ e.last;
     used = head_same head_used ∙ e.used;
     store = rw (head_same head_used) e.store;
@@ -107,14 +108,14 @@ module _ (t : Tables) (l : Ledger) (e : Encodes t l) (blocks' : List ℕ) (long 
     linked = e.linked;
     pieces = e.pieces;
     pieces_stored = rw (head_same head_used) e.pieces_stored;
-    tree = front_tree l.tree e.tree;
+    trees = front_trees l.trees e.trees;
     calendar = calendar-in;
     days = days-in;
   }
     where
-      front_tree : (y : Option segment.Tree) → TreeIn t l y → TreeIn t' (with_days days (with_calendar x l)) y
-      front_tree none h = unordered_kept (same_rows (length l.now.blocks)) (head_same block_next) h
-      front_tree (some tree) h = closed_same (tree_tables t) blocks' (λ k. same (row_width * suc k + (block_base + block_first)) (omega arith)) h
+      front_trees : (y : Option (List segment.Tree)) → TreesIn t l y → TreesIn t' (with_days days (with_calendar x l)) y
+      front_trees none h = unordered_kept (same_rows (length l.now.blocks)) (head_same block_next) h
+      front_trees (some trees) h = closed_same (tree_tables t) blocks' (λ k. same (row_width * suc k + (block_base + block_first)) (omega arith)) h
 
 -- ── what install leaves ──
 

@@ -7,6 +7,7 @@ pub mod Trees
 pub mod ExistsTable
 pub mod ExistsPieces
 pub mod ExistsBlocks
+pub mod TreeRows
 pub mod ExistsTree
 pub mod ExistsBoard
 pub mod Exists

@@ -1,5 +1,6 @@
 -- The pieces of a table and of the ledger that it stands for: the layout with document 01's conditions is what `test_pieces` decides. Assumes nothing.
 use mathlib.Core.Path.{◌≡◌, refl, ap, sym, ◌∙◌, subst}
+use mathlib.Core.Bool.{true}
 use mathlib.Core.List.{List, [], ◌∷◌, map}
 use Prim.Native.Nat.{ℕ, ◌+◌, ◌^◌, ◌≤◌, ◌<◌}
 use native.Mathlib.Omega.{arith}
@@ -7,12 +8,14 @@ use lib.ListN.{length, take, drop, length-drop, length-take}
 use lib.Seq.{length-take-le}
 use Rattle.lists.proofs.Maps.{map-map}
 use Rattle.lists.proofs.Parts.{part-part}
-use Rattle.lists.specs.Lists.{All, all_cons, pairs_nil, pairs_cons}
+use Rattle.lists.specs.Lists.{All, all_cons, pairs_nil, pairs_cons, has}
 use Rattle.lists.proofs.Lists.{all_map, all_both, all_of_map, all_un_map, all_any}
 use Rattle.history.specs.Words.{Piece, size, ends}
 use Rattle.history.specs.Ledger.{Ledger}
 use Rattle.history.specs.Sound.{SoundPiece, InOrder, SoundBoard}
-use Rattle.tables.specs.Columns.{head_kind, head_used, head_last}
+use Rattle.tables.specs.Masks.{opens, kinds_in}
+use Rattle.tables.proofs.Masks.{kinds_has}
+use Rattle.tables.specs.Columns.{head_kinds, head_used, head_last}
 use Rattle.piece_table.specs.Piece.{PieceRow, row_end, piece_at, Filled, Follow}
 use Rattle.piece_table.specs.Shown.{shown}
 use Rattle.piece_table.specs.Rep.{Linked, Rep}
@@ -34,10 +37,15 @@ part_front k m n l h = let e : 0 + k ≡ k = omega arith in part-part 0 n k m l 
 -- ── from the ledger to the table ──
 
 -- what is known of a row by the piece that it shows
-row_filled : (kind : ℕ) (store : List ℕ) (p : PieceRow) (l : Ledger) → length store < 2 ^ 64 → p.offset + p.size ≤ length store → SoundPiece kind l.now (shown store p) → Filled p
-row_filled kind store p l few inside s =
+row_filled : (kinds : List ℕ) (store : List ℕ) (p : PieceRow) (l : Ledger) → length store < 2 ^ 64 → p.offset + p.size ≤ length store → SoundPiece kinds l.now (shown store p) → Filled p
+row_filled kinds store p l few inside s =
     let n = shown-size store p inside in
-    record { some = omega (arith, s.stretch.some_cell); near = omega (arith, s.stretch.no_wrap); stored = omega arith }
+    record {
+      some = omega (arith, s.stretch.some_cell);
+      line = omega (arith, s.stretch.from_line);
+      near = omega (arith, s.stretch.no_wrap);
+      stored = omega arith;
+    }
 
 follows : (at : ℕ → PieceRow) (store : List ℕ) (low : ℕ) (links : List ℕ) → All (λ link. low ≤ (at link).first) links → All (λ link. Filled (at link)) links
     → All (λ link. (at link).offset + (at link).size ≤ length store) links → InOrder (map (λ link. shown store (at link)) links) → Follow low (map at links)
@@ -60,15 +68,21 @@ module _ (t : Tables) (l : Ledger) (e : Encodes t l) (s : SoundBoard l) where
   pub pieces_inside : All (λ link. (piece_at t.pieces link).offset + (piece_at t.pieces link).size ≤ length t.store) e.links
   pieces_inside = all_map (λ link h. omega (arith, used_fits t l e)) e.pieces_stored
 
-  pieces_sound : All (λ link. SoundPiece l.opening.kind l.now (seen link)) e.links
-  pieces_sound = all_un_map seen e.links (subst (λ (ps : List Piece). All (SoundPiece l.opening.kind l.now) ps) e.pieces s.pieces)
+  pieces_sound : All (λ link. SoundPiece l.opening.kinds l.now (seen link)) e.links
+  pieces_sound = all_un_map seen e.links (subst (λ (ps : List Piece). All (SoundPiece l.opening.kinds l.now) ps) e.pieces s.pieces)
 
   pieces_order : InOrder (map seen e.links)
   pieces_order = subst InOrder e.pieces s.in_order
 
-  pieces_allowed : All (λ link. piece.Allowed (head_at t head_kind) (head_at t head_used) (head_at t head_last) (row link)) e.links
+  pieces_allowed : All (λ link. piece.Allowed (head_at t head_kinds) (head_at t head_used) (head_at t head_last) (row link)) e.links
   pieces_allowed =
-      all_both (λ link x y. record { inside = y; known = omega (arith, x.written_by_last, e.last); owned = x.own_kind ∙ sym e.kind }) pieces_sound e.pieces_stored
+      all_both (λ link x y. record { inside = y; known = omega (arith, x.written_by_last, e.last); owned = owned link x.own_kind }) pieces_sound e.pieces_stored
+    where
+      owned : (link : ℕ) → has (row link).owner l.opening.kinds ≡ true → opens (head_at t head_kinds) (row link).owner ≡ true
+      owned link h = sym (kinds_has (head_at t head_kinds) (row link).owner) ∙ rw e.kinds at h
+
+  pub pieces_filled : length t.store < 2 ^ 64 → All (λ link. Filled (piece_at t.pieces link)) e.links
+  pieces_filled fits = all_both (λ link x y. row_filled l.opening.kinds t.store (row link) l fits y x) pieces_sound pieces_inside
 
   pub pieces_linked : length t.pieces < 2 ^ 64 → length t.store < 2 ^ 64 → Linked t.pieces e.links
   pieces_linked few fits =
@@ -77,14 +91,14 @@ module _ (t : Tables) (l : Ledger) (e : Encodes t l) (s : SoundBoard l) where
         few = few;
         order =
             follows row t.store 0 e.links (all_any e.links (λ link. omega arith))
-            (all_both (λ link x y. row_filled l.opening.kind t.store (row link) l fits y x) pieces_sound pieces_inside) pieces_inside pieces_order;
+            (pieces_filled fits) pieces_inside pieces_order;
       }
 
   -- the table stands for the rows of the links, and the ledger has the pieces that they show
   pub pieces_rep : length t.pieces < 2 ^ 64 → length t.store < 2 ^ 64 → Rep t.pieces (map (piece_at t.pieces) e.links)
   pieces_rep few fits = record { links = e.links; linked = pieces_linked few fits; pieces = refl }
 
-  pub pieces_formed : length t.pieces < 2 ^ 64 → length t.store < 2 ^ 64 → piece.WellFormed t.pieces (head_at t head_kind) (head_at t head_used) (head_at t head_last)
+  pub pieces_formed : length t.pieces < 2 ^ 64 → length t.store < 2 ^ 64 → piece.WellFormed t.pieces (head_at t head_kinds) (head_at t head_used) (head_at t head_last)
   pieces_formed few fits = record { pieces = map (piece_at t.pieces) e.links; rep = pieces_rep few fits; allowed = all_of_map row pieces_allowed }
 
 -- the ledger's pieces are those that the rows show
@@ -94,14 +108,15 @@ pieces_shown t l e = e.pieces ∙ sym (map-map (shown t.store) (piece_at t.piece
 -- ── from the table to the ledger ──
 
 -- a row that is allowed shows a sound piece
-pub shown_sound : (kind : ℕ) (store : List ℕ) (used : ℕ) (l : Ledger) (p : PieceRow) → used ≤ length store → l.now.store ≡ take used store
-    → Filled p → piece.Allowed kind used l.now.last p → SoundPiece kind l.now (shown store p)
-shown_sound kind store used l p fits same f a =
+pub shown_sound : (mask : ℕ) (store : List ℕ) (used : ℕ) (l : Ledger) (p : PieceRow) → used ≤ length store → l.now.store ≡ take used store
+    → Filled p → piece.Allowed mask used l.now.last p → SoundPiece (kinds_in mask) l.now (shown store p)
+shown_sound mask store used l p fits same f a =
     let n = shown-size store p (omega (arith, a.inside)) in
     let long : length l.now.store ≡ used = ap length same ∙ length-take-le used store fits in
     record {
       stretch = record {
         some_cell = omega (arith, f.some);
+        from_line = omega (arith, f.line);
         no_wrap = omega (arith, f.near);
         stored = record {
           offset = p.offset;
@@ -110,7 +125,7 @@ shown_sound kind store used l p fits same f a =
         };
       };
       written_by_last = a.known;
-      own_kind = a.owned;
+      own_kind = kinds_has mask p.owner ∙ a.owned;
     }
 
 -- pieces that follow one another are in order

@@ -2,7 +2,7 @@
 -- answer. Assumes nothing.
 use mathlib.Core.Path.{◌≡◌, refl, sym, ap, ◌∙◌, subst}
 use mathlib.Core.Logic.{⊎_elim}
-use mathlib.Core.Bool.{Bool, true, false, cond}
+use mathlib.Core.Bool.{Bool, true, false, cond, true≢false}
 use mathlib.Core.Option.{Option, none, some}
 use mathlib.Core.List.{List}
 use Prim.Native.Nat.{ℕ, ◌+◌, ◌≤◌, ◌<◌}
@@ -13,37 +13,52 @@ use borrow.Author.Tests.{le-leb, lt-leb, lt-ltb, le-ltb}
 use Rattle.lists.proofs.Numbers.{le_or_lt}
 use Rattle.history.specs.Lent.{too_short}
 use Rattle.history.specs.Tree.{Tree}
-use Rattle.history.specs.Ledger.{Ledger, finished, is_some}
+use Rattle.history.specs.Ledger.{Ledger, finished, is_some, opens_kind}
 use Rattle.history.specs.Reads.{block_by, clock_by}
 use Rattle.history.specs.Refusals.{Answer, accepted, refused, first_of, window_refusals, neighbour_refusals, block_refusals, block_answer, clock_refusals, clock_answer, write_refusals}
 use Rattle.history.specs.File.{file_by, write_answer}
-use Rattle.tables.specs.Columns.{head_state, head_end}
+use Rattle.tables.specs.Masks.{opens, Opens}
+use Rattle.tables.proofs.Masks.{kinds_has}
+use Rattle.tables.specs.Columns.{head_state, head_end, head_kinds}
 use Rattle.layout.specs.Tables.{Tables, head_at}
 use Rattle.layout.specs.Encodes.{Encodes, state_of, open_state, closed_state}
 use Rattle.layout.specs.Reads.{values_of, filled_by, HandedOut, HandedInto, ClosedBy}
 use Rattle.layout.specs.Relations.{Fields, BlockHanded, BlockGivenBy}
 
+-- ── a kind asked of the mask that was read ──
+
+pub mask_opens : {column mask kind : ℕ} {o b : Bool} → mask ≡ column → Opens mask kind o → o ≡ b → opens column kind ≡ b
+mask_opens {kind = kind} m is q = ap (λ (n : ℕ). opens n kind) (sym m) ∙ sym is.is ∙ q
+
 -- ── a ledger in the tables ──
 
-open_tree : (x : Option Tree) → state_of x ≡ open_state → is_some x ≡ false
-open_tree none e = refl
-open_tree (some tree) e = absurd (omega arith)
+open_trees : (x : Option (List Tree)) → state_of x ≡ open_state → is_some x ≡ false
+open_trees none e = refl
+open_trees (some trees) e = absurd (omega arith)
 
-closed_tree : (x : Option Tree) → state_of x ≡ closed_state → is_some x ≡ true
-closed_tree none e = absurd (omega arith)
-closed_tree (some tree) e = refl
+closed_trees : (x : Option (List Tree)) → state_of x ≡ closed_state → is_some x ≡ true
+closed_trees none e = absurd (omega arith)
+closed_trees (some trees) e = refl
+
+pub open_without_tree : (x : Option (List Tree)) → is_some x ≡ false → state_of x ≡ open_state
+open_without_tree none e = refl
+open_without_tree (some trees) e = absurd (true≢false e)
 
 module _ {t : Tables} {l : Ledger} (e : Encodes t l) where
   -- its state
   pub still_open : head_at t head_state ≡ open_state → finished l ≡ false
-  still_open s = open_tree l.tree (sym e.state ∙ s)
+  still_open s = open_trees l.trees (sym e.state ∙ s)
 
   pub is_closed : head_at t head_state ≡ closed_state → finished l ≡ true
-  is_closed s = closed_tree l.tree (sym e.state ∙ s)
+  is_closed s = closed_trees l.trees (sym e.state ∙ s)
 
   -- its tables hold their heads
   pub heads-held : too_short l.opening.lent ≡ false
   heads-held = rw e.lengths e.heads
+
+  -- its mask has the kinds that it was opened for
+  pub opens_kind_lem : (kind : ℕ) → opens_kind l kind ≡ opens (head_at t head_kinds) kind
+  opens_kind_lem kind = rw e.kinds (kinds_has (head_at t head_kinds) kind)
 
   -- so the clock shows the label of every cell, open or closed
   pub clock_there : (cell : ℕ) → clock_answer l cell ≡ accepted (clock_by l cell)
@@ -53,28 +68,39 @@ module _ {t : Tables} {l : Ledger} (e : Encodes t l) where
 -- ── what a closed index answers to a window ──
 
 -- of every read of a window at a tick, whatever it gives
-module _ {t : Tables} {l : Ledger} (e : Encodes t l) (done : finished l ≡ true) {A : Type 0} (given : A) (exceeds : Bool) (tick start stop : ℕ) where
-  pub window_14 : head_at t head_end ≤ tick → first_of (window_refusals l tick start stop exceeds) given ≡ refused 14
+module _ {t : Tables} {l : Ledger} (e : Encodes t l) (done : finished l ≡ true) {A : Type 0} (given : A) (exceeds : Bool) (kind tick start stop : ℕ) where
+  pub window_25 : opens (head_at t head_kinds) kind ≡ false → first_of (window_refusals l kind tick start stop exceeds) given ≡ refused 25
   unfolding window_refusals first_of
-  window_14 h = rw (heads-held e, done, le-leb l.opening.end tick (omega (arith, e.end)))
+  window_25 k = rw (heads-held e, done, opens_kind_lem e kind ∙ k)
 
-  pub window_15 : tick < head_at t head_end → stop < start → first_of (window_refusals l tick start stop exceeds) given ≡ refused 15
-  unfolding window_refusals first_of
-  window_15 h b = rw (heads-held e, done, lt-leb l.opening.end tick (omega (arith, e.end)), lt-ltb stop start b)
+  module _ (k : opens (head_at t head_kinds) kind ≡ true) where
+    pub window_14 : head_at t head_end ≤ tick → first_of (window_refusals l kind tick start stop exceeds) given ≡ refused 14
+    unfolding window_refusals first_of
+    window_14 h = rw (heads-held e, done, opens_kind_lem e kind ∙ k, le-leb l.opening.end tick (omega (arith, e.end)))
 
-  pub window_rest : tick < head_at t head_end → start ≤ stop → first_of (window_refusals l tick start stop exceeds) given ≡ cond exceeds (refused 16) (accepted given)
-  unfolding window_refusals first_of
-  window_rest h b = rw (heads-held e, done, lt-leb l.opening.end tick (omega (arith, e.end)), le-ltb stop start b)
+    pub window_15 : tick < head_at t head_end → stop < start → first_of (window_refusals l kind tick start stop exceeds) given ≡ refused 15
+    unfolding window_refusals first_of
+    window_15 h b = rw (heads-held e, done, opens_kind_lem e kind ∙ k, lt-leb l.opening.end tick (omega (arith, e.end)), lt-ltb stop start b)
+
+    pub window_rest : tick < head_at t head_end → start ≤ stop
+        → first_of (window_refusals l kind tick start stop exceeds) given ≡ cond exceeds (refused 16) (accepted given)
+    unfolding window_refusals first_of
+    window_rest h b = rw (heads-held e, done, opens_kind_lem e kind ∙ k, lt-leb l.opening.end tick (omega (arith, e.end)), le-ltb stop start b)
 
 -- of next and last, whatever they give
-module _ {t : Tables} {l : Ledger} (e : Encodes t l) (done : finished l ≡ true) {A : Type 0} (given : A) (tick : ℕ) where
-  pub neighbour_14 : head_at t head_end ≤ tick → first_of (neighbour_refusals l tick) given ≡ refused 14
+module _ {t : Tables} {l : Ledger} (e : Encodes t l) (done : finished l ≡ true) {A : Type 0} (given : A) (kind tick : ℕ) where
+  pub neighbour_25 : opens (head_at t head_kinds) kind ≡ false → first_of (neighbour_refusals l kind tick) given ≡ refused 25
   unfolding neighbour_refusals first_of
-  neighbour_14 h = rw (heads-held e, done, le-leb l.opening.end tick (omega (arith, e.end)))
+  neighbour_25 k = rw (heads-held e, done, opens_kind_lem e kind ∙ k)
 
-  pub neighbour_rest : tick < head_at t head_end → first_of (neighbour_refusals l tick) given ≡ accepted given
-  unfolding neighbour_refusals first_of
-  neighbour_rest h = rw (heads-held e, done, lt-leb l.opening.end tick (omega (arith, e.end)))
+  module _ (k : opens (head_at t head_kinds) kind ≡ true) where
+    pub neighbour_14 : head_at t head_end ≤ tick → first_of (neighbour_refusals l kind tick) given ≡ refused 14
+    unfolding neighbour_refusals first_of
+    neighbour_14 h = rw (heads-held e, done, opens_kind_lem e kind ∙ k, le-leb l.opening.end tick (omega (arith, e.end)))
+
+    pub neighbour_rest : tick < head_at t head_end → first_of (neighbour_refusals l kind tick) given ≡ accepted given
+    unfolding neighbour_refusals first_of
+    neighbour_rest h = rw (heads-held e, done, opens_kind_lem e kind ∙ k, lt-leb l.opening.end tick (omega (arith, e.end)))
 
 -- ── what it answers to a number, and to write ──
 

@@ -12,11 +12,11 @@ use Rattle.merge_set.specs.Tree.{rows}
 use Rattle.piece_table.specs.Piece.{piece_at}
 use Rattle.piece_table.specs.Rep.{Links}
 use Rattle.piece_table.specs.Shown.{shown}
-use Rattle.segment_table.proofs.Closed.{tree_one}
+use Rattle.segment_table.proofs.Closed.{trees_one}
 use Rattle.day_table.proofs.DayLists.{days_one}
 use Rattle.calendar_table.proofs.Calendars.{calendar-one}
 use Rattle.layout.specs.Tables.{Tables, tree_tables}
-use Rattle.layout.specs.Encodes.{state_of, TreeIn, Encodes}
+use Rattle.layout.specs.Encodes.{state_of, TreesIn, Encodes}
 
 -- ── pieces ──
 
@@ -24,23 +24,21 @@ use Rattle.layout.specs.Encodes.{state_of, TreeIn, Encodes}
 pub links_one : (pieces xs ys : List ℕ) → Links pieces xs → Links pieces ys → xs ≡ ys
 links_one pieces xs ys h k = sym h.is ∙ ap rows (shape_one pieces (column pieces 0 pieces_root) h.tree k.tree h.shape k.shape) ∙ k.is
 
--- ── tree ──
+-- ── trees ──
 
--- the state says whether there is a tree, and the node and entry tables say which
-tree_same : (t : Tables) (l m : Ledger) (a b : Option segment.Tree) → l.opening.kind ≡ m.opening.kind → l.opening.end ≡ m.opening.end
-    → state_of a ≡ state_of b → TreeIn t l a → TreeIn t m b → a ≡ b
-tree_same t l m none none k e s h h' = refl
-tree_same t l m none (some b) k e s h h' = absurd (omega (arith, s))
-tree_same t l m (some a) none k e s h h' = absurd (omega (arith, s))
-tree_same t l m (some a) (some b) k e s h h' =
-    ap some
-    (tree_one (tree_tables t) l.opening.kind (column t.nodes 0 l.opening.kind) 0 l.opening.end a b h.stands (rw (k, e) h'.stands))
+-- the state says whether there are trees, and the node and entry tables say which
+trees_same : (t : Tables) (l m : Ledger) (a b : Option (List segment.Tree)) → l.opening.end ≡ m.opening.end
+    → state_of a ≡ state_of b → TreesIn t l a → TreesIn t m b → a ≡ b
+trees_same t l m none none e s h h' = refl
+trees_same t l m none (some b) e s h h' = absurd (omega (arith, s))
+trees_same t l m (some a) none e s h h' = absurd (omega (arith, s))
+trees_same t l m (some a) (some b) e s h h' = ap some (trees_one (tree_tables t) l.opening.end a b h (rw e h'))
 
 -- ── the whole ──
 
 -- no two ledgers have the same tables
 pub unique : (t : Tables) (l m : Ledger) → Encodes t l → Encodes t m → l ≡ m
-unique t l m e f = λ i. record { opening = opening i; now = now i; tree = tree i; calendar = calendar i; days = days i }
+unique t l m e f = λ i. record { opening = opening i; now = now i; trees = trees i; calendar = calendar i; days = days i }
   where
     calendar : l.calendar ≡ m.calendar
     calendar = calendar-one t.blocks l.calendar m.calendar e.calendar f.calendar
@@ -51,11 +49,11 @@ unique t l m e f = λ i. record { opening = opening i; now = now i; tree = tree 
     same_end : l.opening.end ≡ m.opening.end
     same_end = sym e.end ∙ f.end
 
-    same_kind : l.opening.kind ≡ m.opening.kind
-    same_kind = sym e.kind ∙ f.kind
+    same_kinds : l.opening.kinds ≡ m.opening.kinds
+    same_kinds = e.kinds ∙ sym f.kinds
 
     opening : l.opening ≡ m.opening
-    opening = λ i. record { end = same_end i; kind = same_kind i; lent = (e.lengths ∙ sym f.lengths) i }
+    opening = λ i. record { end = same_end i; kinds = same_kinds i; lent = (e.lengths ∙ sym f.lengths) i }
 
     pieces : l.now.pieces ≡ m.now.pieces
     pieces =
@@ -71,5 +69,5 @@ unique t l m e f = λ i. record { opening = opening i; now = now i; tree = tree 
       store = (e.store ∙ sym f.store) i;
     }
 
-    tree : l.tree ≡ m.tree
-    tree = tree_same t l m l.tree m.tree same_kind same_end (sym e.state ∙ f.state) e.tree f.tree
+    trees : l.trees ≡ m.trees
+    trees = trees_same t l m l.trees m.trees same_end (sym e.state ∙ f.state) e.trees f.trees

@@ -1,11 +1,12 @@
 -- Tables stand for a ledger: the layout of docs/LAYOUT.md and none of document 01's conditions, which are `Sound`. Definitions alone.
-use Rattle.std.specs.Prelude.{◌≡◌, false, List, map, ℕ, ◌+◌, ◌≤◌, length, take}
+use Rattle.std.specs.Prelude.{◌≡◌, false, List, map, ℕ, ◌+◌, ◌^◌, ◌≤◌, ◌<◌, length, take}
 use Rattle.std.proofs.Math.Option.{Option, none, some}
 use Rattle.lists.specs.Lists.{All}
 use Rattle.history.specs.Lent.{too_short}
 use Rattle.history.specs.Tree as segment
 use Rattle.history.specs.Ledger.{Ledger}
-use Rattle.tables.specs.Columns.{head_state, head_end, head_kind, head_count, head_used, head_last}
+use Rattle.tables.specs.Masks.{kinds_in}
+use Rattle.tables.specs.Columns.{head_state, head_end, head_kinds, head_count, head_used, head_last}
 use Rattle.block_table.specs.Blocks.{blocks_of, Stored}
 use Rattle.piece_table.specs.Piece.{piece_at}
 use Rattle.piece_table.specs.Rep.{Links}
@@ -25,23 +26,25 @@ open_state = 1
 abbrev pub closed_state : ℕ
 closed_state = 2
 
-abbrev pub state_of : Option segment.Tree → ℕ
+abbrev pub state_of : Option (List segment.Tree) → ℕ
 state_of none = open_state
-state_of (some tree) = closed_state
+state_of (some trees) = closed_state
 
--- an open index has no order; a closed one has its tree in the node and entry tables
-abbrev pub TreeIn : Tables → Ledger → Option segment.Tree → Type 0
-TreeIn t l none = Unordered t.blocks (length l.now.blocks)
-TreeIn t l (some tree) = Closed (tree_tables t) l.opening.kind l.opening.end tree
+-- an open index has no order; a closed one has its trees in the node and entry tables
+abbrev pub TreesIn : Tables → Ledger → Option (List segment.Tree) → Type 0
+TreesIn t l none = Unordered t.blocks (length l.now.blocks)
+TreesIn t l (some trees) = Closed (tree_tables t) l.opening.end trees
 
 -- ── the whole ──
 
 pub record Encodes (t : Tables) (l : Ledger) : Type 0 where
   pub lengths : l.opening.lent ≡ lengths_of t
   pub heads : too_short (lengths_of t) ≡ false
-  pub state : head_at t head_state ≡ state_of l.tree
+  pub state : head_at t head_state ≡ state_of l.trees
   pub end : head_at t head_end ≡ l.opening.end
-  pub kind : head_at t head_kind ≡ l.opening.kind
+  -- the set of kinds is a mask of five bits
+  pub mask : head_at t head_kinds < 2 ^ 5
+  pub kinds : l.opening.kinds ≡ kinds_in (head_at t head_kinds)
   pub last : head_at t head_last ≡ l.now.last
   -- the store's used part
   pub used : head_at t head_used ≡ length l.now.store
@@ -55,7 +58,7 @@ pub record Encodes (t : Tables) (l : Ledger) : Type 0 where
   pub linked : Links t.pieces links
   pub pieces : l.now.pieces ≡ map (λ link. shown t.store (piece_at t.pieces link)) links
   pub pieces_stored : All (λ link. (piece_at t.pieces link).offset + (piece_at t.pieces link).size ≤ head_at t head_used) links
-  pub tree : TreeIn t l l.tree
+  pub trees : TreesIn t l l.trees
   -- the calendar, or that there is none, in the front of the head
   pub calendar : CalendarIn t.blocks l.calendar
   -- and behind it the list of days

@@ -1,12 +1,13 @@
 -- What write and load do, as relations between the tables at entry and at exit and the answer: their public contracts. Definitions alone.
 use Rattle.std.specs.Prelude.{◌≡◌, cond, ℕ, max, ltb, length, replicate}
-use mathlib.Core.List.{List, ◌++◌, flat_map}
+use mathlib.Core.List.{List, [], ◌∷◌, ◌++◌, flat_map}
 use Rattle.std.proofs.lemmas.List.Edits.{sets}
 use Rattle.history.specs.Lent.{piece_head}
 use Rattle.history.specs.Tree.{key_in}
 use Rattle.history.specs.Refusals.{Answer, accepted, refused}
 use Rattle.history.specs.File.{Read, got, fault, Loaded, load, loaded_ledger, write_answer}
 use Rattle.tables.specs.Columns.{block_base}
+use Rattle.kind_mask.specs.Masks.{mask_of}
 use Rattle.layout.specs.Tables.{Tables, tables, lengths_of}
 use Rattle.layout.specs.Encodes.{Encodes, closed_state}
 use Rattle.layout.specs.Reads.{HandedInto, ReadBy}
@@ -38,7 +39,7 @@ loaded_bytes x = flat_map (λ b. b.stretch.bytes) x.blocks
 
 -- the head of its block table: zeros in the front, then the last row
 unfoldable pub loaded_head : (end kind count used : ℕ) → List ℕ
-loaded_head e kind count used = replicate block_base 0 ++ head_numbers closed_state e kind count used 0
+loaded_head e kind count used = replicate block_base 0 ++ head_numbers closed_state e (mask_of (kind ∷ [])) count used 0
 
 -- and behind it the rows of the blocks in file order
 unfoldable pub loaded_rows : Loaded → List ℕ

@@ -3,9 +3,9 @@
 use Rattle.std.specs.Prelude.{◌≡◌, Bool, true, false, List, [], ◌∷◌, ℕ, suc, ◌+◌, ◌*◌, ◌≤◌, ◌<◌, length, get_or, set, take, drop, replicate}
 use Rattle.std.proofs.Math.Option.{Option, none, some}
 use Rattle.std.proofs.lemmas.List.Edits.{sets}
-use Rattle.history.specs.Words.{Operation, Block, a_block, size}
+use Rattle.history.specs.Words.{Operation, Block, a_block, size, first_cell}
 use Rattle.history.specs.Lent.{row_width}
-use Rattle.history.specs.Tree.{tree_of}
+use Rattle.history.specs.Tree.{trees_of}
 use Rattle.history.specs.Ledger.{Opening, Ledger, is_read, record_by, finish_by, install_by, install_days_by, opening_for}
 use Rattle.history.specs.Reads.{Found}
 use Rattle.history.specs.Results.{Result}
@@ -18,6 +18,7 @@ use Rattle.piece_table.specs.Rep.{Links}
 use Rattle.segment_table.specs.Alone.{TreeAlone}
 use Rattle.day_table.specs.DayLists.{days_installed_in}
 use Rattle.calendar_table.specs.Calendars.{installed_in}
+use Rattle.kind_mask.specs.Masks.{mask_of}
 use Rattle.layout.specs.Tables.{Tables, tables, lengths_of}
 use Rattle.layout.specs.Encodes.{Encodes, open_state}
 use Rattle.layout.specs.Formed.{WellFormed, WellFormedForFinish}
@@ -26,24 +27,24 @@ use Rattle.layout.specs.Reads.{values_of, HandedOut, HandedInto, ReadBy}
 -- ── open ──
 
 -- what opening is fed
-abbrev pub opening_of : (end kind : ℕ) → Tables → Opening
-opening_of e kind t = opening_for e kind (lengths_of t)
+abbrev pub opening_of : (end : ℕ) (kinds : List ℕ) → Tables → Opening
+opening_of e kinds t = opening_for e kinds (lengths_of t)
 
 abbrev pub zeros : List ℕ → List ℕ
 zeros l = replicate (length l) 0
 
 -- pieces, nodes and entries zeros; blocks its head, then zeros; the store as it was
-unfoldable pub opened_tables : (end kind : ℕ) → Tables → Tables
-opened_tables e kind t = tables (zeros t.pieces) (sets (zeros t.blocks) block_base (open_state ∷ e ∷ kind ∷ [])) t.store (zeros t.nodes) (zeros t.entries)
+unfoldable pub opened_tables : (end : ℕ) (kinds : List ℕ) → Tables → Tables
+opened_tables e kinds t = tables (zeros t.pieces) (sets (zeros t.blocks) block_base (open_state ∷ e ∷ mask_of kinds ∷ [])) t.store (zeros t.nodes) (zeros t.entries)
 
 -- what is left: on a refusal everything as it was
 unfoldable pub left_by : Answer Unit → (refused_left accepted_left : Tables) → Tables
 left_by (accepted a) t t' = t'
 left_by (refused n) t t' = t
 
-pub record OpenedBy (end kind : ℕ) (t t' : Tables) (answer : Answer Unit) : Type 0 where
-  pub answered : answer ≡ open_answer (opening_of end kind t)
-  pub left : t' ≡ left_by answer t (opened_tables end kind t)
+pub record OpenedBy (end : ℕ) (kinds : List ℕ) (t t' : Tables) (answer : Answer Unit) : Type 0 where
+  pub answered : answer ≡ open_answer (opening_of end kinds t)
+  pub left : t' ≡ left_by answer t (opened_tables end kinds t)
 
 -- ── record ──
 
@@ -89,14 +90,14 @@ pub record AppendedRows (blocks blocks' : List ℕ) (n m : ℕ) : Type 0 where
 pub record SameBytes (pieces links blocks' : List ℕ) (n : ℕ) : Type 0 where
   pub offset : (i : ℕ) → i < length links → block_column blocks' (suc n + i) block_offset ≡ column pieces (get_or links i 0) piece_offset
 
--- Pieces zeros; the store as it was; blocks appended and the head set; the tree of all blocks alone in nodes and entries. What this leaves
--- open of the block table and of the tree, `Encodes` says.
+-- Pieces zeros; the store as it was; blocks appended and the head set; the trees of all blocks alone in nodes and entries. What this leaves
+-- open of the block table and of the trees, `Encodes` says.
 pub record FinishedTables (l : Ledger) (t t' : Tables) : Type 0 where
   pub pieces : t'.pieces ≡ zeros t.pieces
   pub store : t'.store ≡ t.store
   pub blocks : AppendedRows t.blocks t'.blocks (length l.now.blocks) (length (finish_by l).now.blocks)
   pub bytes : (links : List ℕ) → Links t.pieces links → SameBytes t.pieces links t'.blocks (length l.now.blocks)
-  pub tree : TreeAlone t'.nodes t'.entries (tree_of l.opening.end (finish_by l).now.blocks)
+  pub trees : TreeAlone t'.nodes t'.entries (trees_of l.opening.end (finish_by l).now.blocks)
 
 abbrev pub FinishLeaves : Answer Result → Ledger → (t t' : Tables) → Type 0
 FinishLeaves (accepted a) l t t' = Encodes t' (finish_by l) × FinishedTables l t t'
@@ -152,14 +153,14 @@ abbrev pub counts_of : Found → Counts
 counts_of f = record { count = length f.numbers; visited = f.visited }
 
 -- the counts, and the numbers in the lent answer
-pub record FoundBy (t : Tables) (tick start stop : ℕ) (out out' : List ℕ) (answer : Answer Counts) : Type 0 where
-  pub read : ReadBy t (λ l. find_answer l tick start stop (length out)) (HandedInto counts_of (λ f. f.numbers) out out' answer)
+pub record FoundBy (t : Tables) (kind tick start stop : ℕ) (out out' : List ℕ) (answer : Answer Counts) : Type 0 where
+  pub read : ReadBy t (λ l. find_answer l kind tick start stop (length out)) (HandedInto counts_of (λ f. f.numbers) out out' answer)
 
 -- ── touching, next, last ──
 
 -- how many blocks touching lists, and their numbers in the lent answer
-pub record TouchedBy (t : Tables) (tick start stop : ℕ) (out out' : List ℕ) (answer : Answer ℕ) : Type 0 where
-  pub read : ReadBy t (λ l. touching_answer l tick start stop (length out)) (HandedInto length (λ ks. ks) out out' answer)
+pub record TouchedBy (t : Tables) (kind tick start stop : ℕ) (out out' : List ℕ) (answer : Answer ℕ) : Type 0 where
+  pub read : ReadBy t (λ l. touching_answer l kind tick start stop (length out)) (HandedInto length (λ ks. ks) out out' answer)
 
 -- what next and last answer: 1 and the block's number, or 0 and 0 where it is missing
 pub record Near : Type 0 where
@@ -170,11 +171,11 @@ abbrev pub near_of : Option ℕ → Near
 near_of none = record { found = 0; number = 0 }
 near_of (some k) = record { found = 1; number = k }
 
-pub record NextGivenBy (t : Tables) (tick cell : ℕ) (answer : Answer Near) : Type 0 where
-  pub read : ReadBy t (λ l. next_answer l tick cell) (HandedOut near_of answer)
+pub record NextGivenBy (t : Tables) (kind tick cell : ℕ) (answer : Answer Near) : Type 0 where
+  pub read : ReadBy t (λ l. next_answer l kind tick cell) (HandedOut near_of answer)
 
-pub record LastGivenBy (t : Tables) (tick cell : ℕ) (answer : Answer Near) : Type 0 where
-  pub read : ReadBy t (λ l. last_answer l tick cell) (HandedOut near_of answer)
+pub record LastGivenBy (t : Tables) (kind tick cell : ℕ) (answer : Answer Near) : Type 0 where
+  pub read : ReadBy t (λ l. last_answer l kind tick cell) (HandedOut near_of answer)
 
 -- ── block by number ──
 
@@ -190,7 +191,7 @@ pub record Fields : Type 0 where
 -- the fields of a block whose bytes stand at an offset
 abbrev pub fields_at : (offset : ℕ) → Block → Fields
 fields_at offset b =
-    record { kind = b.kind; first = b.stretch.first; length = size b.stretch; created = b.created; destroyed = b.destroyed; offset = offset }
+    record { kind = b.kind; first = first_cell b; length = size b.stretch; created = b.created; destroyed = b.destroyed; offset = offset }
 
 -- the block that fields stand for
 abbrev pub block_in : (store : List ℕ) → Fields → Block

@@ -6,8 +6,8 @@ use Rattle.history.specs.Tree.{Tree, hole, node, mid, node_count, entry_count, e
 -- ── blocks ──
 
 -- the last row of the head
-abbrev pub head_numbers : (state end kind count used last : ℕ) → List ℕ
-head_numbers state e kind count used last = state ∷ e ∷ kind ∷ count ∷ used ∷ last ∷ 0 ∷ 0 ∷ []
+abbrev pub head_numbers : (state end kinds count used last : ℕ) → List ℕ
+head_numbers state e kinds count used last = state ∷ e ∷ kinds ∷ count ∷ used ∷ last ∷ 0 ∷ 0 ∷ []
 
 -- the row of a block whose bytes start at an offset; the columns next and spare are 0
 unfoldable pub block_numbers : (offset : ℕ) → Block → List ℕ

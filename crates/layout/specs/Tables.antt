@@ -34,6 +34,6 @@ lengths_of t =
 abbrev pub head_at : Tables → (c : ℕ) → ℕ
 head_at t c = block_column t.blocks 0 c
 
--- the tables that the tree of a closed index stands in
+-- the tables that the trees of a closed index stand in
 abbrev pub tree_tables : Tables → closed.Tables
 tree_tables t = record { blocks = t.blocks; nodes = t.nodes; entries = t.entries }

@@ -11,7 +11,8 @@
 //   proofs/Pieces   the pieces of a table and of its ledger
 //   proofs/Unique   one ledger for each set of tables
 //   proofs/ReadLaws what the ledger of a closed index answers, and what is handed out
-//   proofs/Trees    what its tables say of its tree and of the live blocks
+//   proofs/Trees    what its tables say of a kind's tree and of the live blocks
+//   proofs/TreeRows the rows of nodes and entries that trees have
 //   proofs/Exists*  every sound ledger that fits the lent lengths has tables
 //   proofs/Depths   the tree of pieces is not deep
 

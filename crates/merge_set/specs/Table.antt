@@ -2,19 +2,20 @@
 -- stated over the tree that they are given; which pieces a table stands for is said one crate above. Definitions alone.
 use Rattle.std.specs.Prelude.{◌≡◌, Bool, cond, List, ◌∷◌, ◌++◌, ℕ, ◌+◌, ◌*◌, ◌≤◌, ◌<◌, ◌^◌, length, ltb, eqb}
 use Rattle.lists.specs.Lists.{Mem, Distinct}
+use Rattle.history.specs.Words.{cell_place}
 use Rattle.history.specs.Lent.{row_width}
-use Rattle.tables.specs.Columns.{column, piece_first, piece_left, piece_right, piece_depth}
+use Rattle.tables.specs.Columns.{column, piece_first, piece_left, piece_right, piece_depth, piece_owner}
 use Rattle.merge_set.specs.Tree.{Tree, leaf, node, height, rows, Maker, inserted, least, without_least, glued, removed, relinked}
 
 -- ── rows and trees ──
 
--- the key by which links are ordered: the first cell
+-- the key by which links are ordered: the place of the first cell, by kind and cell
 abbrev pub first_at : (t : List ℕ) (link : ℕ) → ℕ
-first_at t link = column t link piece_first
+first_at t link = cell_place (column t link piece_owner) (column t link piece_first)
 
--- `starts_below`: the piece of a link starts before a cell
-pub record StartsBelow (t : List ℕ) (link place : ℕ) (out : Bool) : Type 0 where
-  pub is : out ≡ ltb (first_at t link) place
+-- `starts_below`: the piece of a link starts before a kind's cell
+pub record StartsBelow (t : List ℕ) (link kind cell : ℕ) (out : Bool) : Type 0 where
+  pub is : out ≡ ltb (first_at t link) (cell_place kind cell)
 
 -- `starts_before`: the piece of `one` starts before that of `other`
 pub record StartsBefore (t : List ℕ) (one other : ℕ) (out : Bool) : Type 0 where
@@ -73,7 +74,7 @@ pub record Deep (t : List ℕ) (link d : ℕ) : Type 0 where
 pub record Higher (t : List ℕ) (left right n : ℕ) (answer : Bool) : Type 0 where
   pub says : (A B : Tree) → Shape t left A → Shape t right B → answer ≡ ltb (height A + n) (height B)
 
--- `insert`: the row is put into the tree at the link, by its first cell
+-- `insert`: the row is put into the tree at the link, by its place
 pub record Inserted (t t' : List ℕ) (link row fuel out : ℕ) : Type 0 where
   pub done : (T : Tree) → Shape t link T → height T ≤ fuel → Valid t row → Good (row ∷ rows T)
       → Result t t' out (inserted (first_at t) row T) (row ∷ rows T)

@@ -17,7 +17,8 @@ ghost use Rattle.tables.specs.Columns.{column, piece_left, piece_right};
 ghost use Rattle.merge_set.specs.Tree.{node, rotated_left, rotated_right, updated};
 ghost use Rattle.merge_set.specs.Table.{StartsBelow, StartsBefore, deep_at, Made, Higher, Inserted, Least, WithoutLeast, Glued, Removed, Relinked, CopiedRow};
 
-use tables::piece::{DEPTH, FIRST, LEFT, RIGHT};
+use tables::piece::{DEPTH, FIRST, LEFT, OWNER, RIGHT};
+use tables::place;
 
 // The rotations that an update may make after an insertion or a removal: one level suffices, so that the tree is balanced after every call. It is no leave to
 // stop early: with fewer the balance is lost.
@@ -33,18 +34,22 @@ pub fn depth(table: &[u64], link: u64) -> u64
     tables::get(table, link, DEPTH)
 }
 
-// Whether the piece of `link` starts before `place`.
-pub fn starts_below(table: &[u64], link: u64, place: u64) -> bool
-    ensures { StartsBelow table.now link place result }
+// Whether the piece of `link` starts before a kind's cell: by kind, then by cell.
+pub fn starts_below(table: &[u64], link: u64, kind: u64, cell: u64) -> bool
+    ensures { StartsBelow table.now link kind cell result }
 {
-    tables::get(table, link, FIRST) < place
+    let owner = tables::get(table, link, OWNER);
+    let first = tables::get(table, link, FIRST);
+    place::below(owner, first, kind, cell)
 }
 
 // Whether the piece of `one` starts before that of `other`. This function and the one above alone compare the places of pieces.
 pub fn starts_before(table: &[u64], one: u64, other: u64) -> bool
     ensures { StartsBefore table.now one other result }
 {
-    starts_below(table, one, tables::get(table, other, FIRST))
+    let kind = tables::get(table, other, OWNER);
+    let cell = tables::get(table, other, FIRST);
+    starts_below(table, one, kind, cell)
 }
 
 // The links of the two subtrees of a row.

@@ -18,6 +18,11 @@ const CELLS: u64 = 5;
 
 const APART: u64 = 10;
 
+// All pieces are of one kind, and the mask has it alone.
+const KIND: u64 = 0;
+
+const KINDS: u64 = 1;
+
 // The step of the shuffled order, which is odd.
 const STEP: u64 = 1597;
 
@@ -61,7 +66,7 @@ fn try_pieces(tally: &mut Tally, table: &[u64], many: u64, deep: u64) {
 
 // Tests the table, which is well formed or not.
 fn try_test(tally: &mut Tally, table: &[u64], right: bool) {
-    let yes = piece_table::test_pieces(table, 0, CELLS * PIECES, 1);
+    let yes = piece_table::test::test_pieces(table, KINDS, CELLS * PIECES, 1);
     tally.compare(yes == right);
     if !yes {
         tally.refuse();
@@ -80,7 +85,7 @@ fn build(table: &mut [u64], start: u64, step: u64)
             size: CELLS,
             written: 1,
             offset: CELLS * n,
-            owner: 0,
+            owner: KIND,
         };
         piece_table::insert_piece(table, piece);
         n = (n + step) % PIECES;
@@ -90,7 +95,7 @@ fn build(table: &mut [u64], start: u64, step: u64)
 // Removes every second piece.
 fn thin(table: &mut [u64]) {
     for pair in 0..PIECES / 2 {
-        if let Some(link) = piece_table::seek(table, APART * (2 * pair + 1)) {
+        if let Some(link) = piece_table::seek(table, KIND, APART * (2 * pair + 1)) {
             piece_table::remove_piece(table, link);
         }
     }
@@ -103,7 +108,7 @@ fn found(table: &[u64]) -> usize {
 
 // Whether the lowest piece that ends after a cell starts there.
 fn starts_at(table: &[u64], cell: u64) -> bool {
-    piece_table::seek(table, cell).is_some_and(|link| tables::get(table, link, piece::FIRST)
+    piece_table::seek(table, KIND, cell).is_some_and(|link| tables::get(table, link, piece::FIRST)
         == cell)
 }
 

@@ -1,22 +1,52 @@
 -- Rule 24 by order: pairs that share a cell are met. One step for each return and turn of its tests. Assumes nothing.
-use mathlib.Core.Path.{◌≡◌, refl, sym, ◌∙◌}
-use mathlib.Core.Bool.{Bool, true, false}
+use mathlib.Core.Path.{◌≡◌, refl, sym, ap, ◌∙◌}
+use mathlib.Core.Logic.{◌⊎◌, inl, inr}
+use mathlib.Core.Bool.{Bool, true, false, not}
 use mathlib.Core.List.{List, [], ◌∷◌}
-use Prim.Native.Nat.{ℕ, ◌-◌, ◌≤◌, ◌<◌, max, ◌^◌}
+use Prim.Native.Nat.{ℕ, ◌+◌, ◌-◌, ◌≤◌, ◌<◌, max, ◌^◌}
 use native.Mathlib.Omega.{arith}
-use borrow.Author.Tests.{ltb-true, ltb-false, not-true, not-false}
-use lib.Dec.{ltb}
+use borrow.Author.Tests.{ltb-false, leb-true, leb-false, not-true, not-false}
+use lib.Dec.{leb, ltb}
 use lib.ListN.{length}
 use Rattle.lists.specs.Lists.{all_nil, all_cons, pairs_nil, pairs_cons, Mem, here, there}
 use Rattle.lists.specs.Tests.{Decides}
 use Rattle.lists.proofs.Lists.{all_mem, all_of_mem}
-use Rattle.lists.proofs.Numbers.{confirm, refute, decides_iff}
-use Rattle.block_table.specs.Blocks.{first_cell_at, length_at, created_at, destroyed_at, Filled}
+use Rattle.lists.proofs.Numbers.{lt_or_le, confirm, refute, decides_iff}
+use Rattle.history.specs.Words.{line_of}
+use Rattle.history.proofs.ByKind.{line_next}
+use Rattle.block_table.specs.Blocks.{first_cell_at, owner_at, place_at, length_at, created_at, destroyed_at, Filled}
 use Rattle.ordering.specs.Order.{next_at, rank, Trail, end, link}
-use Rattle.ordering.specs.Apart.{Clash, Unshared, StartsWithin, LivesMeet, Clear, AllClear, FollowersApart, RowsApart, TestedApart}
+use Rattle.ordering.specs.Apart.{Clash, Unshared, StartsWithin, StartsIn, LivesMeet, Clear, AllClear, FollowersApart, RowsApart, TestedApart}
 use Rattle.ordering.proofs.Rank.{rank_first}
 use Rattle.ordering.proofs.Trail.{trail_wider}
 use Rattle.ordering.proofs.Dense.{Met, trail_met, trail_distinct, order_dense}
+
+-- ── the answer of `starts_within` ──
+
+module _ {t : List ℕ} {j k first start own other : ℕ} (ef : first ≡ first_cell_at t j) (es : start ≡ first_cell_at t k) (eo : own ≡ owner_at t j) (ek : other ≡ owner_at t k) where
+  -- of another kind
+  pub starts_apart : (own ≡ other → ⊥) → start < 2 ^ 64 → StartsIn t j k false
+  starts_apart n small = record { decides = λ fits. refute (λ w. go fits w (lt_or_le (owner_at t j) (owner_at t k))) }
+    where
+      go : first_cell_at t j + length_at t j ≤ 2 ^ 64 → StartsWithin t j k → (owner_at t j < owner_at t k) ⊎ (owner_at t k ≤ owner_at t j) → ⊥
+      go fits w (inl h) = omega (arith, line_next (owner_at t j) (owner_at t k) h, w.below)
+      go fits w (inr h) = omega (arith, line_next (owner_at t k) (owner_at t j) (omega (arith, eo, ek, n)), w.after, es)
+
+  module _ (same : own ≡ other) where
+    pub starts_before : start < first → StartsIn t j k false
+    starts_before less = record { decides = λ fits. refute (λ w. omega (arith, w.after, ap line_of (sym eo ∙ same ∙ ek))) }
+
+    pub starts_after : {n : ℕ} {by : Bool} → first ≤ start → n ≡ length_at t j → by ≡ leb (first + n) start → StartsIn t j k (not by)
+    starts_after {n} {by} le en ends =
+        let line : line_of (owner_at t j) ≡ line_of (owner_at t k) = ap line_of (sym eo ∙ same ∙ ek) in
+        record {
+          decides = λ fits. record {
+            yes = λ e. record { after = omega arith; below = omega (arith, leb-false (first + n) start (sym ends ∙ not-true by e)) };
+            not = λ e w. omega (arith, leb-true (first + n) start (sym ends ∙ not-false by e), w.below);
+          };
+        }
+
+pub ruleset meeting = (starts_apart, starts_before, starts_after)
 
 -- ── two blocks ──
 
@@ -34,7 +64,7 @@ clash_lives c =
 meets_clash : {t : List ℕ} {j k : ℕ} → 0 < length_at t k → StartsWithin t j k → LivesMeet t j k → Clash t j k
 meets_clash {t} {j} {k} f w l =
     record {
-      cell = first_cell_at t k;
+      cell = place_at t k;
       tick = max (created_at t j) (created_at t k);
       one = record { from = w.after; below = w.below; born = omega arith; alive = omega (arith, l.first, l.back) };
       other = record { from = omega arith; below = omega arith; born = omega arith; alive = omega (arith, l.across, l.second) };
@@ -44,21 +74,21 @@ pub clash_turned : {t : List ℕ} {j k : ℕ} → Clash t j k → Clash t k j
 clash_turned c = record { cell = c.cell; tick = c.tick; one = c.other; other = c.one }
 
 -- of two blocks in order that share a cell, the later one starts in the earlier one; and so does each between them
-clash_starts : {t : List ℕ} {j x k : ℕ} → first_cell_at t j ≤ first_cell_at t x → first_cell_at t x ≤ first_cell_at t k → Clash t j k → StartsWithin t j x
+clash_starts : {t : List ℕ} {j x k : ℕ} → place_at t j ≤ place_at t x → place_at t x ≤ place_at t k → Clash t j k → StartsWithin t j x
 clash_starts p q c = record { after = p; below = omega (arith, c.other.from, c.one.below) }
 
 -- no first cell of the rest lies before that of its first row
-trail_first : {t : List ℕ} {n x y k : ℕ} {xs : List ℕ} → n < 2 ^ 64 → Trail t 0 n (rank t x) k xs → Mem y (x ∷ xs) → first_cell_at t x ≤ first_cell_at t y
+trail_first : {t : List ℕ} {n x y k : ℕ} {xs : List ℕ} → n < 2 ^ 64 → Trail t 0 n (rank t x) k xs → Mem y (x ∷ xs) → place_at t x ≤ place_at t y
 trail_first small r (here e) = rw e (omega arith)
 trail_first {t} {n} {x} {y} small r (there m) =
     let i : Met t 0 n (rank t x) y = trail_met r m in
-    rank_first (first_cell_at t x) x (first_cell_at t y) y i.later (omega (arith, i.within))
+    rank_first (place_at t x) x (place_at t y) y i.later (omega (arith, i.within))
 
 -- ── the returns of `followers_apart` ──
 
 module _ {t : List ℕ} {j k fuel : ℕ} where
   pub followers_spent : fuel ≡ 0 → FollowersApart t j k fuel true
-  followers_spent z = record { decides = λ n links small f tr fits. go links fits }
+  followers_spent z = record { decides = λ n links small whole f tr fits. go links fits }
     where
       go : (xs : List ℕ) → length xs ≤ fuel → Decides true (Clear t j xs)
       go [] h = confirm all_nil
@@ -66,39 +96,39 @@ module _ {t : List ℕ} {j k fuel : ℕ} where
 
   pub followers_lifeless : {c d : ℕ} {l : Bool} → c ≡ created_at t j → d ≡ destroyed_at t j → l ≡ ltb c d → l ≡ false → FollowersApart t j k fuel true
   followers_lifeless {c} {d} ec ed el h = record {
-    decides = λ n links small f tr fits.
+    decides = λ n links small whole f tr fits.
         let ended : d ≤ c = ltb-false c d (sym el ∙ h) in
         confirm (all_of_mem links (λ y m x. omega (arith, x.one.born, x.one.alive)));
   }
 
   pub followers_none : k ≡ 0 → FollowersApart t j k fuel true
-  followers_none z = record { decides = λ n links small f tr fits. go n links tr }
+  followers_none z = record { decides = λ n links small whole f tr fits. go n links tr }
     where
       go : (n : ℕ) (xs : List ℕ) → Trail t 0 n (rank t j) k xs → Decides true (Clear t j xs)
       go n [] (end e) = confirm all_nil
       go n (x ∷ xs) (link e a b up r) = absurd (omega arith)
 
   -- the first that starts behind the block's end: all that follow do
-  pub followers_past : {q : Bool} → Decides q (StartsWithin t j k) → q ≡ false → FollowersApart t j k fuel true
-  followers_past d f = record { decides = λ n links small fill tr fits. go n links small tr }
+  pub followers_past : {q : Bool} → StartsIn t j k q → q ≡ false → FollowersApart t j k fuel true
+  followers_past d f = record { decides = λ n links small whole fill tr fits. go n links small whole tr }
     where
-      go : (n : ℕ) (xs : List ℕ) → n < 2 ^ 64 → Trail t 0 n (rank t j) k xs → Decides true (Clear t j xs)
-      go n [] small (end e) = confirm all_nil
-      go n (x ∷ xs) small (link e a b up r) =
-          let p : first_cell_at t j ≤ first_cell_at t x = rank_first (first_cell_at t j) j (first_cell_at t x) x up (omega arith) in
-          confirm (all_of_mem (x ∷ xs) (λ y m c. d.not f (rw e (clash_starts p (trail_first small r m) c))))
+      go : (n : ℕ) (xs : List ℕ) → n < 2 ^ 64 → first_cell_at t j + length_at t j ≤ 2 ^ 64 → Trail t 0 n (rank t j) k xs → Decides true (Clear t j xs)
+      go n [] small whole (end e) = confirm all_nil
+      go n (x ∷ xs) small whole (link e a b up r) =
+          let p : place_at t j ≤ place_at t x = rank_first (place_at t j) j (place_at t x) x up (omega arith) in
+          confirm (all_of_mem (x ∷ xs) (λ y m c. (d.decides whole).not f (rw e (clash_starts p (trail_first small r m) c))))
 
-  pub followers_clash : {q s : Bool} → (k ≡ 0 → ⊥) → Decides q (StartsWithin t j k) → q ≡ true → Decides s (LivesMeet t j k) → s ≡ true
+  pub followers_clash : {q s : Bool} → (k ≡ 0 → ⊥) → StartsIn t j k q → q ≡ true → Decides s (LivesMeet t j k) → s ≡ true
       → FollowersApart t j k fuel false
-  followers_clash nz d f e g = record { decides = λ n links small fill tr fits. go n links fill tr }
+  followers_clash nz d f e g = record { decides = λ n links small whole fill tr fits. go n links whole fill tr }
     where
       first : {x : ℕ} {xs : List ℕ} → Clear t j (x ∷ xs) → Clash t j x → ⊥
       first (all_cons p ps) = p
 
-      go : (n : ℕ) (xs : List ℕ) → Filled t n → Trail t 0 n (rank t j) k xs → Decides false (Clear t j xs)
-      go n [] fill (end z) = absurd (nz z)
-      go n (x ∷ xs) fill (link ex a b up r) =
-          let starts : StartsWithin t j x = rw ex at (d.yes f) in
+      go : (n : ℕ) (xs : List ℕ) → first_cell_at t j + length_at t j ≤ 2 ^ 64 → Filled t n → Trail t 0 n (rank t j) k xs → Decides false (Clear t j xs)
+      go n [] whole fill (end z) = absurd (nz z)
+      go n (x ∷ xs) whole fill (link ex a b up r) =
+          let starts : StartsWithin t j x = rw ex at ((d.decides whole).yes f) in
           let meet : LivesMeet t j x = rw ex at (e.yes g) in
           refute (λ c. first c (meets_clash (fill.filled x a b) starts meet))
 
@@ -109,12 +139,12 @@ module _ {t : List ℕ} {j k fuel : ℕ} where
       later : {x : ℕ} {xs : List ℕ} → Clear t j (x ∷ xs) → Clear t j xs
       later (all_cons p ps) = ps
 
-      go : (n : ℕ) (xs : List ℕ) → n < 2 ^ 64 → Filled t n → Trail t 0 n (rank t j) k xs → length xs ≤ fuel → Decides r (Clear t j xs)
-      go n [] small fill (end z) fits = absurd (nz z)
-      go n (x ∷ xs) small fill (link ex a b up tr) fits =
+      go : (n : ℕ) (xs : List ℕ) → n < 2 ^ 64 → first_cell_at t j + length_at t j ≤ 2 ^ 64 → Filled t n → Trail t 0 n (rank t j) k xs → length xs ≤ fuel → Decides r (Clear t j xs)
+      go n [] small whole fill (end z) fits = absurd (nz z)
+      go n (x ∷ xs) small whole fill (link ex a b up tr) fits =
           let apart : Clash t j x → ⊥ = λ c. e.not g (rw ex (clash_lives c)) in
           let tail : Trail t 0 n (rank t j) next xs = rw (en, ex) (trail_wider (omega arith) (omega arith) (omega arith) tr) in
-          decides_iff r (λ c. all_cons apart c) later (rest.decides n xs small fill tail (omega arith))
+          decides_iff r (λ c. all_cons apart c) later (rest.decides n xs small whole fill tail (omega arith))
 
 -- ── the loop of `followers_apart` ──
 
@@ -159,7 +189,8 @@ module _ {t : List ℕ} {k fuel : ℕ} where
       go n low [] small fill (end z) fits = absurd (nz z)
       go n low (x ∷ xs) small fill (link ex a b up tr) fits =
           let tail : Trail t 0 n (rank t k) next xs = rw (en, ex) tr in
-          refute (λ p. (d.decides n xs small fill tail (omega arith)).not f (rw ex (head p)))
+          let whole : first_cell_at t k + length_at t k ≤ 2 ^ 64 = rw ex (fill.no_wrap x a b) in
+          refute (λ p. (d.decides n xs small whole fill tail (omega arith)).not f (rw ex (head p)))
         where
           head : AllClear t (x ∷ xs) → Clear t x xs
           head (pairs_cons c p) = c
@@ -172,7 +203,8 @@ module _ {t : List ℕ} {k fuel : ℕ} where
       go n low [] small fill (end z) fits = absurd (nz z)
       go n low (x ∷ xs) small fill (link ex a b up tr) fits =
           let tail : Trail t 0 n (rank t k) next xs = rw (en, ex) tr in
-          let clear : Clear t x xs = rw ex at ((d.decides n xs small fill tail (omega arith)).yes f) in
+          let whole : first_cell_at t k + length_at t k ≤ 2 ^ 64 = rw ex (fill.no_wrap x a b) in
+          let clear : Clear t x xs = rw ex at ((d.decides n xs small whole fill tail (omega arith)).yes f) in
           decides_iff r (λ p. pairs_cons clear p) after (rest.decides n (rank t k) xs small fill tail (omega arith))
         where
           after : AllClear t (x ∷ xs) → AllClear t xs

@@ -2,15 +2,15 @@
 use Rattle.std.specs.Prelude.{◌≡◌, Bool, List, ℕ, ◌+◌, ◌≤◌, ◌<◌, ◌^◌, length}
 use Rattle.lists.specs.Lists.{All, Pairs}
 use Rattle.lists.specs.Tests.{Decides}
-use Rattle.block_table.specs.Blocks.{first_cell_at, length_at, created_at, destroyed_at, Filled}
+use Rattle.block_table.specs.Blocks.{first_cell_at, place_at, length_at, created_at, destroyed_at, Filled}
 use Rattle.ordering.specs.Order.{rank, Trail, InOrder}
 
 -- ── blocks ──
 
--- the block of a link is live at the tick and holds the cell
-pub record HoldsAt (blocks : List ℕ) (tick cell link : ℕ) : Type 0 where
-  pub from : first_cell_at blocks link ≤ cell
-  pub below : cell < first_cell_at blocks link + length_at blocks link
+-- the block of a link is live at the tick and holds the place
+pub record HoldsAt (blocks : List ℕ) (tick place link : ℕ) : Type 0 where
+  pub from : place_at blocks link ≤ place
+  pub below : place < place_at blocks link + length_at blocks link
   pub born : created_at blocks link ≤ tick
   pub alive : tick < destroyed_at blocks link
 
@@ -29,8 +29,12 @@ pub record Unshared (blocks : List ℕ) (n : ℕ) : Type 0 where
 
 -- the block of `link` starts in a cell of the block of `from`
 pub record StartsWithin (blocks : List ℕ) (from link : ℕ) : Type 0 where
-  pub after : first_cell_at blocks from ≤ first_cell_at blocks link
-  pub below : first_cell_at blocks link < first_cell_at blocks from + length_at blocks from
+  pub after : place_at blocks from ≤ place_at blocks link
+  pub below : place_at blocks link < place_at blocks from + length_at blocks from
+
+-- `starts_within`, of a block that does not wrap
+pub record StartsIn (blocks : List ℕ) (from link : ℕ) (r : Bool) : Type 0 where
+  pub decides : first_cell_at blocks from + length_at blocks from ≤ 2 ^ 64 → Decides r (StartsWithin blocks from link)
 
 -- some tick is in both lives: both have one, and each starts before the other's end
 pub record LivesMeet (blocks : List ℕ) (j k : ℕ) : Type 0 where
@@ -50,7 +54,7 @@ abbrev pub AllClear : (blocks links : List ℕ) → Type 0
 AllClear blocks links = Pairs (λ j k. Clash blocks j k → ⊥) links
 
 pub record FollowersApart (blocks : List ℕ) (link k fuel : ℕ) (r : Bool) : Type 0 where
-  pub decides : (n : ℕ) (links : List ℕ) → n < 2 ^ 64 → Filled blocks n → Trail blocks 0 n (rank blocks link) k links → length links ≤ fuel
+  pub decides : (n : ℕ) (links : List ℕ) → n < 2 ^ 64 → first_cell_at blocks link + length_at blocks link ≤ 2 ^ 64 → Filled blocks n → Trail blocks 0 n (rank blocks link) k links → length links ≤ fuel
       → Decides r (Clear blocks link links)
 
 pub record RowsApart (blocks : List ℕ) (k fuel : ℕ) (r : Bool) : Type 0 where

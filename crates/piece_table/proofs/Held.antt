@@ -8,11 +8,13 @@ use Rattle.std.proofs.lemmas.Option.{same_Some}
 use Rattle.lists.proofs.Maps.{map-append}
 use Rattle.lists.specs.Lists.{here, all_cons}
 use Rattle.lists.proofs.Lists.{all_head, all_right}
-use Rattle.tables.specs.Columns.{column, piece_first}
+use Rattle.history.specs.Words.{line_of, cell_place}
+use Rattle.tables.specs.Columns.{column, piece_owner}
+use Rattle.merge_set.specs.Table.{first_at}
 use Rattle.merge_set.proofs.Links.{Put, put_at, mem_unput, found}
 use Rattle.piece_table.proofs.Order.{follow_above}
 use Rattle.piece_table.proofs.Removing.{linked_dense}
-use Rattle.piece_table.specs.Calls.{Met, Sought, RemovedPiece, ReplacedPiece, TrimmedBack, TrimmedFront, end_at}
+use Rattle.piece_table.specs.Calls.{Met, Sought, RemovedPiece, ReplacedPiece, TrimmedBack, TrimmedFront, end_at, own_place}
 use Rattle.piece_table.proofs.Parts.{Left}
 use Rattle.piece_table.specs.Piece.{PieceRow, row_end, piece_at, part, Follow}
 use Rattle.piece_table.specs.Rep.{Linked, Rep, Holds, Becomes}
@@ -105,18 +107,20 @@ module _ {t t' : List ℕ} {link : ℕ} {p : PieceRow} (qs rs : List PieceRow) (
   replace_piece_rep put f = replaced_around put (held qs rs r h) f
 
   -- the link's piece clipped, below `end` or from `first` on
-  pub trim_back_rep : {end : ℕ} → TrimmedBack t t' link end → p.first < end → end ≤ row_end p → Becomes t t' (qs ++ part p.first end p ∷ rs)
+  pub trim_back_rep : {end : ℕ} → TrimmedBack t t' link end → p.first < cell_place p.owner end → cell_place p.owner end ≤ row_end p → Becomes t t' (qs ++ part p.first (cell_place p.owner end) p ∷ rs)
   trim_back_rep {end} trim lo hi =
       let a : Around t link qs rs = held qs rs r h in
-      let e₀ : column t link piece_first ≡ p.first = ap (λ (q : PieceRow). q.first) h.is in
+      let e₀ : first_at t link ≡ p.first = ap (λ (q : PieceRow). q.first) h.is in
       let e₁ : end_at t link ≡ row_end p = ap row_end h.is in
-      subst (Becomes t t') (ap₂ (λ (u v : List PieceRow). u ++ part (column t link piece_first) end (piece_at t link) ∷ v) a.front a.back ∙ ap (λ (q : PieceRow). qs ++ part q.first end q ∷ rs) h.is)
+      let e₂ : line_of (column t link piece_owner) ≡ line_of p.owner = ap (λ (q : PieceRow). line_of q.owner) h.is in
+      subst (Becomes t t') (ap₂ (λ (u v : List PieceRow). u ++ part (first_at t link) (own_place t link end) (piece_at t link) ∷ v) a.front a.back ∙ ap (λ (q : PieceRow). qs ++ part q.first (cell_place q.owner end) q ∷ rs) h.is)
       (trim.done a.xs a.ys a.linked (omega arith) (omega arith))
 
-  pub trim_front_rep : {first : ℕ} → TrimmedFront t t' link first → p.first ≤ first → first < row_end p → Becomes t t' (qs ++ part first (row_end p) p ∷ rs)
+  pub trim_front_rep : {first : ℕ} → TrimmedFront t t' link first → p.first ≤ cell_place p.owner first → cell_place p.owner first < row_end p → Becomes t t' (qs ++ part (cell_place p.owner first) (row_end p) p ∷ rs)
   trim_front_rep {first} trim lo hi =
       let a : Around t link qs rs = held qs rs r h in
-      let e₀ : column t link piece_first ≡ p.first = ap (λ (q : PieceRow). q.first) h.is in
+      let e₀ : first_at t link ≡ p.first = ap (λ (q : PieceRow). q.first) h.is in
       let e₁ : end_at t link ≡ row_end p = ap row_end h.is in
-      subst (Becomes t t') (ap₂ (λ (u v : List PieceRow). u ++ part first (end_at t link) (piece_at t link) ∷ v) a.front a.back ∙ ap (λ (q : PieceRow). qs ++ part first (row_end q) q ∷ rs) h.is)
+      let e₂ : line_of (column t link piece_owner) ≡ line_of p.owner = ap (λ (q : PieceRow). line_of q.owner) h.is in
+      subst (Becomes t t') (ap₂ (λ (u v : List PieceRow). u ++ part (own_place t link first) (end_at t link) (piece_at t link) ∷ v) a.front a.back ∙ ap (λ (q : PieceRow). qs ++ part (cell_place q.owner first) (row_end q) q ∷ rs) h.is)
       (trim.done a.xs a.ys a.linked (omega arith) (omega arith))

@@ -9,3 +9,4 @@ pub mod Held
 pub mod Showing
 pub mod Cells
 pub mod Testing
+pub mod Lines

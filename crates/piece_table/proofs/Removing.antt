@@ -9,18 +9,18 @@ use Rattle.lists.proofs.Maps.{map-append, map_all}
 use Rattle.lists.specs.Lists.{Mem, here, there, Distinct, Ascending}
 use Rattle.lists.proofs.Counting.{dense}
 use Rattle.history.specs.Lent.{row_width}
-use Rattle.tables.specs.Columns.{column, piece_first, pieces_count, pieces_root, piece_depth, piece_left}
+use Rattle.tables.specs.Columns.{column, pieces_count, pieces_root, piece_depth, piece_left}
 use Rattle.merge_set.proofs.Balance.{Shrunk, removed_balanced, AsHigh, relinked_high}
 use Rattle.merge_set.proofs.Frame.{stays}
 use Rattle.merge_set.proofs.Heights.{height_92}
 use Rattle.merge_set.proofs.Links.{Put, put_at, mem_put, mem_unput, distinct_put, Exchanged}
 use Rattle.merge_set.proofs.Order.{removed_put, relinked_finds}
 use Rattle.merge_set.proofs.Removing.{valid_in}
-use Rattle.merge_set.specs.Table.{Good, Valid, Shape, Result, Removed, CopyOf, CopiedRow, Relinked}
+use Rattle.merge_set.specs.Table.{first_at, Good, Valid, Shape, Result, Removed, CopyOf, CopiedRow, Relinked}
 use Rattle.merge_set.specs.Tree.{Tree, rows, height, Balanced, removed, relinked}
 use Rattle.piece_table.proofs.Order.{map-exchange, ascending_same, split_once, follow_without, follow_ascending, follow_distinct}
 use Rattle.piece_table.specs.Calls.{HeadSet, RemovedPiece}
-use Rattle.piece_table.specs.Piece.{piece_at, Follow}
+use Rattle.piece_table.specs.Piece.{PieceRow, piece_at, Follow}
 use Rattle.piece_table.specs.Rep.{Linked, Rep, Becomes}
 
 -- ── what a linked table has ──
@@ -31,7 +31,7 @@ piece_same t t' j k h =
     rw (h 0 (omega arith) (λ a b. omega arith), h 1 (omega arith) (λ a b. omega arith), h 2 (omega arith) (λ a b. omega arith), h 3 (omega arith) (λ a b. omega arith), h 7 (omega arith) (λ a b. omega arith))
 
 module _ {t : List ℕ} {xs : List ℕ} (r : Linked t xs) where
-  pub linked_ascending : Ascending (λ j. column t j piece_first) xs
+  pub linked_ascending : Ascending (first_at t) xs
   linked_ascending = follow_ascending (piece_at t) 0 xs r.order
 
   linked_good : Good xs
@@ -60,7 +60,7 @@ record Loose (t t₁ : List ℕ) (top : ℕ) (xs : List ℕ) : Type 0 where
 
 loosened : {t t₁ : List ℕ} {root x top : ℕ} (xs ys : List ℕ) → root ≡ column t 0 pieces_root → Removed t t₁ root x 92 top → Linked t (xs ++ x ∷ ys) → Loose t t₁ top (xs ++ ys)
 loosened {t} {t₁} {root} {x} {top} xs ys er gone r =
-    let key : ℕ → ℕ = λ j. column t j piece_first in
+    let key : ℕ → ℕ = first_at t in
     let T : Tree = r.dense.tree in
     let good : Good (rows T) = rw r.dense.is (linked_good r) in
     let asc : Ascending key (rows T) = rw r.dense.is (linked_ascending r) in
@@ -128,9 +128,9 @@ module _ {t t₁ : List ℕ} {root count x top : ℕ} (er : root ≡ column t 0 
             let vx : Valid t x = linked_valid r (mem_unput (put_at x xs ys) (here refl)) in
             let vx₁ : Valid t₁ x = record { some = vx.some; room = omega (arith, vx.room, l.len) } in
             let my : Mem count (xs ++ ys) = rest xs ys (mem_put (put_at x xs ys) (linked_dense r count (omega arith) (omega arith))) in
-            let key₂ : ℕ → ℕ = λ j. column t₂ j piece_first in
-            let asc : Ascending (λ j. column t j piece_first) (xs ++ ys) = follow_ascending (piece_at t) 0 (xs ++ ys) (order xs ys r) in
-            let asc₂ : Ascending key₂ (xs ++ ys) = ascending_same (λ j. column t j piece_first) key₂ (xs ++ ys) (λ j m. copy.rest j 0 (omega arith) (other j m) ∙ l.same j 0 (omega arith) (λ lo hi. omega arith)) asc in
+            let key₂ : ℕ → ℕ = first_at t₂ in
+            let asc : Ascending (first_at t) (xs ++ ys) = follow_ascending (piece_at t) 0 (xs ++ ys) (order xs ys r) in
+            let asc₂ : Ascending key₂ (xs ++ ys) = ascending_same (first_at t) key₂ (xs ++ ys) (λ j m. ap (λ (p : PieceRow). p.first) (piece_same t t₂ j j (λ c h n. copy.rest j c h (other j m) ∙ l.same j c h n))) asc in
             let shape₂ : Shape t₂ top l.T = stays t₁ t₂ copy.len top l.T (λ k c m lo hi. copy.rest k c (omega arith) (other k (rw l.is at m))) l.shape in
             let copied : CopyOf t₂ count x = record { valid = record { some = vx.some; room = omega (arith, vx₁.room, copy.len) }; same = λ c h. copy.there vx₁ c h ∙ sym (copy.rest count c h (λ z. ne (sym z))) } in
             let good : Good (x ∷ rows l.T) = rw l.is (record { distinct = dx; few = omega (arith, r.dense.count, r.dense.room, r.few, length-append xs (x ∷ ys), length-append xs ys) }) in

@@ -12,17 +12,20 @@ use Rattle.lists.specs.Tests.{Decides}
 use Rattle.lists.proofs.Lists.{mem_left, mem_right, mem_split, all_left, all_right, all_append, all_head, all_tail}
 use Rattle.lists.proofs.Maps.{map-append}
 use Rattle.lists.proofs.Numbers.{refute, decides_iff, decides_eqb}
+use Rattle.history.specs.Words.{cell_place}
 use Rattle.history.specs.Lent.{row_width}
 use Rattle.tables.specs.Sums.{plus_up_to}
-use Rattle.tables.specs.Columns.{column, piece_left, piece_right, pieces_root, pieces_count}
+use Rattle.tables.proofs.Places.{place_zero}
+use Rattle.tables.specs.Columns.{column, piece_left, piece_right, piece_owner, pieces_root, pieces_count}
 use Rattle.merge_set.specs.Tree.{Tree, leaf, node, height, rows, Balanced}
 use Rattle.merge_set.specs.Table.{deep_at, Shape}
 use Rattle.merge_set.proofs.Frame.{deep_at_lem}
-use Rattle.piece_table.specs.Piece.{PieceRow, row_end, piece_at, Follow}
+use Rattle.piece_table.specs.Piece.{PieceRow, row_end, read_at, piece_at, Follow}
 use Rattle.piece_table.specs.Rep.{Linked}
 use Rattle.piece_table.specs.Test.{Allowed, WellFormed, RowStands, RowFits, last_end, Stands, Found, Outcome, Walked}
-use Rattle.piece_table.specs.declared.Limits.{Limits}
-use Rattle.piece_table.specs.declared.Walk.{Walk}
+use Rattle.piece_table.specs.declared.Piece.{Piece}
+use Rattle.piece_table.specs.declared.test.Limits.{Limits}
+use Rattle.piece_table.specs.declared.test.Walk.{Walk}
 use Rattle.std.specs.Prelude.{Option, Some, None}
 use Rattle.piece_table.proofs.Order.{follow_distinct}
 use Rattle.piece_table.proofs.Removing.{linked_depth}
@@ -71,7 +74,7 @@ module _ {t : List ℕ} {limits : Limits} {link low seen fuel x : ℕ} (A B : Tr
   order : Follow low (map (piece_at t) (rows A) ++ piece_at t x ∷ map (piece_at t) (rows B))
   order = rw split at s.order
 
-  allowed : All (Allowed limits.kind limits.used limits.last) (map (piece_at t) (rows A) ++ piece_at t x ∷ map (piece_at t) (rows B))
+  allowed : All (Allowed limits.kinds limits.used limits.last) (map (piece_at t) (rows A) ++ piece_at t x ∷ map (piece_at t) (rows B))
   allowed = rw split at s.allowed
 
   many : length (rows (node A x B)) ≡ length (rows A) + suc (length (rows B))
@@ -165,6 +168,10 @@ stands_node {t} {limits} {link} {low} {seen} {fuel} A B room nz row s_a few fits
 
 -- ── `walk_tree` ──
 
+-- the place where the last piece that the walk has seen ends
+abbrev place : Walk → ℕ
+place walk = cell_place walk.kind walk.end
+
 pub walk_leaf : {t : List ℕ} {limits : Limits} {link fuel : ℕ} {walk : Walk} → link ≡ 0 → Walked t limits link walk fuel (Some walk)
 unfolding Shape Balanced height rows
 walk_leaf z =
@@ -180,11 +187,11 @@ walk_leaf z =
 
 module _ {t : List ℕ} {limits : Limits} {link fuel : ℕ} {walk : Walk} (nz : link ≡ 0 → ⊥) where
   -- no tree stands: a leaf does not, and a node would have to be as said
-  bad : ((A B : Tree) (x : ℕ) → Stands t limits link walk.end walk.seen fuel (node A x B) → ⊥) → Walked t limits link walk fuel None
+  bad : ((A B : Tree) (x : ℕ) → Stands t limits link (place walk) walk.seen fuel (node A x B) → ⊥) → Walked t limits link walk fuel None
   unfolding Shape
   bad f = record { is = λ room. go }
     where
-      go : (T : Tree) → Stands t limits link walk.end walk.seen fuel T → ⊥
+      go : (T : Tree) → Stands t limits link (place walk) walk.seen fuel T → ⊥
       go leaf s = nz s.shape
       go (node A x B) s = f A B x s
 
@@ -204,56 +211,59 @@ module _ {t : List ℕ} {limits : Limits} {link fuel : ℕ} {walk : Walk} (nz : 
       unfolding Shape
       walk_left_bad e =
           record {
-            is = λ room. go (subst (Outcome t limits (column t link piece_left) walk.end walk.seen (fuel - 1)) e (at_left.is room));
+            is = λ room. go (subst (Outcome t limits (column t link piece_left) (place walk) walk.seen (fuel - 1)) e (at_left.is room));
           }
         where
-          go : ((A : Tree) → Stands t limits (column t link piece_left) walk.end walk.seen (fuel - 1) A → ⊥) → (T : Tree) → Stands t limits link walk.end walk.seen fuel T → ⊥
+          go : ((A : Tree) → Stands t limits (column t link piece_left) (place walk) walk.seen (fuel - 1) A → ⊥) → (T : Tree) → Stands t limits link (place walk) walk.seen fuel T → ⊥
           go f leaf s = nz s.shape
           go f (node A x B) s = f A (stands_left A B s)
 
       module _ {so : Walk} (fine : w ≡ Some so) where
-        found : row_width * limits.count + row_width ≤ length t → Found t limits (column t link piece_left) walk.end walk.seen (fuel - 1) so.seen so.end
-        found room = subst (Outcome t limits (column t link piece_left) walk.end walk.seen (fuel - 1)) fine (at_left.is room)
+        found : row_width * limits.count + row_width ≤ length t → Found t limits (column t link piece_left) (place walk) walk.seen (fuel - 1) so.seen (place so)
+        found room = subst (Outcome t limits (column t link piece_left) (place walk) walk.seen (fuel - 1)) fine (at_left.is room)
 
         -- the left subtree of a tree that stands is the one that was found
-        same_left : (f : Found t limits (column t link piece_left) walk.end walk.seen (fuel - 1) so.seen so.end) (A B : Tree) {x : ℕ} → Stands t limits link walk.end walk.seen fuel (node A x B) → A ≡ f.tree
+        same_left : (f : Found t limits (column t link piece_left) (place walk) walk.seen (fuel - 1) so.seen (place so)) (A B : Tree) {x : ℕ} → Stands t limits link (place walk) walk.seen fuel (node A x B) → A ≡ f.tree
         same_left f A B s = shape_one t (column t link piece_left) A f.tree (stands_left A B s).shape f.stands.shape
 
         pub walk_full : limits.count ≤ so.seen → Walked t limits link walk fuel None
         unfolding Shape
         walk_full h = record { is = λ room. go (found room) }
           where
-            go : Found t limits (column t link piece_left) walk.end walk.seen (fuel - 1) so.seen so.end → (T : Tree) → Stands t limits link walk.end walk.seen fuel T → ⊥
+            go : Found t limits (column t link piece_left) (place walk) walk.seen (fuel - 1) so.seen (place so) → (T : Tree) → Stands t limits link (place walk) walk.seen fuel T → ⊥
             go f leaf s = nz s.shape
             go f (node A x B) s = omega (arith, stands_few A B s, ap (λ (T : Tree). length (rows T)) (same_left f A B s), f.many)
 
-        module _ {q' : Bool} (fits : Decides q' (RowFits t link so.end limits)) where
+        module _ {q' : Bool} (fits : Decides q' (RowFits t link (place so) limits)) where
           pub walk_misfit : q' ≡ false → Walked t limits link walk fuel None
           unfolding Shape
           walk_misfit e = record { is = λ room. go (found room) }
             where
-              go : Found t limits (column t link piece_left) walk.end walk.seen (fuel - 1) so.seen so.end → (T : Tree) → Stands t limits link walk.end walk.seen fuel T → ⊥
+              go : Found t limits (column t link piece_left) (place walk) walk.seen (fuel - 1) so.seen (place so) → (T : Tree) → Stands t limits link (place walk) walk.seen fuel T → ⊥
               go f leaf s = nz s.shape
               go f (node A x B) s =
-                  let z : last_end walk.end (map (piece_at t) (rows A)) ≡ so.end = ap (λ (T : Tree). last_end walk.end (map (piece_at t) (rows T))) (same_left f A B s) ∙ f.ends in
+                  let z : last_end (place walk) (map (piece_at t) (rows A)) ≡ (place so) = ap (λ (T : Tree). last_end (place walk) (map (piece_at t) (rows T))) (same_left f A B s) ∙ f.ends in
                   fits.not e (subst (λ (k : ℕ). RowFits t link k limits) z (stands_fits A B s))
 
-          pub walk_right : {r z : ℕ} {w' : Option Walk} → so.seen < limits.count → q' ≡ true → r ≡ column t link piece_right → z ≡ plus_up_to (piece_at t link).first (piece_at t link).size
-              → Walked t limits r (record { seen = so.seen + 1; end = z }) (fuel - 1) w' → Walked t limits link walk fuel w'
+          pub walk_right : {r z : ℕ} {p : Piece} {w' : Option Walk} → so.seen < limits.count → q' ≡ true → r ≡ column t link piece_right → p ≡ read_at t link → z ≡ plus_up_to p.first p.size
+              → Walked t limits r (record { seen = so.seen + 1; kind = p.owner; end = z }) (fuel - 1) w' → Walked t limits link walk fuel w'
           unfolding Shape rows
-          walk_right {r} {z} {w'} few y er ez right = record { is = λ room. go room (found room) w' (at_right.is room) }
+          walk_right {r} {z} {p} {w'} few y er ep ez right = record { is = λ room. go room (found room) w' (after room) }
             where
-              whole : z ≡ row_end (piece_at t link)
-              whole = omega (arith, ez, (fits.yes y).filled.near)
+              whole : cell_place (column t link piece_owner) z ≡ row_end (piece_at t link)
+              whole = let e : z ≡ plus_up_to (read_at t link).first (read_at t link).size = rw ep at ez in omega (arith, e, (fits.yes y).filled.near)
 
-              at_right : Walked t limits (column t link piece_right) (record { seen = so.seen + 1; end = row_end (piece_at t link) }) (fuel - 1) w'
-              at_right = rw (er, whole) at right
+              at_right : Walked t limits (column t link piece_right) (record { seen = so.seen + 1; kind = column t link piece_owner; end = z }) (fuel - 1) w'
+              at_right = rw (er, ep) at right
 
-              go : row_width * limits.count + row_width ≤ length t → Found t limits (column t link piece_left) walk.end walk.seen (fuel - 1) so.seen so.end → (w : Option Walk)
-                  → Outcome t limits (column t link piece_right) (row_end (piece_at t link)) (so.seen + 1) (fuel - 1) w → Outcome t limits link walk.end walk.seen fuel w
+              after : row_width * limits.count + row_width ≤ length t → Outcome t limits (column t link piece_right) (row_end (piece_at t link)) (so.seen + 1) (fuel - 1) w'
+              after room = subst (λ (k : ℕ). Outcome t limits (column t link piece_right) k (so.seen + 1) (fuel - 1) w') whole (at_right.is room)
+
+              go : row_width * limits.count + row_width ≤ length t → Found t limits (column t link piece_left) (place walk) walk.seen (fuel - 1) so.seen (place so) → (w : Option Walk)
+                  → Outcome t limits (column t link piece_right) (row_end (piece_at t link)) (so.seen + 1) (fuel - 1) w → Outcome t limits link (place walk) walk.seen fuel w
               go room f None o = none
                 where
-                  none : (T : Tree) → Stands t limits link walk.end walk.seen fuel T → ⊥
+                  none : (T : Tree) → Stands t limits link (place walk) walk.seen fuel T → ⊥
                   none leaf s = nz s.shape
                   none (node A x B) s =
                       let e : walk.seen + length (rows A) ≡ so.seen = ap (λ (T : Tree). walk.seen + length (rows T)) (same_left f A B s) ∙ f.many in
@@ -263,31 +273,34 @@ module _ {t : List ℕ} {limits : Limits} {link fuel : ℕ} {walk : Walk} (nz : 
                   let B : Tree = o.tree in
                   let s_b : Stands t limits (column t link piece_right) (row_end (piece_at t link)) (walk.seen + length (rows A) + 1) (fuel - 1) B
                   = subst (λ (k : ℕ). Stands t limits (column t link piece_right) (row_end (piece_at t link)) (k + 1) (fuel - 1) B) (sym f.many) o.stands in
-                  let fit : RowFits t link (last_end walk.end (map (piece_at t) (rows A))) limits
+                  let fit : RowFits t link (last_end (place walk) (map (piece_at t) (rows A))) limits
                   = subst (λ (k : ℕ). RowFits t link k limits) (sym f.ends) (fits.yes y) in
                   record {
                     tree = node A link B;
                     stands = stands_node A B room nz (row.yes ok) f.stands (omega (arith, f.many)) fit s_b;
                     many = omega (arith, length-append (rows A) (link ∷ rows B), f.many, o.many);
-                    ends = ap (last_end walk.end) (map-append (piece_at t) (rows A) (link ∷ rows B)) ∙ last_end_append walk.end (map (piece_at t) (rows A)) (piece_at t link ∷ map (piece_at t) (rows B)) ∙ o.ends;
+                    ends = ap (last_end (place walk)) (map-append (piece_at t) (rows A) (link ∷ rows B)) ∙ last_end_append (place walk) (map (piece_at t) (rows A)) (piece_at t link ∷ map (piece_at t) (rows B)) ∙ o.ends;
                   }
 
 -- ── `test_pieces` ──
 
-abbrev limits_of : (count kind used last : ℕ) → Limits
-limits_of count kind used last = record { count = count; kind = kind; used = used; last = last }
+abbrev limits_of : (count kinds used last : ℕ) → Limits
+limits_of count kinds used last = record { count = count; kinds = kinds; used = used; last = last }
 
-module _ {t : List ℕ} {kind used last count : ℕ} (ec : count ≡ column t 0 pieces_count) where
-  pub test_small : {many : ℕ} → many ≡ (length t - 0) / row_width → many ≤ count → Decides false (WellFormed t kind used last)
+module _ {t : List ℕ} {kinds used last count : ℕ} (ec : count ≡ column t 0 pieces_count) where
+  pub test_small : {many : ℕ} → many ≡ (length t - 0) / row_width → many ≤ count → Decides false (WellFormed t kinds used last)
   test_small em h = refute (λ w. omega (arith, w.rep.linked.dense.room))
 
   module _ {root many : ℕ} {w : Option Walk} (em : many ≡ (length t - 0) / row_width) (room : count < many) (er : root ≡ column t 0 pieces_root)
-      (walked : Walked t (limits_of count kind used last) root (record { seen = 0; end = 0 }) 92 w) where
+      (walked : Walked t (limits_of count kinds used last) root (record { seen = 0; kind = 0; end = 0 }) 92 w) where
+    outcome : Outcome t (limits_of count kinds used last) root 0 0 92 w
+    outcome = subst (λ (k : ℕ). Outcome t (limits_of count kinds used last) root k 0 92 w) place_zero (walked.is (omega arith))
+
     fits : row_width * count + row_width ≤ length t
     fits = omega arith
 
     -- the tree of a well-formed table stands at its root
-    stands_whole : (r : WellFormed t kind used last) → Stands t (limits_of count kind used last) root 0 0 92 r.rep.linked.dense.tree
+    stands_whole : (r : WellFormed t kinds used last) → Stands t (limits_of count kinds used last) root 0 0 92 r.rep.linked.dense.tree
     stands_whole r =
         let l : Linked t r.rep.links = r.rep.linked in
         let is : map (piece_at t) (rows l.dense.tree) ≡ r.pieces = ap (map (piece_at t)) l.dense.is ∙ r.rep.pieces in
@@ -301,28 +314,25 @@ module _ {t : List ℕ} {kind used last count : ℕ} (ec : count ≡ column t 0 
           allowed = rw is r.allowed;
         }
 
-    pub test_bad : w ≡ None → Decides false (WellFormed t kind used last)
-    test_bad e = refute (λ r. none (subst (Outcome t (limits_of count kind used last) root 0 0 92) e (walked.is fits)) r.rep.linked.dense.tree (stands_whole r))
+    pub test_bad : w ≡ None → Decides false (WellFormed t kinds used last)
+    test_bad e = refute (λ r. none (subst (Outcome t (limits_of count kinds used last) root 0 0 92) e outcome) r.rep.linked.dense.tree (stands_whole r))
       where
-        none : Outcome t (limits_of count kind used last) root 0 0 92 None → (T : Tree) → Stands t (limits_of count kind used last) root 0 0 92 T → ⊥
+        none : Outcome t (limits_of count kinds used last) root 0 0 92 None → (T : Tree) → Stands t (limits_of count kinds used last) root 0 0 92 T → ⊥
         none f = f
 
-    pub test_fine : {so : Walk} → length t < 2 ^ 64 → w ≡ Some so → Decides (eqb so.seen count) (WellFormed t kind used last)
+    pub test_fine : {so : Walk} → length t < 2 ^ 64 → w ≡ Some so → Decides (eqb so.seen count) (WellFormed t kinds used last)
     test_fine {so} small e = decides_iff (eqb n count) yes no (decides_eqb n count)
       where
         n : ℕ
         n = so.seen
 
-        z : ℕ
-        z = so.end
+        f : Found t (limits_of count kinds used last) root 0 0 92 n (place so)
+        f = subst (Outcome t (limits_of count kinds used last) root 0 0 92) e outcome
 
-        f : Found t (limits_of count kind used last) root 0 0 92 n z
-        f = subst (Outcome t (limits_of count kind used last) root 0 0 92) e (walked.is fits)
-
-        s : Stands t (limits_of count kind used last) root 0 0 92 f.tree
+        s : Stands t (limits_of count kinds used last) root 0 0 92 f.tree
         s = f.stands
 
-        yes : n ≡ count → WellFormed t kind used last
+        yes : n ≡ count → WellFormed t kinds used last
         yes h =
             record {
               pieces = map (piece_at t) (rows f.tree);
@@ -347,7 +357,7 @@ module _ {t : List ℕ} {kind used last count : ℕ} (ec : count ≡ column t 0 
               allowed = s.allowed;
             }
 
-        no : WellFormed t kind used last → n ≡ count
+        no : WellFormed t kinds used last → n ≡ count
         no r =
             let one : r.rep.linked.dense.tree ≡ f.tree = shape_one t root r.rep.linked.dense.tree f.tree (stands_whole r).shape s.shape in
             omega (arith, f.many, ap (λ (T : Tree). length (rows T)) one, ap length r.rep.linked.dense.is, r.rep.linked.dense.count)

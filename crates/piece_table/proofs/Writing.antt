@@ -10,33 +10,28 @@ use lib.Seq.{get_or-set_other}
 use Rattle.lists.proofs.Lists.{all_of_mem, mem_left, mem_right}
 use Rattle.lists.proofs.Maps.{map-append, map_all}
 use Rattle.lists.specs.Lists.{Mem, here, there, Distinct, Ascending}
+use Rattle.history.specs.Words.{cell_place}
 use Rattle.history.specs.Lent.{row_width}
 use Rattle.tables.specs.Columns.{column, piece_offset, piece_first, pieces_count, pieces_root, piece_depth, piece_left, piece_written, piece_owner}
 use Rattle.merge_set.proofs.Balance.{Grown, inserted_balanced}
 use Rattle.merge_set.proofs.Frame.{column_eq, stays, column_put}
 use Rattle.merge_set.proofs.Links.{Put, put_at, mem_put, mem_unput, distinct_put, put_length}
 use Rattle.merge_set.proofs.Order.{inserted_put, inserted-rows}
-use Rattle.merge_set.specs.Table.{Good, Valid, Shape, Result, Inserted}
+use Rattle.merge_set.specs.Table.{first_at, Good, Valid, Shape, Result, Inserted}
 use Rattle.merge_set.specs.Tree.{Tree, rows, inserted, in_order}
 use Rattle.std.specs.Prelude.{Some, None}
-use Rattle.piece_table.proofs.Clipping.{clip_some, clip_is}
+use Rattle.piece_table.proofs.Clipping.{piece_eq, clip_some, clip_is}
 use Rattle.piece_table.proofs.Order.{ascending_same, follow_part, follow_from, follow_distinct}
 use Rattle.piece_table.proofs.Removing.{piece_same, linked_ascending, linked_depth, linked_valid}
-use Rattle.piece_table.specs.Calls.{HeadSet, WroteRow, ReplacedPiece, InsertedPiece, TrimmedBack, TrimmedFront, Clipped, end_at}
-use Rattle.piece_table.specs.Piece.{PieceRow, piece_at, part, Filled, Follow, placed}
+use Rattle.piece_table.specs.Calls.{HeadSet, WroteRow, ReplacedPiece, InsertedPiece, TrimmedBack, TrimmedFront, Clipped, end_at, own_place}
+use Rattle.piece_table.specs.Piece.{PieceRow, row_of, read_at, piece_at, part, Filled, Follow, placed}
 use Rattle.piece_table.specs.Rep.{Linked, Rep, Becomes}
+use Rattle.piece_table.specs.declared.Piece.{Piece}
 
 -- ── one store ──
 
 column-set_other : (t : List ℕ) (k j c d v : ℕ) → c < row_width → d < row_width → (j ≡ k → c ≡ d → ⊥) → column (set t (row_width * k + d) v) j c ≡ column t j c
 column-set_other t k j c d v hc hd n = get_or-set_other t (row_width * k + d) (row_width * j + c) v 0 (λ e. let s : (j ≡ k) × (c ≡ d) = column_eq j c k d hc hd e in n s.0 s.1)
-
-abbrev pub piece : ℕ → ℕ → ℕ → ℕ → ℕ → PieceRow
-piece a b c d e = record { first = a; size = b; written = c; offset = d; owner = e }
-
--- a piece is its five numbers
-pub piece_eq : {a b c d e a' b' c' d' e' : ℕ} → a ≡ a' → b ≡ b' → c ≡ c' → d ≡ d' → e ≡ e' → piece a b c d e ≡ piece a' b' c' d' e'
-piece_eq p q r s u = rw (p, q, r, s, u)
 
 -- ── a row of the tree gets another piece, in order ──
 
@@ -81,46 +76,55 @@ replace_piece_done w = record { done = λ xs ys r f. rewritten xs ys r w f }
 around : {t : List ℕ} (k : ℕ) (xs ys : List ℕ) → Linked t (xs ++ k ∷ ys) → Follow 0 (map (piece_at t) xs ++ piece_at t k ∷ map (piece_at t) ys)
 around {t} k xs ys r = rw (map-append (piece_at t) xs (k ∷ ys)) at r.order
 
+pub trim_back_none : {t : List ℕ} {k end first : ℕ} → first ≡ column t k piece_first → end < first → TrimmedBack t t k end
+trim_back_none e h = record { done = λ xs ys r lo hi. absurd (omega arith) }
+
 pub trim_back_done : {t t₁ : List ℕ} {k end first : ℕ} → first ≡ column t k piece_first → first ≤ end → t₁ ≡ set t (row_width * k + 1) (end - first) → TrimmedBack t t₁ k end
 trim_back_done {t} {t₁} {k} {end} {first} e le e₁ = record { done = go }
   where
-    wrote : WroteRow t t₁ k (part (column t k piece_first) end (piece_at t k))
+    same : (c : ℕ) → c < row_width → (c ≡ 1 → ⊥) → column t₁ k c ≡ column t k c
+    same c h n = rw e₁ (column-set_other t k k c 1 (end - first) h (omega arith) (λ z. n))
+
+    wrote : WroteRow t t₁ k (part (first_at t k) (own_place t k end) (piece_at t k))
     wrote =
         record {
           len = rw e₁ (length-set t (row_width * k + 1) (end - first));
           there = λ v. piece_eq
-              (rw e₁ (column-set_other t k k 0 1 (end - first) (omega arith) (omega arith) (λ z w. omega arith)))
-              (rw (e₁, ← e) (column_put t k 1 (end - first) (omega arith) v))
-              (rw e₁ (column-set_other t k k 2 1 (end - first) (omega arith) (omega arith) (λ z w. omega arith)))
-              (rw e₁ (column-set_other t k k 3 1 (end - first) (omega arith) (omega arith) (λ z w. omega arith)) ∙ here_again (column t k piece_offset) (column t k piece_first))
-              (rw e₁ (column-set_other t k k 7 1 (end - first) (omega arith) (omega arith) (λ z w. omega arith)));
+              (ap₂ cell_place (same 7 (omega arith) (λ z. omega arith)) (same 0 (omega arith) (λ z. omega arith)))
+              (rw e₁ (column_put t k 1 (end - first) (omega arith) v) ∙ sizes)
+              (same 2 (omega arith) (λ z. omega arith))
+              (same 3 (omega arith) (λ z. omega arith) ∙ here_again (column t k piece_offset) (first_at t k))
+              (same 7 (omega arith) (λ z. omega arith));
           rest = λ j c h n. rw e₁ (column-set_other t k j c 1 (end - first) h (omega arith) (λ z w. let b : (piece_left ≤ c) × (c ≤ piece_depth) = n z in omega arith));
         }
       where
         here_again : (o a : ℕ) → o ≡ o + (a - a)
         here_again o a = omega arith
 
-    go : (xs ys : List ℕ) → Linked t (xs ++ k ∷ ys) → column t k piece_first < end → end ≤ end_at t k → Becomes t t₁ (map (piece_at t) xs ++ part (column t k piece_first) end (piece_at t k) ∷ map (piece_at t) ys)
+        sizes : end - first ≡ own_place t k end - first_at t k
+        sizes = omega arith
+
+    go : (xs ys : List ℕ) → Linked t (xs ++ k ∷ ys) → first_at t k < own_place t k end → own_place t k end ≤ end_at t k → Becomes t t₁ (map (piece_at t) xs ++ part (first_at t k) (own_place t k end) (piece_at t k) ∷ map (piece_at t) ys)
     go xs ys r lo hi =
         let f : Follow 0 (map (piece_at t) xs ++ piece_at t k ∷ map (piece_at t) ys) = around k xs ys r in
         let h : Filled (piece_at t k) = (follow_from 0 (map (piece_at t) xs) (piece_at t k) (map (piece_at t) ys) f).0 in
         rewritten xs ys r wrote
-        (follow_part 0 (map (piece_at t) xs) (piece_at t k) (part (column t k piece_first) end (piece_at t k)) (map (piece_at t) ys) (omega arith) (omega arith)
-        (record { some = omega arith; near = omega (arith, h.near); stored = omega (arith, h.stored) })
+        (follow_part 0 (map (piece_at t) xs) (piece_at t k) (part (first_at t k) (own_place t k end) (piece_at t k)) (map (piece_at t) ys) (omega arith) (omega arith)
+        (record { some = omega arith; line = omega arith; near = omega (arith, h.near); stored = omega (arith, h.stored) })
         f)
 
 -- three stores, where the rest of the row is as it is to be
-moved : {t t₁ t₂ t₃ : List ℕ} {k : ℕ} (q : PieceRow) → column t k piece_written ≡ q.written → column t k piece_owner ≡ q.owner
-    → t₁ ≡ set t (row_width * k + 0) q.first → t₂ ≡ set t₁ (row_width * k + 1) q.size → t₃ ≡ set t₂ (row_width * k + 3) q.offset → WroteRow t t₃ k q
+moved : {t t₁ t₂ t₃ : List ℕ} {k : ℕ} (q : Piece) → column t k piece_written ≡ q.written → column t k piece_owner ≡ q.owner
+    → t₁ ≡ set t (row_width * k + 0) q.first → t₂ ≡ set t₁ (row_width * k + 1) q.size → t₃ ≡ set t₂ (row_width * k + 3) q.offset → WroteRow t t₃ k (row_of q)
 moved {t} {t₁} {t₂} {t₃} {k} q ew eo e₁ e₂ e₃ =
     record {
       len = rw e₃ (length-set t₂ (row_width * k + 3) q.offset) ∙ len₂;
       there = λ v. piece_eq
-          (rw (e₃, column-set_other t₂ k k 0 3 q.offset (omega arith) (omega arith) (λ z w. omega arith), e₂, column-set_other t₁ k k 0 1 q.size (omega arith) (omega arith) (λ z w. omega arith), e₁) (column_put t k 0 q.first (omega arith) v))
+          (ap₂ cell_place owner (rw (e₃, column-set_other t₂ k k 0 3 q.offset (omega arith) (omega arith) (λ z w. omega arith), e₂, column-set_other t₁ k k 0 1 q.size (omega arith) (omega arith) (λ z w. omega arith), e₁) (column_put t k 0 q.first (omega arith) v)))
           (rw (e₃, column-set_other t₂ k k 1 3 q.offset (omega arith) (omega arith) (λ z w. omega arith), e₂) (column_put t₁ k 1 q.size (omega arith) (record { some = v.some; room = omega (arith, v.room, len₁) })))
           (other k 2 (omega arith) (λ z w. omega arith) (λ z w. omega arith) (λ z w. omega arith) ∙ ew)
           (rw e₃ (column_put t₂ k 3 q.offset (omega arith) (record { some = v.some; room = omega (arith, v.room, len₂) })))
-          (other k 7 (omega arith) (λ z w. omega arith) (λ z w. omega arith) (λ z w. omega arith) ∙ eo);
+          owner;
       rest = λ j c h n. other j c h (λ z w. let b : (piece_left ≤ c) × (c ≤ piece_depth) = n z in omega arith) (λ z w. let b : (piece_left ≤ c) × (c ≤ piece_depth) = n z in omega arith) (λ z w. let b : (piece_left ≤ c) × (c ≤ piece_depth) = n z in omega arith);
     }
   where
@@ -135,31 +139,36 @@ moved {t} {t₁} {t₂} {t₃} {k} q ew eo e₁ e₂ e₃ =
         rw (e₃, column-set_other t₂ k j c 3 q.offset h (omega arith) n₃, e₂, column-set_other t₁ k j c 1 q.size h (omega arith) n₁, e₁)
         (column-set_other t k j c 0 q.first h (omega arith) n₀)
 
+    owner : column t₃ k piece_owner ≡ q.owner
+    owner = other k 7 (omega arith) (λ z w. omega arith) (λ z w. omega arith) (λ z w. omega arith) ∙ eo
+
 -- the link's piece is filled
 whole : {t : List ℕ} (k : ℕ) (xs ys : List ℕ) → Linked t (xs ++ k ∷ ys) → Filled (piece_at t k)
 whole {t} k xs ys r = (follow_from 0 (map (piece_at t) xs) (piece_at t k) (map (piece_at t) ys) (around k xs ys r)).0
 
-module _ {t : List ℕ} {k first : ℕ} {p : PieceRow} (ep : p ≡ piece_at t k) where
+module _ {t : List ℕ} {k first : ℕ} {p : Piece} (ep : p ≡ read_at t k) where
   pub trim_front_none : Clipped p first 18446744073709551615 None → TrimmedFront t t k first
   trim_front_none c =
       record {
         done = λ xs ys r lo hi.
             let h : Filled (piece_at t k) = whole k xs ys r in
-            absurd (clip_some first (end_at t k) (rw ep at c) h (omega arith) (omega (arith, h.near)) hi);
+            absurd (clip_some {p = read_at t k} (own_place t k first) (end_at t k) (rw ep at c) h (omega arith) (omega (arith, h.near)) hi);
       }
 
-  pub trim_front_done : {rest : PieceRow} {t₁ t₂ t₃ : List ℕ} → Clipped p first 18446744073709551615 (Some rest)
+  pub trim_front_done : {rest : Piece} {t₁ t₂ t₃ : List ℕ} → Clipped p first 18446744073709551615 (Some rest)
       → t₁ ≡ set t (row_width * k + 0) rest.first → t₂ ≡ set t₁ (row_width * k + 1) rest.size → t₃ ≡ set t₂ (row_width * k + 3) rest.offset → TrimmedFront t t₃ k first
   trim_front_done {rest} {t₁} {t₂} {t₃} c e₁ e₂ e₃ = record { done = go }
     where
-      go : (xs ys : List ℕ) → Linked t (xs ++ k ∷ ys) → column t k piece_first ≤ first → first < end_at t k → Becomes t t₃ (map (piece_at t) xs ++ part first (end_at t k) (piece_at t k) ∷ map (piece_at t) ys)
+      go : (xs ys : List ℕ) → Linked t (xs ++ k ∷ ys) → first_at t k ≤ own_place t k first → own_place t k first < end_at t k
+          → Becomes t t₃ (map (piece_at t) xs ++ part (own_place t k first) (end_at t k) (piece_at t k) ∷ map (piece_at t) ys)
       go xs ys r lo hi =
           let h : Filled (piece_at t k) = whole k xs ys r in
-          let e : rest ≡ part first (end_at t k) (piece_at t k) = clip_is first (end_at t k) (rw ep at c) h (omega arith) (omega (arith, h.near)) hi in
-          let wrote : WroteRow t t₃ k rest = moved rest (ap (λ (q : PieceRow). q.written) (sym e)) (ap (λ (q : PieceRow). q.owner) (sym e)) e₁ e₂ e₃ in
+          let e : row_of rest ≡ part (own_place t k first) (end_at t k) (piece_at t k)
+          = clip_is {p = read_at t k} (own_place t k first) (end_at t k) (rw ep at c) h (omega arith) (omega (arith, h.near)) hi in
+          let wrote : WroteRow t t₃ k (row_of rest) = moved rest (ap (λ (q : PieceRow). q.written) (sym e)) (ap (λ (q : PieceRow). q.owner) (sym e)) e₁ e₂ e₃ in
           rewritten xs ys r (rw e at wrote)
-          (follow_part 0 (map (piece_at t) xs) (piece_at t k) (part first (end_at t k) (piece_at t k)) (map (piece_at t) ys) lo (omega arith)
-          (record { some = omega arith; near = omega (arith, h.near); stored = omega (arith, h.stored) })
+          (follow_part 0 (map (piece_at t) xs) (piece_at t k) (part (own_place t k first) (end_at t k) (piece_at t k)) (map (piece_at t) ys) lo (omega arith)
+          (record { some = omega arith; line = omega (arith, h.line); near = omega (arith, h.near); stored = omega (arith, h.stored) })
           (around k xs ys r))
 
 -- ── `insert_piece` ──
@@ -192,7 +201,7 @@ module _ {t t₁ t₂ t₃ : List ℕ} {root count top : ℕ} {p : PieceRow} (er
           let r : Linked t xs = rep.linked in
           let T : Tree = r.dense.tree in
           let x : ℕ = count + 1 in
-          let key : ℕ → ℕ = λ j. column t₁ j piece_first in
+          let key : ℕ → ℕ = first_at t₁ in
           let n : length ps ≡ length xs = ap length (sym rep.pieces) ∙ length-map xs (piece_at t) in
           let fresh : Mem x xs → ⊥ = λ m. omega (arith, r.dense.within x m, ec) in
           let old : (j : ℕ) → Mem j xs → j ≡ count + 1 → ⊥ = λ j m z. fresh (rw z at m) in
@@ -210,11 +219,11 @@ module _ {t t₁ t₂ t₃ : List ℕ} {root count top : ℕ} {p : PieceRow} (er
           let some : (j : ℕ) → Mem j (x ∷ xs) → 0 < j = λ j. among (λ z. omega arith) (λ m. (linked_valid r m).some) in
           let kept : (j : ℕ) → Mem j xs → piece_at t₃ j ≡ piece_at t j = λ j m. piece_same t t₃ j j (λ c h l. value j c (some j (there m)) h l ∙ w.rest j c h (λ z. absurd (old j m z))) in
           let new : piece_at t₃ x ≡ p = piece_same t₁ t₃ x x (λ c h l. value x c (omega arith) h l) ∙ w.there vx in
-          let asc : Ascending key (rows T) = rw r.dense.is (ascending_same (λ j. column t j piece_first) key xs (λ j m. w.rest j 0 (omega arith) (λ z. absurd (old j m z))) (linked_ascending r)) in
+          let asc : Ascending key (rows T) = rw r.dense.is (ascending_same (first_at t) key xs (λ j m. ap (λ (q : PieceRow). q.first) (piece_same t t₁ j j (λ c h l. w.rest j c h (λ z. absurd (old j m z))))) (linked_ascending r)) in
           let order : rows T' ≡ in_order key x xs = inserted-rows key x T asc ∙ ap (in_order key x) r.dense.is in
           let same : map (piece_at t₃) xs ≡ ps = map_all (piece_at t₃) (piece_at t) (all_of_mem xs kept) ∙ rep.pieces in
           let pieces : map (piece_at t₃) (rows T') ≡ placed p ps
-          = ap (map (piece_at t₃)) order ∙ map-in_order key (piece_at t₃) x xs (λ j m. sym (value j 0 (some j m) (omega arith) (λ lo hi. omega arith))) ∙ ap₂ placed new same in
+          = ap (map (piece_at t₃)) order ∙ map-in_order key (piece_at t₃) x xs (λ j m. sym (ap (λ (q : PieceRow). q.first) (piece_same t₁ t₃ j j (λ c h l. value j c (some j m) h l)))) ∙ ap₂ placed new same in
           let bound : (j : ℕ) → Mem j (x ∷ xs) → j ≤ count + 1 = λ j. among (λ z. omega arith) (λ m. omega (arith, r.dense.within j m, ec)) in
           let g : Grown T T' = inserted_balanced key x T r.dense.balanced in
           let out : Rep t₃ (placed p ps) = record {
@@ -238,4 +247,4 @@ module _ {t t₁ t₂ t₃ : List ℕ} {root count top : ℕ} {p : PieceRow} (er
           record { rep = out; len = len₃ }
 
 -- the steps, one for each return
-pub ruleset writing = (replace_piece_done, trim_back_done, trim_front_none, trim_front_done, insert-piece_done)
+pub ruleset writing = (replace_piece_done, trim_back_none, trim_back_done, trim_front_none, trim_front_done, insert-piece_done)

@@ -1,22 +1,24 @@
 -- What the functions ensure: `t` is the table at entry, `t'` at exit; `link` is the link of a row. Definitions alone.
-use Rattle.std.specs.Prelude.{◌≡◌, Bool, cond, ◌&&◌, List, [], ◌∷◌, ◌++◌, map, ℕ, ◌+◌, ◌-◌, ◌*◌, ◌^◌, ◌≤◌, ◌<◌, min, max, length, ltb, Option, Some, None}
+use Rattle.std.specs.Prelude.{◌≡◌, Bool, true, cond, ◌&&◌, List, [], ◌∷◌, ◌++◌, map, ℕ, ◌+◌, ◌-◌, ◌*◌, ◌^◌, ◌≤◌, ◌<◌, min, max, length, ltb, Option, Some, None}
 use Rattle.std.specs.Bool.{then_some}
 use Rattle.lists.specs.Lists.{All}
+use Rattle.history.specs.Words.{cell_place}
 use Rattle.history.specs.Lent.{row_width}
-use Rattle.tables.specs.Columns.{column, piece_length, piece_left, piece_depth, pieces_root, pieces_count}
+use Rattle.tables.specs.Columns.{column, piece_first, piece_length, piece_left, piece_depth, piece_owner, pieces_root, pieces_count}
 use Rattle.tables.specs.Sums.{plus_up_to}
-use Rattle.merge_set.specs.Tree.{Tree, leaf, node, height}
+use Rattle.merge_set.specs.Tree.{Tree, leaf, node, height, rows}
 use Rattle.merge_set.specs.Table.{first_at, Valid, Shape}
-use Rattle.piece_table.specs.Piece.{PieceRow, row_end, piece_at, part, Follow, placed}
+use Rattle.piece_table.specs.Piece.{PieceRow, row_end, piece_at, part, cell_part, Follow, placed}
 use Rattle.piece_table.specs.Rep.{Linked, Rep, Becomes}
 use Rattle.piece_table.specs.declared.Found.{Found}
+use Rattle.piece_table.specs.declared.Piece.{Piece}
 
 -- ── a piece ──
 
--- `clip`: the part in [from, to), if there is any, and its offset is a number of 64 bits; no piece of a well-formed table fails at the latter
-pub record Clipped (p : PieceRow) (from to : ℕ) (out : Option PieceRow) : Type 0 where
+-- `clip`: the part in [from, to), cells of its kind, if there is any, and its offset is a number of 64 bits; no piece of a well-formed table fails at the latter
+pub record Clipped (p : Piece) (from to : ℕ) (out : Option Piece) : Type 0 where
   pub is : out ≡ then_some (ltb (max from p.first) (min to (plus_up_to p.first p.size)) && ltb (p.offset + (max from p.first - p.first)) (2 ^ 64))
-      (part (max from p.first) (min to (plus_up_to p.first p.size)) p)
+      (cell_part (max from p.first) (min to (plus_up_to p.first p.size)) p)
 
 -- ── stores ──
 
@@ -35,17 +37,21 @@ pub record WroteRow (t t' : List ℕ) (link : ℕ) (p : PieceRow) : Type 0 where
 
 -- ── seeking ──
 
--- the cell after the piece of a row
+-- the place after the piece of a row
 abbrev pub end_at : (t : List ℕ) (link : ℕ) → ℕ
 end_at t link = first_at t link + column t link piece_length
 
--- `ends_past`: so many cells from `first` on end past the place
-pub record EndsPast (first size place : ℕ) (answer : Bool) : Type 0 where
-  pub is : answer ≡ ltb place (first + size)
+-- `ends_past`: so many cells of a kind from `first` on end past another place; where they wrap nothing is said
+pub record EndsPast (owner first size kind cell : ℕ) (answer : Bool) : Type 0 where
+  pub is : first + size ≤ 2 ^ 64 → answer ≡ ltb (cell_place kind cell) (cell_place owner first + size)
+
+-- the cells of a row do not wrap
+pub record OnLine (t : List ℕ) (link : ℕ) : Type 0 where
+  pub fits : column t link piece_first + column t link piece_length ≤ 2 ^ 64
 
 -- `ends_after`
-pub record EndsAfter (t : List ℕ) (link place : ℕ) (answer : Bool) : Type 0 where
-  pub is : answer ≡ ltb place (end_at t link)
+pub record EndsAfter (t : List ℕ) (link kind cell : ℕ) (answer : Bool) : Type 0 where
+  pub is : OnLine t link → answer ≡ ltb (cell_place kind cell) (end_at t link)
 
 -- the first link of a tree whose end is past a place, `best` if there is none; and of a list
 unfoldable pub sought : (end : ℕ → ℕ) (place best : ℕ) → Tree → ℕ
@@ -58,7 +64,7 @@ first_past end place best (x ∷ xs) = cond (ltb place (end x)) x (first_past en
 
 -- `seek_from`
 pub record SoughtFrom (t : List ℕ) (link place best fuel out : ℕ) : Type 0 where
-  pub says : (T : Tree) → Shape t link T → height T ≤ fuel → out ≡ sought (end_at t) place best T
+  pub says : (T : Tree) → Shape t link T → height T ≤ fuel → All (OnLine t) (rows T) → out ≡ sought (end_at t) place best T
 
 -- `out` is the first of the links, and its piece ends past the place; or it is none, and there are none
 abbrev pub Heads : (t : List ℕ) (place : ℕ) (out : Option ℕ) → List ℕ → Type 0
@@ -86,18 +92,22 @@ link_of (Some f) = Some f.link
 pub record Sought (t : List ℕ) (place : ℕ) (out : Option ℕ) : Type 0 where
   pub says : (links : List ℕ) → Linked t links → Met t place out links
 
--- `has_cell`: the row is in use, and its piece has the cell
-pub record HasCell (t : List ℕ) (link cell : ℕ) : Type 0 where
+-- `has_cell`: the row is in use, and its piece is of the kind and has the cell
+pub record HasCell (t : List ℕ) (link kind cell : ℕ) : Type 0 where
   pub some : 0 < link
   pub within : link ≤ column t 0 pieces_count
-  pub from : first_at t link ≤ cell
-  pub below : cell < end_at t link
+  pub own : column t link piece_owner ≡ kind
+  pub from : column t link piece_first ≤ cell
+  pub below : cell < column t link piece_first + column t link piece_length
 
--- `has_ended`: the row is in use, and its piece ends at the place or before
+-- `has_ended`: yes is said only where the row is in use, and its piece ends at the place or before
 pub record HasEnded (t : List ℕ) (link place : ℕ) : Type 0 where
   pub some : 0 < link
   pub within : link ≤ column t 0 pieces_count
-  pub to : end_at t link ≤ place
+  pub to : OnLine t link → end_at t link ≤ place
+
+pub record Ended (t : List ℕ) (link kind cell : ℕ) (answer : Bool) : Type 0 where
+  pub yes : answer ≡ true → HasEnded t link (cell_place kind cell)
 
 -- ── pieces ──
 
@@ -114,11 +124,15 @@ pub record ReplacedPiece (t t' : List ℕ) (link : ℕ) (p : PieceRow) : Type 0 
 pub record InsertedPiece (t t' : List ℕ) (p : PieceRow) : Type 0 where
   pub done : (ps : List PieceRow) → Rep t ps → row_width * length ps + (row_width + row_width) ≤ length t → Follow 0 (placed p ps) → Becomes t t' (placed p ps)
 
--- `trim_back` and `trim_front`: the link's piece is cut to what it has below `end`, or from `first` on
+-- the place of a cell of the link's own kind
+abbrev pub own_place : (t : List ℕ) (link cell : ℕ) → ℕ
+own_place t link cell = cell_place (column t link piece_owner) cell
+
+-- `trim_back` and `trim_front`: the link's piece is cut to what it has below the cell `end` of its kind, or from `first` on
 pub record TrimmedBack (t t' : List ℕ) (link end : ℕ) : Type 0 where
-  pub done : (xs ys : List ℕ) → Linked t (xs ++ link ∷ ys) → first_at t link < end → end ≤ end_at t link
-      → Becomes t t' (map (piece_at t) xs ++ part (first_at t link) end (piece_at t link) ∷ map (piece_at t) ys)
+  pub done : (xs ys : List ℕ) → Linked t (xs ++ link ∷ ys) → first_at t link < own_place t link end → own_place t link end ≤ end_at t link
+      → Becomes t t' (map (piece_at t) xs ++ part (first_at t link) (own_place t link end) (piece_at t link) ∷ map (piece_at t) ys)
 
 pub record TrimmedFront (t t' : List ℕ) (link first : ℕ) : Type 0 where
-  pub done : (xs ys : List ℕ) → Linked t (xs ++ link ∷ ys) → first_at t link ≤ first → first < end_at t link
-      → Becomes t t' (map (piece_at t) xs ++ part first (end_at t link) (piece_at t link) ∷ map (piece_at t) ys)
+  pub done : (xs ys : List ℕ) → Linked t (xs ++ link ∷ ys) → first_at t link ≤ own_place t link first → own_place t link first < end_at t link
+      → Becomes t t' (map (piece_at t) xs ++ part (own_place t link first) (end_at t link) (piece_at t link) ∷ map (piece_at t) ys)

@@ -1,28 +1,34 @@
 // Which pieces the piece table stands for, and the calls that change one of them. Links of rows are used between calls; callers above speak of pieces.
 //
-//   specs/Piece     a piece's parts, and the order
+//   specs/Piece     a row's piece on the line of places, its parts, and the order
 //   specs/Rep       which pieces a table stands for: the layout
 //   specs/Calls     what each function ensures
 //   specs/Test      what makes a table well formed
 //   specs/Shown     the ledger's piece that a row's piece stands for
 //   proofs/Order    lists in order
 //   proofs/Clipping what `clip` gives
-//   proofs/Parts    the parts of pieces below a cell, in a range and from a cell on
+//   proofs/Lines    a piece lies on the line of its kind
+//   proofs/Parts    the parts of pieces below a place, in a range and from a place on
 //   proofs/Showing  clipping rows is clipping the ledger's pieces
+//   proofs/Cells    which byte a row's piece has for a cell
+//   proofs/Seeing   what a search sees
 //   proofs/Seeking, Removing, Writing    one step for each return
 //   proofs/Testing  the test decides it
 //   proofs/Held     the contracts by links are contracts by pieces
+//   test            whether a table is well formed
 
 #![tactic(auto)]
 
 ghost use Rattle.std.specs.Prelude.{◌≡◌};
+ghost use Rattle.history.specs.Words.{cell_place};
 ghost use Rattle.tables.specs.Sums.{plus_up_to};
-ghost use Rattle.piece_table.specs.Piece.{piece_at};
-ghost use Rattle.piece_table.specs.Calls.{Clipped, HeadSet, WroteRow, EndsPast, EndsAfter, SoughtFrom, IfAny, link_of, Sought, HasCell, HasEnded, RemovedPiece, ReplacedPiece, InsertedPiece, TrimmedBack, TrimmedFront};
+ghost use Rattle.piece_table.specs.Piece.{read_at, row_of};
+ghost use Rattle.piece_table.specs.Calls.{Clipped, HeadSet, WroteRow, EndsPast, EndsAfter, SoughtFrom, IfAny, link_of, Sought, HasCell, Ended, RemovedPiece, ReplacedPiece, InsertedPiece, TrimmedBack, TrimmedFront};
 ghost use Rattle.lists.specs.Tests.{Decides};
-ghost use Rattle.piece_table.specs.Test.{RowStands, RowFits, Walked, WellFormed};
 
-use tables::piece::{COUNT, DEPTH, FIRST, LEFT, LENGTH, OFFSET, OWNER, RIGHT, ROOT, WRITTEN};
+pub mod test;
+
+use tables::piece::{COUNT, FIRST, LEFT, LENGTH, OFFSET, OWNER, RIGHT, ROOT, WRITTEN};
 
 // No balanced tree of fewer than 2^63 rows is deeper.
 pub const DEEPEST: u64 = 92;
@@ -45,7 +51,7 @@ impl Piece {
         self.first.saturating_add(self.size)
     }
 
-    // The part of the piece that lies in [from, to), if there is any. First cell and offset move together.
+    // The part of the piece that lies in [from, to), cells of its kind, if there is any. First cell and offset move together.
     pub fn clip(self, from: u64, to: u64) -> Option<Piece>
         ensures { Clipped self from to result }
     {
@@ -65,7 +71,7 @@ impl Piece {
 
 // Reads the row of a link, under one test where the table has it: record does so for every piece that it meets.
 pub fn read(table: &[u64], link: u64) -> Piece
-    ensures { result ≡ piece_at table.now link }
+    ensures { result ≡ read_at table.now link }
 {
     let row = link as usize;
     if row < table.len() / tables::ROW {
@@ -114,23 +120,33 @@ pub fn remove_piece(table: &mut [u64], link: u64)
     set_head(table, moved, count - 1);
 }
 
-// Whether so many cells from `first` on end after `place`. It subtracts and does not add: in tables that nobody has tested the sum may pass 2^64.
-fn ends_past(first: u64, length: u64, place: u64) -> bool
-    ensures { EndsPast first length place result }
+// Whether so many cells of a kind from `first` on end after another kind's cell. It subtracts and does not add: in tables that nobody has tested the sum may
+// pass 2^64.
+#[tactic(auto, using(crate::proofs::Seeking::ending))]
+fn ends_past(owner: u64, first: u64, length: u64, kind: u64, cell: u64) -> bool
+    ensures { EndsPast owner first length kind cell result }
 {
-    place < first || place - first < length
+    if owner != kind {
+        return kind < owner;
+    }
+    if cell < first {
+        return true;
+    }
+    cell - first < length
 }
 
-// Whether the piece of a link ends after `place`.
-pub fn ends_after(table: &[u64], link: u64, place: u64) -> bool
-    ensures { EndsAfter table.now link place result }
+// Whether the piece of a link ends after a kind's cell.
+#[tactic(auto, using(crate::proofs::Seeking::ending))]
+pub fn ends_after(table: &[u64], link: u64, kind: u64, cell: u64) -> bool
+    ensures { EndsAfter table.now link kind cell result }
 {
+    let owner = tables::get(table, link, OWNER);
     let first = tables::get(table, link, FIRST);
     let length = tables::get(table, link, LENGTH);
-    ends_past(first, length, place)
+    ends_past(owner, first, length, kind, cell)
 }
 
-// What a search finds: the link of the lowest piece that ends after a place. `after` is a guess for `search_next`: the next piece's link, where the found
+// What a search finds: the link of the lowest piece that ends after a kind's cell. `after` is a guess for `search_next`: the next piece's link, where the found
 // one has none right below it; any number.
 #[derive(Clone, Copy)]
 pub struct Found {
@@ -147,11 +163,11 @@ impl Found {
     }
 }
 
-// The link of the lowest piece of the tree at `link`, at most `fuel` deep, that ends after `place`; 0, as in the tables, if there is none. One test a row:
+// The link of the lowest piece of the tree at `link`, at most `fuel` deep, that ends after a kind's cell; 0, as in the tables, if there is none. One test a row:
 // this is where record spends most of its time.
 #[tactic(auto, using(crate::proofs::Seeking::sinking))]
-fn seek_from(table: &[u64], link: u64, place: u64, fuel: u64) -> Found
-    ensures { SoughtFrom table.now link place 0 fuel result.link }
+fn seek_from(table: &[u64], link: u64, kind: u64, cell: u64, fuel: u64) -> Found
+    ensures { SoughtFrom table.now link (cell_place kind cell) 0 fuel result.link }
 {
     let rows = table.len() / tables::ROW;
     let mut at = link;
@@ -162,11 +178,12 @@ fn seek_from(table: &[u64], link: u64, place: u64, fuel: u64) -> Found
         if row == 0 || rows <= row {
             break;
         }
+        let owner = table[tables::ROW * row + OWNER];
         let first = table[tables::ROW * row + FIRST];
         let length = table[tables::ROW * row + LENGTH];
         let below = table[tables::ROW * row + LEFT];
         let above = table[tables::ROW * row + RIGHT];
-        if ends_past(first, length, place) {
+        if ends_past(owner, first, length, kind, cell) {
             after = found;
             found = at;
             at = below;
@@ -177,70 +194,73 @@ fn seek_from(table: &[u64], link: u64, place: u64, fuel: u64) -> Found
     Found { link: found, after }
 }
 
-// Searches the lowest piece that ends after `place`.
+// Searches the lowest piece that ends after a kind's cell.
 #[tactic(auto, using(crate::proofs::Seeking::search_done))]
-pub fn search(table: &[u64], place: u64) -> Option<Found>
-    ensures { Sought table.now place (link_of result) }
+pub fn search(table: &[u64], kind: u64, cell: u64) -> Option<Found>
+    ensures { Sought table.now (cell_place kind cell) (link_of result) }
 {
     let root = tables::get(table, 0, ROOT);
-    seek_from(table, root, place, DEEPEST).if_any()
+    seek_from(table, root, kind, cell, DEEPEST).if_any()
 }
 
-// The link of the lowest piece that ends after `place`.
-pub fn seek(table: &[u64], place: u64) -> Option<u64>
-    ensures { Sought table.now place result }
+// The link of the lowest piece that ends after a kind's cell.
+pub fn seek(table: &[u64], kind: u64, cell: u64) -> Option<u64>
+    ensures { Sought table.now (cell_place kind cell) result }
 {
-    Some(search(table, place)?.link)
+    Some(search(table, kind, cell)?.link)
 }
 
-// Whether the row of a link is in use, and its piece has the cell.
-fn has_cell(table: &[u64], link: u64, cell: u64) -> bool
-    ensures { Decides result (HasCell table.now link cell) }
+// Whether the row of a link is in use, and its piece is of the kind and has the cell.
+fn has_cell(table: &[u64], link: u64, kind: u64, cell: u64) -> bool
+    ensures { Decides result (HasCell table.now link kind cell) }
 {
     link != 0
         && link <= tables::get(table, 0, COUNT)
+        && tables::get(table, link, OWNER) == kind
         && tables::get(table, link, FIRST) <= cell
-        && ends_after(table, link, cell)
+        && cell - tables::get(table, link, FIRST) < tables::get(table, link, LENGTH)
 }
 
-// Whether the row of a link is in use, and its piece ends at `place` or before.
-fn has_ended(table: &[u64], link: u64, place: u64) -> bool
-    ensures { Decides result (HasEnded table.now link place) }
+// Whether the row of a link is in use, and its piece ends at a kind's cell or before.
+#[tactic(auto, using(crate::proofs::Seeking::ending))]
+fn has_ended(table: &[u64], link: u64, kind: u64, cell: u64) -> bool
+    ensures { Ended table.now link kind cell result }
 {
-    link != 0 && link <= tables::get(table, 0, COUNT) && !ends_after(table, link, place)
+    link != 0 && link <= tables::get(table, 0, COUNT) && !ends_after(table, link, kind, cell)
 }
 
-// The same as `search`, by guesses that may be any numbers: where `near` or `after` is the link of the piece that has the place, or the piece stands
+// The same as `search`, by guesses that may be any numbers: where `near` or `after` is the link of the piece that has the cell, or the piece stands
 // right below that of `near`, which ends before it, no way down from the root is needed.
 #[tactic(auto, using(crate::proofs::Seeking::seeking))]
-pub fn search_next(table: &[u64], place: u64, near: u64, after: u64) -> Option<Found>
-    ensures { Sought table.now place (link_of result) }
+pub fn search_next(table: &[u64], kind: u64, cell: u64, near: u64, after: u64) -> Option<Found>
+    ensures { Sought table.now (cell_place kind cell) (link_of result) }
 {
-    if has_cell(table, after, place) {
+    if has_cell(table, after, kind, cell) {
         return Some(Found {
             link: after,
             after: 0,
         });
     }
-    if has_ended(table, near, place) {
-        let found = seek_from(table, tables::get(table, near, RIGHT), place, DEEPEST);
+    if has_ended(table, near, kind, cell) {
+        let right = tables::get(table, near, RIGHT);
+        let found = seek_from(table, right, kind, cell, DEEPEST);
         if let Some(found) = found.if_any() {
             return Some(found);
         }
     }
-    search(table, place)
+    search(table, kind, cell)
 }
 
-// The same as `seek`, where the link of the piece that has the place, or of the one before it, may be known: `near` is any number.
-pub fn seek_near(table: &[u64], place: u64, near: u64) -> Option<u64>
-    ensures { Sought table.now place result }
+// The same as `seek`, where the link of the piece that has the cell, or of the one before it, may be known: `near` is any number.
+pub fn seek_near(table: &[u64], kind: u64, cell: u64, near: u64) -> Option<u64>
+    ensures { Sought table.now (cell_place kind cell) result }
 {
-    Some(search_next(table, place, near, near)?.link)
+    Some(search_next(table, kind, cell, near, near)?.link)
 }
 
 // Writes a piece to the row of a link, and leaves its place in the tree.
 fn write_row(table: &mut [u64], link: u64, piece: Piece)
-    ensures { WroteRow table.old table.new link piece }
+    ensures { WroteRow table.old table.new link (row_of piece) }
 {
     tables::put(table, link, FIRST, piece.first);
     tables::put(table, link, LENGTH, piece.size);
@@ -252,7 +272,7 @@ fn write_row(table: &mut [u64], link: u64, piece: Piece)
 // Puts another piece in the place of a link's: in its row, so that the tree stays as it is.
 #[tactic(auto, using(crate::proofs::Writing::writing))]
 pub fn replace_piece(table: &mut [u64], link: u64, piece: Piece)
-    ensures { ReplacedPiece table.old table.new link piece }
+    ensures { ReplacedPiece table.old table.new link (row_of piece) }
 {
     write_row(table, link, piece);
 }
@@ -260,7 +280,7 @@ pub fn replace_piece(table: &mut [u64], link: u64, piece: Piece)
 // Inserts a piece that meets no other, where there is a row for it.
 #[tactic(auto, using(crate::proofs::Writing::writing))]
 pub fn insert_piece(table: &mut [u64], piece: Piece)
-    ensures { InsertedPiece table.old table.new piece }
+    ensures { InsertedPiece table.old table.new (row_of piece) }
 {
     let root = tables::get(table, 0, ROOT);
     let count = tables::get(table, 0, COUNT);
@@ -273,7 +293,7 @@ pub fn insert_piece(table: &mut [u64], piece: Piece)
     set_head(table, top, link);
 }
 
-// Cuts the piece of a link to what it has below `end`.
+// Cuts the piece of a link to what it has below the cell `end` of its kind.
 #[tactic(auto, using(crate::proofs::Writing::writing))]
 pub fn trim_back(table: &mut [u64], link: u64, end: u64)
     ensures { TrimmedBack table.old table.new link end }
@@ -284,7 +304,7 @@ pub fn trim_back(table: &mut [u64], link: u64, end: u64)
     tables::put(table, link, LENGTH, size);
 }
 
-// Cuts the piece of a link to what it has from `first` on. Cell and offset move together.
+// Cuts the piece of a link to what it has from the cell `first` of its kind on. Cell and offset move together.
 #[tactic(auto, using(crate::proofs::Writing::writing))]
 pub fn trim_front(table: &mut [u64], link: u64, first: u64)
     ensures { TrimmedFront table.old table.new link first }
@@ -295,102 +315,4 @@ pub fn trim_front(table: &mut [u64], link: u64, first: u64)
     tables::put(table, link, FIRST, rest.first);
     tables::put(table, link, LENGTH, rest.size);
     tables::put(table, link, OFFSET, rest.offset);
-}
-
-// What the pieces of a table may be: how many, their kind, the bytes in use, the last accepted tick.
-#[derive(Clone, Copy)]
-pub struct Limits {
-    pub count: u64,
-    pub kind: u64,
-    pub used: u64,
-    pub last: u64,
-}
-
-// How far a walk through the tree has come: how many pieces it has seen, and where the last one ends.
-#[derive(Clone, Copy)]
-pub struct Walk {
-    pub seen: u64,
-    pub end: u64,
-}
-
-// Whether the row of a link can be a node of the tree, at most `fuel` deep: its depth and its children's say so. It is asked before the walk goes down.
-fn row_stands(table: &[u64], count: u64, link: u64, fuel: u64) -> bool
-    ensures { Decides result (RowStands table.now count link fuel) }
-{
-    let own = tables::get(table, link, DEPTH);
-    let d = merge_set::depth(table, tables::get(table, link, LEFT));
-    let e = merge_set::depth(table, tables::get(table, link, RIGHT));
-    link <= count && own != 0 && own <= fuel && d.abs_diff(e) <= 1 && own - 1 == d.max(e)
-}
-
-// Whether the piece of a link is allowed, and starts at `low` or past it.
-fn row_fits(table: &[u64], link: u64, low: u64, limits: Limits) -> bool
-    ensures { Decides result (RowFits table.now link low limits) }
-{
-    let piece = read(table, link);
-    !merge_set::starts_below(table, link, low)
-        && piece.size != 0
-        && piece.size <= u64::MAX - piece.first
-        && piece.size <= limits.used
-        && piece.offset <= limits.used - piece.size
-        && piece.written <= limits.last
-        && piece.owner == limits.kind
-}
-
-// Walks on through the tree at `link` in order. It is at most `fuel` deep, and its pieces start past those that the walk has seen. It ends at the first
-// fault. A row that comes again starts before the last end, so every row passes once: after `count` rows and at most `fuel` more on the way down it has
-// ended, on any table.
-#[tactic(auto, using(crate::proofs::Testing::walking))]
-fn walk_tree(table: &[u64], limits: Limits, link: u64, walk: Walk, fuel: u64) -> Option<Walk>
-    ensures { Walked table.now limits link walk fuel result }
-{
-    if link == 0 {
-        return Some(walk);
-    }
-    if fuel == 0 || !row_stands(table, limits.count, link, fuel) {
-        return None;
-    }
-    let left = walk_tree(
-        table,
-        limits,
-        tables::get(table, link, LEFT),
-        walk,
-        fuel - 1,
-    )?;
-    if limits.count <= left.seen || !row_fits(table, link, left.end, limits) {
-        return None;
-    }
-    let here = Walk {
-        seen: left.seen + 1,
-        end: read(table, link).end(),
-    };
-    walk_tree(
-        table,
-        limits,
-        tables::get(table, link, RIGHT),
-        here,
-        fuel - 1,
-    )
-}
-
-// Whether a piece table is well formed, for an index of one kind, with so many bytes of the store in use and that last accepted tick.
-#[tactic(auto, using(crate::proofs::Testing::testing))]
-pub fn test_pieces(table: &[u64], kind: u64, used: u64, last: u64) -> bool
-    ensures { Decides result (WellFormed table.now kind used last) }
-{
-    let count = tables::get(table, 0, COUNT);
-    if tables::rows(table.len(), 0) <= count {
-        return false;
-    }
-    let limits = Limits {
-        count,
-        kind,
-        used,
-        last,
-    };
-    let root = tables::get(table, 0, ROOT);
-    let Some(walk) = walk_tree(table, limits, root, Walk { seen: 0, end: 0 }, DEEPEST) else {
-        return false;
-    };
-    walk.seen == count
 }

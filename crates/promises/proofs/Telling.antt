@@ -4,7 +4,6 @@ use mathlib.Core.Bool.{cond}
 use Prim.Native.Nat.{ℕ}
 use lib.Dec.{eqb}
 use Rattle.history.specs.Results.{Result, done, read, update, number}
-use Rattle.history.specs.Refusals.{Answer, accepted, refused}
 use Rattle.layout.specs.Relations.{Counts, Near, Fields}
 use Rattle.index_record.specs.Calls.{recorded}
 use Rattle.index_read.specs.Answers.{counts_given, fields_given}

@@ -32,27 +32,27 @@ pub record ExportedTested : Type 0 where
       (λ κs a x e. StateTold (held a) x)
   pub record_op : Says record-contract.ended (record-contract.clauses w₀.𝓛 w₀.𝓜.mem w₀.𝓡.returns) (λ κs a g. r_top) (λ κs a g x e. r_last _)
       (λ κs a x e. RecordedAs a.0 a.1.0.now a.1.1.0.now a.1.1.1.0.now e.1.0.now e.1.1.0.now e.1.1.1.0.now (length a.1.1.1.1.0.now)
-      (operation (behind4 a).0 (behind4 a).1.0 (behind4 a).1.1.0.now) x
-      (changes (behind4 a).1.1.1.0.now (behind4 a).1.1.1.1.0.now) (changes (behind4 e).1.1.1.0.now (behind4 e).1.1.1.1.0.now))
+      (operation (behind4 a).0 (behind4 a).1.0 (behind4 a).1.1.0 (behind4 a).1.1.1.0.now) x
+      (changes (behind4 a).1.1.1.1.0.now (behind4 a).1.1.1.1.1.0.now) (changes (behind4 e).1.1.1.1.0.now (behind4 e).1.1.1.1.1.0.now))
   pub block : Says block-contract.ended (block-contract.clauses w₀.𝓛 w₀.𝓜.mem w₀.𝓡.returns) (λ κs a g. r_top) (λ κs a g x e. r_last _)
       (λ κs a x e. BlockAs a.0 a.1.0.now a.1.1.0.now a.1.1.1.0 x (handed_out a.1.1.1.1) (handed_out e.1.1.1.1))
   pub find : Says find-contract.ended (find-contract.clauses w₀.𝓛 w₀.𝓜.mem w₀.𝓡.returns) (λ κs a g. r_top) (λ κs a g x e. r_last _)
-      (λ κs a x e. FoundAs a.0 a.1.0.now a.1.1.0.now a.1.1.1.0.now (behind3 a).0 (behind3 a).1.0 (behind3 a).1.1.0
-      (behind3 a).1.1.1.0.now (behind3 e).1.1.1.0.now x
-      (counts (behind3 a).1.1.1.1.0.now (behind3 a).1.1.1.1.1.0.now) (counts (behind3 e).1.1.1.1.0.now (behind3 e).1.1.1.1.1.0.now))
+      (λ κs a x e. FoundAs a.0 a.1.0.now a.1.1.0.now a.1.1.1.0.now (behind3 a).0 (behind3 a).1.0 (behind3 a).1.1.0 (behind3 a).1.1.1.0
+      (behind3 a).1.1.1.1.0.now (behind3 e).1.1.1.1.0.now x
+      (counts (behind3 a).1.1.1.1.1.0.now (behind3 a).1.1.1.1.1.1.0.now) (counts (behind3 e).1.1.1.1.1.0.now (behind3 e).1.1.1.1.1.1.0.now))
   pub touching : Says touching-contract.ended (touching-contract.clauses w₀.𝓛 w₀.𝓜.mem w₀.𝓡.returns) (λ κs a g. r_top) (λ κs a g x e. r_last _)
-      (λ κs a x e. TouchedAs a.0 a.1.0.now a.1.1.0.now a.1.1.1.0.now (behind3 a).0 (behind3 a).1.0 (behind3 a).1.1.0
-      (behind3 a).1.1.1.0.now (behind3 e).1.1.1.0.now x
-      (behind3 a).1.1.1.1.0.now (behind3 e).1.1.1.1.0.now)
+      (λ κs a x e. TouchedAs a.0 a.1.0.now a.1.1.0.now a.1.1.1.0.now (behind3 a).0 (behind3 a).1.0 (behind3 a).1.1.0 (behind3 a).1.1.1.0
+      (behind3 a).1.1.1.1.0.now (behind3 e).1.1.1.1.0.now x
+      (behind3 a).1.1.1.1.1.0.now (behind3 e).1.1.1.1.1.0.now)
   pub next : Says next-contract.ended (next-contract.clauses w₀.𝓛 w₀.𝓜.mem w₀.𝓡.returns) (λ κs a g. r_top) (λ κs a g x e. r_last _)
-      (λ κs a x e. NextAs a.0 a.1.0.now a.1.1.0.now a.1.1.1.0.now (behind3 a).0 (behind3 a).1.0 x
-      (near (behind3 a).1.1.0.now (behind3 a).1.1.1.0.now) (near (behind3 e).1.1.0.now (behind3 e).1.1.1.0.now))
+      (λ κs a x e. NextAs a.0 a.1.0.now a.1.1.0.now a.1.1.1.0.now (behind3 a).0 (behind3 a).1.0 (behind3 a).1.1.0 x
+      (near (behind3 a).1.1.1.0.now (behind3 a).1.1.1.1.0.now) (near (behind3 e).1.1.1.0.now (behind3 e).1.1.1.1.0.now))
   pub last : Says last-contract.ended (last-contract.clauses w₀.𝓛 w₀.𝓜.mem w₀.𝓡.returns) (λ κs a g. r_top) (λ κs a g x e. r_last _)
-      (λ κs a x e. LastAs a.0 a.1.0.now a.1.1.0.now a.1.1.1.0.now (behind3 a).0 (behind3 a).1.0 x
-      (near (behind3 a).1.1.0.now (behind3 a).1.1.1.0.now) (near (behind3 e).1.1.0.now (behind3 e).1.1.1.0.now))
+      (λ κs a x e. LastAs a.0 a.1.0.now a.1.1.0.now a.1.1.1.0.now (behind3 a).0 (behind3 a).1.0 (behind3 a).1.1.0 x
+      (near (behind3 a).1.1.1.0.now (behind3 a).1.1.1.1.0.now) (near (behind3 e).1.1.1.0.now (behind3 e).1.1.1.1.0.now))
   pub read_cells : Says cells-contract.ended (cells-contract.clauses w₀.𝓛 w₀.𝓜.mem w₀.𝓡.returns) (λ κs a g. r_top) (λ κs a g x e. r_last _)
-      (λ κs a x e. CellsAs a.0 a.1.0.now a.1.1.0.now a.1.1.1.0.now a.1.1.1.1.0.now (behind4 a).0 (behind4 a).1.0 (behind4 a).1.1.0
-      (behind4 a).1.1.1.0.now (behind4 e).1.1.1.0.now (behind4 a).1.1.1.1.0.now (behind4 e).1.1.1.1.0.now x)
+      (λ κs a x e. CellsAs a.0 a.1.0.now a.1.1.0.now a.1.1.1.0.now a.1.1.1.1.0.now (behind4 a).0 (behind4 a).1.0 (behind4 a).1.1.0 (behind4 a).1.1.1.0
+      (behind4 a).1.1.1.1.0.now (behind4 e).1.1.1.1.0.now (behind4 a).1.1.1.1.1.0.now (behind4 e).1.1.1.1.1.0.now x)
   pub write : Says write-contract.ended (write-contract.clauses w₀.𝓛 w₀.𝓜.mem w₀.𝓡.returns) (λ κs a g. r_top) (λ κs a g x e. r_last _)
       (λ κs a x e. WrittenAs a.0 a.1.0.now a.1.1.0.now a.1.1.1.0.now a.1.1.1.1.0.now (behind4 a).0.now (behind4 e).0.now x
       (behind4 a).1.0.now (behind4 e).1.0.now)

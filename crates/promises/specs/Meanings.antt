@@ -1,5 +1,5 @@
 -- What an answer means tells the answer: no two answers of a call mean the same. Statements alone: the proof stands in proofs/Telling.
-use Rattle.std.specs.Prelude.{◌≡◌, ℕ, Option}
+use Rattle.std.specs.Prelude.{◌≡◌, ℕ}
 use Rattle.index_record.specs.Calls.{recorded}
 use Rattle.index_read.specs.Answers.{counts_given, fields_given}
 use Rattle.history.specs.Results.{done}

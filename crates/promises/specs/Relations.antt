@@ -95,7 +95,7 @@ behind a = a.1.1.1.1.1
 -- it holds what it held at entry.
 pub record Contracts : Type 0 where
   pub opening : Says open-contract.ended (open-contract.clauses w₀.𝓛 w₀.𝓜.mem w₀.𝓡.returns) (λ κs a g. r_top) (λ κs a g x e. r_last _)
-      (λ κs a x e. OpenedBy (behind a).0 (behind a).1.0 (held_open a)
+      (λ κs a x e. OpenedBy (behind a).0 (behind a).1.0.now (held_open a)
       (tables (held_open e).pieces (held_open e).blocks (held_open a).store (held_open e).nodes (held_open e).entries) (answer_by (λ u. u) x))
   pub record_op : Says record-contract.ended (record-contract.clauses w₀.𝓛 w₀.𝓜.mem w₀.𝓡.returns) (λ κs a g. r_top) (λ κs a g x e. r_last _)
       (λ κs a x e. RecordedBy (length (behind a).0.now) (lent_operation (behind a).1.0) (held_record a)
@@ -111,15 +111,15 @@ pub record Contracts : Type 0 where
   pub block_bytes_lem : Says bytes-contract.ended (bytes-contract.clauses w₀.𝓛 w₀.𝓜.mem w₀.𝓡.returns) (λ κs a g. r_top) (λ κs a g x e. r_last _)
       (λ κs a x e. BytesGivenBy (held a) (behind a).0 x.now)
   pub find : Says find-contract.ended (find-contract.clauses w₀.𝓛 w₀.𝓜.mem w₀.𝓡.returns) (λ κs a g. r_top) (λ κs a g x e. r_last _)
-      (λ κs a x e. FoundBy (held_read a) a.1.0 a.1.1.0 a.1.1.1.0 a.1.1.1.1.0.now e.1.1.1.1.0.now (answer_by counts_given x))
+      (λ κs a x e. FoundBy (held_read a) a.1.0 a.1.1.0 a.1.1.1.0 a.1.1.1.1.0 a.1.1.1.1.1.0.now e.1.1.1.1.1.0.now (answer_by counts_given x))
   pub touching : Says touching-contract.ended (touching-contract.clauses w₀.𝓛 w₀.𝓜.mem w₀.𝓡.returns) (λ κs a g. r_top) (λ κs a g x e. r_last _)
-      (λ κs a x e. TouchedBy (held_read a) a.1.0 a.1.1.0 a.1.1.1.0 a.1.1.1.1.0.now e.1.1.1.1.0.now (answer_by (λ n. n) x))
+      (λ κs a x e. TouchedBy (held_read a) a.1.0 a.1.1.0 a.1.1.1.0 a.1.1.1.1.0 a.1.1.1.1.1.0.now e.1.1.1.1.1.0.now (answer_by (λ n. n) x))
   -- next and last
   pub near : Says near-contract.ended (near-contract.clauses w₀.𝓛 w₀.𝓜.mem w₀.𝓡.returns) (λ κs a g. r_top) (λ κs a g x e. r_last _)
-      (λ κs a x e. NearGivenBy a.1.0 (held_read a) a.1.1.0 a.1.1.1.0 (answer_by near_told x))
+      (λ κs a x e. NearGivenBy a.1.0 (held_read a) a.1.1.0 a.1.1.1.0 a.1.1.1.1.0 (answer_by near_told x))
   pub read_cells : Says cells-contract.ended (cells-contract.clauses w₀.𝓛 w₀.𝓜.mem w₀.𝓡.returns) (λ κs a g. r_top) (λ κs a g x e. r_last _)
-      (λ κs a x e. CellsReadBy (held_read a) a.1.0 a.1.1.0 a.1.1.1.0 a.1.1.1.1.0.now e.1.1.1.1.0.now
-      a.1.1.1.1.1.0.now e.1.1.1.1.1.0.now (answer_by (λ _. tt) x))
+      (λ κs a x e. CellsReadBy (held_read a) a.1.0 a.1.1.0 a.1.1.1.0 a.1.1.1.1.0 a.1.1.1.1.1.0.now e.1.1.1.1.1.0.now
+      a.1.1.1.1.1.1.0.now e.1.1.1.1.1.1.0.now (answer_by (λ _. tt) x))
   pub clock : Says clock-contract.ended (clock-contract.clauses w₀.𝓛 w₀.𝓜.mem w₀.𝓡.returns) (λ κs a g. r_top) (λ κs a g x e. r_last _)
       (λ κs a x e. ClockGivenBy (held_read a) a.1.0 (answer_by (λ n. n) x))
   pub serialize_to : Says write-contract.ended (write-contract.clauses w₀.𝓛 w₀.𝓜.mem w₀.𝓡.returns) (λ κs a g. r_top) (λ κs a g x e. r_last _)
@@ -127,9 +127,9 @@ pub record Contracts : Type 0 where
   pub deserialize : Says load-contract.ended (load-contract.clauses w₀.𝓛 w₀.𝓜.mem w₀.𝓡.returns) (λ κs a g. r_top) (λ κs a g x e. r_last _)
       (λ κs a x e. LoadedBy (behind a).0.now (behind a).1.0 (held_load a) (held_load e) (answer_by (λ n. n) x))
   pub record_all : Says all-contract.ended (all-contract.clauses w₀.𝓛 w₀.𝓜.mem w₀.𝓡.returns) (λ κs a g. r_top) (λ κs a g x e. r_last _)
-      (λ κs a x e. RecordedAll (length (behind a).0.now) (behind a).1.0.now (held_record a)
-      (tables (held_record e).pieces (held_record e).blocks (held_record e).store (held_record a).nodes (held_record a).entries) (behind a).1.1.0.now (behind e).1.1.0.now x.count x.next)
+      (λ κs a x e. RecordedAll (length (behind a).0.now) (behind a).1.0 (behind a).1.1.0.now (held_record a)
+      (tables (held_record e).pieces (held_record e).blocks (held_record e).store (held_record a).nodes (held_record a).entries) (behind a).1.1.1.0.now (behind e).1.1.1.0.now x.count x.next)
   pub find_all : Says finds-contract.ended (finds-contract.clauses w₀.𝓛 w₀.𝓜.mem w₀.𝓡.returns) (λ κs a g. r_top) (λ κs a g x e. r_last _)
-      (λ κs a x e. FoundAll (held_read a) a.1.0.now a.1.1.0.now e.1.1.0.now a.1.1.1.0.now e.1.1.1.0.now x)
+      (λ κs a x e. FoundAll (held_read a) a.1.0 a.1.1.0.now a.1.1.1.0.now e.1.1.1.0.now a.1.1.1.1.0.now e.1.1.1.1.0.now x)
   -- and the program `board`, but for reading and writing
   pub run : Says run-contract.ended (run-contract.clauses w₀.𝓛 w₀.𝓜.mem w₀.𝓡.returns) (λ κs a g. r_top) (λ κs a g x e. r_last _) (λ κs a x e. PrintsBoard a.0.now a.1.0.now e.1.0.now x)

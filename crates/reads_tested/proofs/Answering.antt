@@ -36,20 +36,20 @@ use Rattle.reads_tested.specs.Tested.{TouchedTested, NearTested, CellsTested, Wr
 -- ── touching, next, last and read cells ──
 
 module _ (s : State) {x : Result Unit Refusal} (is : x ≡ when_closed s) where
-  module _ {blocks nodes entries : List ℕ} {tick start stop : ℕ} {out : List ℕ} where
-    pub touching_refused : {e : Refusal} → x ≡ Err e → TouchedTested s blocks nodes entries tick start stop out out (refused (number_of e))
+  module _ {blocks nodes entries : List ℕ} {kind tick start stop : ℕ} {out : List ℕ} where
+    pub touching_refused : {e : Refusal} → x ≡ Err e → TouchedTested s blocks nodes entries kind tick start stop out out (refused (number_of e))
     unfolding window_refusals first_of
     touching_refused {e} q = record {
       done = λ pieces store k.
           record { read = kept_not_closed e s k (sym is ∙ q) (λ n. HandedInto length (λ ks. ks) out out (refused n)) (λ l heads still. rw (heads, still)) (λ n. into_refused) };
     }
 
-    pub touching_taken : {u : Unit} {out' : List ℕ} {a : Answer ℕ} → x ≡ Ok u → TouchingClosed blocks nodes entries tick start stop out out' a
-        → TouchedTested s blocks nodes entries tick start stop out out' a
+    pub touching_taken : {u : Unit} {out' : List ℕ} {a : Answer ℕ} → x ≡ Ok u → TouchingClosed blocks nodes entries kind tick start stop out out' a
+        → TouchedTested s blocks nodes entries kind tick start stop out out' a
     touching_taken q f = record { done = λ pieces store k. record { read = closed_read (kept_closed_taken s k (sym is ∙ q)) (f.touched pieces store) } }
 
-  module _ (blocks nodes entries : List ℕ) (tick cell : ℕ) where
-    pub near_refused : {e : Refusal} (side : Side) → x ≡ Err e → NearTested side s blocks nodes entries tick cell (refused (number_of e))
+  module _ (blocks nodes entries : List ℕ) (kind tick cell : ℕ) where
+    pub near_refused : {e : Refusal} (side : Side) → x ≡ Err e → NearTested side s blocks nodes entries kind tick cell (refused (number_of e))
     unfolding neighbour_refusals first_of
     near_refused {e} From q = record {
       done = λ pieces store k. record { read = kept_not_closed e s k (sym is ∙ q) (λ n. HandedOut near_of (refused n)) (λ l heads still. rw (heads, still)) (λ n. out_refused) };
@@ -58,20 +58,20 @@ module _ (s : State) {x : Result Unit Refusal} (is : x ≡ when_closed s) where
       done = λ pieces store k. record { read = kept_not_closed e s k (sym is ∙ q) (λ n. HandedOut near_of (refused n)) (λ l heads still. rw (heads, still)) (λ n. out_refused) };
     }
 
-    pub near_taken : {u : Unit} (a : Answer Near) (side : Side) → x ≡ Ok u → NearClosed side blocks nodes entries tick cell a → NearTested side s blocks nodes entries tick cell a
+    pub near_taken : {u : Unit} (a : Answer Near) (side : Side) → x ≡ Ok u → NearClosed side blocks nodes entries kind tick cell a → NearTested side s blocks nodes entries kind tick cell a
     near_taken a From q f = record { done = λ pieces store k. record { read = closed_read (kept_closed_taken s k (sym is ∙ q)) (f.given pieces store) } }
     near_taken a Before q f = record { done = λ pieces store k. record { read = closed_read (kept_closed_taken s k (sym is ∙ q)) (f.given pieces store) } }
 
-  module _ {blocks store nodes entries : List ℕ} {tick start stop : ℕ} {bytes held : List ℕ} where
-    pub cells_not_closed : {e : Refusal} → x ≡ Err e → CellsTested s blocks store nodes entries tick start stop bytes bytes held held (refused (number_of e))
+  module _ {blocks store nodes entries : List ℕ} {kind tick start stop : ℕ} {bytes held : List ℕ} where
+    pub cells_not_closed : {e : Refusal} → x ≡ Err e → CellsTested s blocks store nodes entries kind tick start stop bytes bytes held held (refused (number_of e))
     unfolding window_refusals first_of
     cells_not_closed {e} q = record {
       done = λ pieces k.
           record { read = kept_not_closed e s k (sym is ∙ q) (λ n. CellsHanded bytes bytes held held (refused n)) (λ l heads still. rw (heads, still)) (λ n. cells_refused) };
     }
 
-    pub cells_taken : {u : Unit} {bytes' held' : List ℕ} {a : Answer Unit} → x ≡ Ok u → ReadClosed blocks store nodes entries tick start stop bytes bytes' held held' a
-        → CellsTested s blocks store nodes entries tick start stop bytes bytes' held held' a
+    pub cells_taken : {u : Unit} {bytes' held' : List ℕ} {a : Answer Unit} → x ≡ Ok u → ReadClosed blocks store nodes entries kind tick start stop bytes bytes' held held' a
+        → CellsTested s blocks store nodes entries kind tick start stop bytes bytes' held held' a
     cells_taken q f = record { done = λ pieces k. record { read = closed_read (kept_closed_taken s k (sym is ∙ q)) (f.read pieces) } }
 
 -- ── write ──

@@ -16,52 +16,64 @@ use refusals::Refusal;
 use segment_near::Side;
 use segment_table::lent::Closed;
 
-// The live blocks that hold a cell of [start, end) at a tick, ascending by first cell.
+// The live blocks of a kind that hold a cell of [start, end) at a tick, ascending by first cell.
 pub fn touching_tested(
     state: State,
     closed: &Closed<'_>,
+    kind: u8,
     tick: u64,
     start: u64,
     end: u64,
     answer: &mut [u64],
 ) -> Result<u64, Refusal>
-    ensures { TouchedTested state closed.now.blocks.now closed.now.nodes.now closed.now.entries.now tick start end
+    ensures { TouchedTested state closed.now.blocks.now closed.now.nodes.now closed.now.entries.now kind tick start end
         answer.old answer.new (answer_by (λ n. n) result) }
 {
     state.closed()?;
-    touching_read::touching_closed(closed, tick, start, end, answer)
+    touching_read::touching_closed(closed, u64::from(kind), tick, start, end, answer)
 }
 
-// The live block next to a cell on one side: the first that starts at it or after it, or the last whose cells are all below it.
+// The live block of a kind next to a cell on one side: the first that starts at it or after it, or the last whose cells are all below it.
 pub fn near_tested(
     state: State,
     closed: &Closed<'_>,
     side: Side,
+    kind: u8,
     tick: u64,
     cell: u64,
 ) -> Result<Option<u64>, Refusal>
-    ensures { NearTested side state closed.now.blocks.now closed.now.nodes.now closed.now.entries.now tick cell (answer_by near_told result) }
+    ensures { NearTested side state closed.now.blocks.now closed.now.nodes.now closed.now.entries.now kind tick cell (answer_by near_told result) }
 {
     state.closed()?;
-    touching_read::near_closed(closed, side, tick, cell)
+    touching_read::near_closed(closed, side, u64::from(kind), tick, cell)
 }
 
-// The cells of [start, end) at a tick, into two lent slices.
+// The cells of [start, end) of a kind at a tick, into two lent slices.
 pub fn cells_tested(
     state: State,
     closed: &Closed<'_>,
     store: &[u8],
+    kind: u8,
     tick: u64,
     start: u64,
     end: u64,
     bytes: &mut [u8],
     held: &mut [u8],
 ) -> Result<(), Refusal>
-    ensures { CellsTested state closed.now.blocks.now store.now closed.now.nodes.now closed.now.entries.now tick start end
+    ensures { CellsTested state closed.now.blocks.now store.now closed.now.nodes.now closed.now.entries.now kind tick start end
         bytes.old bytes.new held.old held.new (answer_by (λ _. tt) result) }
 {
     state.closed()?;
-    cells_read::read_closed(closed, store, tick, start, end, bytes, held)
+    cells_read::read_closed(
+        closed,
+        store,
+        u64::from(kind),
+        tick,
+        start,
+        end,
+        bytes,
+        held,
+    )
 }
 
 // Writes the file of a closed index from the slice's start on. Its loops run to the count of blocks.

@@ -4,14 +4,15 @@ use Prim.Native.Nat.{ℕ, zero, suc}
 use Rattle.history.specs.Results.{Result}
 use Rattle.history.specs.Refusals.{Answer}
 use Rattle.history.specs.Calls.{Call, record_call}
+use Rattle.history.specs.Printed.{operation_of}
 use Rattle.layout.specs.Tables.{Tables}
 use Rattle.demand.specs.Theorem.{Run, run_nil, run_cons}
 use Rattle.record_all.specs.Many.{Plays, plays_full, plays_end, plays_more}
 use Rattle.record_all.specs.Law.{operations_in, written_out, steps_none, steps_one, steps_all, WrittenOut}
 
 -- one `record_all`
-plays_run : {scratch : ℕ} {list : List ℕ} {most at next : ℕ} {t t' : Tables} {given : List (Answer Result)} → Plays scratch list most at t given next t'
-    → Run t (map (record_call scratch) (operations_in list most at)) given t'
+plays_run : {scratch kind : ℕ} {list : List ℕ} {most at next : ℕ} {t t' : Tables} {given : List (Answer Result)} → Plays scratch kind list most at t given next t'
+    → Run t (map (λ b. record_call scratch (operation_of kind b)) (operations_in list most at)) given t'
 unfolding operations_in
 plays_run plays_full = run_nil
 plays_run (plays_end {most = zero} e) = run_nil

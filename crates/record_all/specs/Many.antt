@@ -6,6 +6,7 @@ use Rattle.history.specs.Words.{Operation}
 use Rattle.history.specs.Results.{Result, done, read, update, number}
 use Rattle.history.specs.Refusals.{Answer, accepted, refused}
 use Rattle.history.specs.File.{got, fault}
+use Rattle.history.specs.Printed.{Booking, operation_of}
 use Rattle.layout.specs.Tables.{Tables}
 use Rattle.layout.specs.Relations.{RecordedBy}
 use Rattle.refusals.specs.declared.Refusal.{Refusal}
@@ -35,19 +36,19 @@ pub record AnswerPut (r : Told (Option ℕ) Refusal) (answers : List ℕ) (at : 
 
 -- ── the calls ──
 
--- Calls of `record_op` with the operations of the list from a position on, at most so many: each finds the tables as the one before left them. A list
--- that is cut short ends them. Their answers, and the position behind them.
-pub data Plays (scratch : ℕ) (list : List ℕ) : (most at : ℕ) (t : Tables) (given : List (Answer Result)) (next : ℕ) (t' : Tables) → Type 0 where
-  plays_full : {at : ℕ} {t : Tables} → Plays scratch list 0 at t [] at t
-  plays_end : {most at n : ℕ} {t : Tables} → read_operation list at ≡ fault n → Plays scratch list most at t [] at t
-  plays_more : {most at behind next : ℕ} {o : Operation} {a : Answer Result} {given : List (Answer Result)} {t t₁ t' : Tables}
-      → read_operation list at ≡ got o behind → RecordedBy scratch o t t₁ a → Plays scratch list most behind t₁ given next t'
-      → Plays scratch list (suc most) at t (a ∷ given) next t'
+-- Calls of `record_op` with the operations of the list from a position on, all of one kind and at most so many: each finds the tables as the one before
+-- left them. A list that is cut short ends them. Their answers, and the position behind them.
+pub data Plays (scratch kind : ℕ) (list : List ℕ) : (most at : ℕ) (t : Tables) (given : List (Answer Result)) (next : ℕ) (t' : Tables) → Type 0 where
+  plays_full : {at : ℕ} {t : Tables} → Plays scratch kind list 0 at t [] at t
+  plays_end : {most at n : ℕ} {t : Tables} → read_operation list at ≡ fault n → Plays scratch kind list most at t [] at t
+  plays_more : {most at behind next : ℕ} {b : Booking} {a : Answer Result} {given : List (Answer Result)} {t t₁ t' : Tables}
+      → read_operation list at ≡ got b behind → RecordedBy scratch (operation_of kind b) t t₁ a → Plays scratch kind list most behind t₁ given next t'
+      → Plays scratch kind list (suc most) at t (a ∷ given) next t'
 
 -- `record_all`: from the list's start on, as many as there are places for answers, three numbers each
-pub record RecordedAll (scratch : ℕ) (list : List ℕ) (t t' : Tables) (answers answers' : List ℕ) (count next : ℕ) : Type 0 where
+pub record RecordedAll (scratch kind : ℕ) (list : List ℕ) (t t' : Tables) (answers answers' : List ℕ) (count next : ℕ) : Type 0 where
   pub given : List (Answer Result)
-  pub calls : Plays scratch list (length answers / 3) 0 t given next t'
+  pub calls : Plays scratch kind list (length answers / 3) 0 t given next t'
   pub shown : answers' ≡ sets answers 0 (threes (map shown_of given))
   pub counted : count ≡ length given
 

@@ -1,4 +1,4 @@
-// Many record calls with one test of the tables: the operations of a lent list one after the other, three numbers for each answer. It is proved equal to
+// Many record calls of one kind with one test of the tables: the operations of a lent list one after the other, three numbers for each answer. It is proved equal to
 // that many calls of `record_op` on any tables: the first finds them as they are lent, each other one as the one before left them.
 //
 //   specs/Many       what `record_all` does
@@ -65,10 +65,11 @@ pub fn record_all(
     nodes: &[u64],
     entries: &[u64],
     scratch: &[u64],
+    kind: u8,
     list: &[u8],
     answers: &mut [u64],
 ) -> Played
-    ensures { RecordedAll (length scratch.now) list.now
+    ensures { RecordedAll (length scratch.now) kind list.now
         (tables pieces.old blocks.old store.old nodes.now entries.now)
         (tables pieces.new blocks.new store.new nodes.now entries.now)
         answers.old answers.new result.count result.next }
@@ -96,6 +97,7 @@ pub fn record_all(
             return Played { count, next: at };
         };
         let op = Operation {
+            kind: u64::from(kind),
             tick,
             first,
             bytes: &list[start..next],

@@ -3,22 +3,26 @@ use mathlib.Core.Path.{◌≡◌, refl, sym, ap, ap₂, subst, ◌∙◌}
 use mathlib.Core.Logic.{inl, inr}
 use mathlib.Core.Bool.{Bool, true, false, true≢false, false≢true}
 use mathlib.Core.List.{List, [], ◌∷◌, ◌++◌, map, append_assoc}
-use Prim.Native.Nat.{ℕ, ◌+◌, ◌-◌, ◌≤◌, ◌<◌}
+use Prim.Native.Nat.{ℕ, ◌+◌, ◌-◌, ◌^◌, ◌≤◌, ◌<◌}
 use native.Mathlib.Omega.{arith}
 use lib.ListN.{length, length-append}
 use borrow.Author.Tests.{ltb-true, ltb-false}
 use Rattle.lists.specs.Lists.{all_nil, all_cons}
 use Rattle.lists.proofs.Lists.{all_append, all_left, all_right, all_tail}
 use Rattle.lists.proofs.Maps.{map-append}
-use Rattle.tables.specs.Columns.{column, pieces_count}
+use Rattle.history.specs.Words.{cell_place}
+use Rattle.tables.specs.Columns.{column, piece_owner, pieces_count}
 use Rattle.std.specs.Prelude.{Option, Some, None}
 use Rattle.std.proofs.lemmas.Option.{none-some, same_Some}
 use Rattle.block_table.specs.Appended.{AppendedRow}
 use Rattle.block_table.proofs.Appending.{appended-none, countable_less}
 use Rattle.merge_set.specs.Table.{first_at, StartsBelow}
-use Rattle.piece_table.specs.Piece.{PieceRow, row_end, piece_at, part, rows_below, rows_inside, rows_above}
+use Rattle.piece_table.specs.Piece.{PieceRow, row_of, row_end, read_at, piece_at, part, rows_below, rows_inside, rows_above}
+use Rattle.piece_table.specs.declared.Piece.{Piece}
+use Rattle.piece_table.specs.Rep.{Becomes}
 use Rattle.piece_table.proofs.Clipping.{clip_some, clip_is}
-use Rattle.piece_table.specs.Calls.{Clipped, end_at, EndsAfter, Sought, RemovedPiece, TrimmedFront}
+use Rattle.piece_table.specs.Calls.{Clipped, end_at, own_place, EndsAfter, Sought, RemovedPiece, TrimmedFront}
+use Rattle.piece_table.proofs.Lines.{same_kind, on_line}
 use Rattle.piece_table.proofs.Order.{follow_filled, follow_right}
 use Rattle.piece_table.proofs.Parts.{Left, Right, apart, covered-below, covered-above, front_cut, inside_left, inside_right, inside_skip, inside_here}
 use Rattle.piece_table.proofs.Seeing.{rep_follow, rep_count, Seen, seen_none, seen-some, becomes_same, becomes_eq, becomes_then, left_alone}
@@ -28,11 +32,12 @@ use Rattle.recording.proofs.Recorded.{recorded-append, recorded_more}
 
 -- ── `record_part` ──
 
-module _ {t b : List ℕ} {link tick first end : ℕ} {p : PieceRow} (ep : p ≡ piece_at t link) where
-  pub record_part_none : Clipped p first end None → RecordedPart t b b link tick first end
+module _ {t b : List ℕ} {link tick first end : ℕ} {p : Piece} (ep : p ≡ read_at t link) where
+  pub record_part_none : Clipped p first end None → RecordedPart t b b link tick (own_place t link first) (own_place t link end)
   record_part_none k = record { done = λ w lt lo hi c. absurd (clip_some _ _ (rw ep at k) w refl refl (omega (arith, w.some))) }
 
-  pub record_part_done : {b₁ : List ℕ} {part : PieceRow} → Clipped p first end (Some part) → AppendedRow b b₁ (block_row_of tick part) → RecordedPart t b b₁ link tick first end
+  pub record_part_done : {b₁ : List ℕ} {part : Piece} → Clipped p first end (Some part) → AppendedRow b b₁ (block_row_of tick (row_of part))
+      → RecordedPart t b b₁ link tick (own_place t link first) (own_place t link end)
   record_part_done {part = part} k one =
       record {
         done = λ w lt lo hi c.
@@ -82,32 +87,41 @@ module _ {t b : List ℕ} {tick f e link was : ℕ} {out : Option ℕ} (s : Soug
         blocks = nothing_inside tick (ap (rows_inside f e) v.is ∙ inside_skip f e A (p ∷ B) v.left ∙ inside_right f e right);
       })
 
-  -- so its block can be counted, and is recorded
-  pub recorded-seen : {b₁ : List ℕ} {ps : List PieceRow} → RecordedPart t b b₁ link tick f e → (g : Given t b f e ps) → first_at t link < e
-      → b₁ ≡ recorded tick (inner_part t link f e ∷ []) b
-  recorded-seen rec g lt =
-      let v : Seen t f link _ = seen-some s g.rep is in
-      rec.done v.whole g.some lt v.past (countable_less (omega (arith, ap length (inside-seen e v g.some lt))) g.space)
+-- the piece sought starts before the end of the kind's cells: so it is of the kind
+module _ {t : List ℕ} {link : ℕ} {out : Option ℕ} (kind first end : ℕ) (s : Sought t (cell_place kind first) out) (is : out ≡ Some link) (small : end < 2 ^ 64) (lt : first_at t link < cell_place kind end) where
+  pub own_kind : {b : List ℕ} {ps : List PieceRow} → Given t b (cell_place kind first) (cell_place kind end) ps → column t link piece_owner ≡ kind
+  own_kind {ps = ps} g = let v : Seen t (cell_place kind first) link ps = seen-some s g.rep is in same_kind (piece_at t link) v.whole kind first end small v.past lt
 
-  module _ {q : Bool} {b₁ : List ℕ} (lt : was < e) (rec : RecordedPart t b b₁ link tick f e) (eq : EndsAfter t link e q) where
-    front_met : {t₁ : List ℕ} → q ≡ true → TrimmedFront t t₁ link e → MetOne t t₁ b b₁ tick f e None
-    front_met y trim =
+  -- so its block can be counted, and is recorded
+  pub recorded-seen : {b b₁ : List ℕ} {tick : ℕ} {ps : List PieceRow} → RecordedPart t b b₁ link tick (own_place t link first) (own_place t link end) → (g : Given t b (cell_place kind first) (cell_place kind end) ps)
+      → b₁ ≡ recorded tick (inner_part t link (cell_place kind first) (cell_place kind end) ∷ []) b
+  recorded-seen {b} {b₁} {tick} rec g =
+      let v : Seen t (cell_place kind first) link _ = seen-some s g.rep is in
+      let rec' : RecordedPart t b b₁ link tick (cell_place kind first) (cell_place kind end) = subst (λ (k : ℕ). RecordedPart t b b₁ link tick (cell_place k first) (cell_place k end)) (own_kind g) rec in
+      rec'.done v.whole g.some lt v.past (countable_less (omega (arith, ap length (inside-seen (cell_place kind end) v g.some lt))) g.space)
+
+  module _ {q : Bool} {b b₁ : List ℕ} {tick : ℕ} (rec : RecordedPart t b b₁ link tick (own_place t link first) (own_place t link end)) (eq : EndsAfter t link kind end q) where
+    front_met : {t₁ : List ℕ} → q ≡ true → TrimmedFront t t₁ link end → MetOne t t₁ b b₁ tick (cell_place kind first) (cell_place kind end) None
+    front_met {t₁} y trim =
         stops (λ ps g u.
-        let v : Seen t f link ps = seen-some s g.rep is in
+        let v : Seen t (cell_place kind first) link ps = seen-some s g.rep is in
         let p : PieceRow = piece_at t link in
         let A : List PieceRow = map (piece_at t) v.xs in
         let B : List PieceRow = map (piece_at t) v.ys in
-        let over : e < end_at t link = ltb-true e (end_at t link) (sym eq.is ∙ y) in
-        let here_on : f ≤ first_at t link = uncrossed_here v u in
-        let none : rows_inside f e B ≡ [] = inside_right f e (follow_right e (row_end p) B (omega arith) v.after) in
+        let own : own_place t link end ≡ (cell_place kind end) = ap (λ (k : ℕ). cell_place k end) (own_kind g) in
+        let over : (cell_place kind end) < end_at t link = ltb-true (cell_place kind end) (end_at t link) (sym (eq.is (on_line v.whole)) ∙ y) in
+        let here_on : (cell_place kind first) ≤ first_at t link = uncrossed_here v u in
+        let none : rows_inside (cell_place kind first) (cell_place kind end) B ≡ [] = inside_right (cell_place kind first) (cell_place kind end) (follow_right (cell_place kind end) (row_end p) B (omega arith) v.after) in
+        let trimmed : Becomes t t₁ (A ++ part (cell_place kind end) (row_end p) p ∷ B)
+        = subst (λ (z : ℕ). Becomes t t₁ (A ++ part z (row_end p) p ∷ B)) own (trim.done v.xs v.ys v.linked (omega arith) (omega (arith, over, own))) in
         record {
-          becomes = becomes_eq (trim.done v.xs v.ys v.linked (omega arith) over)
-              (subst (λ (l : List PieceRow). rows_below f l ++ rows_above e l ≡ A ++ part e (row_end p) p ∷ B) (sym v.is)
-              (front_cut f e g.some A p B v.left v.filled (follow_filled (row_end p) B v.after) (follow_right (row_end p) (row_end p) B (omega arith) v.after) over here_on (omega arith)));
-          blocks = recorded-seen rec g (omega arith) ∙ ap (λ (l : List PieceRow). recorded tick l b) (sym (inside-seen e v g.some (omega arith) ∙ ap (λ (l : List PieceRow). inner_part t link f e ∷ l) none));
+          becomes = becomes_eq trimmed
+              (subst (λ (l : List PieceRow). rows_below (cell_place kind first) l ++ rows_above (cell_place kind end) l ≡ A ++ part (cell_place kind end) (row_end p) p ∷ B) (sym v.is)
+              (front_cut (cell_place kind first) (cell_place kind end) g.some A p B v.left v.filled (follow_filled (row_end p) B v.after) (follow_right (row_end p) (row_end p) B (omega arith) v.after) over here_on (omega arith)));
+          blocks = recorded-seen rec g ∙ ap (λ (l : List PieceRow). recorded tick l b) (sym (inside-seen (cell_place kind end) v g.some lt ∙ ap (λ (l : List PieceRow). inner_part t link (cell_place kind first) (cell_place kind end) ∷ l) none));
         })
 
-    whole-met : q ≡ false → MetOne t t b b₁ tick f e (Some link)
+    whole-met : q ≡ false → MetOne t t b b₁ tick (cell_place kind first) (cell_place kind end) (Some link)
     whole-met n =
         record {
           covers = λ at y ps g u.
@@ -116,23 +130,24 @@ module _ {t b : List ℕ} {tick f e link was : ℕ} {out : Option ℕ} (s : Soug
                 same = refl;
                 sought = rw is at s;
                 from = uncrossed_here (seen-some s g.rep is) u;
-                to = ltb-false e (end_at t link) (sym eq.is ∙ n);
-                blocks = recorded-seen rec g (omega arith);
+                to = ltb-false (cell_place kind end) (end_at t link) (sym (eq.is (on_line (seen-some s g.rep is).whole)) ∙ n);
+                blocks = recorded-seen rec g;
               });
           stop = λ z. absurd (none-some link (sym z));
         }
 
 -- by the test whether the piece starts before the end
-module _ {t b : List ℕ} {tick f e link : ℕ} {starts : Bool} {out : Option ℕ} (s : Sought t f out) (is : out ≡ Some link) (tested : StartsBelow t link e starts) where
-  pub meet_one_right : starts ≡ false → MetOne t t b b tick f e None
-  meet_one_right h = right_of s is refl (ltb-false (first_at t link) e (sym tested.is ∙ h))
+module _ {t b : List ℕ} {tick kind end link : ℕ} {starts : Bool} {out : Option ℕ} (is : out ≡ Some link) (tested : StartsBelow t link kind end starts) where
+  pub meet_one_right : {f : ℕ} → Sought t f out → starts ≡ false → MetOne t t b b tick f (cell_place kind end) None
+  meet_one_right s h = right_of s is refl (ltb-false (first_at t link) (cell_place kind end) (sym tested.is ∙ h))
 
-  module _ {q : Bool} {b₁ : List ℕ} (h : starts ≡ true) (rec : RecordedPart t b b₁ link tick f e) (eq : EndsAfter t link e q) where
-    pub meet_one_front : {t₁ : List ℕ} → q ≡ true → TrimmedFront t t₁ link e → MetOne t t₁ b b₁ tick f e None
-    meet_one_front = front_met s is refl (ltb-true (first_at t link) e (sym tested.is ∙ h)) rec eq
+  module _ {q : Bool} {b₁ : List ℕ} (first : ℕ) (s : Sought t (cell_place kind first) out) (small : end < 2 ^ 64) (h : starts ≡ true)
+      (rec : RecordedPart t b b₁ link tick (own_place t link first) (own_place t link end)) (eq : EndsAfter t link kind end q) where
+    pub meet_one_front : {t₁ : List ℕ} → q ≡ true → TrimmedFront t t₁ link end → MetOne t t₁ b b₁ tick (cell_place kind first) (cell_place kind end) None
+    meet_one_front = front_met kind first end s is small (ltb-true (first_at t link) (cell_place kind end) (sym tested.is ∙ h)) rec eq
 
-    pub meet_one-whole : q ≡ false → MetOne t t b b₁ tick f e (Some link)
-    meet_one-whole = whole-met s is refl (ltb-true (first_at t link) e (sym tested.is ∙ h)) rec eq
+    pub meet_one-whole : q ≡ false → MetOne t t b b₁ tick (cell_place kind first) (cell_place kind end) (Some link)
+    meet_one-whole = whole-met kind first end s is small (ltb-true (first_at t link) (cell_place kind end) (sym tested.is ∙ h)) rec eq
 
 -- ── `clear_one` ──
 

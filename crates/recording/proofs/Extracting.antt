@@ -10,7 +10,8 @@ use Rattle.block_table.specs.Appended.{Countable, AppendedRow}
 use Rattle.block_table.proofs.Appending.{appended-none, countable_less}
 use Rattle.merge_set.specs.Tree.{Tree, leaf, node, height, rows}
 use Rattle.merge_set.specs.Table.{Shape}
-use Rattle.piece_table.specs.Piece.{PieceRow, piece_at}
+use Rattle.piece_table.specs.Piece.{PieceRow, row_of, read_at, piece_at}
+use Rattle.piece_table.specs.declared.Piece.{Piece}
 use Rattle.piece_table.specs.Rep.{Rep}
 use Rattle.piece_table.proofs.Removing.{linked_depth}
 use Rattle.recording.specs.Recorded.{recorded, block_row_of}
@@ -36,8 +37,8 @@ extract_stop {t} {b} {link} {end} {fuel} z = record { done = go }
     go (node A x B) s h c = absurd (omega arith)
 
 module _ {t b : List ℕ} {link end fuel : ℕ} (nz : link ≡ 0 → ⊥) where
-  pub extract_node : {b₁ b₂ b₃ : List ℕ} {l r : ℕ} {p : PieceRow} → l ≡ column t link piece_left → r ≡ column t link piece_right → p ≡ piece_at t link
-      → Extracted t b b₁ l end (fuel - 1) → AppendedRow b₁ b₂ (block_row_of end p)
+  pub extract_node : {b₁ b₂ b₃ : List ℕ} {l r : ℕ} {p : Piece} → l ≡ column t link piece_left → r ≡ column t link piece_right → p ≡ read_at t link
+      → Extracted t b b₁ l end (fuel - 1) → AppendedRow b₁ b₂ (block_row_of end (row_of p))
       → Extracted t b₂ b₃ r end (fuel - 1) → Extracted t b b₃ link end fuel
   unfolding Shape height rows
   extract_node {b₁} {b₂} {b₃} {l} {r} {p} el er ep one two three = record { done = go }
@@ -58,7 +59,7 @@ module _ {t b : List ℕ} {link end fuel : ℕ} (nz : link ≡ 0 → ⊥) where
           let e₁ : b₁ ≡ recorded end L b = one.done A (rw (el, s.is) s.left) (omega arith) c_l in
           let c₁ : Countable b (length (L ++ at x ∷ R)) = countable_less (omega (arith, length-append L (at x ∷ R))) c in
           let c₂ : Countable b₁ (length (at x ∷ R)) = rw e₁ (recorded_more end L (at x ∷ R) b c₁) in
-          let px : p ≡ at x = rw (← s.is) ep in
+          let px : row_of p ≡ at x = rw (← s.is) (ap row_of ep) in
           let e₂ : b₂ ≡ recorded end (at x ∷ []) b₁ = two.done (countable_less (omega arith) c₂) ∙ ap (λ (q : PieceRow). recorded end (q ∷ []) b₁) px in
           let c₃ : Countable b₂ (length (rows B)) = rw (e₂, ← n_r) (recorded_more end (at x ∷ []) R b₁ c₂) in
           let e₃ : b₃ ≡ recorded end R b₂ = three.done B (rw (er, s.is) s.right) (omega arith) c₃ in

@@ -25,10 +25,10 @@ shown_kept store store' used same inside = map_all (shown store') (shown store) 
         ap {B = Piece} (λ (bs : List ℕ). record { kind = p.owner; stretch = record { first = p.first; bytes = bs }; written = p.written })
         (part_kept p.offset p.size used store store' same h)
 
-module _ (store : List ℕ) (ps : List PieceRow) (stored : All (Stored store) ps) (kind : ℕ) (m : Moment) (o : Operation) (p : PieceRow) (now : m.pieces ≡ map (shown store) ps) where
+module _ (store : List ℕ) (ps : List PieceRow) (stored : All (Stored store) ps) (m : Moment) (o : Operation) (p : PieceRow) (now : m.pieces ≡ map (shown store) ps) where
   -- the pieces that `apply_update` leaves are the ledger's, where the operation's bytes stand in the store
-  pub update_pieces : piece_of kind o ≡ shown store p → p.first ≡ (stretch_of o).first → p.size ≡ length (stretch_of o).bytes
-      → (update_by kind m o).pieces ≡ map (shown store) (rows_below p.first ps ++ p ∷ rows_above (row_end p) ps)
+  pub update_pieces : piece_of o ≡ shown store p → p.first ≡ (stretch_of o).first → p.size ≡ length (stretch_of o).bytes
+      → (update_by m o).pieces ≡ map (shown store) (rows_below p.first ps ++ p ∷ rows_above (row_end p) ps)
   unfolding update_by
   update_pieces eo ef es =
       rw (now, eo, ← ef, ← es)
@@ -37,7 +37,7 @@ module _ (store : List ℕ) (ps : List PieceRow) (stored : All (Stored store) ps
 
   -- and the blocks that it records
   pub update_blocks : p.first ≡ (stretch_of o).first → p.size ≡ length (stretch_of o).bytes
-      → (update_by kind m o).blocks ≡ m.blocks ++ map (λ q. block_of o.tick (shown store q)) (rows_inside p.first (row_end p) ps)
+      → (update_by m o).blocks ≡ m.blocks ++ map (λ q. block_of o.tick (shown store q)) (rows_inside p.first (row_end p) ps)
   unfolding update_by
   update_blocks ef es =
       rw (now, ← ef, ← es)

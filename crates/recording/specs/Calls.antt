@@ -1,5 +1,5 @@
--- What the functions ensure: `t` is the piece table at entry and `t'` at exit, `b` and `b'` the block table. `first` and `end` bound the operation's
--- cells. Definitions alone.
+-- What the functions ensure: `t` is the piece table at entry and `t'` at exit, `b` and `b'` the block table. `first` and `end` are places:
+-- they bound the operation's cells. Definitions alone.
 use Rattle.std.specs.Prelude.{◌≡◌, ◌⊎◌, Bool, true, false, List, [], ◌∷◌, ◌++◌, map, ℕ, ◌+◌, ◌-◌, ◌*◌, ◌≤◌, ◌<◌, min, max, length, Option, Some, None}
 use Rattle.lists.specs.Lists.{All}
 use Rattle.history.specs.Lent.{row_width}

@@ -12,6 +12,9 @@
 #![tactic(auto)]
 
 ghost use Rattle.std.specs.Prelude.{◌≡◌, ◌+◌, ◌<◌, ◌^◌};
+ghost use Rattle.history.specs.Words.{cell_place};
+ghost use Rattle.piece_table.specs.Piece.{row_of};
+ghost use Rattle.piece_table.specs.Calls.{own_place};
 ghost use Rattle.recording.specs.Recorded.{block_row_of};
 ghost use Rattle.recording.specs.Calls.{RecordedPart, Extracted, ExtractedMembers, MetOne, ClearedOne, Cleared, ClearedAfter, SplitPiece, CutFirst, TookPlace, AppliedUpdate};
 
@@ -19,18 +22,21 @@ use block_table::Block;
 use piece_table::Piece;
 use tables::piece;
 
-// The cells [first, end) that an operation at `tick` takes. `near` is a guess: the link of a piece that has the first cell or ends there, or any number.
+// The cells [first, end) of a kind that an operation at `tick` takes. `near` is a guess: the link of a piece that has the first cell or ends there, or
+// any number.
 #[derive(Clone, Copy)]
 struct Cells {
     tick: u64,
+    kind: u64,
     first: u64,
     end: u64,
     near: u64,
 }
 
 // The block that a piece becomes when it is destroyed.
+#[tactic(auto, using(crate::proofs::Recorded::block_is))]
 fn block_of(piece: Piece, destroyed: u64) -> Block
-    ensures { result ≡ block_row_of destroyed piece }
+    ensures { result ≡ block_row_of destroyed (row_of piece) }
 {
     Block {
         first: piece.first,
@@ -42,20 +48,22 @@ fn block_of(piece: Piece, destroyed: u64) -> Block
     }
 }
 
-// Records the part of a link's piece in the cells, which it meets, as a block.
+// Records the part of a link's piece in the cells of its kind, which it meets, as a block.
 #[tactic(auto, using(crate::proofs::Clearing::recording))]
 fn record_part(pieces: &[u64], blocks: &mut [u64], link: u64, cells: Cells)
-    ensures { RecordedPart pieces.now blocks.old blocks.new link cells.tick cells.first cells.end }
+    ensures { RecordedPart pieces.now blocks.old blocks.new link cells.tick
+        (own_place pieces.now link cells.first) (own_place pieces.now link cells.end) }
 {
     if let Some(part) = piece_table::read(pieces, link).clip(cells.first, cells.end) {
         block_table::append(blocks, block_of(part, cells.tick));
     }
 }
 
-// Cuts [from, to) out of the piece of a link, which reaches over both ends: the left part stays in its row, the right one gets a new row.
+// Cuts the cells [from, to) out of the piece of a link, which reaches over both ends: the left part stays in its row, the right one gets a new row.
 #[tactic(auto, using(crate::proofs::Updating::splitting))]
 fn split(pieces: &mut [u64], link: u64, from: u64, to: u64)
-    ensures { SplitPiece pieces.old pieces.new link from to }
+    ensures { SplitPiece pieces.old pieces.new link
+        (own_place pieces.old link from) (own_place pieces.old link to) }
 {
     let Some(right) = piece_table::read(pieces, link).clip(to, u64::MAX) else {
         return;
@@ -67,14 +75,15 @@ fn split(pieces: &mut [u64], link: u64, from: u64, to: u64)
 // Records what the lowest piece in the cells has there, and gives its link, if it lies in there wholly; cuts it at the end, if it reaches on.
 #[tactic(auto, using(crate::proofs::Clearing::meeting))]
 fn meet_one(pieces: &mut [u64], blocks: &mut [u64], cells: Cells) -> Option<u64>
-    ensures { MetOne pieces.old pieces.new blocks.old blocks.new cells.tick cells.first cells.end result }
+    ensures { MetOne pieces.old pieces.new blocks.old blocks.new cells.tick
+        (cell_place cells.kind cells.first) (cell_place cells.kind cells.end) result }
 {
-    let link = piece_table::seek_near(pieces, cells.first, cells.near)?;
-    if !merge_set::starts_below(pieces, link, cells.end) {
+    let link = piece_table::seek_near(pieces, cells.kind, cells.first, cells.near)?;
+    if !merge_set::starts_below(pieces, link, cells.kind, cells.end) {
         return None;
     }
     record_part(pieces, blocks, link, cells);
-    if piece_table::ends_after(pieces, link, cells.end) {
+    if piece_table::ends_after(pieces, link, cells.kind, cells.end) {
         piece_table::trim_front(pieces, link, cells.end);
         return None;
     }
@@ -84,7 +93,8 @@ fn meet_one(pieces: &mut [u64], blocks: &mut [u64], cells: Cells) -> Option<u64>
 // Takes the lowest piece in the cells out, and records it; or cuts it at the end and stops; stops if there is none. Tells whether to go on.
 #[tactic(auto, using(crate::proofs::Clearing::clearing))]
 fn clear_one(pieces: &mut [u64], blocks: &mut [u64], cells: Cells) -> bool
-    ensures { ClearedOne pieces.old pieces.new blocks.old blocks.new cells.tick cells.first cells.end result }
+    ensures { ClearedOne pieces.old pieces.new blocks.old blocks.new cells.tick
+        (cell_place cells.kind cells.first) (cell_place cells.kind cells.end) result }
 {
     let Some(link) = meet_one(pieces, blocks, cells) else {
         return false;
@@ -97,7 +107,8 @@ fn clear_one(pieces: &mut [u64], blocks: &mut [u64], cells: Cells) -> bool
 // The first one is sought anew in each round, as the tree has changed; there are no more rounds than pieces, so that it ends on any table.
 #[tactic(auto, using(crate::proofs::Clearing::rounds))]
 fn clear(pieces: &mut [u64], blocks: &mut [u64], cells: Cells)
-    ensures { Cleared pieces.old pieces.new blocks.old blocks.new cells.tick cells.first cells.end }
+    ensures { Cleared pieces.old pieces.new blocks.old blocks.new cells.tick
+        (cell_place cells.kind cells.first) (cell_place cells.kind cells.end) }
 {
     let count = tables::get(pieces, 0, piece::COUNT);
     for _round in 0..count {
@@ -107,17 +118,20 @@ fn clear(pieces: &mut [u64], blocks: &mut [u64], cells: Cells)
     }
 }
 
-// Takes out and records all that the pieces behind a link's have below `end`.
+// Takes out and records all that the pieces behind a link's have below the cell `end` of its kind.
 #[tactic(auto, using(crate::proofs::Placing::clearing_after))]
 fn clear_after(pieces: &mut [u64], blocks: &mut [u64], tick: u64, link: u64, end: u64)
-    ensures { ClearedAfter pieces.old pieces.new blocks.old blocks.new tick link end }
+    ensures { ClearedAfter pieces.old pieces.new blocks.old blocks.new tick link
+        (own_place pieces.old link end) }
 {
-    let first = piece_table::read(pieces, link).end();
+    let row = piece_table::read(pieces, link);
+    let first = row.end();
     if end <= first {
         return;
     }
     let cells = Cells {
         tick,
+        kind: row.owner,
         first,
         end,
         near: link,
@@ -128,16 +142,17 @@ fn clear_after(pieces: &mut [u64], blocks: &mut [u64], tick: u64, link: u64, end
 // Cuts what lies in the cells off a piece that reaches over the first one, and records it. Tells whether there may be more in there.
 #[tactic(auto, using(crate::proofs::Updating::cutting))]
 fn cut_first(pieces: &mut [u64], blocks: &mut [u64], cells: Cells) -> bool
-    ensures { CutFirst pieces.old pieces.new blocks.old blocks.new cells.tick cells.first cells.end result }
+    ensures { CutFirst pieces.old pieces.new blocks.old blocks.new cells.tick
+        (cell_place cells.kind cells.first) (cell_place cells.kind cells.end) result }
 {
-    let Some(link) = piece_table::seek_near(pieces, cells.first, cells.near) else {
+    let Some(link) = piece_table::seek_near(pieces, cells.kind, cells.first, cells.near) else {
         return false;
     };
-    if !merge_set::starts_below(pieces, link, cells.first) {
+    if !merge_set::starts_below(pieces, link, cells.kind, cells.first) {
         return true;
     }
     record_part(pieces, blocks, link, cells);
-    if piece_table::ends_after(pieces, link, cells.end) {
+    if piece_table::ends_after(pieces, link, cells.kind, cells.end) {
         split(pieces, link, cells.first, cells.end);
         return false;
     }
@@ -150,10 +165,11 @@ fn cut_first(pieces: &mut [u64], blocks: &mut [u64], cells: Cells) -> bool
 #[tactic(auto, using(crate::proofs::Placing::placing))]
 fn take_place(pieces: &mut [u64], blocks: &mut [u64], piece: Piece, near: u64)
     requires { piece.first + piece.size < 2 ^ 64 }
-    ensures { TookPlace pieces.old pieces.new blocks.old blocks.new piece }
+    ensures { TookPlace pieces.old pieces.new blocks.old blocks.new (row_of piece) }
 {
     let cells = Cells {
         tick: piece.written,
+        kind: piece.owner,
         first: piece.first,
         end: piece.first + piece.size,
         near,
@@ -164,7 +180,7 @@ fn take_place(pieces: &mut [u64], blocks: &mut [u64], piece: Piece, near: u64)
     };
     let was = tables::get(pieces, link, piece::FIRST);
     clear_after(pieces, blocks, cells.tick, link, cells.end);
-    let Some(row) = piece_table::seek_near(pieces, was, link) else {
+    let Some(row) = piece_table::seek_near(pieces, piece.owner, was, link) else {
         return;
     };
     piece_table::replace_piece(pieces, row, piece);
@@ -174,13 +190,14 @@ fn take_place(pieces: &mut [u64], blocks: &mut [u64], piece: Piece, near: u64)
 // guess for the piece that has the first cell.
 #[tactic(auto, using(crate::proofs::Updating::updating))]
 pub fn apply_update(pieces: &mut [u64], blocks: &mut [u64], piece: Piece, near: u64)
-    ensures { AppliedUpdate pieces.old pieces.new blocks.old blocks.new piece }
+    ensures { AppliedUpdate pieces.old pieces.new blocks.old blocks.new (row_of piece) }
 {
     let Some(end) = piece.first.checked_add(piece.size) else {
         return;
     };
     let cells = Cells {
         tick: piece.written,
+        kind: piece.owner,
         first: piece.first,
         end,
         near,

@@ -6,7 +6,7 @@ use lib.Dec.{eqb}
 use Rattle.std.specs.Prelude.{Result, Ok, Err}
 use Rattle.history.specs.Refusals.{Answer, accepted, refused}
 use Rattle.refusals.specs.declared.Refusal.{Refusal}
-use Rattle.refusals.specs.declared.Refusal.TheVariants.{BadOpening, Malformed, Finished, NotFinished, NoCells, EndTooHigh, TickTooHigh, TickTooLow, PiecesFull, BlocksFull, StoreFull, NodesFull, EntriesFull, NoSuchTick, OutOfRange, ResultTooLong, FileEnds, FileKind, FilePresence, FileRoom, FileTree, FileBlocks, FileEntries, FileShared, CellClosed, BadCalendar, BadDays}
+use Rattle.refusals.specs.declared.Refusal.TheVariants.{BadOpening, Malformed, Finished, NotFinished, NoCells, EndTooHigh, TickTooHigh, TickTooLow, PiecesFull, BlocksFull, StoreFull, NodesFull, EntriesFull, NoSuchTick, OutOfRange, ResultTooLong, FileEnds, FileKind, FilePresence, FileRoom, FileTree, FileBlocks, FileEntries, FileShared, KindNotOpened, CellClosed, BadCalendar, BadDays}
 use Rattle.refusals.specs.Numbers.{number_of, answer_by}
 
 pub some_number : (e : Refusal) → number_of e ≡ 0 → ⊥
@@ -34,6 +34,7 @@ some_number FileTree z = cc
 some_number FileBlocks z = cc
 some_number FileEntries z = cc
 some_number FileShared z = cc
+some_number KindNotOpened z = cc
 some_number CellClosed z = cc
 some_number BadCalendar z = cc
 some_number BadDays z = cc
@@ -65,8 +66,9 @@ named n =
     (cond (eqb n 22) FileBlocks
     (cond (eqb n 23) FileEntries
     (cond (eqb n 24) FileShared
+    (cond (eqb n 25) KindNotOpened
     (cond (eqb n 26) CellClosed
-    (cond (eqb n 27) BadCalendar BadDays)))))))))))))))))))))))))
+    (cond (eqb n 27) BadCalendar BadDays))))))))))))))))))))))))))
 
 named_same : (e : Refusal) → named (number_of e) ≡ e
 named_same BadOpening = refl
@@ -93,6 +95,7 @@ named_same FileTree = refl
 named_same FileBlocks = refl
 named_same FileEntries = refl
 named_same FileShared = refl
+named_same KindNotOpened = refl
 named_same CellClosed = refl
 named_same BadCalendar = refl
 named_same BadDays = refl

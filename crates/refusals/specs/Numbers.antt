@@ -2,7 +2,7 @@
 use Rattle.std.specs.Prelude.{ℕ, Result, Ok, Err}
 use Rattle.history.specs.Refusals.{Answer, accepted, refused}
 use Rattle.refusals.specs.declared.Refusal.{Refusal}
-use Rattle.refusals.specs.declared.Refusal.TheVariants.{BadOpening, Malformed, Finished, NotFinished, NoCells, EndTooHigh, TickTooHigh, TickTooLow, PiecesFull, BlocksFull, StoreFull, NodesFull, EntriesFull, NoSuchTick, OutOfRange, ResultTooLong, FileEnds, FileKind, FilePresence, FileRoom, FileTree, FileBlocks, FileEntries, FileShared, CellClosed, BadCalendar, BadDays}
+use Rattle.refusals.specs.declared.Refusal.TheVariants.{BadOpening, Malformed, Finished, NotFinished, NoCells, EndTooHigh, TickTooHigh, TickTooLow, PiecesFull, BlocksFull, StoreFull, NodesFull, EntriesFull, NoSuchTick, OutOfRange, ResultTooLong, FileEnds, FileKind, FilePresence, FileRoom, FileTree, FileBlocks, FileEntries, FileShared, KindNotOpened, CellClosed, BadCalendar, BadDays}
 
 abbrev pub number_of : Refusal → ℕ
 number_of BadOpening = 1
@@ -29,6 +29,7 @@ number_of FileTree = 21
 number_of FileBlocks = 22
 number_of FileEntries = 23
 number_of FileShared = 24
+number_of KindNotOpened = 25
 number_of CellClosed = 26
 number_of BadCalendar = 27
 number_of BadDays = 28

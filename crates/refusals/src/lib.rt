@@ -10,7 +10,7 @@ ghost use Rattle.refusals.specs.Numbers.{number_of};
 
 #[derive(Clone, Copy, PartialEq, Eq, Debug)]
 pub enum Refusal {
-    // The end tick is 0 or above 2^63, or the kind is above 4.
+    // The end tick is 0 or above 2^63; the set of kinds is empty, or a kind is above 4.
     BadOpening = 1,
     // The lent tables are not well formed.
     Malformed = 2,
@@ -45,6 +45,8 @@ pub enum Refusal {
     FileBlocks = 22,
     FileEntries = 23,
     FileShared = 24,
+    // A kind that the index was not opened for.
+    KindNotOpened = 25,
     // A byte on a cell that the calendar closes.
     CellClosed = 26,
     // What install does not take.

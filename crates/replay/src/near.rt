@@ -20,6 +20,7 @@ pub fn touching(t: &Tables<'_>, call: Call<'_>, told: &mut Row) {
     }
     let touched = touching::touching(
         t.lent(),
+        call.row.kind(),
         call.get(read::TICK),
         call.get(read::START),
         call.get(read::END),
@@ -48,6 +49,6 @@ fn tell_nearest(told: &mut Row, nearest: Result<Option<u64>, Refusal>) {
 
 pub fn near(t: &Tables<'_>, side: Side, call: Call<'_>, told: &mut Row) {
     let (tick, cell) = (call.get(read::TICK), call.get(CELL));
-    let nearest = touching::near(t.lent(), side, tick, cell);
+    let nearest = touching::near(t.lent(), side, call.row.kind(), tick, cell);
     tell_nearest(told, nearest);
 }

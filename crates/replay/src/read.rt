@@ -81,6 +81,7 @@ pub fn find(t: &Tables<'_>, call: Call<'_>, told: &mut Row) {
     }
     let asked = index::find(
         t.lent(),
+        call.row.kind(),
         call.get(TICK),
         call.get(START),
         call.get(END),
@@ -115,6 +116,7 @@ pub fn cells(t: &Tables<'_>, call: Call<'_>, told: &mut Row) {
     }
     let read = cells::read_cells(
         t.lent(),
+        call.row.kind(),
         call.get(TICK),
         call.get(START),
         call.get(END),

@@ -10,6 +10,9 @@ pub const CODE: usize = 0;
 // The number of the refusal that must come, 0 where the call is taken.
 pub const REFUSAL: usize = 1;
 
+// The kind that a record or a read of cells names.
+const KIND: usize = 9;
+
 // The lengths of what is lent, in a row that opens, loads or lends.
 pub const PIECES: usize = 10;
 
@@ -99,6 +102,11 @@ impl Row {
 
     pub fn get(&self, col: usize) -> u64 {
         self.columns.get(col).copied().unwrap_or(0)
+    }
+
+    // The kind of a call.
+    pub fn kind(&self) -> u8 {
+        (self.get(KIND) % 256) as u8
     }
 
     // What is told before a call: the row as if the call were taken.

@@ -6,7 +6,10 @@ use tables::{entry, node};
 
 const OPEN_END: usize = 2;
 
-const OPEN_KIND: usize = 3;
+// Where the kinds start in the pool, and how many there are.
+const OPEN_KINDS: usize = 3;
+
+const OPEN_LENGTH: usize = 4;
 
 const RECORD_TICK: usize = 2;
 
@@ -37,7 +40,8 @@ const LOAD_NEXT: usize = 5;
 
 const LOAD_END: usize = 6;
 
-const LOAD_KIND: usize = 7;
+// The mask of the one kind.
+const LOAD_KINDS: usize = 7;
 
 const LOAD_BLOCKS: usize = 8;
 
@@ -47,10 +51,10 @@ pub const PIECES: usize = 64;
 const SCRATCH: usize = PIECES * tables::ROW + 7;
 
 pub fn open(t: &mut Tables<'_>, call: Call<'_>, told: &mut Row) {
-    let kind = (call.get(OPEN_KIND) % 256) as u8;
+    let kinds = call.part(OPEN_KINDS, OPEN_LENGTH);
     let end = call.get(OPEN_END);
     let store = &mut *t.store;
-    match Index::open(t.pieces, t.blocks, store, t.nodes, t.entries, end, kind) {
+    match Index::open(t.pieces, t.blocks, store, t.nodes, t.entries, end, kinds) {
         Ok(()) => {}
         Err(refusal) => told.refuse(u64::from(refusal)),
     }
@@ -61,6 +65,7 @@ pub fn record(t: &mut Tables<'_>, lent: u64, call: Call<'_>, told: &mut Row) {
     let nodes = &mut *t.nodes;
     let entries = &mut *t.entries;
     let op = Operation {
+        kind: u64::from(call.row.kind()),
         tick: call.get(RECORD_TICK),
         first: call.get(RECORD_FIRST),
         bytes: call.part(RECORD_START, RECORD_LENGTH),
@@ -108,7 +113,7 @@ pub fn load(t: &mut Tables<'_>, call: Call<'_>, told: &mut Row) {
         Ok(next) => {
             told.tell(LOAD_NEXT, next as u64);
             told.tell(LOAD_END, block_table::end(t.blocks));
-            told.tell(LOAD_KIND, block_table::kind(t.blocks));
+            told.tell(LOAD_KINDS, block_table::kinds(t.blocks));
             told.tell(LOAD_BLOCKS, block_table::count(t.blocks));
         }
         Err(refusal) => told.refuse(u64::from(refusal)),

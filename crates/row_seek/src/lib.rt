@@ -10,6 +10,7 @@ ghost use Rattle.std.specs.Prelude.{◌≤◌, ◌<◌, max};
 ghost use Rattle.row_seek.specs.Marks.{Marked};
 
 use block_table::Row;
+use tables::place;
 
 // How many rows are marked.
 // They stand in an array, as nothing is allocated.
@@ -56,14 +57,22 @@ fn between(lo: Mark, hi: Mark, tick: u64, guesses: u64) -> u64
     lo.row + step.min(width - 1)
 }
 
-// Whether the row is destroyed before the tick, or at it and ends at the cell or before.
-fn comes_before(row: Row, tick: u64, cell: u64) -> bool {
-    row.destroyed < tick || row.destroyed == tick && row.end() <= cell
+// Whether the row is destroyed before the tick, or at it and ends at the kind's cell or before.
+fn comes_before(row: Row, tick: u64, kind: u64, cell: u64) -> bool {
+    row.destroyed < tick || row.destroyed == tick && !place::below(kind, cell, row.owner, row.end())
 }
 
-// How many rows come before the tick and the cell, of those above `from` up to `to`, and those up to `from` besides.
+// How many rows come before the tick and the kind's cell, of those above `from` up to `to`, and those up to `from` besides.
 // No `for`, and no `partition_point` of std: where to look next is guessed by the ticks of both ends.
-pub fn search(blocks: &[u64], from: Mark, to: u64, tick: u64, cell: u64, tries: u64) -> u64
+pub fn search(
+    blocks: &[u64],
+    from: Mark,
+    to: u64,
+    tick: u64,
+    kind: u64,
+    cell: u64,
+    tries: u64,
+) -> u64
     ensures onward { from.row ≤ result }
     ensures within { result ≤ max from.row to }
 {
@@ -77,7 +86,7 @@ pub fn search(blocks: &[u64], from: Mark, to: u64, tick: u64, cell: u64, tries: 
         let mid = between(lo, hi, tick, guesses);
         let row = block_table::read(blocks, mid + 1);
         guesses = guesses.saturating_sub(1);
-        if comes_before(row, tick, cell) {
+        if comes_before(row, tick, kind, cell) {
             lo = Mark {
                 row: mid + 1,
                 tick: row.destroyed,
@@ -118,5 +127,5 @@ pub fn seek(blocks: &[u64], n: u64, marks: &[Mark; MARKS], tick: u64) -> u64
         row: to.min(marks[before].row),
         tick: marks[before].tick,
     };
-    search(blocks, from, to, tick, 0, GUESSES)
+    search(blocks, from, to, tick, 0, 0, GUESSES)
 }

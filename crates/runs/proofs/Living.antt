@@ -10,15 +10,16 @@ use lib.Seq.{get_or-take, get_or-drop}
 use Rattle.lists.specs.Lists.{All, Mem, count}
 use Rattle.lists.proofs.Lists.{all_map}
 use Rattle.lists.proofs.Counting.{mem_count, count_mem}
-use Rattle.history.specs.Words.{Block, ends, live, size, first_cell}
-use Rattle.history.specs.Tree.{no_block, block_at, key_in}
+use Rattle.history.specs.Words.{Block, end_cell, live_of}
+use Rattle.history.specs.Tree.{no_block, tree_at, block_at, key_in}
 use Rattle.history.specs.Find.{path}
 use Rattle.history.specs.Rules.{Apart}
 use Rattle.history.specs.Ledger.{Ledger, finished}
-use Rattle.history.specs.Sound.{Sound}
-use Rattle.tables.specs.Columns.{block_column, head_end, head_kind, head_count}
+use Rattle.history.specs.Sound.{Sound, SoundStretch}
+use Rattle.history.proofs.ByKind.{kind_known}
+use Rattle.tables.specs.Columns.{block_column, head_end, head_count}
 use Rattle.block_table.specs.Blocks.{first_cell_at, block_of_row, length_at, offset_at}
-use Rattle.block_table.proofs.Blocks.{blocks_at, bytes_length}
+use Rattle.block_table.proofs.Blocks.{blocks_at, blocks_key, bytes_length}
 use Rattle.segment_table.specs.Closed.{TreeOf}
 use Rattle.segment_near.specs.declared.Side.{Side}
 use Rattle.segment_near.specs.declared.Neighbour.{Neighbour}
@@ -32,9 +33,9 @@ use Rattle.runs.specs.Runs.{ClosedAt}
 
 -- ── the tree by the head ──
 
--- the neighbour in the tree that the head says
-pub near_in : {blocks nodes entries ns es : List ℕ} {kind end tick : ℕ} {side : Side} {place : ℕ} {r : Option Neighbour} → TreeOf blocks nodes entries ns es kind end
-    → NearestLive ns es kind end tick side place r → NearestLive nodes entries (block_column blocks 0 head_kind) (block_column blocks 0 head_end) tick side place r
+-- the neighbour in the kind's tree, up to the end that the head says
+pub near_in : {blocks nodes entries ns es : List ℕ} {kind its_kind end tick : ℕ} {side : Side} {place : ℕ} {r : Option Neighbour} → TreeOf blocks nodes entries kind ns es its_kind end
+    → NearestLive ns es its_kind end tick side place r → NearestLive nodes entries kind (block_column blocks 0 head_end) tick side place r
 near_in t n = rw (← t.in_nodes, ← t.in_entries, ← t.own_kind, ← t.end) n
 
 -- ── what the tables say of a block ──
@@ -43,7 +44,7 @@ near_in t n = rw (← t.in_nodes, ← t.in_entries, ← t.own_kind, ← t.end) n
 pub record Row (blocks store : List ℕ) (bs : List Block) (k : ℕ) : Type 0 where
   pub known : k < block_column blocks 0 head_count
   pub first : first_cell_at blocks (suc k) ≡ key_in bs k
-  pub ended : first_cell_at blocks (suc k) + length_at blocks (suc k) ≡ ends (block_at bs k).stretch
+  pub ended : first_cell_at blocks (suc k) + length_at blocks (suc k) ≡ end_cell (block_at bs k)
   pub inside : offset_at blocks (suc k) + length_at blocks (suc k) ≤ length store
   pub byte : (j : ℕ) → j < length_at blocks (suc k) → get_or (block_at bs k).stretch.bytes j 0 ≡ get_or store (offset_at blocks (suc k) + j) 0
 
@@ -57,8 +58,8 @@ row_known t l e k h =
     omega (arith, e.blocks_stored.inside (suc k) (omega arith) (omega arith), used_fits t l e) in
     record {
       known = at;
-      first = sym (ap first_cell is);
-      ended = sym (ap (λ (b : Block). ends b.stretch) is ∙ ap (λ n. first_cell_at t.blocks (suc k) + n) (bytes_length t.store t.blocks (suc k) fits));
+      first = sym (rw e.blocks (blocks_key t.store t.blocks (head_at t head_count) k at));
+      ended = sym (ap end_cell is ∙ omega (arith, bytes_length t.store t.blocks (suc k) fits));
       inside = fits;
       byte = λ j b.
           ap (λ (x : Block). get_or x.stretch.bytes j 0) is
@@ -68,13 +69,14 @@ row_known t l e k h =
 
 -- ── what the tree says of a tick ──
 
--- The numbers on the way down to a tick are those of its live blocks, which share no cell; a neighbour found in the tables is one of them.
+-- The numbers on the way down to a tick in a kind's tree are those of its live blocks of the kind, which share no cell; a neighbour found in the tables is one of them.
 pub record Living (blocks store nodes entries : List ℕ) (kind tick : ℕ) (bs : List Block) : Type 0 where
   pub list : List ℕ
-  pub met : (k : ℕ) → live tick (block_at bs k) ≡ true → Mem k list
-  pub lives : (k : ℕ) → Mem k list → live tick (block_at bs k) ≡ true
+  pub met : (k : ℕ) → live_of kind tick (block_at bs k) ≡ true → Mem k list
+  pub lives : (k : ℕ) → Mem k list → live_of kind tick (block_at bs k) ≡ true
   pub apart : Apart bs
-  pub filled : All (λ (b : Block). 0 < size b.stretch) bs
+  pub used : List ℕ
+  pub lies : All (λ (b : Block). SoundStretch b.kind used b.stretch) bs
   pub near : (side : Side) (place : ℕ) {r : Option Neighbour}
       → NearestLive nodes entries kind (block_column blocks 0 head_end) tick side place r → Neighbours side (key_in bs) place list r
   pub row : (k : ℕ) → k < length bs → Row blocks store bs k
@@ -87,24 +89,26 @@ unlisted : (list : List ℕ) (k : ℕ) (b : Bool) → count k list ≡ cond b 1 
 unlisted list k true e m = refl
 unlisted list k false e m = absurd (omega (arith, mem_count m))
 
-living_in : (t : Tables) (l : Ledger) → Encodes t l → Sound l → (tick : ℕ) → tick < l.opening.end → finished l ≡ true
-    → Living t.blocks t.store t.nodes t.entries l.opening.kind tick l.now.blocks
-living_in t l e s tick before done =
+living_in : (t : Tables) (l : Ledger) → Encodes t l → Sound l → (kind tick : ℕ) → kind ≤ 4 → tick < l.opening.end → finished l ≡ true
+    → Living t.blocks t.store t.nodes t.entries kind tick l.now.blocks
+living_in t l e s kind tick low before done =
     let bs = l.now.blocks in
-    let k = tree_known t l e s done in
-    let way = path tick 0 l.opening.end k.tree in
+    let k = tree_known t l e s kind low done in
+    let way = path tick 0 l.opening.end (tree_at k.trees kind) in
     record {
       list = way;
-      met = λ j h. listed way j (live tick (block_at bs j)) (k.met tick j before) h;
-      lives = λ j m. unlisted way j (live tick (block_at bs j)) (k.met tick j before) m;
+      met = λ j h. listed way j (live_of kind tick (block_at bs j)) (k.met tick j before) h;
+      lives = λ j m. unlisted way j (live_of kind tick (block_at bs j)) (k.met tick j before) m;
       apart = k.apart;
-      filled = all_map (λ b x. x.stretch.some_cell) s.board.blocks;
+      used = l.now.store;
+      lies = all_map (λ b x. x.stretch) s.board.blocks;
       near = λ side place n.
-          nearest_model (tree_tables t) l.opening.kind l.opening.end bs k.tree k.closed k.some_tick k.order k.keys tick side place (rw e.end at n);
+          nearest_model (tree_tables t) kind l.opening.end bs (tree_at k.trees kind) k.stood k.some_tick k.order k.keys tick side place (rw e.end at n);
       row = λ j h. row_known t l e j h;
     }
 
 pub living : {blocks store nodes entries : List ℕ} {kind tick : ℕ} {l : Ledger} → ClosedAt blocks store nodes entries kind tick l
     → Living blocks store nodes entries kind tick l.now.blocks
 living {blocks} {store} {nodes} {entries} {kind} {tick} {l} c =
-    rw c.own_kind (living_in (tables c.pieces blocks store nodes entries) l c.encodes c.sound tick c.before_end c.done)
+    living_in (tables c.pieces blocks store nodes entries) l c.encodes c.sound kind tick
+    (kind_known l.opening.kinds kind c.sound.board.known_kinds c.opened) c.before_end c.done

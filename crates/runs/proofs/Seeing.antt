@@ -1,19 +1,22 @@
 -- What blocks show of a cell at a tick: nothing where no live one holds it, one byte where one does, as no two share a cell. Assumes nothing.
-use mathlib.Core.Path.{◌≡◌, refl, sym, ◌∙◌}
+use mathlib.Core.Path.{◌≡◌, refl, sym, ap, ◌∙◌}
 use mathlib.Core.Logic.{◌⊎◌, inl, inr}
 use mathlib.Core.Bool.{true, false, true≢false, cond}
 use mathlib.Core.Option.{none}
 use mathlib.Core.List.{List, [], ◌∷◌, filter_map, Option-to_list}
-use Prim.Native.Nat.{ℕ, zero, suc, ◌-◌, ◌≤◌, ◌<◌}
+use Prim.Native.Nat.{ℕ, zero, suc, ◌-◌, ◌^◌, ◌≤◌, ◌<◌}
 use native.Mathlib.Omega.{arith}
 use lib.ListN.{length, get_or}
+use borrow.Author.Tests.{eq-eqb, eqb-true}
 use Rattle.lists.specs.Lists.{All, all_nil, all_cons, pairs_nil, pairs_cons}
 use Rattle.lists.proofs.Lists.{all_map, all_at, all_of_at, pairs_at}
-use Rattle.lists.proofs.Numbers.{bool_cases, le_or_lt, lt_or_le}
-use Rattle.history.specs.Words.{Block, Holds, byte_at, ends, live, size}
+use Rattle.lists.proofs.Numbers.{bool_cases, le_or_lt, lt_or_le, and_left, and_right, and_both}
+use Rattle.history.specs.Words.{Block, Holds, line_of, cell_place, byte_at, ends, end_cell, live, live_of, of_kind}
 use Rattle.history.specs.Tree.{no_block, block_at, key_in}
 use Rattle.history.specs.Reads.{shows, seen}
 use Rattle.history.specs.Rules.{Apart}
+use Rattle.history.specs.Sound.{SoundStretch}
+use Rattle.history.proofs.ByKind.{holds_cell, cell_holds}
 use Rattle.history.proofs.Within.{within_in, within_true}
 use Rattle.history.proofs.Clip.{byte_at_low, byte_at_high}
 use Rattle.history.proofs.Seen.{seen_cons, holds_shows}
@@ -43,7 +46,7 @@ seen_free t c (all_cons {x = b} {xs = bs} h hs) = seen_cons t c b bs ∙ rw (sho
 
 -- where no two blocks share a cell, the one that holds it shows its byte alone
 pub seen-held : (t c : ℕ) {bs : List Block} → Apart bs → (k : ℕ) → k < length bs → Holds t c (block_at bs k)
-    → seen t c bs ≡ get_or (block_at bs k).stretch.bytes (c - key_in bs k) 0 ∷ []
+    → seen t c bs ≡ get_or (block_at bs k).stretch.bytes (c - (block_at bs k).stretch.first) 0 ∷ []
 unfolding Option-to_list
 seen-held t c pairs_nil k h held = absurd (omega arith)
 seen-held t c (pairs_cons {x = b} {xs = bs} a p) zero h held =
@@ -53,17 +56,24 @@ seen-held t c (pairs_cons {x = b} {xs = bs} a p) (suc k) h held =
 
 -- ── the blocks that are live at a tick ──
 
-module _ (bs : List Block) (t : ℕ) (apart : Apart bs) (filled : All (λ (b : Block). 0 < size b.stretch) bs) where
-  pub live-number : (k : ℕ) → live t (block_at bs k) ≡ true → k < length bs
-  live-number k e = elim (lt_or_le k (length bs)) [ inl h ↦ h | inr h ↦ absurd (true≢false (sym e ∙ live-none t k bs h)) ]
+module _ (bs : List Block) (kind t : ℕ) (apart : Apart bs) (store : List ℕ) (lies : All (λ (b : Block). SoundStretch b.kind store b.stretch) bs) where
+  pub live-number : (k : ℕ) → live_of kind t (block_at bs k) ≡ true → k < length bs
+  live-number k e = elim (lt_or_le k (length bs)) [ inl h ↦ h | inr h ↦ absurd (true≢false (sym (and_right (of_kind kind (block_at bs k)) (live t (block_at bs k)) e) ∙ live-none t k bs h)) ]
 
-  pub some_cell : (k : ℕ) → live t (block_at bs k) ≡ true → key_in bs k < ends (block_at bs k).stretch
-  some_cell k e = omega (arith, all_at no_block filled k (live-number k e))
+  lies_at : (k : ℕ) → live_of kind t (block_at bs k) ≡ true → SoundStretch (block_at bs k).kind store (block_at bs k).stretch
+  lies_at k e = all_at no_block lies k (live-number k e)
 
-  holds : (k c : ℕ) → live t (block_at bs k) ≡ true → key_in bs k ≤ c → c < ends (block_at bs k).stretch → Holds t c (block_at bs k)
+  pub some_cell : (k : ℕ) → live_of kind t (block_at bs k) ≡ true → key_in bs k < end_cell (block_at bs k)
+  some_cell k e = omega (arith, (lies_at k e).some_cell)
+
+  -- it is of the kind
+  pub own : (k : ℕ) → live_of kind t (block_at bs k) ≡ true → (block_at bs k).kind ≡ kind
+  own k e = eqb-true (block_at bs k).kind kind (and_left (of_kind kind (block_at bs k)) (live t (block_at bs k)) e)
+
+  holds : (k c : ℕ) → live_of kind t (block_at bs k) ≡ true → key_in bs k ≤ c → c < end_cell (block_at bs k) → Holds t (cell_place kind c) (block_at bs k)
   holds k c e h below =
-      let w = within_true (block_at bs k).created (block_at bs k).destroyed t e in
-      record { born = w.0; alive = w.1; has = record { from = h; below = below } }
+      let w = within_true (block_at bs k).created (block_at bs k).destroyed t (and_right (of_kind kind (block_at bs k)) (live t (block_at bs k)) e) in
+      cell_holds store (block_at bs k) (lies_at k e) kind t c (record { of_kind_lem = own k e; born = w.0; alive = w.1; from = h; below = below })
 
   -- two that hold one cell are one
   pub one_holds : (j k c : ℕ) → j < length bs → k < length bs → Holds t c (block_at bs j) → Holds t c (block_at bs k) → j ≡ k
@@ -74,50 +84,55 @@ module _ (bs : List Block) (t : ℕ) (apart : Apart bs) (filled : All (λ (b : B
       ]
 
   -- of two that both have a cell of the larger first cell, neither is another
-  pub meet_same : (j k : ℕ) → live t (block_at bs j) ≡ true → live t (block_at bs k) ≡ true → key_in bs j < ends (block_at bs k).stretch
-      → key_in bs k < ends (block_at bs j).stretch → j ≡ k
+  pub meet_same : (j k : ℕ) → live_of kind t (block_at bs j) ≡ true → live_of kind t (block_at bs k) ≡ true → key_in bs j < end_cell (block_at bs k)
+      → key_in bs k < end_cell (block_at bs j) → j ≡ k
   meet_same j k a b p q =
       elim (le_or_lt (key_in bs j) (key_in bs k)) [
-        | inl h ↦ one_holds j k (key_in bs k) (live-number j a) (live-number k b) (holds j (key_in bs k) a h q) (holds k (key_in bs k) b (omega arith) (some_cell k b))
-        | inr h ↦ one_holds j k (key_in bs j) (live-number j a) (live-number k b) (holds j (key_in bs j) a (omega arith) (some_cell j a)) (holds k (key_in bs j) b (omega arith) p)
+        | inl h ↦ one_holds j k (cell_place kind (key_in bs k)) (live-number j a) (live-number k b) (holds j (key_in bs k) a h q) (holds k (key_in bs k) b (omega arith) (some_cell k b))
+        | inr h ↦ one_holds j k (cell_place kind (key_in bs j)) (live-number j a) (live-number k b) (holds j (key_in bs j) a (omega arith) (some_cell j a)) (holds k (key_in bs j) b (omega arith) p)
       ]
 
   -- behind a live block: one that starts before its end and reaches further would share a cell with it
-  pub passed_behind : (k : ℕ) → live t (block_at bs k) ≡ true → Passed bs t (ends (block_at bs k).stretch)
+  pub passed_behind : (k : ℕ) → live_of kind t (block_at bs k) ≡ true → Passed bs kind t (end_cell (block_at bs k))
   passed_behind k b = record {
     passed = λ j a h.
-        elim (le_or_lt (ends (block_at bs j).stretch) (ends (block_at bs k).stretch)) [
+        elim (le_or_lt (end_cell (block_at bs j)) (end_cell (block_at bs k))) [
           | inl g ↦ g
           | inr g ↦ rw (meet_same j k a b h (omega (arith, some_cell k b))) (omega arith)
         ];
   }
 
   -- at a place before which the last live block ends, or none starts
-  pub passed_last : (k place : ℕ) → live t (block_at bs k) ≡ true → ((j : ℕ) → live t (block_at bs j) ≡ true → key_in bs j < place → key_in bs j ≤ key_in bs k)
-      → ends (block_at bs k).stretch ≤ place → Passed bs t place
+  pub passed_last : (k place : ℕ) → live_of kind t (block_at bs k) ≡ true → ((j : ℕ) → live_of kind t (block_at bs j) ≡ true → key_in bs j < place → key_in bs j ≤ key_in bs k)
+      → end_cell (block_at bs k) ≤ place → Passed bs kind t place
   passed_last k place b last ended = record {
     passed = λ j a h.
-        elim (le_or_lt (ends (block_at bs j).stretch) place) [
+        elim (le_or_lt (end_cell (block_at bs j)) place) [
           | inl g ↦ g
           | inr g ↦ rw (meet_same j k a b (omega (arith, last j a h, some_cell k b)) (omega (arith, some_cell k b))) ended
         ];
   }
 
-  pub passed_first : (place : ℕ) → ((j : ℕ) → live t (block_at bs j) ≡ true → key_in bs j < place → ⊥) → Passed bs t place
+  pub passed_first : (place : ℕ) → ((j : ℕ) → live_of kind t (block_at bs j) ≡ true → key_in bs j < place → ⊥) → Passed bs kind t place
   passed_first place first = record { passed = λ j a h. absurd (first j a h) }
 
   -- cells between a place that is passed and the next live block are free
-  pub free_between : (place until c : ℕ) → Passed bs t place → ((j : ℕ) → live t (block_at bs j) ≡ true → place ≤ key_in bs j → until ≤ key_in bs j)
-      → place ≤ c → c < until → seen t c bs ≡ []
-  free_between place until c p next from below =
-      seen_free t c (all_of_at no_block bs (λ j h held.
-      let a = within_in (block_at bs j).created (block_at bs j).destroyed t held.born held.alive in
+  pub free_between : (place until c : ℕ) → Passed bs kind t place → ((j : ℕ) → live_of kind t (block_at bs j) ≡ true → place ≤ key_in bs j → until ≤ key_in bs j)
+      → place ≤ c → c < until → c < 2 ^ 64 → seen t (cell_place kind c) bs ≡ []
+  free_between place until c p next from below low =
+      seen_free t (cell_place kind c) (all_of_at no_block bs (λ j h held.
+      let cell = holds_cell store (block_at bs j) (all_at no_block lies j h) kind t c low held in
+      let a =
+      and_both (of_kind kind (block_at bs j)) (live t (block_at bs j)) (eq-eqb (block_at bs j).kind kind cell.of_kind_lem)
+      (within_in (block_at bs j).created (block_at bs j).destroyed t held.born held.alive) in
       elim (lt_or_le (key_in bs j) place) [
-        | inl g ↦ omega (arith, p.passed j a g, held.has.below)
-        | inr g ↦ omega (arith, next j a g, held.has.from)
+        | inl g ↦ omega (arith, p.passed j a g, cell.below)
+        | inr g ↦ omega (arith, next j a g, cell.from)
       ]))
 
   -- cells of a live block have its bytes
-  pub held_by : (k c : ℕ) → live t (block_at bs k) ≡ true → key_in bs k ≤ c → c < ends (block_at bs k).stretch
-      → seen t c bs ≡ get_or (block_at bs k).stretch.bytes (c - key_in bs k) 0 ∷ []
-  held_by k c a h below = seen-held t c apart k (live-number k a) (holds k c a h below)
+  pub held_by : (k c : ℕ) → live_of kind t (block_at bs k) ≡ true → key_in bs k ≤ c → c < end_cell (block_at bs k)
+      → seen t (cell_place kind c) bs ≡ get_or (block_at bs k).stretch.bytes (c - key_in bs k) 0 ∷ []
+  held_by k c a h below =
+      let at : cell_place kind c - (block_at bs k).stretch.first ≡ c - key_in bs k = omega (arith, ap line_of (own k a), (lies_at k a).from_line) in
+      rw at at (seen-held t (cell_place kind c) apart k (live-number k a) (holds k c a h below))

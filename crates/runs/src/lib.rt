@@ -1,4 +1,4 @@
-// The cells that come next in a window at a tick, from a place on: free ones up to a block, then that block's. No table is tested here: on any contents
+// The cells of a kind that come next in a window at a tick, from a place on: free ones up to a block, then that block's. No table is tested here: on any contents
 // a run lies in the window and in the store.
 //
 //   specs/Runs     what a run is, and what it shows of the blocks that are live at the tick
@@ -9,7 +9,6 @@
 #![tactic(auto)]
 
 ghost use Rattle.std.specs.Prelude.{◌≡◌};
-ghost use Rattle.tables.specs.Columns.{block_column, head_kind};
 ghost use Rattle.runs.specs.Runs.{PartOf, FirstRun, NextRun};
 
 use segment_near::Side;
@@ -64,11 +63,11 @@ fn part(blocks: &[u64], store: &[u8], number: u64, place: u64, end: u64) -> Run
 }
 
 // The first cells of a window: those of the block that starts before it and reaches into it, if there is one.
-pub fn first_run(closed: &Closed, store: &[u8], tick: u64, start: u64, end: u64) -> Run
+pub fn first_run(closed: &Closed, store: &[u8], kind: u64, tick: u64, start: u64, end: u64) -> Run
     ensures { FirstRun closed.now.blocks.now store.now closed.now.nodes.now closed.now.entries.now
-        (block_column closed.now.blocks.now 0 head_kind) tick start end result }
+        kind tick start end result }
 {
-    let tree = closed.tree();
+    let tree = closed.tree(kind);
     let before = segment_near::nearest_live(&tree, tick, Side::Before, start);
     match before {
         Some(block) => part(closed.blocks, store, block.number, start, end),
@@ -77,11 +76,11 @@ pub fn first_run(closed: &Closed, store: &[u8], tick: u64, start: u64, end: u64)
 }
 
 // The cells from a place on that no block before it reaches: free ones up to the next block, then that block's.
-pub fn next_run(closed: &Closed, store: &[u8], tick: u64, place: u64, end: u64) -> Run
+pub fn next_run(closed: &Closed, store: &[u8], kind: u64, tick: u64, place: u64, end: u64) -> Run
     ensures { NextRun closed.now.blocks.now store.now closed.now.nodes.now closed.now.entries.now
-        (block_column closed.now.blocks.now 0 head_kind) tick place end result }
+        kind tick place end result }
 {
-    let tree = closed.tree();
+    let tree = closed.tree(kind);
     let next = segment_near::nearest_live(&tree, tick, Side::From, place);
     let Some(block) = next else {
         return free(end);

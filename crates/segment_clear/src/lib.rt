@@ -33,6 +33,7 @@ pub fn row(blocks: &[u64], k: u64) -> Row
         length: 0,
         created: 0,
         destroyed: 0,
+        owner: 0,
         next: 0,
     }
 }

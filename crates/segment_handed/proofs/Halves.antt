@@ -1,12 +1,12 @@
 -- A node and its halves: a step for each return of `hold_tree`. Assumes nothing.
 use mathlib.Core.Path.{◌≡◌, refl, subst, ◌∙◌}
-use mathlib.Core.Bool.{Bool, true, false}
+use mathlib.Core.Bool.{Bool, true, false, cond}
 use mathlib.Core.Logic.{inl, inr}
 use mathlib.Core.List.{List, [], ◌∷◌, ◌++◌, append-nil, append_assoc}
 use Prim.Native.Nat.{ℕ, ◌+◌, ◌-◌, ◌≤◌, ◌<◌}
 use native.Mathlib.Omega.{arith}
-use lib.Dec.{leb}
-use borrow.Author.Tests.{leb-true, le-leb, lt-ltb, le-ltb}
+use lib.Dec.{leb, eqb}
+use borrow.Author.Tests.{eqb-true, leb-true, le-leb, lt-ltb, le-ltb}
 use Rattle.lists.specs.Tests.{Decides}
 use Rattle.lists.proofs.Numbers.{and_right}
 use Rattle.lists.specs.Lists.{All, Mem, here, there, pairs_nil, pairs_cons, Ascending}
@@ -26,14 +26,22 @@ use Rattle.segment_walk.proofs.Halving.{present}
 use Rattle.segment_walk.proofs.Rowing.{run_of}
 use Rattle.segment_table.proofs.Closed.{run_all}
 use Rattle.segment_clear.specs.Above.{Chained, behind, Above, above-none, above_next}
-use Rattle.segment_test.specs.Test.{lent, created_in, destroyed_in}
-use Rattle.segment_test.specs.Parts.{NodeStands, TreeStands}
+use Rattle.segment_test.specs.Test.{lent, owner_in, destroyed_in}
+use Rattle.segment_test.specs.Parts.{own_created, own_destroyed, NodeStands, TreeStands}
 use Rattle.std.specs.Prelude.{Option, Some}
-use Rattle.segment_handed.specs.Rows.{row_blocks}
+use Rattle.segment_handed.specs.Rows.{row_blocks, Known}
 use Rattle.segment_handed.specs.Tree.{Standing, Place, Entered, Below, OpenAt, RunHeld, TreeHeld}
 use Rattle.segment_handed.proofs.Owing.{aside_disjoint}
 
 -- ── a node's rows ──
+
+-- a block that has a life for the kind is of the kind, and has that life
+pub lives-own : (blocks : List ℕ) (kind k : ℕ) → 0 < own_destroyed blocks kind k → (owner_in blocks k ≡ kind) × (own_destroyed blocks kind k ≡ destroyed_in blocks k)
+lives-own blocks kind k h = go (eqb (owner_in blocks k) kind) refl h
+  where
+    go : (u : Bool) → eqb (owner_in blocks k) kind ≡ u → 0 < cond u (destroyed_in blocks k) 0 → (owner_in blocks k ≡ kind) × (cond u (destroyed_in blocks k) 0 ≡ destroyed_in blocks k)
+    go true e l = (eqb-true (owner_in blocks k) kind e, refl)
+    go false e l = absurd (omega arith)
 
 module _ {blocks nodes entries : List ℕ} {n kind link lo hi from to : ℕ} (some : lo < hi) (s : NodeStands (lent blocks nodes entries) n kind link lo hi from to) where
   -- they are those of its run
@@ -43,18 +51,28 @@ module _ {blocks nodes entries : List ℕ} {n kind link lo hi from to : ℕ} (so
       let fits : first_at nodes link + count_at nodes link ≤ table_rows entries = omega (arith, s.row.inside) in
       rw (le-leb (first_at nodes link + count_at nodes link) (table_rows entries) fits)
 
-  rows_entered : Entered blocks entries n (rows_at nodes entries link) lo
+  rows_entered : Entered blocks entries n kind (rows_at nodes entries link) lo
   rows_entered =
       rw rows_are
       (record {
         order = omega arith;
-        known = λ row a b. let e : first_at nodes link + (row - first_at nodes link) ≡ row = omega arith in rw e at (s.rows.each (row - first_at nodes link) (omega arith)).known;
-        alive = λ row a b.
-            let e : first_at nodes link + (row - first_at nodes link) ≡ row = omega arith in
-            let c = rw e at (s.rows.each (row - first_at nodes link) (omega arith)).covering in
-            let k : ℕ = block_in entries row in
-            omega (arith, leb-true hi (destroyed_in blocks k) (and_right (leb (created_in blocks k) lo) (leb hi (destroyed_in blocks k)) c));
+        known = λ row a b. let e : first_at nodes link + (row - first_at nodes link) ≡ row = omega arith in rw e at (own_known (row - first_at nodes link) (omega arith));
+        alive = λ row a b. let e : first_at nodes link + (row - first_at nodes link) ≡ row = omega arith in rw e at (own_alive (row - first_at nodes link) (omega arith));
       })
+    where
+      -- what covers a node has a life, and so is of the kind
+      own-lives : (j : ℕ) → j < count_at nodes link → hi ≤ own_destroyed blocks kind (block_in entries (first_at nodes link + j))
+      own-lives j h =
+          let k : ℕ = block_in entries (first_at nodes link + j) in
+          leb-true hi (own_destroyed blocks kind k) (and_right (leb (own_created blocks kind k) lo) (leb hi (own_destroyed blocks kind k)) (s.rows.each j h).covering)
+
+      own_known : (j : ℕ) → j < count_at nodes link → Known blocks n kind (block_in entries (first_at nodes link + j))
+      own_known j h = record { low = (s.rows.each j h).known; own = (lives-own blocks kind (block_in entries (first_at nodes link + j)) (omega (arith, own-lives j h))).0 }
+
+      own_alive : (j : ℕ) → j < count_at nodes link → lo < destroyed_in blocks (block_in entries (first_at nodes link + j))
+      own_alive j h =
+          let k : ℕ = block_in entries (first_at nodes link + j) in
+          omega (arith, own-lives j h, (lives-own blocks kind k (omega (arith, own-lives j h))).1)
 
   rows_blocks : blocks_in entries (rows_at nodes entries link) ≡ run entries (first_at nodes link) (count_at nodes link)
   rows_blocks = let e : first_at nodes link + count_at nodes link - first_at nodes link ≡ count_at nodes link = omega arith in rw (rows_are, e) refl
@@ -122,11 +140,11 @@ above_more {right = right} {from = from} {es = es} (above_next {es = xs} {rest =
     rw (append_assoc xs rest es) (above_next higher b c d e f (above_more more lower some wide ran up chained half))
 
 -- blocks that follow one another share no cell
-chained_apart : (blocks : List ℕ) (n : ℕ) (xs : List ℕ) → ((j : ℕ) → Mem j xs → j < n) → Chained blocks xs → RunApart (row_blocks blocks n) xs
-chained_apart blocks n [] known pairs_nil = pairs_nil
-chained_apart blocks n (x ∷ xs) known (pairs_cons a r) =
-    pairs_cons (all_of_mem xs (λ j m. aside_disjoint blocks n x j (known x (here refl)) (known j (there m)) (behind (all_mem a m))))
-    (chained_apart blocks n xs (λ j m. known j (there m)) r)
+chained_apart : (blocks : List ℕ) (n kind : ℕ) (xs : List ℕ) → ((j : ℕ) → Mem j xs → Known blocks n kind j) → Chained blocks xs → RunApart (row_blocks blocks n kind) xs
+chained_apart blocks n kind [] known pairs_nil = pairs_nil
+chained_apart blocks n kind (x ∷ xs) known (pairs_cons a r) =
+    pairs_cons (all_of_mem xs (λ j m. aside_disjoint blocks n kind x j (known x (here refl)) (known j (there m)) (behind (all_mem a m))))
+    (chained_apart blocks n kind xs (λ j m. known j (there m)) r)
 
 -- ── the returns of `hold_tree` ──
 
@@ -136,42 +154,41 @@ module _ {blocks nodes entries : List ℕ} {root top at : Node} {after born : Sl
 
   module _ {q : Bool} {run_seen : Option Slots} {own : Slots} (d : Decides q (Absent at)) (e : q ≡ false)
       (held : RunHeld blocks nodes entries root top (rows_at nodes entries at.link) at.min at.max after born run_seen) (y : run_seen ≡ Some own) where
-    abbrev Held : (n : ℕ) (whole tree : Tree) (above : List ℕ) (slots : Slots) → Type 0
-    Held n whole tree above slots =
-        RightFirst (row_blocks blocks n) root.max (OpenAt blocks n root whole) at.min at.max tree above (slots_of after) (slots_of born) (slots_of slots)
+    abbrev Held : (n kind : ℕ) (whole tree : Tree) (above : List ℕ) (slots : Slots) → Type 0
+    Held n kind whole tree above slots =
+        RightFirst (row_blocks blocks n kind) root.max (OpenAt blocks n kind root whole) at.min at.max tree above (slots_of after) (slots_of born) (slots_of slots)
 
     module _ (n kind : ℕ) (whole : Tree) (above xs : List ℕ) (from to : ℕ) (w : Place blocks nodes entries n kind root top at whole above)
         (listed : run entries (first_at nodes at.link) (count_at nodes at.link) ≡ xs) (s : NodeStands (lent blocks nodes entries) n kind at.link at.min at.max from to) where
-      entered : Entered blocks entries n (rows_at nodes entries at.link) at.min
+      entered : Entered blocks entries n kind (rows_at nodes entries at.link) at.min
       entered = rows_entered (present d e).wide s
 
       blocks_are : blocks_in entries (rows_at nodes entries at.link) ≡ xs
       blocks_are = rows_blocks (present d e).wide s ∙ listed
 
       -- the node's own entries are held
-      own_held : HeldAll (row_blocks blocks n) root.max (OpenAt blocks n root whole) at.min at.max above (slots_of after) xs (slots_of born) (slots_of own)
+      own_held : HeldAll (row_blocks blocks n kind) root.max (OpenAt blocks n kind root whole) at.min at.max above (slots_of after) xs (slots_of born) (slots_of own)
       own_held = rw blocks_are at (held.shown own y n kind at whole above refl refl w (present d e).wide entered)
 
       own_chained : Chained blocks xs
-      own_chained = rw blocks_are at (held.chained own y n w.all.fits entered)
+      own_chained = rw blocks_are at (held.chained own y n kind w.all.fits entered)
 
-      own_known : (j : ℕ) → Mem j xs → j < n
+      own_known : (j : ℕ) → Mem j xs → Known blocks n kind j
       own_known j m =
-          let all : All (λ i. i < n) (run entries (first_at nodes at.link) (count_at nodes at.link)) = run_all entries (first_at nodes at.link) (count_at nodes at.link) known_at in
-          all_mem (rw listed at all) m
-        where
-          known_at : (i : ℕ) → first_at nodes at.link ≤ i → i < first_at nodes at.link + count_at nodes at.link → block_in entries i < n
-          known_at i a b = let q : first_at nodes at.link + (i - first_at nodes at.link) ≡ i = omega arith in rw q at (s.rows.each (i - first_at nodes at.link) (omega arith)).known
+          let all : All (Known blocks n kind) (run entries (rows_at nodes entries at.link).from ((rows_at nodes entries at.link).to - (rows_at nodes entries at.link).from)) =
+          run_all entries (rows_at nodes entries at.link).from ((rows_at nodes entries at.link).to - (rows_at nodes entries at.link).from)
+          (λ i a b. (rows_entered (present d e).wide s).known i a (omega (arith, (rows_entered (present d e).wide s).order))) in
+          all_mem (rw (rows_blocks (present d e).wide s ∙ listed) at all) m
 
-      own_apart : RunApart (row_blocks blocks n) xs
-      own_apart = chained_apart blocks n xs own_known own_chained
+      own_apart : RunApart (row_blocks blocks n kind) xs
+      own_apart = chained_apart blocks n kind xs own_known own_chained
 
     pub tree_narrow : at.max - at.min ≤ 1 → TreeHeld blocks nodes entries root top at after born (Some own)
     unfolding TreeStands
     tree_narrow h = record { shown = λ slots z n kind whole tree above w st b. let same : own ≡ slots = cc in rw (← same) (go n kind whole tree above w st b) }
       where
         go : (n kind : ℕ) (whole tree : Tree) (above : List ℕ) → Place blocks nodes entries n kind root top at whole above
-            → Standing blocks nodes entries n kind at tree → Below blocks nodes entries n kind at tree → Held n whole tree above own
+            → Standing blocks nodes entries n kind at tree → Below blocks nodes entries n kind at tree → Held n kind whole tree above own
         go n kind whole hole above w st b = absurd ((present d e).row b.stood)
         go n kind whole (node xs l r) above w st b =
             let s = b.stood.1 in
@@ -191,7 +208,7 @@ module _ {blocks nodes entries : List ℕ} {root top at : Node} {after born : Sl
     tree_both {fresh} {mids} {right} {under} h unused higher z left = record { shown = go }
       where
         go : (slots : Slots) → under ≡ Some slots → (n kind : ℕ) (whole tree : Tree) (above : List ℕ) → Place blocks nodes entries n kind root top at whole above
-            → Standing blocks nodes entries n kind at tree → Below blocks nodes entries n kind at tree → Held n whole tree above slots
+            → Standing blocks nodes entries n kind at tree → Below blocks nodes entries n kind at tree → Held n kind whole tree above slots
         go slots x n kind whole hole above w st b = absurd ((present d e).row b.stood)
         go slots x n kind whole (node xs l r) above w st b =
             let s = b.stood.1 in

@@ -26,8 +26,8 @@ use Rattle.segment_clear.specs.Clear.{end_in, Owned}
 use Rattle.segment_clear.specs.Above.{Chained}
 use Rattle.segment_clear.proofs.Clearing.{owned_owns}
 use Rattle.std.specs.Prelude.{Option, Some}
-use Rattle.segment_handed.specs.Rows.{row_blocks, Fits}
-use Rattle.segment_handed.specs.Tree.{Place, Entered, OpenAt, Owed, BlockHeld}
+use Rattle.segment_handed.specs.Rows.{row_blocks, Known, Fits}
+use Rattle.segment_handed.specs.Tree.{Place, Entered, OpenAt, Owed, BlockHeld, RunHeld}
 use Rattle.segment_handed.proofs.Rows.{row_reads, own_reads}
 
 -- the blocks of the rows before `row` are held
@@ -35,10 +35,10 @@ pub record HeldTo (blocks nodes entries : List ℕ) (root top : Node) (rows : Ro
   pub low : rows.from ≤ row
   pub high : rows.from ≤ rows.to → row ≤ rows.to
   pub held : (n kind : ℕ) (at : Node) (whole : Tree) (above : List ℕ) → at.min ≡ lo → at.max ≡ hi → Place blocks nodes entries n kind root top at whole above
-      → at.min < at.max → Entered blocks entries n rows lo
-      → HeldAll (row_blocks blocks n) root.max (OpenAt blocks n root whole) lo hi above (slots_of after) (run entries rows.from (row - rows.from)) (slots_of born) (slots_of slots)
-  pub chained : (n : ℕ) → Fits blocks n → Entered blocks entries n rows lo → Chained blocks (run entries rows.from (row - rows.from))
-  pub ends : (n : ℕ) → Fits blocks n → Entered blocks entries n rows lo → All (λ j. end_in blocks j ≤ place) (run entries rows.from (row - rows.from))
+      → at.min < at.max → Entered blocks entries n kind rows lo
+      → HeldAll (row_blocks blocks n kind) root.max (OpenAt blocks n kind root whole) lo hi above (slots_of after) (run entries rows.from (row - rows.from)) (slots_of born) (slots_of slots)
+  pub chained : (n kind : ℕ) → Fits blocks n → Entered blocks entries n kind rows lo → Chained blocks (run entries rows.from (row - rows.from))
+  pub ends : (n kind : ℕ) → Fits blocks n → Entered blocks entries n kind rows lo → All (λ j. end_in blocks j ≤ place) (run entries rows.from (row - rows.from))
 
 -- one row more
 run_last : (entries : List ℕ) (from row : ℕ) → from ≤ row → run entries from (row + 1 - from) ≡ run entries from (row - from) ++ block_in entries row ∷ []
@@ -58,9 +58,9 @@ block_held {blocks} {k = k} {row = row} {slots = slots} {q = q} is owed counts y
       let e : q ≡ true = not-false q y in
       let same : slots ≡ s = cc in
       let owns = owned_owns read is in
-      let reads = own_reads blocks n k known w.all.fits read.created read.destroyed owns in
+      let reads = own_reads blocks n kind k known w.all.fits read.created read.destroyed owns in
       record {
-        slots = rw (← same) (counts.slots (row_blocks blocks n) k row.destroyed reads (rw read.destroyed alive));
+        slots = rw (← same) (counts.slots (row_blocks blocks n kind) k row.destroyed reads (rw read.destroyed alive));
         clear = λ dies. (owed.shown e n kind k at whole above el eh w wide known owns read.destroyed (sym reads.gone ∙ dies)).clear;
         owes = λ dies. (owed.shown e n kind k at whole above el eh w wide known owns read.destroyed (sym reads.gone ∙ dies)).owes;
       };
@@ -77,48 +77,59 @@ module _ {blocks nodes entries : List ℕ} {root top : Node} {rows : Rows} {lo h
         low = omega arith;
         high = λ h. h;
         held = λ n kind at whole above el eh w wide entered. rw e held_none;
-        chained = λ n fits entered. rw e pairs_nil;
-        ends = λ n fits entered. rw e all_nil;
+        chained = λ n kind fits entered. rw e pairs_nil;
+        ends = λ n kind fits entered. rw e all_nil;
       }
+
+  -- all are held
+  pub run_done : {row place : ℕ} {slots : Slots} → (row < rows.to → ⊥) → HeldTo blocks nodes entries root top rows lo hi after born row place slots
+      → RunHeld blocks nodes entries root top rows lo hi after born (Some slots)
+  run_done {row} {slots = slots} over held = record {
+    shown = λ s z n kind at whole above el eh w wide entered.
+        let same : slots ≡ s = cc in
+        let e : row ≡ rows.to = omega (arith, held.high entered.order) in
+        rw (← same) (rw e at (held.held n kind at whole above el eh w wide entered));
+    chained = λ s z n kind fits entered. let e : row ≡ rows.to = omega (arith, held.high entered.order) in rw e at (held.chained n kind fits entered);
+  }
 
   module _ {row place place' k : ℕ} {read : Row} {slots : Slots} (h : row < rows.to) (held : HeldTo blocks nodes entries root top rows lo hi after born row place slots)
       (ek : k ≡ block_in entries row) (is : Reads blocks (suc k) read) (behind : place ≤ read.first) (ep : place' ≡ plus_up_to read.first read.length) where
     -- one more, whatever is said of it
     run_next : {slots' : Slots} → ((n kind : ℕ) (at : Node) (whole : Tree) (above : List ℕ) → at.min ≡ lo → at.max ≡ hi → Place blocks nodes entries n kind root top at whole above
-        → at.min < at.max → k < n → lo < destroyed_in blocks k
-        → Held (row_blocks blocks n) root.max (OpenAt blocks n root whole) lo hi above (slots_of after) k (slots_of slots) (slots_of slots'))
+        → at.min < at.max → Known blocks n kind k → lo < destroyed_in blocks k
+        → Held (row_blocks blocks n kind) root.max (OpenAt blocks n kind root whole) lo hi above (slots_of after) k (slots_of slots) (slots_of slots'))
         → HeldTo blocks nodes entries root top rows lo hi after born (row + 1) place' slots'
     run_next one = record {
       low = omega (arith, held.low);
       high = λ _. omega arith;
       held = λ n kind at whole above el eh w wide entered.
           rw (more, ← ek)
-          (held_last (row_blocks blocks n) root.max (OpenAt blocks n root whole) (held.held n kind at whole above el eh w wide entered)
-          (one n kind at whole above el eh w wide (known n entered) (rw ek (entered.alive row held.low h))));
-      chained = λ n fits entered.
+          (held_last (row_blocks blocks n kind) root.max (OpenAt blocks n kind root whole) (held.held n kind at whole above el eh w wide entered)
+          (one n kind at whole above el eh w wide (known n kind entered) (rw ek (entered.alive row held.low h))));
+      chained = λ n kind fits entered.
           rw (more, ← ek)
-          (pairs-append (held.chained n fits entered) (pairs_cons all_nil pairs_nil)
-          (all_map (λ j x. all_cons (omega (arith, behind, is.first)) all_nil) (held.ends n fits entered)));
-      ends = λ n fits entered.
-          let end = ended n fits entered in
-          rw (more, ← ek) (all_append (all_map (λ j x. omega (arith, end, behind, is.first)) (held.ends n fits entered)) (all_cons (omega (arith, end)) all_nil));
+          (pairs-append (held.chained n kind fits entered) (pairs_cons all_nil pairs_nil)
+          (all_map (λ j x. all_cons (omega (arith, behind, is.first)) all_nil) (held.ends n kind fits entered)));
+      ends = λ n kind fits entered.
+          let end = ended n kind fits entered in
+          rw (more, ← ek) (all_append (all_map (λ j x. omega (arith, end, behind, is.first)) (held.ends n kind fits entered)) (all_cons (omega (arith, end)) all_nil));
     }
       where
         more : run entries rows.from (row + 1 - rows.from) ≡ run entries rows.from (row - rows.from) ++ block_in entries row ∷ []
         more = run_last entries rows.from row held.low
 
-        known : (n : ℕ) → Entered blocks entries n rows lo → k < n
-        known n entered = rw ek (entered.known row held.low h)
+        known : (n kind : ℕ) → Entered blocks entries n kind rows lo → Known blocks n kind k
+        known n kind entered = rw ek (entered.known row held.low h)
 
-        ended : (n : ℕ) → Fits blocks n → Entered blocks entries n rows lo → place' ≡ end_in blocks k
-        ended n fits entered = omega (arith, ep, is.first, is.length, fits.each k (known n entered))
+        ended : (n kind : ℕ) → Fits blocks n → Entered blocks entries n kind rows lo → place' ≡ end_in blocks k
+        ended n kind fits entered = omega (arith, ep, is.first, is.length, fits.each k (known n kind entered).low)
 
     -- one that only passes through changes nothing
     pub run_passes : (read.created ≡ lo → ⊥) → (read.destroyed ≡ hi → ⊥) → HeldTo blocks nodes entries root top rows lo hi after born (row + 1) place' slots
     run_passes old lives =
         run_next
         (λ n kind at whole above el eh w wide known alive.
-        let reads = row_reads blocks n k known in
+        let reads = row_reads blocks n kind k known in
         record {
           slots = all_of_mem (slots_of slots) (λ s m. kept (listed m));
           clear = λ dies. absurd (lives (is.destroyed ∙ sym reads.gone ∙ dies));

@@ -22,27 +22,27 @@ use Rattle.segment_test.specs.Parts.{TreeStands}
 use Rattle.segment_clear.specs.declared.Own.{Own}
 use Rattle.segment_clear.specs.Clear.{Owns}
 use Rattle.segment_clear.specs.Above.{Chained, Above}
-use Rattle.segment_handed.specs.Rows.{row_blocks, Fits}
+use Rattle.segment_handed.specs.Rows.{row_blocks, Known, Fits}
 
 -- ── what is walked over ──
 
--- a tree stands at a node, and the way down to a tick of it meets blocks of the table alone
+-- a tree stands at a node, and the way down to a tick of it meets blocks of the kind alone
 pub record Standing (blocks nodes entries : List ℕ) (n kind : ℕ) (at : Node) (tree : Tree) : Type 0 where
   pub fits : Fits blocks n
   pub stands : Stands blocks nodes entries kind at tree
-  pub known : (tick k : ℕ) → at.min ≤ tick → tick < at.max → Mem k (path tick at.min at.max tree) → k < n
+  pub known : (tick k : ℕ) → at.min ≤ tick → tick < at.max → Mem k (path tick at.min at.max tree) → Known blocks n kind k
 
 -- the whole tree stands at the root; above a node stand, from the top on, those that end where it does, with known blocks
 pub record Place (blocks nodes entries : List ℕ) (n kind : ℕ) (root top at : Node) (whole : Tree) (above : List ℕ) : Type 0 where
   pub all : Standing blocks nodes entries n kind root whole
   pub inside : root.min ≤ at.min
   pub nodes_above : Above blocks nodes entries (at.max - 1) at top above
-  pub known : (j : ℕ) → Mem j above → j < n
+  pub known : (j : ℕ) → Mem j above → Known blocks n kind j
 
 -- the blocks of a node's rows are known, and destroyed after its min
-pub record Entered (blocks entries : List ℕ) (n : ℕ) (rows : Rows) (lo : ℕ) : Type 0 where
+pub record Entered (blocks entries : List ℕ) (n kind : ℕ) (rows : Rows) (lo : ℕ) : Type 0 where
   pub order : rows.from ≤ rows.to
-  pub known : (row : ℕ) → rows.from ≤ row → row < rows.to → block_in entries row < n
+  pub known : (row : ℕ) → rows.from ≤ row → row < rows.to → Known blocks n kind (block_in entries row)
   pub alive : (row : ℕ) → rows.from ≤ row → row < rows.to → lo < destroyed_in blocks (block_in entries row)
 
 -- a tree stands at a node, below some node above it
@@ -55,35 +55,35 @@ pub record Below (blocks nodes entries : List ℕ) (n kind : ℕ) (node : Node) 
 -- ── what is said ──
 
 -- block k, left open at a tick, is parted from the others on the way to the tick before
-abbrev pub OpenAt : (blocks : List ℕ) (n : ℕ) (root : Node) (whole : Tree) (t k : ℕ) → Type 0
-OpenAt blocks n root whole t k = PartedIn (row_blocks blocks n) (path (t - 1) root.min root.max whole) k
+abbrev pub OpenAt : (blocks : List ℕ) (n kind : ℕ) (root : Node) (whole : Tree) (t k : ℕ) → Type 0
+OpenAt blocks n kind root whole t k = PartedIn (row_blocks blocks n kind) (path (t - 1) root.min root.max whole) k
 
 -- nothing is owed for block k, which is destroyed at max: it shares no cell with the others above; below the end it lies in a full slot, or is parted so
-pub record Paid (blocks : List ℕ) (n : ℕ) (root : Node) (whole : Tree) (above : List ℕ) (max : ℕ) (after : Slots) (k : ℕ) : Type 0 where
-  pub clear : All (λ j. (j ≡ k → ⊥) → Disjoint (stretch_at (row_blocks blocks n) k) (stretch_at (row_blocks blocks n) j)) above
-  pub owes : max < root.max → Refilled (slots_of after) (stretch_at (row_blocks blocks n) k) ⊎ OpenAt blocks n root whole max k
+pub record Paid (blocks : List ℕ) (n kind : ℕ) (root : Node) (whole : Tree) (above : List ℕ) (max : ℕ) (after : Slots) (k : ℕ) : Type 0 where
+  pub clear : All (λ j. (j ≡ k → ⊥) → Disjoint (stretch_at (row_blocks blocks n kind) k) (stretch_at (row_blocks blocks n kind) j)) above
+  pub owes : max < root.max → Refilled (slots_of after) (stretch_at (row_blocks blocks n kind) k) ⊎ OpenAt blocks n kind root whole max k
 
 -- yes is said only where nothing is owed for the block
 pub record Owed (blocks nodes entries : List ℕ) (root top : Node) (min max destroyed : ℕ) (own : Own) (after : Slots) (r : Bool) : Type 0 where
   pub shown : r ≡ true → (n kind k : ℕ) (at : Node) (whole : Tree) (above : List ℕ) → at.min ≡ min → at.max ≡ max
-      → Place blocks nodes entries n kind root top at whole above → at.min < at.max → k < n → Owns blocks k own → destroyed ≡ destroyed_in blocks k → destroyed ≡ max
-      → Paid blocks n root whole above max after k
+      → Place blocks nodes entries n kind root top at whole above → at.min < at.max → Known blocks n kind k → Owns blocks k own → destroyed ≡ destroyed_in blocks k → destroyed ≡ max
+      → Paid blocks n kind root whole above max after k
 
 -- the block is held, with the slots for min that go on from those before
 pub record BlockHeld (blocks nodes entries : List ℕ) (root top : Node) (lo hi k : ℕ) (row : Row) (after born : Slots) (seen : Option Slots) : Type 0 where
   pub shown : (slots : Slots) → seen ≡ Some slots → (n kind : ℕ) (at : Node) (whole : Tree) (above : List ℕ) → at.min ≡ lo → at.max ≡ hi
-      → Place blocks nodes entries n kind root top at whole above → at.min < at.max → k < n → Reads blocks (suc k) row → lo < destroyed_in blocks k
-      → Held (row_blocks blocks n) root.max (OpenAt blocks n root whole) lo hi above (slots_of after) k (slots_of born) (slots_of slots)
+      → Place blocks nodes entries n kind root top at whole above → at.min < at.max → Known blocks n kind k → Reads blocks (suc k) row → lo < destroyed_in blocks k
+      → Held (row_blocks blocks n kind) root.max (OpenAt blocks n kind root whole) lo hi above (slots_of after) k (slots_of born) (slots_of slots)
 
 -- and only where every block of the rows is held so, and they follow one another
 pub record RunHeld (blocks nodes entries : List ℕ) (root top : Node) (rows : Rows) (lo hi : ℕ) (after born : Slots) (seen : Option Slots) : Type 0 where
   pub shown : (slots : Slots) → seen ≡ Some slots → (n kind : ℕ) (at : Node) (whole : Tree) (above : List ℕ) → at.min ≡ lo → at.max ≡ hi
-      → Place blocks nodes entries n kind root top at whole above → at.min < at.max → Entered blocks entries n rows lo
-      → HeldAll (row_blocks blocks n) root.max (OpenAt blocks n root whole) lo hi above (slots_of after) (blocks_in entries rows) (slots_of born) (slots_of slots)
-  pub chained : (slots : Slots) → seen ≡ Some slots → (n : ℕ) → Fits blocks n → Entered blocks entries n rows lo → Chained blocks (blocks_in entries rows)
+      → Place blocks nodes entries n kind root top at whole above → at.min < at.max → Entered blocks entries n kind rows lo
+      → HeldAll (row_blocks blocks n kind) root.max (OpenAt blocks n kind root whole) lo hi above (slots_of after) (blocks_in entries rows) (slots_of born) (slots_of slots)
+  pub chained : (slots : Slots) → seen ≡ Some slots → (n kind : ℕ) → Fits blocks n → Entered blocks entries n kind rows lo → Chained blocks (blocks_in entries rows)
 
 -- and so is every block of the tree at a node
 pub record TreeHeld (blocks nodes entries : List ℕ) (root top at : Node) (after born : Slots) (seen : Option Slots) : Type 0 where
   pub shown : (slots : Slots) → seen ≡ Some slots → (n kind : ℕ) (whole tree : Tree) (above : List ℕ) → Place blocks nodes entries n kind root top at whole above
       → Standing blocks nodes entries n kind at tree → Below blocks nodes entries n kind at tree
-      → RightFirst (row_blocks blocks n) root.max (OpenAt blocks n root whole) at.min at.max tree above (slots_of after) (slots_of born) (slots_of slots)
+      → RightFirst (row_blocks blocks n kind) root.max (OpenAt blocks n kind root whole) at.min at.max tree above (slots_of after) (slots_of born) (slots_of slots)

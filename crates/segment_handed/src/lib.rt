@@ -1,10 +1,10 @@
-// Rule 24 of a closed index by theorem H (apart_laws): blocks share no cell if those that are destroyed at one tick share none, and the cells of each are
-// created anew then. A walk over the tree takes the right half first, so that what is created at a node's max is counted when the node is looked at; a block
-// that no slot holds is held against all that are live at the tick before. Those that are destroyed at one tick stand in nodes that end then, one below the
-// other: each is held against the blocks of the nodes above its own, of which there are few. Each entry is looked at once, in whatever order the blocks were
-// recorded.
+// Rule 24 of one kind's blocks in a closed index by theorem H (apart_laws): blocks share no cell if those that are destroyed at one tick share none, and the
+// cells of each are created anew then. A walk over the tree takes the right half first, so that what is created at a node's max is counted when the node is
+// looked at; a block that no slot holds is held against all that are live at the tick before. Those that are destroyed at one tick stand in nodes that end then,
+// one below the other: each is held against the blocks of the nodes above its own, of which there are few. Each entry is looked at once, in whatever order the
+// blocks were recorded.
 //
-//   specs/Rows      the rows as blocks
+//   specs/Rows      the rows as blocks of one kind
 //   specs/Tree      what the walk says of a block, of a node's run and of a tree
 //   specs/Handed    what is said of the tables
 //   proofs/Rows     block k is what its row says
@@ -117,15 +117,15 @@ impl Walk<'_> {
     }
 }
 
-// Whether the blocks of a closed index are seen to share no cell at a tick. If they are not, nothing is said. Linear in the entries, but for blocks that no slot
-// holds. To be called only where the tree was tested: in other tables many ways may lead to one row.
+// Whether the blocks of a kind in a closed index are seen to share no cell at a tick. If they are not, nothing is said. Linear in the entries, but for blocks
+// that no slot holds. To be called only where the tree was tested: in other tables many ways may lead to one row.
 #[tactic(auto, using(crate::proofs::Showing::handed_told))]
-pub fn handed_on(claim: &Claim<'_>) -> bool
+pub fn handed_on(claim: &Claim<'_>, kind: u64) -> bool
     ensures { HandedOn (lent claim.now.tables.blocks.now claim.now.tables.nodes.now claim.now.tables.entries.now)
-        claim.now.kind claim.now.end result }
+        kind claim.now.end result }
 {
     let lent = claim.tables;
-    let root = walk::root(lent.nodes, claim.kind, claim.end);
+    let root = walk::root(lent.nodes, kind, claim.end);
     let walk = Walk { lent, root };
     let none = Slots::unused();
     walk.hold_tree(root, root, &none, none).is_some()

@@ -13,8 +13,9 @@ use Rattle.history.specs.Tree.{Tree, key_in, entries_in}
 use Rattle.history.specs.Find.{path}
 use Rattle.history.specs.Rules.{sorted}
 use Rattle.history.proofs.FileAlike.{path_all}
-use Rattle.segment_table.specs.Closed.{Tables, Closed, first_cell_in}
-use Rattle.segment_walk.proofs.Agreeing.{closed_rooted}
+use Rattle.tables.specs.Columns.{column}
+use Rattle.segment_table.specs.Closed.{Tables, TreeAt, first_cell_in}
+use Rattle.segment_walk.proofs.Agreeing.{tree_rooted}
 use Rattle.segment_near.specs.declared.Side.{Side}
 use Rattle.segment_near.specs.declared.Side.TheVariants.{From, Before}
 use Rattle.segment_near.specs.declared.Neighbour.{Neighbour}
@@ -53,7 +54,7 @@ module _ (key key' : ℕ → ℕ) where
 
 -- ── a closed index whose blocks are known ──
 
-module _ (t : Tables) (kind e : ℕ) (bs : List words.Block) (tree : Tree) (closed : Closed t kind e tree) (some : 0 < e)
+module _ (t : Tables) (kind e : ℕ) (bs : List words.Block) (tree : Tree) (stood : TreeAt t kind (column t.nodes 0 kind) 0 e tree) (some : 0 < e)
     (order : sorted (key_in bs) tree ≡ true) (keys : All (λ k. key_in bs k ≡ first_cell_in t.blocks k) (entries_in tree)) where
   back : {xs : List ℕ} → All (λ k. key_in bs k ≡ first_cell_in t.blocks k) xs → All (λ k. first_cell_in t.blocks k ≡ key_in bs k) xs
   back h = all_map (λ k p. sym p) h
@@ -62,7 +63,7 @@ module _ (t : Tables) (kind e : ℕ) (bs : List words.Block) (tree : Tree) (clos
   pub nearest_model : (tick : ℕ) (side : Side) (place : ℕ) {r : Option Neighbour} → NearestLive t.nodes t.entries kind e tick side place r
       → Neighbours side (key_in bs) place (path tick 0 e tree) r
   nearest_model tick side place n =
-      neighbours_agree (first_cell_in t.blocks) (key_in bs) side place (back (path_all tick 0 e tree keys)) (n.of_tree t.blocks tree (closed_rooted t kind e bs tree closed some order keys))
+      neighbours_agree (first_cell_in t.blocks) (key_in bs) side place (back (path_all tick 0 e tree keys)) (n.of_tree t.blocks tree (tree_rooted t kind e bs tree stood some order keys))
 
 -- ── one neighbour ──
 

@@ -5,10 +5,12 @@ use mathlib.Core.List.{List, ◌∷◌, ◌++◌}
 use Prim.Native.Nat.{ℕ, zero, suc, ◌+◌, ◌-◌, ◌≤◌, ◌<◌}
 use native.Mathlib.Omega.{arith}
 use lib.ListN.{length, get_or}
+use lib.Seq.{ext_get_or}
 use Rattle.lists.specs.Lists.{All, all_nil, all_cons, Mem, here, there}
 use Rattle.lists.proofs.Numbers.{eq_or_ne}
-use Rattle.history.specs.Tree.{Tree, hole, node, mid}
-use Rattle.segment_table.specs.Closed.{Tables, TreeAt, run, block_in, left_at, right_at}
+use Rattle.history.specs.Tree.{Tree, hole, node, mid, tree_at}
+use Rattle.tables.specs.Columns.{column}
+use Rattle.segment_table.specs.Closed.{Tables, TreeAt, Closed, run, block_in, left_at, right_at}
 
 -- ── runs of entries ──
 
@@ -69,3 +71,9 @@ tree_one t kind link lo hi (node xs l r) (node ys l' r') h k =
     let b : l ≡ l' = tree_one t kind (left_at t.nodes link) lo (mid lo hi) l l' h.1 k.1 in
     let c : r ≡ r' = tree_one t kind (right_at t.nodes link) (mid lo hi) hi r r' h.2 k.2 in
     rw (a, b, c)
+
+-- .. and so are all trees
+pub trees_one : (t : Tables) (e : ℕ) (xs ys : List Tree) → Closed t e xs → Closed t e ys → xs ≡ ys
+trees_one t e xs ys h k = ext_get_or hole xs ys (h.five ∙ sym k.five)
+    (λ kind low. tree_one t kind (column t.nodes 0 kind) 0 e (tree_at xs kind) (tree_at ys kind) (h.stands kind (omega (arith, h.five)))
+    (k.stands kind (omega (arith, h.five))))

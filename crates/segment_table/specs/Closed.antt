@@ -1,12 +1,12 @@
--- The tree of a closed index in the node and entry tables (docs/LAYOUT.md): the layout alone, none of document 01's rules. Definitions alone.
+-- The trees of a closed index in the node and entry tables (docs/LAYOUT.md): the layout alone, none of document 01's rules. Definitions alone.
 use Rattle.std.specs.Prelude.{◌≡◌, List, [], ◌∷◌, ℕ, zero, suc, ◌+◌, ◌*◌, ◌≤◌, ◌<◌, length, get_or}
 use Rattle.history.specs.Lent.{row_width, entry_width, entry_head}
-use Rattle.history.specs.Tree.{Tree, hole, node, mid, node_count, entry_count}
-use Rattle.tables.specs.Columns.{column, block_column, entry_column, block_first, node_min, node_max, node_left, node_right, node_first, node_entries, node_kind, nodes_count, entry_block, entry_key, entries_count, head_kind, head_end}
+use Rattle.history.specs.Tree.{Tree, hole, node, mid, tree_at, nodes_in, entries_all}
+use Rattle.tables.specs.Columns.{column, block_column, entry_column, block_first, node_min, node_max, node_left, node_right, node_first, node_entries, node_kind, nodes_count, entry_block, entry_key, entries_count, head_end}
 
 -- ── what is lent ──
 
--- the tables of an index that a tree stands in; the block table gives the first cells
+-- the tables of an index that its trees stand in; the block table gives the first cells
 pub record Tables : Type 0 where
   pub blocks : List ℕ
   pub nodes : List ℕ
@@ -82,19 +82,19 @@ pub record Consecutive (nodes : List ℕ) : Type 0 where
   pub begins : 0 < nodes_used nodes → first_at nodes 1 ≡ 0
   pub follows : (link : ℕ) → 0 < link → link < nodes_used nodes → first_at nodes (suc link) ≡ first_at nodes link + count_at nodes link
 
--- The tables hold the tree of a closed index of the kind with the end tick e: the root of every other kind is none, every row in use is reached,
--- the counts are the tree's.
-pub record Closed (t : Tables) (kind e : ℕ) (tree : Tree) : Type 0 where
-  pub stands : TreeAt t kind (column t.nodes 0 kind) 0 e tree
-  pub other_kinds : (k : ℕ) → k < nodes_count → (k ≡ kind → ⊥) → column t.nodes 0 k ≡ 0
-  pub all_rows_lem : nodes_used t.nodes ≡ node_count tree
+-- The tables hold the trees of a closed index with the end tick e, one for each kind: a kind without a tree has no root, every row in use is reached, the
+-- counts are those of all trees.
+pub record Closed (t : Tables) (e : ℕ) (trees : List Tree) : Type 0 where
+  pub five : length trees ≡ nodes_count
+  pub stands : (kind : ℕ) → kind < nodes_count → TreeAt t kind (column t.nodes 0 kind) 0 e (tree_at trees kind)
+  pub all_rows_lem : nodes_used t.nodes ≡ nodes_in trees
   pub room : row_width * nodes_used t.nodes + row_width ≤ length t.nodes
-  pub all_entries_lem : entries_used t.entries ≡ entry_count tree
+  pub all_entries_lem : entries_used t.entries ≡ entries_all trees
   pub consecutive : Consecutive t.nodes
 
--- which tree it is, as the head of the blocks says it: of its kind, up to its end tick
-pub record TreeOf (blocks nodes entries : List ℕ) (its_nodes its_entries : List ℕ) (kind e : ℕ) : Type 0 where
+-- which tree it is: the asked kind's, up to the end tick of the head of the blocks
+pub record TreeOf (blocks nodes entries : List ℕ) (kind : ℕ) (its_nodes its_entries : List ℕ) (its_kind e : ℕ) : Type 0 where
   pub in_nodes : its_nodes ≡ nodes
   pub in_entries : its_entries ≡ entries
-  pub own_kind : kind ≡ block_column blocks 0 head_kind
+  pub own_kind : its_kind ≡ kind
   pub end : e ≡ block_column blocks 0 head_end

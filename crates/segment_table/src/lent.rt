@@ -4,7 +4,7 @@ ghost use Rattle.segment_table.specs.Closed.{TreeOf};
 use crate::Tree;
 use tables::block;
 
-// The tables that the tree of a closed index stands in, with the blocks that it lists.
+// The tables that the trees of a closed index stand in, with the blocks that they list.
 #[derive(Clone, Copy)]
 pub struct Closed<'a> {
     pub blocks: &'a [u64],
@@ -13,25 +13,24 @@ pub struct Closed<'a> {
 }
 
 impl<'a> Closed<'a> {
-    // The tree by the head of the blocks: of its kind, up to its end tick.
-    pub fn tree(&self) -> Tree<'a>
-        ensures { TreeOf self.now.blocks.now self.now.nodes.now self.now.entries.now
+    // The tree of a kind, up to the end tick of the head of the blocks.
+    pub fn tree(&self, kind: u64) -> Tree<'a>
+        ensures { TreeOf self.now.blocks.now self.now.nodes.now self.now.entries.now kind
             result.nodes.now result.entries.now result.kind result.end }
     {
         Tree {
             nodes: self.nodes,
             entries: self.entries,
-            kind: block::get(self.blocks, 0, block::KIND),
+            kind,
             end: block::get(self.blocks, 0, block::END),
         }
     }
 }
 
-// What is claimed of such tables and tested: the tree of the kind with the end tick stands there, and its blocks are the first n rows.
+// What is claimed of such tables and tested: trees with the end tick stand there, and their blocks are the first n rows.
 #[derive(Clone, Copy)]
 pub struct Claim<'a> {
     pub tables: Closed<'a>,
-    pub kind: u64,
     pub end: u64,
     pub n: u64,
 }

@@ -1,8 +1,8 @@
-// Which tree of history stands in the lent node and entry tables, and the tables of one tree as a value. Building, finding and testing stand above.
+// Which trees of history stand in the lent node and entry tables, and the tables of one tree as a value. Building, finding and testing stand above.
 //
 //   lent           the tables with their blocks as one value, and what is claimed of them
-//   specs/Closed   a closed index: nodes with their runs of entries; which tree the head says
-//   proofs/Closed  its laws: one tree for each table, runs apart, reads by place
+//   specs/Closed   a closed index: nodes with their runs of entries, a root for each kind; which tree a kind's is
+//   proofs/Closed  its laws: the tables tell the trees, runs apart, reads by place
 
 #![tactic(auto)]
 

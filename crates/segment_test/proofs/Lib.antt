@@ -1,9 +1,11 @@
+pub mod Heading
 pub mod Running
 pub mod Walking
 pub mod Sums
 pub mod Totalling
+pub mod Owning
 pub mod Ruling
 pub mod Links
 pub mod Widths
 pub mod Testing
-pub mod ClosedTree
+pub mod ClosedTrees

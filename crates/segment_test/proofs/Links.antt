@@ -1,5 +1,5 @@
--- The rows that a tree stands in are all rows in use, each once: its links are distinct, as min and max name a row's only place, and there are as many as
--- the count says. So a sum over the nodes of the tree is a sum over the rows. Assumes nothing.
+-- The rows that the trees stand in are all rows in use, each once: their links are distinct, as kind, min and max name a row's only place, and there are as
+-- many as the count says. So a sum over the nodes of the trees is a sum over the rows. Assumes nothing.
 use mathlib.Core.Path.{◌≡◌, refl, sym, ◌∙◌}
 use mathlib.Core.Logic.{inl, inr, ⊎_elim}
 use mathlib.Core.List.{List, [], ◌∷◌, ◌++◌, map}
@@ -10,8 +10,8 @@ use Rattle.lists.specs.Lists.{All, all_nil, all_cons, Distinct, sum_of}
 use Rattle.lists.proofs.Numbers.{le_or_lt}
 use Rattle.lists.proofs.Lists.{all_append, all_map, all_mem, mem_split, sum-append, distinct_append}
 use Rattle.lists.proofs.Maps.{map-append}
-use Rattle.history.specs.Tree.{Tree, hole, node, mid, node_count, entry_count}
-use Rattle.tables.specs.Columns.{column, node_min, node_max}
+use Rattle.history.specs.Tree.{Tree, hole, node, mid, tree_at, node_count, entry_count, nodes_in, entries_all}
+use Rattle.tables.specs.Columns.{column, node_min, node_max, node_kind, nodes_count}
 use Rattle.segment_table.specs.Closed.{Tables, nodes_used, left_at, right_at, first_at, count_at, NodeRow, TreeAt}
 use Rattle.segment_test.specs.Total.{sum_to, entries_of_row, width_at, widths_of_row, all_widths}
 use Rattle.segment_test.proofs.Sums.{mem_none, sum_all}
@@ -112,24 +112,104 @@ module _ (t : Tables) (kind : ℕ) where
   own_entries : (link lo hi : ℕ) (xs : List ℕ) → NodeRow t kind link lo hi xs → length xs ≡ count_at t.nodes link
   own_entries link lo hi xs row = rw (← row.listed) (run_length t.entries (first_at t.nodes link) (count_at t.nodes link))
 
-  module _ (link e : ℕ) (T : Tree) (stands : TreeAt t kind link 0 e T) (all_rows_lem : nodes_used t.nodes ≡ node_count T) where
-    sum_rows : (f : ℕ → ℕ) → sum_of (map f (links_of t.nodes link T)) ≡ sum_to (λ k. f (suc k)) (nodes_used t.nodes)
-    sum_rows f =
-        sum_all suc (λ j k e. omega arith) f (nodes_used t.nodes) (links_of t.nodes link T)
-        (all_map (λ k h. (k - 1, omega (arith, h), omega (arith, h))) (links_used link 0 e T stands)) (links_distinct link 0 e T stands) (links_length t.nodes link T ∙ sym all_rows_lem)
+  -- they are of the kind
+  links_kind : (link lo hi : ℕ) (T : Tree) → TreeAt t kind link lo hi T → All (λ k. column t.nodes k node_kind ≡ kind) (links_of t.nodes link T)
+  unfolding TreeAt links_of
+  links_kind link lo hi hole s = all_nil
+  links_kind link lo hi (node xs l r) s =
+      all_cons s.0.own_kind (all_append (links_kind (left_at t.nodes link) lo (mid lo hi) l s.1) (links_kind (right_at t.nodes link) (mid lo hi) hi r s.2))
 
-    -- the entries of all rows are the tree's
-    pub rows_entries : sum_to (entries_of_row t.nodes) (nodes_used t.nodes) ≡ entry_count T
+-- ── the trees of all kinds ──
+
+-- the links of the trees of the kinds from one on
+unfoldable links_from : (nodes : List ℕ) (kind : ℕ) → List Tree → List ℕ
+links_from nodes kind [] = []
+links_from nodes kind (T ∷ trees) = links_of nodes (column nodes 0 kind) T ++ links_from nodes (suc kind) trees
+
+module _ (t : Tables) (e : ℕ) where
+  -- they stand at their roots
+  record From (kind : ℕ) (trees : List Tree) : Type 0 where
+    each : (j : ℕ) → j < length trees → TreeAt t (kind + j) (column t.nodes 0 (kind + j)) 0 e (tree_at trees j)
+
+  from_first : (kind : ℕ) (T : Tree) (trees : List Tree) → From kind (T ∷ trees) → TreeAt t kind (column t.nodes 0 kind) 0 e T
+  from_first kind T trees f = let z : kind + 0 ≡ kind = omega arith in rw z at (f.each 0 (omega arith))
+
+  from_rest : (kind : ℕ) (T : Tree) (trees : List Tree) → From kind (T ∷ trees) → From (suc kind) trees
+  from_rest kind T trees f = record { each = λ j h. let z : suc kind + j ≡ kind + suc j = omega arith in rw z (f.each (suc j) (omega arith)) }
+
+  from_used : (kind : ℕ) (trees : List Tree) → From kind trees → All (λ k. (0 < k) × (k ≤ nodes_used t.nodes)) (links_from t.nodes kind trees)
+  unfolding links_from
+  from_used kind [] f = all_nil
+  from_used kind (T ∷ trees) f =
+      all_append (links_used t kind (column t.nodes 0 kind) 0 e T (from_first kind T trees f)) (from_used (suc kind) trees (from_rest kind T trees f))
+
+  from_kinds : (kind : ℕ) (trees : List Tree) → From kind trees → All (λ k. kind ≤ column t.nodes k node_kind) (links_from t.nodes kind trees)
+  unfolding links_from
+  from_kinds kind [] f = all_nil
+  from_kinds kind (T ∷ trees) f =
+      all_append (all_map (λ k h. omega arith) (links_kind t kind (column t.nodes 0 kind) 0 e T (from_first kind T trees f)))
+      (all_map (λ k h. omega arith) (from_kinds (suc kind) trees (from_rest kind T trees f)))
+
+  -- no row stands in two trees: its kind says in which
+  from_distinct : (kind : ℕ) (trees : List Tree) → From kind trees → Distinct (links_from t.nodes kind trees)
+  unfolding links_from
+  from_distinct kind [] f = tt
+  from_distinct kind (T ∷ trees) f =
+      let here : TreeAt t kind (column t.nodes 0 kind) 0 e T = from_first kind T trees f in
+      let rest : From (suc kind) trees = from_rest kind T trees f in
+      distinct_append (links_of t.nodes (column t.nodes 0 kind) T) (links_from t.nodes (suc kind) trees) (links_distinct t kind (column t.nodes 0 kind) 0 e T here)
+      (from_distinct (suc kind) trees rest)
+      (λ k a b. omega (arith, all_mem (links_kind t kind (column t.nodes 0 kind) 0 e T here) a, all_mem (from_kinds (suc kind) trees rest) b))
+
+  from_length : (kind : ℕ) (trees : List Tree) → length (links_from t.nodes kind trees) ≡ nodes_in trees
+  unfolding links_from sum_of
+  from_length kind [] = refl
+  from_length kind (T ∷ trees) =
+      omega (
+        arith,
+        length-append (links_of t.nodes (column t.nodes 0 kind) T) (links_from t.nodes (suc kind) trees),
+        links_length t.nodes (column t.nodes 0 kind) T,
+        from_length (suc kind) trees,
+      )
+
+  -- a measure of trees that adds a number for each node
+  from_sum : (f : ℕ → ℕ) (F : Tree → ℕ) → ((kind : ℕ) (T : Tree) → TreeAt t kind (column t.nodes 0 kind) 0 e T → F T ≡ sum_of (map f (links_of t.nodes (column t.nodes 0 kind) T)))
+      → (kind : ℕ) (trees : List Tree) → From kind trees → sum_of (map F trees) ≡ sum_of (map f (links_from t.nodes kind trees))
+  unfolding links_from sum_of
+  from_sum f F own kind [] s = refl
+  from_sum f F own kind (T ∷ trees) s =
+      let here : List ℕ = links_of t.nodes (column t.nodes 0 kind) T in
+      let rest : List ℕ = links_from t.nodes (suc kind) trees in
+      rw (map-append f here rest, sum-append (map f here) (map f rest))
+      (omega (arith, own kind T (from_first kind T trees s), from_sum f F own (suc kind) trees (from_rest kind T trees s)))
+
+  module _ (trees : List Tree) (five : length trees ≡ nodes_count) (stands : (kind : ℕ) → kind < nodes_count → TreeAt t kind (column t.nodes 0 kind) 0 e (tree_at trees kind))
+      (all_rows_lem : nodes_used t.nodes ≡ nodes_in trees) where
+    all_from : From 0 trees
+    all_from = record { each = λ j h. let z : 0 + j ≡ j = omega arith in rw z (stands j (omega (arith, five))) }
+
+    sum_rows : (f : ℕ → ℕ) → sum_of (map f (links_from t.nodes 0 trees)) ≡ sum_to (λ k. f (suc k)) (nodes_used t.nodes)
+    sum_rows f =
+        sum_all suc (λ j k e. omega arith) f (nodes_used t.nodes) (links_from t.nodes 0 trees)
+        (all_map (λ k h. (k - 1, omega (arith, h), omega (arith, h))) (from_used 0 trees all_from)) (from_distinct 0 trees all_from) (from_length 0 trees ∙ sym all_rows_lem)
+
+    -- the entries of all rows are those of the trees
+    pub rows_entries : sum_to (entries_of_row t.nodes) (nodes_used t.nodes) ≡ entries_all trees
     unfolding entry_count
     rows_entries =
-        sym (links_sum (count_at t.nodes) (λ lo hi. entry_count) (λ lo hi. refl) (λ k lo hi xs l r row. omega (arith, own_entries k lo hi xs row)) link 0 e T stands ∙ sum_rows (count_at t.nodes))
+        sym (from_sum (count_at t.nodes) entry_count
+        (λ kind T s. links_sum t kind (count_at t.nodes) (λ lo hi. entry_count) (λ lo hi. refl) (λ k lo hi xs l r row. omega (arith, own_entries t kind k lo hi xs row)) (column t.nodes 0 kind) 0 e T s)
+        0 trees all_from ∙ sum_rows (count_at t.nodes))
 
     -- and so are their widths
-    pub rows-widths : sum_to (widths_of_row t.nodes) (nodes_used t.nodes) ≡ all_widths 0 e T
+    pub rows-widths : sum_to (widths_of_row t.nodes) (nodes_used t.nodes) ≡ sum_of (map (all_widths 0 e) trees)
     unfolding all_widths
-    rows-widths = sym (links_sum (λ k. count_at t.nodes k * width_at t.nodes k) all_widths (λ lo hi. refl) own link 0 e T stands ∙ sum_rows (λ k. count_at t.nodes k * width_at t.nodes k))
+    rows-widths =
+        sym (from_sum (λ k. count_at t.nodes k * width_at t.nodes k) (all_widths 0 e)
+        (λ kind T s. links_sum t kind (λ k. count_at t.nodes k * width_at t.nodes k) all_widths (λ lo hi. refl) (own kind) (column t.nodes 0 kind) 0 e T s)
+        0 trees all_from ∙ sum_rows (λ k. count_at t.nodes k * width_at t.nodes k))
       where
-        own : (k lo hi : ℕ) (xs : List ℕ) (l r : Tree) → NodeRow t kind k lo hi xs
+        own : (kind k lo hi : ℕ) (xs : List ℕ) (l r : Tree) → NodeRow t kind k lo hi xs
             → length xs * (hi - lo) + (all_widths lo (mid lo hi) l + all_widths (mid lo hi) hi r)
             ≡ count_at t.nodes k * width_at t.nodes k + (all_widths lo (mid lo hi) l + all_widths (mid lo hi) hi r)
-        own k lo hi xs l r row = rw (own_entries k lo hi xs row, row.low, row.high) refl
+        own kind k lo hi xs l r row = rw (own_entries t kind k lo hi xs row, row.low, row.high) refl

@@ -18,8 +18,7 @@ use Rattle.history.proofs.RulesLaws.{every_all, all_every, ascends_decides, cove
 use Rattle.tables.specs.Columns.{entry_column, entry_key}
 use Rattle.segment_table.specs.Closed.{Tables, left_at, right_at, first_at, count_at, block_in, run, Keyed, NodeRow, TreeAt}
 use Rattle.segment_table.proofs.Closed.{run_length, run_at}
-use Rattle.segment_test.specs.Test.{created_in, destroyed_in, BlockRows}
-use Rattle.segment_test.specs.Parts.{covers_above, EntryRow, RunRows, NodeStands, TreeStands}
+use Rattle.segment_test.specs.Parts.{covers_above, own_created, own_destroyed, OwnRows, EntryRow, RunRows, NodeStands, TreeStands}
 
 -- ── the list of a run ──
 
@@ -34,13 +33,13 @@ module _ (entries : List ℕ) (row many : ℕ) where
 
 -- ── one run ──
 
-module _ (blocks entries : List ℕ) (n : ℕ) (bs : List Block) (known : BlockRows blocks n bs) (row many lo hi from to : ℕ)
-    (above : ℕ → Bool) (agree : (k : ℕ) → k < n → above k ≡ covers_above (created_in blocks k) (destroyed_in blocks k) from to) where
+module _ (blocks entries : List ℕ) (kind n : ℕ) (bs : List Block) (known : OwnRows blocks kind n bs) (row many lo hi from to : ℕ)
+    (above : ℕ → Bool) (agree : (k : ℕ) → k < n → above k ≡ covers_above (own_created blocks kind k) (own_destroyed blocks kind k) from to) where
   -- the life of a known block covers the node, in the list as in the table
-  same_covers : (k : ℕ) → k < n → covers_node (block_at bs) lo hi k ≡ covers (created_in blocks k) (destroyed_in blocks k) lo hi
+  same_covers : (k : ℕ) → k < n → covers_node (block_at bs) lo hi k ≡ covers (own_created blocks kind k) (own_destroyed blocks kind k) lo hi
   same_covers k h = rw (known.created k h, known.destroyed k h) refl
 
-  module _ (rows : RunRows blocks entries n row many lo hi from to) where
+  module _ (rows : RunRows blocks entries n kind row many lo hi from to) where
     pub rows-numbered : every (λ k. ltb k n) (run entries row many) ≡ true
     rows-numbered = all_every (λ k. ltb k n) (run-every entries row many (λ j h. lt-ltb _ n (rows.each j h).known))
 
@@ -75,7 +74,7 @@ module _ (blocks entries : List ℕ) (n : ℕ) (bs : List Block) (known : BlockR
   -- back
   pub rows_of : Keyed blocks entries row many → every (λ k. ltb k n) (run entries row many) ≡ true
       → every (λ k. covers_node (block_at bs) lo hi k && not (above k)) (run entries row many) ≡ true → ascends (key_in bs) (run entries row many) ≡ true
-      → RunRows blocks entries n row many lo hi from to
+      → RunRows blocks entries n kind row many lo hi from to
   rows_of keyed numbers places order = record { each = each; ascending = λ j h. record { after = after j h } }
     where
       low : (j : ℕ) → j < many → block_in entries (row + j) < n
@@ -86,7 +85,7 @@ module _ (blocks entries : List ℕ) (n : ℕ) (bs : List Block) (known : BlockR
           run_each entries row many {P = λ k. (covers_node (block_at bs) lo hi k && not (above k)) ≡ true}
           (every_all (λ k. covers_node (block_at bs) lo hi k && not (above k)) (run entries row many) places) j h
 
-      each : (j : ℕ) → j < many → EntryRow blocks entries n (row + j) lo hi from to
+      each : (j : ℕ) → j < many → EntryRow blocks entries n kind (row + j) lo hi from to
       each j h = record {
         known = low j h;
         keyed = keyed.key j h;
@@ -123,14 +122,14 @@ pub record RuledAt (t : Tables) (bs : List Block) (kind link lo hi : ℕ) (above
   pub places : placed (block_at bs) above lo hi T ≡ true
   pub order : sorted (key_in bs) T ≡ true
 
-module _ (t : Tables) (bs : List Block) (kind : ℕ) (known : BlockRows t.blocks (length bs) bs) where
+module _ (t : Tables) (bs : List Block) (kind : ℕ) (known : OwnRows t.blocks kind (length bs) bs) where
   -- what the node [lo, hi) passes down: which blocks cover it
   passed : (lo hi : ℕ) → lo < hi → (k : ℕ) → k < length bs
-      → covers_node (block_at bs) lo hi k ≡ covers_above (created_in t.blocks k) (destroyed_in t.blocks k) lo hi
+      → covers_node (block_at bs) lo hi k ≡ covers_above (own_created t.blocks kind k) (own_destroyed t.blocks kind k) lo hi
   passed lo hi w k h = rw (lt-ltb lo hi w, known.created k h, known.destroyed k h) refl
 
   pub stands_ruled : (link lo hi from to : ℕ) (above : ℕ → Bool)
-      → ((k : ℕ) → k < length bs → above k ≡ covers_above (created_in t.blocks k) (destroyed_in t.blocks k) from to)
+      → ((k : ℕ) → k < length bs → above k ≡ covers_above (own_created t.blocks kind k) (own_destroyed t.blocks kind k) from to)
       → (T : Tree) → TreeStands t (length bs) kind link lo hi from to T → RuledAt t bs kind link lo hi above T
   unfolding TreeStands TreeAt numbered placed sorted
   stands_ruled link lo hi from to above agree hole s = record { stands = s; numbers = refl; places = refl; order = refl }
@@ -155,18 +154,18 @@ module _ (t : Tables) (bs : List Block) (kind : ℕ) (known : BlockRows t.blocks
           record {
             stands = (rw e at s.1.row, p.stands, q.stands);
             numbers =
-                numbered_node (length bs) xs l r (rw e at (rows-numbered t.blocks t.entries (length bs) bs known row many lo hi from to above agree s.1.rows))
+                numbered_node (length bs) xs l r (rw e at (rows-numbered t.blocks t.entries kind (length bs) bs known row many lo hi from to above agree s.1.rows))
                 p.numbers q.numbers;
             places =
-                placed_node (block_at bs) above lo hi xs l r (rw e at (rows-placed t.blocks t.entries (length bs) bs known row many lo hi from to above agree s.1.rows))
+                placed_node (block_at bs) above lo hi xs l r (rw e at (rows-placed t.blocks t.entries kind (length bs) bs known row many lo hi from to above agree s.1.rows))
                 p.places q.places;
             order =
-                sorted_node (key_in bs) xs l r (rw e at (rows-sorted t.blocks t.entries (length bs) bs known row many lo hi from to above agree s.1.rows))
+                sorted_node (key_in bs) xs l r (rw e at (rows-sorted t.blocks t.entries kind (length bs) bs known row many lo hi from to above agree s.1.rows))
                 p.order q.order;
           }
 
   pub ruled_stands : (link lo hi from to : ℕ) (above : ℕ → Bool)
-      → ((k : ℕ) → k < length bs → above k ≡ covers_above (created_in t.blocks k) (destroyed_in t.blocks k) from to)
+      → ((k : ℕ) → k < length bs → above k ≡ covers_above (own_created t.blocks kind k) (own_destroyed t.blocks kind k) from to)
       → (T : Tree) → RuledAt t bs kind link lo hi above T → TreeStands t (length bs) kind link lo hi from to T
   unfolding TreeStands TreeAt
   ruled_stands link lo hi from to above agree hole s = s.stands
@@ -212,7 +211,7 @@ module _ (t : Tables) (bs : List Block) (kind : ℕ) (known : BlockRows t.blocks
           keyed = row.keyed;
         };
         rows =
-            rows_of t.blocks t.entries (length bs) bs known (first_at t.nodes link) (count_at t.nodes link) lo hi from to above agree row.keyed
+            rows_of t.blocks t.entries kind (length bs) bs known (first_at t.nodes link) (count_at t.nodes link) lo hi from to above agree row.keyed
             (rw row.listed (numbered_here (length bs) xs l r s.numbers)) (rw row.listed (placed_here (block_at bs) above lo hi xs l r s.places))
             (rw row.listed (sorted_here (key_in bs) xs l r s.order));
       }

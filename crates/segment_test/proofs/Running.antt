@@ -8,10 +8,10 @@ use Rattle.lists.specs.Tests.{Decides}
 use Rattle.segment_test.specs.Parts.{EntryRow, Follows, RunRows}
 
 -- one row more is right
-pub run_more : {blocks entries : List ℕ} {n row lo hi from to j : ℕ} {this after : Bool} → RunRows blocks entries n row j lo hi from to
-    → Decides this (EntryRow blocks entries n (row + j) lo hi from to) → this ≡ true
-    → Decides after (Follows entries row j) → after ≡ true → RunRows blocks entries n row (j + 1) lo hi from to
-run_more {blocks} {entries} {n} {row} {lo} {hi} {from} {to} {j} seen d p f q = record {
-  each = below_more (λ (i : ℕ). EntryRow blocks entries n (row + i) lo hi from to) j seen.each (d.yes p);
+pub run_more : {blocks entries : List ℕ} {n kind row lo hi from to j : ℕ} {this after : Bool} → RunRows blocks entries n kind row j lo hi from to
+    → Decides this (EntryRow blocks entries n kind (row + j) lo hi from to) → this ≡ true
+    → Decides after (Follows entries row j) → after ≡ true → RunRows blocks entries n kind row (j + 1) lo hi from to
+run_more {blocks} {entries} {n} {kind} {row} {lo} {hi} {from} {to} {j} seen d p f q = record {
+  each = below_more (λ (i : ℕ). EntryRow blocks entries n kind (row + i) lo hi from to) j seen.each (d.yes p);
   ascending = below_more (λ (i : ℕ). Follows entries row i) j seen.ascending (f.yes q);
 }

@@ -12,6 +12,7 @@ use borrow.Author.Tests.{eq-eqb, ne_eqb}
 use Rattle.lists.proofs.Counting.{distinct_count}
 use Rattle.lists.specs.Lists.{All, all_nil, all_cons, Mem, Distinct, count, sum_of}
 use Rattle.lists.proofs.Numbers.{eq_or_ne, le_or_lt}
+use Rattle.history.specs.Tree.{Tree, tree_at}
 use Rattle.segment_test.specs.Total.{sum_to}
 
 -- ── up to a bound ──
@@ -71,6 +72,34 @@ sum_front f k (suc n) h =
       | inl z ↦ omega (arith, sum_front f k n z)
       | inr z ↦ (let e : k ≡ suc n = omega arith in rw e (omega arith))
     ]
+
+-- the first part apart
+sum_first : (f : ℕ → ℕ) (n : ℕ) → sum_to f (suc n) ≡ f 0 + sum_to (λ k. f (suc k)) n
+unfolding sum_to
+sum_first f zero = omega arith
+sum_first f (suc n) = omega (arith, sum_first f n)
+
+-- over the trees of a list
+pub sum_trees : (f : Tree → ℕ) (trees : List Tree) → sum_to (λ kind. f (tree_at trees kind)) (length trees) ≡ sum_of (map f trees)
+unfolding sum_to sum_of
+sum_trees f [] = refl
+sum_trees f (T ∷ trees) = sum_first (λ kind. f (tree_at (T ∷ trees) kind)) (length trees) ∙ ap (λ (n : ℕ). f T + n) (sum_trees f trees)
+
+-- one part is not 0
+pub sum_only : (g : ℕ → ℕ) (y n : ℕ) → y < n → ((k : ℕ) → k < n → (k ≡ y → ⊥) → g k ≡ 0) → sum_to g n ≡ g y
+unfolding sum_to
+sum_only g y zero h none = absurd (omega arith)
+sum_only g y (suc n) h none =
+    elim (eq_or_ne n y) [
+      | inl e ↦ rw e (omega (arith, (rw e at (sum-none g n (λ k l. none k (omega arith) (omega arith))))))
+      | inr e ↦ omega (arith, none n (omega arith) e, sum_only g y n (omega arith) (λ k l z. none k (omega arith) z))
+    ]
+
+-- sums of sums, by rows or by columns
+pub sum_swap : (f : ℕ → ℕ → ℕ) (n m : ℕ) → sum_to (λ j. sum_to (f j) n) m ≡ sum_to (λ k. sum_to (λ j. f j k) m) n
+unfolding sum_to
+sum_swap f n zero = sym (sum-none (λ k. 0) n (λ k l. refl))
+sum_swap f n (suc m) = omega (arith, sum_swap f n m, sum_add (λ k. sum_to (λ j. f j k) m) (f m) n)
 
 -- ── lists without numbers ──
 

@@ -1,17 +1,20 @@
 -- All rows: a step for each turn and return of the loops of `total`. Assumes nothing.
-use mathlib.Core.Path.{◌≡◌, refl, sym, ◌∙◌}
+use mathlib.Core.Path.{◌≡◌, refl, sym, ◌∙◌, ap}
 use mathlib.Core.Bool.{false}
 use mathlib.Core.List.{List}
 use Prim.Native.Nat.{ℕ, suc, ◌+◌, ◌-◌, ◌*◌, ◌^◌, ◌≤◌, ◌<◌}
 use Rattle.std.proofs.Math.Nat.{mul-le-mul_left}
 use native.Mathlib.Omega.{arith}
 use native.Mathlib.Numerals.{add-one}
+use lib.Dec.{eqb}
+use borrow.Author.Tests.{eqb-true, eqb-false}
 use borrow.Author.Count.{below_more}
 use Rattle.lists.specs.Tests.{Decides}
 use Rattle.lists.proofs.Numbers.{refute}
-use Rattle.tables.specs.Columns.{column, block_column, nodes_count, node_first, node_entries, node_min, node_max, entries_count, block_created, block_destroyed}
+use Rattle.tables.specs.Columns.{column, block_column, nodes_count, node_first, node_entries, node_min, node_max, entries_count, block_created, block_destroyed, block_owner}
 use Rattle.segment_table.specs.Closed.{nodes_used, first_at, count_at}
-use Rattle.segment_test.specs.Parts.{Tiled}
+use Rattle.segment_test.specs.Test.{owner_in}
+use Rattle.segment_test.specs.Parts.{Tiled, LivesAre}
 use Rattle.segment_test.specs.Total.{sum_to, entries_of_row, widths_of_row, life_in}
 use Rattle.segment_test.proofs.Sums.{sum_more, sum_start, sum_front}
 
@@ -46,24 +49,47 @@ tiled_over {nodes} {k = k} count sum so_far h p q =
     let own : _ ≡ count_at nodes (suc k) = rw link at p in
     refute (λ t. omega (arith, t.total, so_far.sum, so_far.within, sum_more (entries_of_row nodes) k, sum_front (entries_of_row nodes) (k + 1) (nodes_used nodes) (omega arith)))
 
--- ── lives, entry_widths ──
+-- ── test_lives, entry_widths ──
 
--- the first k lives are added: each is a word at most
-pub record LivesTo (blocks : List ℕ) (sum k : ℕ) : Type 0 where
+-- the first k blocks are of kinds with roots, and their lives are added: each is a word at most
+pub record LivesTo (blocks nodes : List ℕ) (sum k : ℕ) : Type 0 where
+  pub rooted : (j : ℕ) → j < k → column nodes 0 (owner_in blocks j) ≡ 0 → ⊥
   pub total : sum ≡ sum_to (life_in blocks) k
   pub most : sum ≤ k * (2 ^ 64 - 1)
 
-pub lives_none : {blocks : List ℕ} → LivesTo blocks 0 0
-lives_none {blocks} = record { total = sym (sum_start (life_in blocks)); most = omega arith }
+-- the root that was read is that of the kind of block k
+root_is : (blocks nodes : List ℕ) (k owner root : ℕ) → owner ≡ block_column blocks (k + 1) block_owner → root ≡ column nodes 0 owner → root ≡ column nodes 0 (owner_in blocks k)
+root_is blocks nodes k owner root own at = let link : k + 1 ≡ suc k = add-one k in at ∙ ap (λ (j : ℕ). column nodes 0 j) (rw link at own)
 
-pub lives_more : {blocks : List ℕ} {k sum c d x : ℕ} → LivesTo blocks sum k → c ≡ block_column blocks (k + 1) block_created → d ≡ block_column blocks (k + 1) block_destroyed
-    → x ≡ d - c → x < 2 ^ 64 → LivesTo blocks (sum + x) (k + 1)
-lives_more {blocks} {k} {sum} {c} {d} {x} s p q e word =
-    let link : k + 1 ≡ suc k = add-one k in
-    let from : c ≡ block_column blocks (suc k) block_created = rw link at p in
-    let to : d ≡ block_column blocks (suc k) block_destroyed = rw link at q in
-    let life : life_in blocks k ≡ x = rw (← from, ← to) (sym e) in
-    record { total = omega (arith, s.total, sum_more (life_in blocks) k); most = omega (arith, s.most) }
+module _ {blocks nodes : List ℕ} where
+  pub lives_none : LivesTo blocks nodes 0 0
+  lives_none = record { rooted = λ j h. absurd (omega arith); total = sym (sum_start (life_in blocks)); most = omega arith }
+
+  module _ {k sum owner root : ℕ} (so_far : LivesTo blocks nodes sum k) (own : owner ≡ block_column blocks (k + 1) block_owner) (at : root ≡ column nodes 0 owner) where
+    pub lives_more : {c d x : ℕ} → (root ≡ 0 → ⊥) → c ≡ block_column blocks (k + 1) block_created → d ≡ block_column blocks (k + 1) block_destroyed
+        → x ≡ d - c → x < 2 ^ 64 → LivesTo blocks nodes (sum + x) (k + 1)
+    lives_more {c} {d} {x} some p q e word =
+        let link : k + 1 ≡ suc k = add-one k in
+        let from : c ≡ block_column blocks (suc k) block_created = rw link at p in
+        let to : d ≡ block_column blocks (suc k) block_destroyed = rw link at q in
+        let life : life_in blocks k ≡ x = rw (← from, ← to) (sym e) in
+        record {
+          rooted = below_more (λ (j : ℕ). column nodes 0 (owner_in blocks j) ≡ 0 → ⊥) k so_far.rooted (λ z. some (root_is blocks nodes k owner root own at ∙ z));
+          total = omega (arith, so_far.total, sum_more (life_in blocks) k);
+          most = omega (arith, so_far.most);
+        }
+
+    pub lives_unrooted : {n total : ℕ} → k < n → root ≡ 0 → Decides false (LivesAre blocks nodes n total)
+    lives_unrooted h z = refute (λ l. l.rooted k h (sym (root_is blocks nodes k owner root own at) ∙ z))
+
+  pub lives_all : {n k sum total : ℕ} → k ≤ n → (k < n → ⊥) → LivesTo blocks nodes sum k → Decides (eqb sum total) (LivesAre blocks nodes n total)
+  lives_all {n} {k} {sum} {total} most over so_far =
+      let last : k ≡ n = omega arith in
+      let all : LivesTo blocks nodes sum n = rw last at so_far in
+      record {
+        yes = λ t. record { rooted = all.rooted; sum = sym (eqb-true sum total t) ∙ all.total };
+        not = λ t l. eqb-false sum total t (all.total ∙ sym l.sum);
+      }
 
 -- the widths of the first k rows' entries are added: each is a word at most
 pub record WidthsTo (nodes : List ℕ) (sum k : ℕ) : Type 0 where

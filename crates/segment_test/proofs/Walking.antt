@@ -1,18 +1,26 @@
 -- The walk over all nodes: one tree at most stands at a link; a step for each return of `walk`. Assumes nothing.
-use mathlib.Core.Path.{◌≡◌, refl, sym, ap, ◌∙◌}
+use mathlib.Core.Path.{◌≡◌, refl, sym, ap}
 use mathlib.Core.Bool.{Bool, true, false}
-use mathlib.Core.List.{List}
+use mathlib.Core.List.{List, [], ◌∷◌, ◌++◌}
 use Prim.Native.Nat.{ℕ, ◌+◌, ◌-◌, ◌/◌, ◌≤◌, ◌<◌}
 use native.Mathlib.Omega.{arith}
+use lib.ListN.{length, length-append, get_or-append}
+use lib.Seq.{get_or_at}
+use lib.Dec.{eqb}
+use borrow.Author.Tests.{eqb-true, eqb-false}
+use borrow.Author.Count.{below_more}
 use Rattle.std.specs.Prelude.{Option, Some, None}
 use Rattle.std.proofs.lemmas.Option.{none-some, same_Some}
 use Rattle.lists.specs.Tests.{Decides}
-use Rattle.history.specs.Tree.{Tree, hole, node, mid, node_count}
+use Rattle.lists.proofs.Numbers.{refute}
+use Rattle.history.specs.Tree.{Tree, hole, node, mid, tree_at, node_count, nodes_in}
 use Rattle.tables.specs.Columns.{column, nodes_count}
-use Rattle.segment_table.specs.Closed.{Tables, left_at, right_at, TreeAt, nodes_used}
+use Rattle.segment_table.specs.Closed.{Tables, left_at, right_at, TreeAt}
 use Rattle.segment_table.proofs.Closed.{tree_one}
 use Rattle.segment_test.specs.Test.{lent}
+use Rattle.segment_test.specs.Total.{sum_to}
 use Rattle.segment_test.specs.Parts.{NodeStands, TreeStands, Walked, AllRows}
+use Rattle.segment_test.proofs.Sums.{sum_more, sum_same, sum_front, sum_trees}
 
 -- ── walk ──
 
@@ -112,28 +120,96 @@ pub ruleset walking = (walk_hole, walk_spent, walk_wrong, walk_narrow, walk_stop
 
 -- ── test_nodes ──
 
--- from the root of the kind, with the rows in use
-pub nodes_rest : {blocks nodes entries : List ℕ} {n kind e used root : ℕ} {out : Option ℕ} → used ≡ column nodes 0 nodes_count → root ≡ column nodes 0 kind
-    → Walked (lent blocks nodes entries) n kind root 0 e 0 0 used out → {r : Bool} → Decides r (out ≡ Some 0) → Decides r (AllRows (lent blocks nodes entries) n kind e)
-nodes_rest {blocks} {nodes} {entries} {n} {kind} {e} {used} {root} {out} count top walk {r} d = record { yes = all; not = some }
-  where
-    walked : Walked (lent blocks nodes entries) n kind (column nodes 0 kind) 0 e 0 0 (nodes_used nodes) out
-    walked = rw (count, top) at walk
+-- how many nodes the trees of the first k kinds have
+abbrev nodes_to : List Tree → (k : ℕ) → ℕ
+nodes_to trees k = sum_to (λ kind. node_count (tree_at trees kind)) k
 
-    all : r ≡ true → AllRows (lent blocks nodes entries) n kind e
-    all t =
-        let u = walked.stood 0 (d.yes t) in
-        record { tree = u.0; stands = u.1; all_rows_lem = omega (arith, u.2) }
+-- What is left of a budget of node rows after the walks from the roots of the first k kinds.
+pub record WalkedTo (t : Tables) (n e budget k rest : ℕ) : Type 0 where
+  pub trees : List Tree
+  pub many : length trees ≡ k
+  pub stood : (kind : ℕ) → kind < k → TreeStands t n kind (column t.nodes 0 kind) 0 e 0 0 (tree_at trees kind)
+  pub taken : budget ≡ rest + nodes_to trees k
 
-    -- the tree that stands is the one that is met, so nothing else is left
-    left : (o : Option ℕ) → out ≡ o → AllRows (lent blocks nodes entries) n kind e → out ≡ Some 0
-    left None z s = absurd (walked.wrong z s.tree s.stands (omega (arith, s.all_rows_lem)))
-    left (Some k) z s =
-        let u = walked.stood k z in
-        let same : u.0 ≡ s.tree = stands_one (lent blocks nodes entries) n kind (column nodes 0 kind) 0 e 0 0 u.0 s.tree u.1 s.stands in
-        let over : nodes_used nodes ≡ k + node_count s.tree = rw same at u.2 in
-        let none : k ≡ 0 = omega (arith, over, s.all_rows_lem) in
-        z ∙ ap Some none
+module _ {t : Tables} {n e budget : ℕ} where
+  pub walks_none : WalkedTo t n e budget 0 budget
+  unfolding sum_to
+  walks_none = record { trees = []; many = refl; stood = λ kind l. absurd (omega arith); taken = omega arith }
 
-    some : r ≡ false → AllRows (lent blocks nodes entries) n kind e → ⊥
-    some f s = d.not f (left out refl s)
+  -- what was taken is what any trees at those roots have
+  taken_by : {k rest : ℕ} → WalkedTo t n e budget k rest → (trees : List Tree) → ((kind : ℕ) → kind < k → TreeStands t n kind (column t.nodes 0 kind) 0 e 0 0 (tree_at trees kind))
+      → budget ≡ rest + nodes_to trees k
+  taken_by {k} {rest} w trees s =
+      let same : (kind : ℕ) → kind < k → tree_at w.trees kind ≡ tree_at trees kind =
+      λ kind l. stands_one t n kind (column t.nodes 0 kind) 0 e 0 0 (tree_at w.trees kind) (tree_at trees kind) (w.stood kind l) (s kind l) in
+      omega (
+        arith,
+        w.taken,
+        sum_same (λ kind. node_count (tree_at w.trees kind)) (λ kind. node_count (tree_at trees kind)) k (λ kind l. ap node_count (same kind l)),
+      )
+
+  module _ {k rest root : ℕ} {out : Option ℕ} (w : WalkedTo t n e budget k rest) (top : root ≡ column t.nodes 0 k) (walk : Walked t n k root 0 e 0 0 rest out) where
+    walked : Walked t n k (column t.nodes 0 k) 0 e 0 0 rest out
+    walked = rw top at walk
+
+    pub walks_more : {left : ℕ} → out ≡ Some left → WalkedTo t n e budget (k + 1) left
+    walks_more {left} is =
+        let own = walked.stood left is in
+        let before : (kind : ℕ) → kind < k → tree_at (w.trees ++ own.0 ∷ []) kind ≡ tree_at w.trees kind = λ kind l. get_or-append w.trees (own.0 ∷ []) hole kind (rw w.many l) in
+        let last : tree_at (w.trees ++ own.0 ∷ []) k ≡ own.0 = get_or_at w.trees own.0 [] hole k w.many in
+        record {
+          trees = w.trees ++ own.0 ∷ [];
+          many = omega (arith, length-append w.trees (own.0 ∷ []), w.many);
+          stood =
+              below_more (λ (kind : ℕ). TreeStands t n kind (column t.nodes 0 kind) 0 e 0 0 (tree_at (w.trees ++ own.0 ∷ []) kind)) k
+              (λ kind l. rw (before kind l) (w.stood kind l)) (rw last own.1);
+          taken =
+              omega (
+                arith,
+                own.2,
+                w.taken,
+                sum_more (λ kind. node_count (tree_at (w.trees ++ own.0 ∷ []) kind)) k,
+                ap node_count last,
+                sum_same (λ kind. node_count (tree_at (w.trees ++ own.0 ∷ []) kind)) (λ kind. node_count (tree_at w.trees kind)) k (λ kind l. ap node_count (before kind l)),
+              );
+        }
+
+-- the nodes of all trees are those of the first k and of one more, at least
+nodes_front : (trees : List Tree) (k : ℕ) → length trees ≡ nodes_count → k < nodes_count → nodes_to trees k + node_count (tree_at trees k) ≤ nodes_in trees
+nodes_front trees k five low =
+    omega (
+      arith,
+      (rw five at (sum_trees node_count trees)),
+      sum_more (λ kind. node_count (tree_at trees kind)) k,
+      sum_front (λ kind. node_count (tree_at trees kind)) (k + 1) nodes_count (omega arith),
+    )
+
+-- what is known of all kinds
+module _ {blocks nodes entries : List ℕ} {n e : ℕ} where
+  -- a walk that comes to no end
+  pub nodes_wrong : {used k rest root : ℕ} {out : Option ℕ} → used ≡ column nodes 0 nodes_count → WalkedTo (lent blocks nodes entries) n e used k rest → k < nodes_count
+      → root ≡ column nodes 0 k → Walked (lent blocks nodes entries) n k root 0 e 0 0 rest out → out ≡ None → Decides false (AllRows (lent blocks nodes entries) n e)
+  nodes_wrong {used} {k} {rest} {root} {out} count w low top walk none =
+      refute
+      (λ s.
+      let own = rw top at walk in
+      own.wrong none (tree_at s.trees k) (s.stands k low)
+      (omega (arith, s.all_rows_lem, nodes_front s.trees k s.five low, taken_by w s.trees (λ kind l. s.stands kind (omega arith)))))
+
+  -- those from all roots take every row
+  pub nodes_rest : {used k rest : ℕ} → used ≡ column nodes 0 nodes_count → k ≤ nodes_count → (k < nodes_count → ⊥) → WalkedTo (lent blocks nodes entries) n e used k rest
+      → Decides (eqb rest 0) (AllRows (lent blocks nodes entries) n e)
+  nodes_rest {used} {k} {rest} count most over walk = record { yes = all; not = some }
+    where
+      w : WalkedTo (lent blocks nodes entries) n e used nodes_count rest
+      w = let last : k ≡ nodes_count = omega arith in rw last at walk
+
+      all : eqb rest 0 ≡ true → AllRows (lent blocks nodes entries) n e
+      all t =
+          let sum : nodes_to w.trees nodes_count ≡ nodes_in w.trees = rw w.many at (sum_trees node_count w.trees) in
+          record { trees = w.trees; five = w.many; stands = w.stood; all_rows_lem = omega (arith, w.taken, eqb-true rest 0 t, sum) }
+
+      some : eqb rest 0 ≡ false → AllRows (lent blocks nodes entries) n e → ⊥
+      some t s =
+          let sum : nodes_to s.trees nodes_count ≡ nodes_in s.trees = rw s.five at (sum_trees node_count s.trees) in
+          eqb-false rest 0 t (omega (arith, s.all_rows_lem, sum, taken_by w s.trees s.stands))

@@ -20,7 +20,7 @@ use Rattle.history.proofs.RulesLaws.{every_all, covers_node, ascends_decides, nu
 use Rattle.history.proofs.TreeAdding.{covers_yes, covers-inside}
 use Rattle.history.proofs.TreeWidths.{overlap, overlap_split}
 use Rattle.segment_test.specs.Total.{sum_to, all_widths}
-use Rattle.segment_test.proofs.Sums.{sum_add, sum_times, sum-none, sum_same, sum_tight, sum-length}
+use Rattle.segment_test.proofs.Sums.{sum_add, sum_times, sum-none, sum_same, sum-most, sum_tight, sum-length}
 
 -- ── the total of a tree ──
 
@@ -91,6 +91,10 @@ module _ (bs : List Block) (e : ℕ) (T : Tree) (numbers : numbered (length bs) 
     (order : sorted (key_in bs) T ≡ true) where
   life-most : (k : ℕ) → k < length bs → widths k 0 e T ≤ life (block_at bs k)
   life-most k l = omega (arith, widths-most (block_at bs) k (key_in bs) (λ k. false) 0 e T (omega arith) places order)
+
+  -- the total is at most that of the lives
+  pub total_most : all_widths 0 e T ≤ sum_to (λ k. life (block_at bs k)) (length bs)
+  total_most = omega (arith, total_widths (length bs) 0 e T numbers, sum-most (λ k. widths k 0 e T) (λ k. life (block_at bs k)) (length bs) life-most)
 
   -- equal totals: each block's widths add up to its life
   pub total_each : all_widths 0 e T ≡ sum_to (λ k. life (block_at bs k)) (length bs) → (k : ℕ) → k < length bs → widths k 0 e T ≡ life (block_at bs k)

@@ -1,10 +1,12 @@
-// The heads: counts inside the tables, and roots.
+// The heads: counts inside the tables, and roots of kinds with blocks.
 ghost use Rattle.lists.specs.Tests.{Decides};
 ghost use Rattle.tables.specs.Columns.{nodes_count};
 ghost use Rattle.segment_test.specs.Test.{lent};
-ghost use Rattle.segment_test.specs.Parts.{Room, Inside, Unrooted, OtherKinds, Rooted, Heads};
+ghost use Rattle.segment_test.specs.Parts.{Room, Inside, HasBlock, RootOwned, RootsOwned, Heads};
 
+use crate::read::Tested;
 use segment_table::lent::{Claim, Closed};
+use tables::{block, entry, node};
 
 // Whether a table has room for its head and this many rows. Constant time.
 fn room(table: &[u64], head: usize, rows: u64) -> bool
@@ -17,50 +19,47 @@ fn room(table: &[u64], head: usize, rows: u64) -> bool
 pub fn inside(entries: &[u64], first: u64, many: u64) -> bool
     ensures { Decides result (Inside entries.now first many) }
 {
-    if entries.len() < tables::entry::HEAD {
+    if entries.len() < entry::HEAD {
         return false;
     }
-    let rows = tables::entry::rows(entries);
+    let rows = entry::rows(entries);
     first <= rows && many <= rows - first
 }
 
-// Whether kind k has no root, unless it is this kind. Constant time.
-fn unrooted(nodes: &[u64], kind: u64, k: u64) -> bool
-    ensures { Decides result (Unrooted nodes.now kind k) }
+// Whether one of the blocks is of the kind. Linear in their count.
+fn has_block(t: &Tested<'_>, kind: u64) -> bool
+    ensures { Decides result (HasBlock t.now.blocks.now t.now.n kind) }
 {
-    k == kind || tables::get(nodes, 0, k as usize) == 0
+    (0..t.n).any(|k| t.block(k, block::OWNER) == kind)
 }
 
-// Whether no kind but this has a root. Constant time.
-fn other_kinds(nodes: &[u64], kind: u64) -> bool
-    ensures { Decides result (OtherKinds nodes.now kind nodes_count) }
+// Whether a kind that has a root has a block. Linear in the blocks; where the first one is of the kind, constant.
+fn root_owned(t: &Tested<'_>, kind: u64) -> bool
+    ensures { Decides result (RootOwned t.now.blocks.now t.now.nodes.now t.now.n kind) }
 {
-    (0..tables::node::COUNT as u64).all(|k| unrooted(nodes, kind, k))
+    tables::get(t.nodes, 0, kind as usize) == 0 || has_block(t, kind)
 }
 
-// Whether there is no root where there are no blocks, and one where there are n. Constant time.
-fn rooted(root: u64, n: u64) -> bool
-    ensures { Decides result (Rooted root n) }
+// Whether every kind that has a root has a block.
+pub fn roots_owned(t: &Tested<'_>) -> bool
+    ensures { Decides result (RootsOwned t.now.blocks.now t.now.nodes.now t.now.n nodes_count) }
 {
-    (root == 0) == (n == 0)
+    (0..node::COUNT as u64).all(|kind| root_owned(t, kind))
 }
 
-// Whether the counts are inside the tables, and there is a root of this kind alone, if there are blocks. Constant time.
+// Whether the counts are inside the tables. Constant time.
 pub fn test_heads(claim: &Claim<'_>) -> bool
     ensures { Decides result
-        (Heads (lent claim.now.tables.blocks.now claim.now.tables.nodes.now claim.now.tables.entries.now) claim.now.n claim.now.kind) }
+        (Heads (lent claim.now.tables.blocks.now claim.now.tables.nodes.now claim.now.tables.entries.now) claim.now.n) }
 {
     let Closed {
         blocks,
         nodes,
         entries,
     } = claim.tables;
-    let used = tables::get(nodes, 0, tables::node::COUNT);
-    let listed = tables::get(entries, 0, tables::entry::COUNT);
-    let root = tables::get(nodes, 0, claim.kind as usize);
-    room(blocks, tables::block::HEAD, claim.n)
-        && room(nodes, tables::node::HEAD, used)
+    let used = tables::get(nodes, 0, node::COUNT);
+    let listed = tables::get(entries, 0, entry::COUNT);
+    room(blocks, block::HEAD, claim.n)
+        && room(nodes, node::HEAD, used)
         && inside(entries, 0, listed)
-        && other_kinds(nodes, claim.kind)
-        && rooted(root, claim.n)
 }

@@ -1,4 +1,4 @@
-// Whether lent tables hold the tree of a closed index: the layout, a root where there are blocks, and rules 21 and 23 of document 01, on any tables at
+// Whether lent tables hold the trees of a closed index: the layout, a root for each kind with blocks, and rules 21 and 23 of document 01, on any tables at
 // all. No pass over the tables meets a row twice, whatever stands in it, so the test takes time linear in the rows that they have.
 //
 //   specs/Test         what is decided
@@ -9,14 +9,14 @@
 //   place              a node and the node above, and the lives that cover them
 //   run                one node's entries
 //   walk               every node, by halves
-//   total              runs one after the other; rule 23's sum, one total over all entries
+//   total              runs one after the other; rule 23's sum, one total over all entries of all kinds
 
 #![tactic(auto)]
 
 ghost use Rattle.std.specs.Prelude.{List};
 ghost use Rattle.lists.specs.Tests.{Decides};
 ghost use Rattle.history.specs.Words.{Block};
-ghost use Rattle.segment_test.specs.Test.{lent, BlockRows, ClosedTree};
+ghost use Rattle.segment_test.specs.Test.{lent, BlockRows, ClosedTrees};
 
 mod head;
 mod place;
@@ -28,12 +28,12 @@ mod walk;
 use read::Tested;
 use segment_table::lent::Claim;
 
-// Whether the claim holds: the tables hold the tree of a closed index of the kind with the end tick, whose blocks are the first n rows of the block table.
-// Linear in the rows of the three tables, of malformed ones too: counts are tested to lie inside, and runs to follow one another, before any row is
-// read by them, and the walk meets no row twice. At most 64 frames deep up to the largest end tick, 2^63.
-pub fn test_tree(claim: &Claim<'_>) -> bool
+// Whether the claim holds: the tables hold the trees of a closed index with the end tick, whose blocks are the first n rows of the block table. Linear in the
+// rows of the three tables, of malformed ones too: counts are tested to lie inside, and runs to follow one another, before any row is read by them, and the
+// walks meet no row twice. At most 64 frames deep up to the largest end tick, 2^63.
+pub fn test_trees(claim: &Claim<'_>) -> bool
     ensures { (bs : List Block) → BlockRows claim.now.tables.blocks.now claim.now.n bs → Decides result
-        (ClosedTree (lent claim.now.tables.blocks.now claim.now.tables.nodes.now claim.now.tables.entries.now) claim.now.kind claim.now.end bs) }
+        (ClosedTrees (lent claim.now.tables.blocks.now claim.now.tables.nodes.now claim.now.tables.entries.now) claim.now.end bs) }
 {
     if !head::test_heads(claim) {
         return false;
@@ -43,10 +43,12 @@ pub fn test_tree(claim: &Claim<'_>) -> bool
         nodes: claim.tables.nodes,
         entries: claim.tables.entries,
         n: claim.n,
-        kind: claim.kind,
     };
+    if !head::roots_owned(&t) {
+        return false;
+    }
     if !total::test_runs(&t) {
         return false;
     }
-    walk::test_nodes(&t, claim.end) && total::entry_widths(&t) == total::lives(&t)
+    walk::test_nodes(&t, claim.end) && total::test_lives(&t, total::entry_widths(&t))
 }

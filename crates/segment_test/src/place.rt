@@ -3,9 +3,10 @@ ghost use Rattle.std.specs.Prelude.{◌≡◌, ◌≤◌};
 ghost use Rattle.history.specs.Tree.{covers};
 ghost use Rattle.segment_test.specs.Parts.{covers_above};
 
-// The node [min, max), and the node above, which is [from, to); an empty interval stands for none, above the root.
+// The node [min, max) of a kind, and the node above, which is [from, to); an empty interval stands for none, above the root.
 #[derive(Clone, Copy)]
 pub struct Place {
+    pub kind: u64,
     pub min: u64,
     pub max: u64,
     pub from: u64,

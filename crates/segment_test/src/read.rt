@@ -4,7 +4,7 @@ ghost use Rattle.history.specs.Lent.{row_width, entry_width, block_head, node_he
 ghost use Rattle.tables.specs.Columns.{column, block_column, entry_column};
 ghost use Rattle.segment_table.specs.Closed.{nodes_used};
 
-// The lent tables, of n blocks and of a kind, when their heads are tested: all counts lie inside.
+// The lent tables, of n blocks, when their heads are tested: all counts lie inside.
 // The three slices stand here, not a Closed: in a struct within one, the check did not find that row numbers are in range.
 #[derive(Clone, Copy)]
 pub struct Tested<'a> {
@@ -12,7 +12,6 @@ pub struct Tested<'a> {
     pub nodes: &'a [u64],
     pub entries: &'a [u64],
     pub n: u64,
-    pub kind: u64,
     ghost block_room: { block_head + row_width * n ≤ length blocks.now },
     ghost node_room: { node_head + row_width * nodes_used nodes.now ≤ length nodes.now },
 }

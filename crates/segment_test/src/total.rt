@@ -2,8 +2,8 @@
 ghost use Rattle.std.specs.Prelude.{◌≡◌, ◌^◌, ◌<◌};
 ghost use Rattle.lists.specs.Tests.{Decides};
 ghost use Rattle.segment_table.specs.Closed.{nodes_used};
-ghost use Rattle.segment_test.specs.Total.{sum_to, entries_of_row, widths_of_row, life_in};
-ghost use Rattle.segment_test.specs.Parts.{Tiled};
+ghost use Rattle.segment_test.specs.Total.{sum_to, entries_of_row, widths_of_row};
+ghost use Rattle.segment_test.specs.Parts.{Tiled, LivesAre};
 
 use crate::read::Tested;
 use tables::{block, entry, node};
@@ -28,19 +28,6 @@ pub fn test_runs(t: &Tested<'_>) -> bool
     begin == total
 }
 
-// The lives of all blocks, added up. Linear in their count.
-pub fn lives(t: &Tested<'_>) -> u128
-    ensures { result ≡ sum_to (life_in t.now.blocks.now) t.now.n }
-{
-    let mut sum = 0;
-    for k in 0..t.n {
-        let created = t.block(k, block::CREATED);
-        let destroyed = t.block(k, block::DESTROYED);
-        sum += u128::from(destroyed.saturating_sub(created));
-    }
-    sum
-}
-
 // The widths of all entries, added up: each row's width once for each of its entries. Linear in the node count.
 pub fn entry_widths(t: &Tested<'_>) -> u128
     requires { sum_to (entries_of_row t.now.nodes.now) (nodes_used t.now.nodes.now) < 2 ^ 64 }
@@ -54,4 +41,21 @@ pub fn entry_widths(t: &Tested<'_>) -> u128
         sum += u128::from(many) * u128::from(max.saturating_sub(min));
     }
     sum
+}
+
+// Whether the kind of each block has a root, and all lives add up to a total. Linear in the blocks.
+pub fn test_lives(t: &Tested<'_>, total: u128) -> bool
+    ensures { Decides result (LivesAre t.now.blocks.now t.now.nodes.now t.now.n total) }
+{
+    let mut sum = 0;
+    for k in 0..t.n {
+        let kind = t.block(k, block::OWNER);
+        if tables::get(t.nodes, 0, kind as usize) == 0 {
+            return false;
+        }
+        let created = t.block(k, block::CREATED);
+        let destroyed = t.block(k, block::DESTROYED);
+        sum += u128::from(destroyed.saturating_sub(created));
+    }
+    sum == total
 }

@@ -1,4 +1,5 @@
-// Every node of the tree, from the root down by halves. A row's min and max name its only place, so a walk meets no row twice, whatever the links are.
+// Every node of the trees, from each kind's root down by halves. A row's kind, min and max name its only place, so a walk meets no row twice, whatever the links
+// are.
 ghost use Rattle.std.specs.Prelude.{◌≤◌};
 ghost use Rattle.lists.specs.Tests.{Decides};
 ghost use Rattle.segment_table.specs.Closed.{nodes_used};
@@ -20,19 +21,19 @@ fn bare(t: &Tested<'_>, link: u64) -> bool
 
 // Whether the row of a link is in use and holds the node of the kind; one of width 1 has no halves. Constant time.
 fn test_row(t: &Tested<'_>, link: u64, at: Place) -> bool
-    ensures { Decides result (RowStands t.now.nodes.now t.now.kind link at.min at.max) }
+    ensures { Decides result (RowStands t.now.nodes.now at.kind link at.min at.max) }
 {
     link != 0
         && link <= t.used()
         && t.node(link, node::MIN) == at.min
         && t.node(link, node::MAX) == at.max
-        && t.node(link, node::KIND) == t.kind
+        && t.node(link, node::KIND) == at.kind
         && (1 < at.max - at.min || bare(t, link))
 }
 
 // Whether the row of a link and its run of entries are right for the node below the node above. Linear in the run.
 fn test_node(t: &Tested<'_>, link: u64, at: Place) -> bool
-    ensures { Decides result (NodeStands (lent t.now.blocks.now t.now.nodes.now t.now.entries.now) t.now.n t.now.kind link at.min at.max at.from at.to) }
+    ensures { Decides result (NodeStands (lent t.now.blocks.now t.now.nodes.now t.now.entries.now) t.now.n at.kind link at.min at.max at.from at.to) }
 {
     if !test_row(t, link, at) {
         return false;
@@ -46,7 +47,7 @@ fn test_node(t: &Tested<'_>, link: u64, at: Place) -> bool
 // Linear in the rows and entries met; at most 64 frames deep up to the largest end tick, 2^63.
 #[tactic(auto, using(crate::proofs::Walking::walking))]
 fn walk(t: &Tested<'_>, link: u64, at: Place, budget: u64) -> Option<u64>
-    ensures { Walked (lent t.now.blocks.now t.now.nodes.now t.now.entries.now) t.now.n t.now.kind link at.min at.max at.from at.to budget result }
+    ensures { Walked (lent t.now.blocks.now t.now.nodes.now t.now.entries.now) t.now.n at.kind link at.min at.max at.from at.to budget result }
 {
     if link == 0 {
         return Some(budget);
@@ -54,18 +55,20 @@ fn walk(t: &Tested<'_>, link: u64, at: Place, budget: u64) -> Option<u64>
     if budget == 0 || !test_node(t, link, at) {
         return None;
     }
-    let Place { min, max, .. } = at;
+    let Place { kind, min, max, .. } = at;
     if max - min <= 1 {
         return Some(budget - 1);
     }
     let mid = min + (max - min) / 2;
     let lower = Place {
+        kind,
         min,
         max: mid,
         from: min,
         to: max,
     };
     let upper = Place {
+        kind,
         min: mid,
         max,
         from: min,
@@ -75,17 +78,24 @@ fn walk(t: &Tested<'_>, link: u64, at: Place, budget: u64) -> Option<u64>
     walk(t, t.node(link, node::RIGHT), upper, rest)
 }
 
-// Whether a tree stands from the root of the kind on and takes every row in use. Linear in nodes and entries.
-#[tactic(auto, using(crate::proofs::Walking::nodes_rest))]
+// Whether a tree stands from the root of each kind on, and they take every row in use. Linear in nodes and entries.
 pub fn test_nodes(t: &Tested<'_>, end: u64) -> bool
-    ensures { Decides result (AllRows (lent t.now.blocks.now t.now.nodes.now t.now.entries.now) t.now.n t.now.kind end) }
+    ensures { Decides result (AllRows (lent t.now.blocks.now t.now.nodes.now t.now.entries.now) t.now.n end) }
 {
-    let root = tables::get(t.nodes, 0, t.kind as usize);
-    let all = Place {
-        min: 0,
-        max: end,
-        from: 0,
-        to: 0,
-    };
-    walk(t, root, all, t.used()) == Some(0)
+    let mut rest = t.used();
+    for kind in 0..node::COUNT as u64 {
+        let root = tables::get(t.nodes, 0, kind as usize);
+        let all = Place {
+            kind,
+            min: 0,
+            max: end,
+            from: 0,
+            to: 0,
+        };
+        let Some(left) = walk(t, root, all, rest) else {
+            return false;
+        };
+        rest = left;
+    }
+    rest == 0
 }

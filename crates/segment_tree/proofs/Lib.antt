@@ -2,6 +2,7 @@ pub mod NodeRows
 pub mod Growing
 pub mod Adding
 pub mod Ways
+pub mod ByKind
 pub mod AddingRows
 pub mod Running
 pub mod Shapes

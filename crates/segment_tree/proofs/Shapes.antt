@@ -1,4 +1,4 @@
--- The counts of a tree do not depend on which blocks are added, nor on their order: adding goes with `shape`. Assumes nothing.
+-- The counts of a kind's tree do not depend on which blocks are added, nor on their order: adding goes with `shape`. Assumes nothing.
 use mathlib.Core.Path.{◌≡◌, refl, ap, sym, ◌∙◌}
 use mathlib.Core.Logic.{◌⊎◌, inl, inr}
 use mathlib.Core.Bool.{Bool, true, false, cond, ◌&&◌}
@@ -6,18 +6,20 @@ use mathlib.Core.List.{List, [], ◌∷◌, ◌++◌, map}
 use Prim.Native.Nat.{ℕ, zero, suc, ◌+◌, ◌≤◌, ◌<◌}
 use native.Mathlib.Omega.{arith}
 use lib.ListN.{length, replicate, length-replicate}
-use lib.Dec.{ltb}
+use lib.Dec.{ltb, eqb}
 use Rattle.lists.specs.Lists.{Mem, Distinct, count, count_from}
 use Rattle.lists.proofs.Numbers.{bool_cases, lt_or_le, eq_or_ne}
 use Rattle.lists.proofs.Counting.{mem_count, count_mem, distinct_count, count_from_out, count_from_count}
-use Rattle.history.specs.Words.{Block, a_block}
+use Rattle.lists.proofs.Maps.{map-cond}
+use Rattle.history.specs.Words.{Block, a_block, of_kind}
 use Rattle.history.specs.Tree.{Tree, hole, node, mid, halves, covers, entries_of, left_of, right_of, insert, add_location, add_all, key_in, tree_of, node_count, entry_count}
 use Rattle.history.proofs.TreeInserting.{insert_nil, insert-on, insert-length}
 use Rattle.history.proofs.TreeAdding.{made, listed, add_here, add_last, add_below}
 use Rattle.history.proofs.TreeOrder.{add_each, each_order}
 use Rattle.segment_table.specs.Closed.{left_at, right_at}
 use Rattle.segment_tree.specs.Count.{CountAt, Life}
-use Rattle.segment_tree.specs.Lives.{life_of, shape, add_life, add_lives}
+use Rattle.segment_tree.specs.Lives.{Owned, owned_of, shape, add_life}
+use Rattle.segment_tree.proofs.ByKind.{add_to, lives_of, own, count-own}
 
 -- ── parts ──
 
@@ -81,49 +83,70 @@ module _ (key : ℕ → ℕ) (b c d : ℕ) where
             )
       ]
 
-pub shape_all : (key : ℕ → ℕ) (e n : ℕ) (bs : List Block) (T : Tree) → shape (add_all key e n bs T) ≡ add_lives e (map life_of bs) (shape T)
-unfolding add_all add_lives
-shape_all key e n [] T = refl
-shape_all key e n (b ∷ bs) T =
-    shape_all key e (suc n) bs (add_location key 63 n b.created b.destroyed 0 e T)
-    ∙ ap (add_lives e (map life_of bs)) (shape_add key n b.created b.destroyed 63 0 e T)
+pub shape_all : (key : ℕ → ℕ) (kind e n : ℕ) (bs : List Block) (T : Tree) → shape (add_all key kind e n bs T) ≡ add_to e (lives_of kind (map owned_of bs)) (shape T)
+unfolding add_all add_to lives_of
+shape_all key kind e n [] T = refl
+shape_all key kind e n (b ∷ bs) T = go (of_kind kind b) (λ X. shape_all key kind e (suc n) bs X)
+  where
+    go : (u : Bool) → ((X : Tree) → shape (add_all key kind e (suc n) bs X) ≡ add_to e (lives_of kind (map owned_of bs)) (shape X))
+        → shape (add_all key kind e (suc n) bs (cond u (add_location key 63 n b.created b.destroyed 0 e T) T))
+        ≡ add_to e (cond u ((owned_of b).life ∷ lives_of kind (map owned_of bs)) (lives_of kind (map owned_of bs))) (shape T)
+    go true rest = rest _ ∙ ap (add_to e (lives_of kind (map owned_of bs))) (shape_add key n b.created b.destroyed 63 0 e T)
+    go false rest = rest T
 
--- the tree of all blocks has the counts that their lives make
-pub shape_tree : (e : ℕ) (bs : List Block) → shape (tree_of e bs) ≡ add_lives e (map life_of bs) hole
+-- the tree of a kind's blocks has the counts that their lives make
+pub shape_tree : (kind e : ℕ) (bs : List Block) → shape (tree_of kind e bs) ≡ add_to e (lives_of kind (map owned_of bs)) hole
 unfolding tree_of shape
-shape_tree e bs = shape_all (key_in bs) e 0 bs hole
+shape_tree kind e bs = shape_all (key_in bs) kind e 0 bs hole
 
 -- ── any order ──
 
-pub lives-append : (e : ℕ) (xs ys : List Life) (T : Tree) → add_lives e (xs ++ ys) T ≡ add_lives e ys (add_lives e xs T)
-unfolding add_lives
+pub lives-append : (e : ℕ) (xs ys : List Life) (T : Tree) → add_to e (xs ++ ys) T ≡ add_to e ys (add_to e xs T)
+unfolding add_to
 lives-append e [] ys T = refl
 lives-append e (x ∷ xs) ys T = lives-append e xs ys (add_life e x T)
 
-pub shape-lives : (e : ℕ) (xs : List Life) (T : Tree) → shape (add_lives e xs T) ≡ add_lives e xs (shape T)
-unfolding add_lives
+pub shape-lives : (e : ℕ) (xs : List Life) (T : Tree) → shape (add_to e xs T) ≡ add_to e xs (shape T)
+unfolding add_to
 shape-lives e [] T = refl
-shape-lives e (x ∷ xs) T = shape-lives e xs (add_life e x T) ∙ ap (add_lives e xs) (shape_add (λ _. 0) 0 x.created x.destroyed 63 0 e T)
+shape-lives e (x ∷ xs) T = shape-lives e xs (add_life e x T) ∙ ap (add_to e xs) (shape_add (λ _. 0) 0 x.created x.destroyed 63 0 e T)
 
-module _ (life : ℕ → Life) (e : ℕ) where
+module _ (row : ℕ → Owned) (kind e : ℕ) where
+  life_at : ℕ → Life
+  life_at k = (row k).life
+
   -- rows as blocks, whose numbers are their keys: no two of them are alike
   row_block : ℕ → Block
-  row_block k = a_block 0 0 [] (life k).created (life k).destroyed
+  row_block k = a_block 0 0 [] (row k).life.created (row k).life.destroyed
 
-  shape_each : (ks : List ℕ) (T : Tree) → shape (add_each row_block (λ k. k) e ks T) ≡ add_lives e (map life ks) (shape T)
-  unfolding add_each add_lives row_block
+  shape_each : (ks : List ℕ) (T : Tree) → shape (add_each row_block (λ k. k) e ks T) ≡ add_to e (map life_at ks) (shape T)
+  unfolding add_each add_to row_block life_at
   shape_each [] T = refl
   shape_each (k ∷ ks) T =
-      shape_each ks (add_location (λ k. k) 63 k (life k).created (life k).destroyed 0 e T)
-      ∙ ap (add_lives e (map life ks)) (shape_add (λ k. k) k (life k).created (life k).destroyed 63 0 e T)
+      shape_each ks (add_location (λ k. k) 63 k (row k).life.created (row k).life.destroyed 0 e T)
+      ∙ ap (add_to e (map life_at ks)) (shape_add (λ k. k) k (row k).life.created (row k).life.destroyed 63 0 e T)
+
+  -- the rows of the kind
+  own_rows : List ℕ → List ℕ
+  own_rows ks = own (λ k. (row k).kind) kind ks
+
+  lives-rows : (ks : List ℕ) → lives_of kind (map row ks) ≡ map life_at (own_rows ks)
+  unfolding lives_of own own_rows life_at
+  lives-rows [] = refl
+  lives-rows (k ∷ ks) = rw (lives-rows ks) (sym (map-cond life_at (eqb (row k).kind kind) (k ∷ own_rows ks) (own_rows ks)))
 
   -- rows in another order give the same counts
-  pub lives_order : (xs ys : List ℕ) (T : Tree) → 0 < e → shape T ≡ T → ((k : ℕ) → count k xs ≡ count k ys) → add_lives e (map life xs) T ≡ add_lives e (map life ys) T
+  pub lives_order : (xs ys : List ℕ) (T : Tree) → 0 < e → shape T ≡ T → ((k : ℕ) → count k xs ≡ count k ys)
+      → add_to e (lives_of kind (map row xs)) T ≡ add_to e (lives_of kind (map row ys)) T
+  unfolding own_rows
   lives_order xs ys T some same counts =
-      let sum : add_each row_block (λ k. k) e xs T ≡ add_each row_block (λ k. k) e ys T = each_order row_block (λ k. k) e some (λ i j n _. n) xs ys T counts in
-      let left : shape (add_each row_block (λ k. k) e xs T) ≡ add_lives e (map life xs) T = rw same at (shape_each xs T) in
-      let right : shape (add_each row_block (λ k. k) e ys T) ≡ add_lives e (map life ys) T = rw same at (shape_each ys T) in
-      sym left ∙ ap shape sum ∙ right
+      let alike : (k : ℕ) → count k (own_rows xs) ≡ count k (own_rows ys) =
+      λ k. count-own (λ k. (row k).kind) kind k xs ∙ ap (λ (n : ℕ). cond (eqb (row k).kind kind) n 0) (counts k) ∙ sym (count-own (λ k. (row k).kind) kind k ys) in
+      let sum : add_each row_block (λ k. k) e (own_rows xs) T ≡ add_each row_block (λ k. k) e (own_rows ys) T =
+      each_order row_block (λ k. k) e some (λ i j n _. n) (own_rows xs) (own_rows ys) T alike in
+      let left : shape (add_each row_block (λ k. k) e (own_rows xs) T) ≡ add_to e (map life_at (own_rows xs)) T = rw same at (shape_each (own_rows xs) T) in
+      let right : shape (add_each row_block (λ k. k) e (own_rows ys) T) ≡ add_to e (map life_at (own_rows ys)) T = rw same at (shape_each (own_rows ys) T) in
+      rw (lives-rows xs, lives-rows ys) (sym left ∙ ap shape sum ∙ right)
 
 -- links that are the rows 1 to m, each once, are as often there as in row order
 pub rows_once : (m : ℕ) (links : List ℕ) → Distinct links → ((k : ℕ) → Mem k links → (0 < k) × (k ≤ m)) → ((k : ℕ) → 0 < k → k ≤ m → Mem k links)

@@ -8,7 +8,7 @@ use Prim.Native.Nat.{ℕ, zero, suc, ◌+◌, ◌≤◌, ◌<◌}
 use native.Mathlib.Omega.{arith}
 use lib.ListN.{length}
 use lib.Dec.{ltb}
-use Rattle.lists.specs.Lists.{All, all_nil, all_cons, Pairs, pairs_nil, pairs_cons, count_from}
+use Rattle.lists.specs.Lists.{All, all_nil, all_cons, Pairs, pairs_nil, pairs_cons}
 use Rattle.lists.proofs.Numbers.{bool_cases, lt_or_le}
 use Rattle.lists.proofs.Lists.{all_map, all_append, pairs-append}
 use Rattle.history.specs.Words.{Block}
@@ -192,10 +192,13 @@ rising_made : {n : ℕ} (T : Tree) → Rising n T → Rising n (node (entries_of
 rising_made hole no_node = a_node pairs_nil all_nil no_node no_node
 rising_made (node xs l r) h = h
 
--- numbers from n on
+-- a higher bound
+rising_up : {n m : ℕ} {T : Tree} → n ≤ m → Rising n T → Rising m T
+rising_up h no_node = no_node
+rising_up h (a_node p a l r) = a_node p (all_map (λ x q. omega arith) a) (rising_up h l) (rising_up h r)
+
 rising_more : {n : ℕ} {T : Tree} → Rising n T → Rising (suc n) T
-rising_more no_node = no_node
-rising_more (a_node p a l r) = a_node p (all_map (λ x h. omega arith) a) (rising_more l) (rising_more r)
+rising_more r = rising_up (omega arith) r
 
 rising_cond : {n : ℕ} (u : Bool) (X Y : Tree) → Rising n X → Rising n Y → Rising n (cond u X Y)
 rising_cond true X Y p q = p
@@ -226,9 +229,9 @@ rising_add b c d (suc n) lo hi T h =
         a_node p (all_map (λ x h. omega arith) a) (rising_cond u X l (left g) (rising_more g)) (rising_cond v Y r (right k) (rising_more k))
 
 -- Blocks that are added in the order of their numbers ascend in every run.
-pub rising_each : (at : ℕ → Block) (e n many : ℕ) (T : Tree) → Rising n T → Rising (n + many) (add_each at (λ _. 0) e (count_from n many) T)
-unfolding add_each count_from
-rising_each at e n zero T h = let z : n + 0 ≡ n = omega arith in rw z h
-rising_each at e n (suc many) T h =
-    let z : n + suc many ≡ suc n + many = omega arith in
-    rw z (rising_each at e (suc n) many (add_block at (λ _. 0) e n T) (rising_add n (at n).created (at n).destroyed 63 0 e T h))
+pub rising_each : (at : ℕ → Block) (e bound n : ℕ) {ks : List ℕ} (T : Tree) → n ≤ bound → All (λ k. n ≤ k) ks → All (λ k. k < bound) ks → Pairs (λ x y. x < y) ks → Rising n T
+    → Rising bound (add_each at (λ _. 0) e ks T)
+unfolding add_each
+rising_each at e bound n T w all_nil all_nil pairs_nil h = rising_up w h
+rising_each at e bound n T w (all_cons {x = k} low lows) (all_cons high highs) (pairs_cons more p) h =
+    rising_each at e bound (suc k) (add_block at (λ _. 0) e k T) high more highs p (rising_add k (at k).created (at k).destroyed 63 0 e T (rising_up low h))

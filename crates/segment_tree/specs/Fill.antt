@@ -4,8 +4,8 @@ use Rattle.std.specs.Prelude.{◌≡◌, ◌⊎◌, List, [], ◌∷◌, map, �
 use Rattle.lists.specs.Lists.{All, count_from}
 use Rattle.history.specs.Lent.{row_width, entry_width, node_head, entry_head}
 use Rattle.history.specs.Words.{Block}
-use Rattle.history.specs.Tree.{Tree, hole, node, mid, add_location, key_in, node_count, entry_count, tree_of}
-use Rattle.tables.specs.Columns.{entry_column, node_first, entry_block, entry_key}
+use Rattle.history.specs.Tree.{Tree, hole, node, mid, add_location, tree_at, key_in, node_count, entries_all, trees_of}
+use Rattle.tables.specs.Columns.{column, entry_column, node_first, nodes_count, entry_block, entry_key}
 use Rattle.tables.specs.Sums.{most, plus_up_to}
 use Rattle.segment_table.specs.Closed.{Tables, Closed, nodes_used, left_at, right_at, first_at, count_at, first_cell_in, run, Keyed}
 use Rattle.segment_table.specs.Alone.{TreeAlone}
@@ -13,7 +13,7 @@ use Rattle.entry_sort.specs.Rows.{sort_rows}
 use Rattle.entry_sort.specs.Sorts.{entry_rows}
 use Rattle.segment_tree.specs.Count.{rows_in, entries_to, all_entries, CountRow, Life, spot, Outside, Whole}
 use Rattle.segment_tree.specs.Runs.{LikeButRuns, AssignedRuns}
-use Rattle.segment_tree.specs.Lives.{life_of, block_life, Counted, entry_rows_in}
+use Rattle.segment_tree.specs.Lives.{Owned, owned_of, block_life, Counted, entry_rows_in}
 
 -- ── the tables while they are filled ──
 
@@ -103,23 +103,48 @@ pub record WroteEntry (nodes entries nodes' entries' : List ℕ) (link b cell : 
 
 -- ── all blocks ──
 
--- block k at the ends of its nodes
-abbrev pub append_block : (blocks : List ℕ) (end k : ℕ) → Tree → Tree
-append_block blocks e k T = add_location (λ _. 0) 63 k (block_life blocks (suc k)).created (block_life blocks (suc k)).destroyed 0 e T
+-- the trees of all kinds stand at their roots, as far as they are filled
+pub record AllFilling (blocks s nodes entries : List ℕ) (e : ℕ) (trees : List Tree) : Type 0 where
+  pub five : length trees ≡ nodes_count
+  pub each : (kind : ℕ) → kind < nodes_count → FillAt blocks s nodes entries kind (column s 0 kind) 0 e (tree_at trees kind)
+
+-- no node of theirs lists more than were counted
+pub record AllRoomy (s : List ℕ) (trees : List Tree) : Type 0 where
+  pub each : (kind : ℕ) → kind < nodes_count → Roomy s (column s 0 kind) (tree_at trees kind)
+
+-- the kind and the life of block k, whose link is k + 1
+abbrev pub row_life : (blocks : List ℕ) (k : ℕ) → Owned
+row_life blocks k = block_life blocks (suc k)
+
+-- block k at the ends of its nodes, in the tree of its kind
+abbrev pub append_block : (blocks : List ℕ) (end k : ℕ) → List Tree → List Tree
+append_block blocks e k trees =
+    let o = row_life blocks k in
+    set trees o.kind (add_location (λ _. 0) 63 k o.life.created o.life.destroyed 0 e (tree_at trees o.kind))
 
 -- the blocks of these numbers, one after the other
-unfoldable pub append_each : (blocks : List ℕ) (end : ℕ) (numbers : List ℕ) → Tree → Tree
-append_each blocks e [] T = T
-append_each blocks e (k ∷ ks) T = append_each blocks e ks (append_block blocks e k T)
+unfoldable pub append_each : (blocks : List ℕ) (end : ℕ) (numbers : List ℕ) → List Tree → List Tree
+append_each blocks e [] trees = trees
+append_each blocks e (k ∷ ks) trees = append_each blocks e ks (append_block blocks e k trees)
 
--- the blocks of the numbers from `first` on, so many, fill the tree at the root
-pub record WrittenAll (blocks nodes entries nodes' entries' : List ℕ) (root e first many : ℕ) : Type 0 where
+-- block k is of a kind that there is, and finds its nodes in that kind's tree
+pub record Placeable (blocks : List ℕ) (e : ℕ) (trees : List Tree) (k : ℕ) : Type 0 where
+  pub known : (row_life blocks k).kind < nodes_count
+  pub finds : FindsNodes 63 k (row_life blocks k).life 0 e (tree_at trees (row_life blocks k).kind)
+
+-- the trees are filled so far, and nothing else changed
+pub record AllFilled (blocks s nodes entries nodes' entries' : List ℕ) (e : ℕ) (trees : List Tree) : Type 0 where
+  pub here : AllFilling blocks s nodes' entries' e trees
+  pub beyond : Beyond s nodes entries nodes' entries'
+
+-- the blocks of the numbers from `first` on, so many, fill the trees of their kinds
+pub record WrittenAll (blocks nodes entries nodes' entries' : List ℕ) (e first many : ℕ) : Type 0 where
   pub like : LikeButRuns nodes nodes'
   pub nodes_long : length nodes' ≡ length nodes
   pub entries_long : length entries' ≡ length entries
-  pub done : (s : List ℕ) (kind : ℕ) (T : Tree) → e ≤ 2 ^ 63 → Fillable s nodes entries → FillAt blocks s nodes entries kind root 0 e T
-      → All (λ k. FindsNodes 63 k (block_life blocks (suc k)) 0 e T) (count_from first many) → Roomy s root (append_each blocks e (count_from first many) T)
-      → Filled blocks s nodes entries nodes' entries' kind root 0 e T (append_each blocks e (count_from first many) T)
+  pub done : (s : List ℕ) (trees : List Tree) → e ≤ 2 ^ 63 → Fillable s nodes entries → AllFilling blocks s nodes entries e trees
+      → All (Placeable blocks e trees) (count_from first many) → AllRoomy s (append_each blocks e (count_from first many) trees)
+      → AllFilled blocks s nodes entries nodes' entries' e (append_each blocks e (count_from first many) trees)
 
 -- ── runs in order ──
 
@@ -140,19 +165,20 @@ pub record ClosedRuns (nodes entries nodes' entries' : List ℕ) (n total : ℕ)
 abbrev pub lent_tables : (blocks nodes entries : List ℕ) → Tables
 lent_tables blocks nodes entries = record { blocks = blocks; nodes = nodes; entries = entries }
 
--- What finish closes: the tree of the blocks bs is counted, the entry table has room for it, and the rows of the block table have the lives and the first
--- cells of these blocks. Nothing is asked of their order.
-pub record Closable (t : Tables) (n e kind : ℕ) (bs : List Block) : Type 0 where
+-- What finish closes: the trees of the blocks bs are counted, the entry table has room for them, and the rows of the block table have the kinds, the lives
+-- and the first cells of these blocks. Nothing is asked of their order.
+pub record Closable (t : Tables) (n e : ℕ) (bs : List Block) : Type 0 where
   pub small : e ≤ 2 ^ 63
-  pub counted : Counted t.nodes kind e (tree_of e bs)
+  pub known : All (λ (b : Block). b.kind < nodes_count) bs
+  pub counted : Counted t.nodes e (trees_of e bs)
   pub nodes_headed : node_head ≤ length t.nodes
   pub entries_headed : entry_head ≤ length t.entries
-  pub space : entry_count (tree_of e bs) ≤ entry_rows_in t.entries
+  pub space : entries_all (trees_of e bs) ≤ entry_rows_in t.entries
   pub many : n ≡ length bs
-  pub lives_are : map (block_life t.blocks) (count_from 1 (length bs)) ≡ map life_of bs
+  pub lives_are : map (block_life t.blocks) (count_from 1 (length bs)) ≡ map owned_of bs
   pub cells_are : (k : ℕ) → k < length bs → first_cell_in t.blocks k ≡ key_in bs k
 
--- the tree stands there, and alone where the entry table was zeros
-pub record ClosedTree (t t' : Tables) (n e kind : ℕ) : Type 0 where
-  pub done : (bs : List Block) → Closable t n e kind bs → Closed t' kind e (tree_of e bs)
-  pub alone : (bs : List Block) → Closable t n e kind bs → t.entries ≡ replicate (length t.entries) 0 → TreeAlone t'.nodes t'.entries (tree_of e bs)
+-- the trees stand there, and alone where the entry table was zeros
+pub record ClosedTrees (t t' : Tables) (n e : ℕ) : Type 0 where
+  pub done : (bs : List Block) → Closable t n e bs → Closed t' e (trees_of e bs)
+  pub alone : (bs : List Block) → Closable t n e bs → t.entries ≡ replicate (length t.entries) 0 → TreeAlone t'.nodes t'.entries (trees_of e bs)

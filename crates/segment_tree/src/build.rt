@@ -1,4 +1,4 @@
-// Building the tree in the node table: each life goes down from its root, nodes are made, entries are counted.
+// Building the trees in the node table: each life goes down from the root of its kind, nodes are made, entries are counted.
 ghost use Rattle.std.specs.Prelude.{◌≡◌, map, ◌+◌, ◌*◌, ◌<◌, set};
 ghost use Rattle.lists.specs.Lists.{count_from};
 ghost use Rattle.history.specs.Lent.{row_width};
@@ -6,9 +6,9 @@ ghost use Rattle.tables.specs.Columns.{node_entries};
 ghost use Rattle.tables.specs.Sums.{plus_up_to};
 ghost use Rattle.segment_table.specs.Closed.{count_at};
 ghost use Rattle.segment_tree.specs.Count.{spot_in, Reached, Added, AddedAt, AddedWhole, Lasts, Splits};
-ghost use Rattle.segment_tree.specs.Lives.{block_life, piece_life, root_spot, AddedRows, rows_to_count, CountedTree};
+ghost use Rattle.segment_tree.specs.Lives.{block_life, piece_life, root_spot, AddedRows, rows_to_count, CountedTrees};
 
-use crate::{Life, Place, Span};
+use crate::{Life, Owned, Place, Span};
 use refusals::Refusal;
 use tables::{entry, node};
 
@@ -152,14 +152,14 @@ fn add_location(nodes: &mut [u64], end: u64, life: Life, kind: u64) -> bool
     add_down(nodes, root, span, life, kind)
 }
 
-// Adds the lives of the blocks 1 to n. False if the rows are spent.
+// Adds the lives of the blocks 1 to n, each to the tree of its kind. False if the rows are spent.
 #[tactic(auto, using(crate::proofs::AddingRows::onward))]
-fn add_blocks(nodes: &mut [u64], blocks: &[u64], n: u64, end: u64, kind: u64) -> bool
-    ensures { AddedRows nodes.old nodes.new kind end (map (block_life blocks.now) (count_from 1 n)) result }
+fn add_blocks(nodes: &mut [u64], blocks: &[u64], n: u64, end: u64) -> bool
+    ensures { AddedRows nodes.old nodes.new end (map (block_life blocks.now) (count_from 1 n)) result }
 {
     for j in 0..n {
-        let life = Life::of_block(blocks, j + 1);
-        if !add_location(nodes, end, life, kind) {
+        let owned = Owned::of_block(blocks, j + 1);
+        if !add_location(nodes, end, owned.life, owned.kind) {
             return false;
         }
     }
@@ -168,19 +168,19 @@ fn add_blocks(nodes: &mut [u64], blocks: &[u64], n: u64, end: u64, kind: u64) ->
 
 // Adds the lives of the pieces 1 to n, which last to the end. False if the rows are spent.
 #[tactic(auto, using(crate::proofs::AddingRows::onward))]
-fn add_pieces(nodes: &mut [u64], pieces: &[u64], n: u64, end: u64, kind: u64) -> bool
-    ensures { AddedRows nodes.old nodes.new kind end (map (piece_life pieces.now end) (count_from 1 n)) result }
+fn add_pieces(nodes: &mut [u64], pieces: &[u64], n: u64, end: u64) -> bool
+    ensures { AddedRows nodes.old nodes.new end (map (piece_life pieces.now end) (count_from 1 n)) result }
 {
     for j in 0..n {
-        let life = Life::of_piece(pieces, j + 1, end);
-        if !add_location(nodes, end, life, kind) {
+        let owned = Owned::of_piece(pieces, j + 1, end);
+        if !add_location(nodes, end, owned.life, owned.kind) {
             return false;
         }
     }
     true
 }
 
-// What is counted: the blocks 1 to n, and the pieces 1 to m, which live up to the end, of a kind.
+// What is counted: the blocks 1 to n, and the pieces 1 to m, which live up to the end.
 #[derive(Clone, Copy)]
 pub struct Rows<'a> {
     pub blocks: &'a [u64],
@@ -188,13 +188,13 @@ pub struct Rows<'a> {
     pub pieces: &'a [u64],
     pub m: u64,
     pub end: u64,
-    pub kind: u64,
 }
 
-// Counts the tree of the rows in a node table of zeros, in whatever order they are. Where the nodes or the entries do not fit, the table is zeros again.
+// Counts the trees of the rows in a node table of zeros, in whatever order they are. Where the nodes or the entries of all of them do not fit, the table is
+// zeros again.
 #[tactic(auto, using(crate::proofs::Counting::counting))]
-pub fn count_tree(nodes: &mut [u64], entries: &[u64], rows: &Rows<'_>) -> Result<(), Refusal>
-    ensures { CountedTree (rows_to_count rows.now.blocks.now rows.now.n rows.now.pieces.now rows.now.m rows.now.end rows.now.kind) nodes.old entries.now nodes.new result }
+pub fn count_trees(nodes: &mut [u64], entries: &[u64], rows: &Rows<'_>) -> Result<(), Refusal>
+    ensures { CountedTrees (rows_to_count rows.now.blocks.now rows.now.n rows.now.pieces.now rows.now.m rows.now.end) nodes.old entries.now nodes.new result }
 {
     let Rows {
         blocks,
@@ -202,13 +202,12 @@ pub fn count_tree(nodes: &mut [u64], entries: &[u64], rows: &Rows<'_>) -> Result
         pieces,
         m,
         end,
-        kind,
     } = *rows;
-    if !add_blocks(nodes, blocks, n, end, kind) {
+    if !add_blocks(nodes, blocks, n, end) {
         tables::zero(nodes);
         return Err(Refusal::NodesFull);
     }
-    if !add_pieces(nodes, pieces, m, end, kind) {
+    if !add_pieces(nodes, pieces, m, end) {
         tables::zero(nodes);
         return Err(Refusal::NodesFull);
     }

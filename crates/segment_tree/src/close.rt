@@ -1,9 +1,9 @@
-// Closing the counted tree: each node gets its run of the entry table, the blocks fill the runs in recorded order, and each run is sorted.
+// Closing the counted trees: each node gets its run of the entry table, the blocks fill the runs in recorded order, and each run is sorted.
 ghost use Rattle.segment_tree.specs.Count.{Lasts, Splits};
 ghost use Rattle.segment_tree.specs.Runs.{AssignedRuns};
-ghost use Rattle.segment_tree.specs.Fill.{WroteEntry, Written, WrittenWhole, WrittenAll, ClosedRuns, lent_tables, ClosedTree};
+ghost use Rattle.segment_tree.specs.Fill.{WroteEntry, Written, WrittenWhole, WrittenAll, ClosedRuns, lent_tables, ClosedTrees};
 
-use crate::{Life, Span};
+use crate::{Life, Owned, Span};
 use tables::{block, entry, node};
 
 // Gives each of the rows 1 to n its run, in row order, and returns how many entries they have. The counts stay, so that runs can be given out
@@ -141,20 +141,21 @@ fn write_location(
     }
 }
 
-// Writes the blocks 1 to n into the tree at `root`, in recorded order: blocks that follow one another live at about the same ticks, so that they meet
-// the same nodes.
+// Writes the blocks 1 to n into the trees of their kinds, in recorded order: blocks that follow one another live at about the same ticks, so that they
+// meet the same nodes.
 #[tactic(auto, using(crate::proofs::WritingAll::onward))]
-fn write_blocks(nodes: &mut [u64], entries: &mut [u64], blocks: &[u64], n: u64, root: u64, end: u64)
-    ensures { WrittenAll blocks.now nodes.old entries.old nodes.new entries.new root end 0 n }
+fn write_blocks(nodes: &mut [u64], entries: &mut [u64], blocks: &[u64], n: u64, end: u64)
+    ensures { WrittenAll blocks.now nodes.old entries.old nodes.new entries.new end 0 n }
 {
     for j in 0..n {
         let link = j + 1;
-        let life = Life::of_block(blocks, link);
+        let owned = Owned::of_block(blocks, link);
         let entry = Entry {
             block: j,
             key: block::get(blocks, link, block::FIRST),
         };
-        write_location(nodes, entries, root, end, life, entry);
+        let root = tables::get(nodes, 0, owned.kind as usize);
+        write_location(nodes, entries, root, end, owned.life, entry);
     }
 }
 
@@ -174,20 +175,12 @@ fn close_runs(nodes: &mut [u64], entries: &mut [u64], n: u64) -> u64
     at
 }
 
-// Closes the counted tree of a kind: its n blocks fill the runs, which begin where they began, and each run is sorted by first cell.
-#[tactic(auto, using(crate::proofs::Closing::closed_tree))]
-pub fn close_tree(
-    nodes: &mut [u64],
-    entries: &mut [u64],
-    blocks: &[u64],
-    n: u64,
-    end: u64,
-    kind: u64,
-)
-    ensures { ClosedTree (lent_tables blocks.now nodes.old entries.old) (lent_tables blocks.now nodes.new entries.new) n end kind }
+// Closes the counted trees: the n blocks fill the runs, which begin where they began, and each run is sorted by first cell.
+#[tactic(auto, using(crate::proofs::Closing::closed_trees))]
+pub fn close_trees(nodes: &mut [u64], entries: &mut [u64], blocks: &[u64], n: u64, end: u64)
+    ensures { ClosedTrees (lent_tables blocks.now nodes.old entries.old) (lent_tables blocks.now nodes.new entries.new) n end }
 {
-    let root = tables::get(nodes, 0, kind as usize);
-    write_blocks(nodes, entries, blocks, n, root, end);
+    write_blocks(nodes, entries, blocks, n, end);
     let used = tables::get(nodes, 0, node::COUNT);
     let total = close_runs(nodes, entries, used);
     tables::put(entries, 0, entry::COUNT, total);

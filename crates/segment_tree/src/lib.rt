@@ -1,13 +1,14 @@
-// The segment tree of blocks in the lent node and entry tables. Ports segment_tree.rs: building here, finding in crates above.
+// The segment trees of blocks, one for each kind, in the lent node and entry tables. Ports segment_tree.rs: building here, finding in crates above.
 //
 //   build                lives go down, nodes are made, entries are counted; too little room is told
 //   close                each node gets its run of the entry table, the blocks fill the runs, and each run is sorted
 //   specs/Count          the node table while it is counted, and what adding a life leaves
-//   specs/Lives          the lives in the block and piece tables, and the whole count
+//   specs/Lives          the lives in the block and piece tables, the trees of all kinds, and the whole count
 //   specs/Runs           the runs of entries
 //   specs/Fill           the tables while they are filled, and the whole closing
 //   proofs/Adding        a life at one node: what the model makes of it
 //   proofs/Ways          and on its way down, one step for each turn and each return of the loops of `build`
+//   proofs/ByKind        a tree for each kind: one changes, the others stay
 //   proofs/WritingDown   a block at one node
 //   proofs/WritingWays   and on its way down, for the loops of `close`
 
@@ -80,26 +81,6 @@ struct Life {
 }
 
 impl Life {
-    // That of a block.
-    fn of_block(blocks: &[u64], link: u64) -> Life
-        ensures { result ≡ block_life blocks.now link }
-    {
-        Life {
-            created: block::get(blocks, link, block::CREATED),
-            destroyed: block::get(blocks, link, block::DESTROYED),
-        }
-    }
-
-    // That of a piece, which lasts to the end.
-    fn of_piece(pieces: &[u64], link: u64, end: u64) -> Life
-        ensures { result ≡ piece_life pieces.now end link }
-    {
-        Life {
-            created: tables::get(pieces, link, piece::WRITTEN),
-            destroyed: end,
-        }
-    }
-
     fn covers(self, span: Span) -> bool
         ensures { result ≡ covers self.created self.destroyed span.lo span.hi }
     {
@@ -126,6 +107,41 @@ impl Life {
             self.created < half.hi
         } else {
             half.lo < self.destroyed
+        }
+    }
+}
+
+// A life, and the kind to whose tree it goes.
+#[derive(Clone, Copy)]
+struct Owned {
+    kind: u64,
+    life: Life,
+}
+
+impl Owned {
+    // That of a block.
+    fn of_block(blocks: &[u64], link: u64) -> Owned
+        ensures { result ≡ block_life blocks.now link }
+    {
+        Owned {
+            kind: block::get(blocks, link, block::OWNER),
+            life: Life {
+                created: block::get(blocks, link, block::CREATED),
+                destroyed: block::get(blocks, link, block::DESTROYED),
+            },
+        }
+    }
+
+    // That of a piece, which lasts to the end.
+    fn of_piece(pieces: &[u64], link: u64, end: u64) -> Owned
+        ensures { result ≡ piece_life pieces.now end link }
+    {
+        Owned {
+            kind: tables::get(pieces, link, piece::OWNER),
+            life: Life {
+                created: tables::get(pieces, link, piece::WRITTEN),
+                destroyed: end,
+            },
         }
     }
 }

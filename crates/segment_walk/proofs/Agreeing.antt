@@ -12,7 +12,8 @@ use Rattle.history.specs.Tree.{Tree, hole, node, key_in, entries_in}
 use Rattle.history.specs.Find.{window}
 use Rattle.history.specs.Rules.{ascends, sorted}
 use Rattle.history.proofs.RulesLaws.{ascends_decides, sorted_node, sorted_here, sorted_left, sorted_right}
-use Rattle.segment_table.specs.Closed.{Tables, Closed, first_cell_in}
+use Rattle.tables.specs.Columns.{column}
+use Rattle.segment_table.specs.Closed.{Tables, TreeAt, first_cell_in}
 use Rattle.segment_walk.specs.Walking.{Rooted}
 
 -- ── two keys that agree on the entries ──
@@ -39,7 +40,7 @@ module _ (key key' : ℕ → ℕ) where
 
 -- ── a closed index whose blocks are known ──
 
-pub closed_rooted : (t : Tables) (kind e : ℕ) (bs : List words.Block) (tree : Tree) → Closed t kind e tree → 0 < e → sorted (key_in bs) tree ≡ true
+pub tree_rooted : (t : Tables) (kind e : ℕ) (bs : List words.Block) (tree : Tree) → TreeAt t kind (column t.nodes 0 kind) 0 e tree → 0 < e → sorted (key_in bs) tree ≡ true
     → All (λ k. key_in bs k ≡ first_cell_in t.blocks k) (entries_in tree) → Rooted t.blocks t.nodes t.entries kind e tree
-closed_rooted t kind e bs tree closed some order keys =
-    record { stood = closed.stands; ascend = sorted_agree (key_in bs) (first_cell_in t.blocks) tree keys order; wide = λ _. some }
+tree_rooted t kind e bs tree stood some order keys =
+    record { stood = stood; ascend = sorted_agree (key_in bs) (first_cell_in t.blocks) tree keys order; wide = λ _. some }

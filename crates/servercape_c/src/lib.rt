@@ -24,7 +24,7 @@ pub extern "C" fn servercape_length(table: u64, rows: u64) -> u64
     servercape::servercape_length(table, rows)
 }
 
-// Opens an index in the lent tables.
+// Opens an index in the lent tables, for a set of kinds: a byte for each.
 #[unsafe(no_mangle)]
 pub extern "C" fn servercape_open(
     pieces: &mut [u64],
@@ -33,16 +33,16 @@ pub extern "C" fn servercape_open(
     nodes: &mut [u64],
     entries: &mut [u64],
     end_tick: u64,
-    kind: u8,
+    kinds: &[u8],
 ) -> u64
-    ensures { ByNumber (OpenedBy end_tick kind
+    ensures { ByNumber (OpenedBy end_tick kinds.now
         (tables pieces.old blocks.old store.now nodes.old entries.old)
         (tables pieces.new blocks.new store.now nodes.new entries.new)) result tt tt }
 {
-    servercape::servercape_open(pieces, blocks, store, nodes, entries, end_tick, kind)
+    servercape::changes::servercape_open(pieces, blocks, store, nodes, entries, end_tick, kinds)
 }
 
-// Records an operation.
+// Records an operation of a kind.
 #[unsafe(no_mangle)]
 pub extern "C" fn servercape_record(
     pieces: &mut [u64],
@@ -51,23 +51,24 @@ pub extern "C" fn servercape_record(
     nodes: &[u64],
     entries: &[u64],
     scratch: &[u64],
+    kind: u8,
     tick: u64,
     first: u64,
     bytes: &[u8],
     updated: &mut u64,
     cell: &mut u64,
 ) -> u64
-    ensures { ByNumber (ToldAs changes_of (RecordedBy (length scratch.now) (operation tick first bytes.now)
+    ensures { ByNumber (ToldAs changes_of (RecordedBy (length scratch.now) (operation kind tick first bytes.now)
         (tables pieces.old blocks.old store.old nodes.now entries.now)
         (tables pieces.new blocks.new store.new nodes.now entries.now))) result
         (changes updated.old cell.old) (changes updated.new cell.new) }
 {
-    servercape::servercape_record(
-        pieces, blocks, store, nodes, entries, scratch, tick, first, bytes, updated, cell,
+    servercape::changes::servercape_record(
+        pieces, blocks, store, nodes, entries, scratch, kind, tick, first, bytes, updated, cell,
     )
 }
 
-// Records the operations of a list, with one test of the tables for all: how many were played, and the position behind them.
+// Records the operations of a list, all of one kind, with one test of the tables for all: how many were played, and the position behind them.
 #[unsafe(no_mangle)]
 pub extern "C" fn servercape_record_all(
     pieces: &mut [u64],
@@ -76,17 +77,18 @@ pub extern "C" fn servercape_record_all(
     nodes: &[u64],
     entries: &[u64],
     scratch: &[u64],
+    kind: u8,
     operations: &[u8],
     answers: &mut [u64],
     next: &mut u64,
 ) -> u64
-    ensures { RecordedAll (length scratch.now) operations.now
+    ensures { RecordedAll (length scratch.now) kind operations.now
         (tables pieces.old blocks.old store.old nodes.now entries.now)
         (tables pieces.new blocks.new store.new nodes.now entries.now)
         answers.old answers.new result next.new }
 {
-    servercape::servercape_record_all(
-        pieces, blocks, store, nodes, entries, scratch, operations, answers, next,
+    servercape::changes::servercape_record_all(
+        pieces, blocks, store, nodes, entries, scratch, kind, operations, answers, next,
     )
 }
 
@@ -103,7 +105,7 @@ pub extern "C" fn servercape_finish(
         (tables pieces.old blocks.old store.now nodes.old entries.old)
         (tables pieces.new blocks.new store.now nodes.new entries.new)) result done done }
 {
-    servercape::servercape_finish(pieces, blocks, store, nodes, entries)
+    servercape::changes::servercape_finish(pieces, blocks, store, nodes, entries)
 }
 
 // Installs a calendar into an open index, in place of the one before.
@@ -120,7 +122,9 @@ pub extern "C" fn servercape_install_calendar(
         (tables pieces.now blocks.old store.now nodes.now entries.now)
         (tables pieces.now blocks.new store.now nodes.now entries.now)) result done done }
 {
-    servercape::servercape_install_calendar(pieces, blocks, store, nodes, entries, calendar)
+    servercape::changes::servercape_install_calendar(
+        pieces, blocks, store, nodes, entries, calendar,
+    )
 }
 
 // Installs a list of days of 23 and 25 hours into an open or a closed index, in place of the one before.
@@ -137,7 +141,7 @@ pub extern "C" fn servercape_install_days(
         (tables pieces.now blocks.old store.now nodes.now entries.now)
         (tables pieces.now blocks.new store.now nodes.now entries.now)) result done done }
 {
-    servercape::servercape_install_days(pieces, blocks, store, nodes, entries, days)
+    servercape::changes::servercape_install_days(pieces, blocks, store, nodes, entries, days)
 }
 
 // The block of a number: its bytes are the store's part of that length at the offset.
@@ -161,13 +165,13 @@ pub extern "C" fn servercape_block(
         (fields kind.old first.old length.old created.old destroyed.old offset.old)
         (fields kind.new first.new length.new created.new destroyed.new offset.new) }
 {
-    servercape::servercape_block(
+    servercape::reads::servercape_block(
         pieces, blocks, store, nodes, entries, number, kind, first, length, created, destroyed,
         offset,
     )
 }
 
-// The live blocks whose first cell is in [start, end) at a tick: their numbers go into the lent answer.
+// The live blocks of a kind whose first cell is in [start, end) at a tick: their numbers go into the lent answer.
 #[unsafe(no_mangle)]
 pub extern "C" fn servercape_find(
     pieces: &[u64],
@@ -175,6 +179,7 @@ pub extern "C" fn servercape_find(
     store: &[u8],
     nodes: &[u64],
     entries: &[u64],
+    kind: u8,
     tick: u64,
     start: u64,
     end: u64,
@@ -183,16 +188,16 @@ pub extern "C" fn servercape_find(
     visited: &mut u64,
 ) -> u64
     ensures { ByNumber (FoundBy
-        (tables pieces.now blocks.now store.now nodes.now entries.now) tick start end
+        (tables pieces.now blocks.now store.now nodes.now entries.now) kind tick start end
         answer.old answer.new) result
         (counts count.old visited.old) (counts count.new visited.new) }
 {
-    servercape::servercape_find(
-        pieces, blocks, store, nodes, entries, tick, start, end, answer, count, visited,
+    servercape::reads::servercape_find(
+        pieces, blocks, store, nodes, entries, kind, tick, start, end, answer, count, visited,
     )
 }
 
-// Asks the queries of a list, with one test of the tables for all: how many were asked.
+// Asks the queries of a list, all of one kind, with one test of the tables for all: how many were asked.
 #[unsafe(no_mangle)]
 pub extern "C" fn servercape_find_all(
     pieces: &[u64],
@@ -200,20 +205,21 @@ pub extern "C" fn servercape_find_all(
     store: &[u8],
     nodes: &[u64],
     entries: &[u64],
+    kind: u8,
     queries: &[u64],
     answers: &mut [u64],
     numbers: &mut [u64],
 ) -> u64
     ensures { FoundAll
-        (tables pieces.now blocks.now store.now nodes.now entries.now)
+        (tables pieces.now blocks.now store.now nodes.now entries.now) kind
         queries.now answers.old answers.new numbers.old numbers.new result }
 {
-    servercape::servercape_find_all(
-        pieces, blocks, store, nodes, entries, queries, answers, numbers,
+    servercape::reads::servercape_find_all(
+        pieces, blocks, store, nodes, entries, kind, queries, answers, numbers,
     )
 }
 
-// The live blocks that hold a cell of [start, end) at a tick, ascending by first cell: their numbers go into the lent answer.
+// The live blocks of a kind that hold a cell of [start, end) at a tick, ascending by first cell: their numbers go into the lent answer.
 #[unsafe(no_mangle)]
 pub extern "C" fn servercape_touching(
     pieces: &[u64],
@@ -221,6 +227,7 @@ pub extern "C" fn servercape_touching(
     store: &[u8],
     nodes: &[u64],
     entries: &[u64],
+    kind: u8,
     tick: u64,
     start: u64,
     end: u64,
@@ -228,15 +235,15 @@ pub extern "C" fn servercape_touching(
     count: &mut u64,
 ) -> u64
     ensures { ByNumber (TouchedBy
-        (tables pieces.now blocks.now store.now nodes.now entries.now) tick start end
+        (tables pieces.now blocks.now store.now nodes.now entries.now) kind tick start end
         answer.old answer.new) result count.old count.new }
 {
-    servercape::servercape_touching(
-        pieces, blocks, store, nodes, entries, tick, start, end, answer, count,
+    servercape::reads::servercape_touching(
+        pieces, blocks, store, nodes, entries, kind, tick, start, end, answer, count,
     )
 }
 
-// The first live block that starts at the cell or after it: 1 and its number, or 0 and 0 where there is none.
+// The first live block of a kind that starts at the cell or after it: 1 and its number, or 0 and 0 where there is none.
 #[unsafe(no_mangle)]
 pub extern "C" fn servercape_next(
     pieces: &[u64],
@@ -244,21 +251,22 @@ pub extern "C" fn servercape_next(
     store: &[u8],
     nodes: &[u64],
     entries: &[u64],
+    kind: u8,
     tick: u64,
     cell: u64,
     found: &mut u64,
     number: &mut u64,
 ) -> u64
     ensures { ByNumber (NextGivenBy
-        (tables pieces.now blocks.now store.now nodes.now entries.now) tick cell) result
+        (tables pieces.now blocks.now store.now nodes.now entries.now) kind tick cell) result
         (near found.old number.old) (near found.new number.new) }
 {
-    servercape::servercape_next(
-        pieces, blocks, store, nodes, entries, tick, cell, found, number,
+    servercape::reads::servercape_next(
+        pieces, blocks, store, nodes, entries, kind, tick, cell, found, number,
     )
 }
 
-// The last live block whose cells are all below the cell: 1 and its number, or 0 and 0 where there is none.
+// The last live block of a kind whose cells are all below the cell: 1 and its number, or 0 and 0 where there is none.
 #[unsafe(no_mangle)]
 pub extern "C" fn servercape_last(
     pieces: &[u64],
@@ -266,21 +274,22 @@ pub extern "C" fn servercape_last(
     store: &[u8],
     nodes: &[u64],
     entries: &[u64],
+    kind: u8,
     tick: u64,
     cell: u64,
     found: &mut u64,
     number: &mut u64,
 ) -> u64
     ensures { ByNumber (LastGivenBy
-        (tables pieces.now blocks.now store.now nodes.now entries.now) tick cell) result
+        (tables pieces.now blocks.now store.now nodes.now entries.now) kind tick cell) result
         (near found.old number.old) (near found.new number.new) }
 {
-    servercape::servercape_last(
-        pieces, blocks, store, nodes, entries, tick, cell, found, number,
+    servercape::reads::servercape_last(
+        pieces, blocks, store, nodes, entries, kind, tick, cell, found, number,
     )
 }
 
-// The byte of each cell of [start, end) at a tick, and 1 where a live block holds it.
+// The byte of each cell of [start, end) of a kind at a tick, and 1 where a live block holds it.
 #[unsafe(no_mangle)]
 pub extern "C" fn servercape_read_cells(
     pieces: &[u64],
@@ -288,6 +297,7 @@ pub extern "C" fn servercape_read_cells(
     store: &[u8],
     nodes: &[u64],
     entries: &[u64],
+    kind: u8,
     tick: u64,
     start: u64,
     end: u64,
@@ -295,11 +305,11 @@ pub extern "C" fn servercape_read_cells(
     held: &mut [u8],
 ) -> u64
     ensures { ByNumber (CellsReadBy
-        (tables pieces.now blocks.now store.now nodes.now entries.now) tick start end
+        (tables pieces.now blocks.now store.now nodes.now entries.now) kind tick start end
         bytes.old bytes.new held.old held.new) result tt tt }
 {
-    servercape::servercape_read_cells(
-        pieces, blocks, store, nodes, entries, tick, start, end, bytes, held,
+    servercape::reads::servercape_read_cells(
+        pieces, blocks, store, nodes, entries, kind, tick, start, end, bytes, held,
     )
 }
 
@@ -318,7 +328,7 @@ pub extern "C" fn servercape_write(
         (tables pieces.now blocks.now store.now nodes.now entries.now)
         out.old out.new) result written.old written.new }
 {
-    servercape::servercape_write(pieces, blocks, store, nodes, entries, out, written)
+    servercape::files::servercape_write(pieces, blocks, store, nodes, entries, out, written)
 }
 
 // Loads a finished index from a file, from a position on: the position after it.
@@ -338,7 +348,7 @@ pub extern "C" fn servercape_load(
         (tables pieces.new blocks.new store.new nodes.new entries.new)) result
         next.old next.new }
 {
-    servercape::servercape_load(pieces, blocks, store, nodes, entries, file, at, next)
+    servercape::files::servercape_load(pieces, blocks, store, nodes, entries, file, at, next)
 }
 
 // The clock label of a cell, by the list of days of an open or a closed index.
@@ -356,5 +366,5 @@ pub extern "C" fn servercape_clock(
         (tables pieces.now blocks.now store.now nodes.now entries.now) cell) result
         label.old label.new }
 {
-    servercape::servercape_clock(pieces, blocks, store, nodes, entries, cell, label)
+    servercape::reads::servercape_clock(pieces, blocks, store, nodes, entries, cell, label)
 }

@@ -9,7 +9,7 @@ use Rattle.layout.specs.Relations.{Counts, Fields}
 use Rattle.index_test.specs.Board.{Outcome}
 use Rattle.index_test.specs.declared.State.{State}
 use Rattle.index_test.specs.declared.State.TheVariants.{Bad, Open, Closed}
-use Rattle.index_test.specs.States.{number_of, state_numbered}
+use Rattle.index_test.specs.States.{state_number, state_numbered}
 use Rattle.index_test.proofs.Numbers.{number_back}
 use Rattle.index_record.specs.Calls.{recorded}
 use Rattle.index_read.specs.Answers.{counts_given, fields_given}
@@ -30,13 +30,13 @@ use Rattle.servercape_tested.specs.States.{StateTold, RecordedAs, FoundAs, Block
 
 -- ── the state ──
 
-few : (s : State) → number_of s ≤ 2
+few : (s : State) → state_number s ≤ 2
 few Bad = omega arith
 few Open = omega arith
 few Closed = omega arith
 
 -- a number is told of the state that it stands for
-pub state_told : {t : Tables} {n : ℕ} (s : State) → Outcome s t → n ≡ number_of s → StateTold t n
+pub state_told : {t : Tables} {n : ℕ} (s : State) → Outcome s t → n ≡ state_number s → StateTold t n
 state_told {t} s told e = rw e (record { known = few s; kept = subst (λ (x : State). Kept x t) (sym (number_back s)) (test_keeps s t told) })
 
 -- what is true at a state is true at the same state
@@ -60,24 +60,24 @@ module _ {n : ℕ} {s : State} (at : s ≡ state_numbered n) where
       → BlockAs n b st k m before after
   block_by {x = x} told h = record { done = λ p no e known. by_number fields_given x (told.done p no e (into at known)) h }
 
-  pub find_by : {b no e : List ℕ} {tick start stop : ℕ} {out out' : List ℕ} {m : ℕ} {before after : Counts} {x : Result Found Refusal}
-      → FoundTested s b no e tick start stop out out' (answer_by counts_given x) → Handed counts_given x m before after → FoundAs n b no e tick start stop out out' m before after
+  pub find_by : {b no e : List ℕ} {kind tick start stop : ℕ} {out out' : List ℕ} {m : ℕ} {before after : Counts} {x : Result Found Refusal}
+      → FoundTested s b no e kind tick start stop out out' (answer_by counts_given x) → Handed counts_given x m before after → FoundAs n b no e kind tick start stop out out' m before after
   find_by {x = x} told h = record { done = λ p st k. by_number counts_given x (told.done p st (into at k)) h }
 
-  pub touching_by : {b no e : List ℕ} {tick start stop : ℕ} {out out' : List ℕ} {m before after : ℕ} {x : Result ℕ Refusal}
-      → TouchedTested s b no e tick start stop out out' (answer_by (λ i. i) x) → Handed (λ i. i) x m before after → TouchedAs n b no e tick start stop out out' m before after
+  pub touching_by : {b no e : List ℕ} {kind tick start stop : ℕ} {out out' : List ℕ} {m before after : ℕ} {x : Result ℕ Refusal}
+      → TouchedTested s b no e kind tick start stop out out' (answer_by (λ i. i) x) → Handed (λ i. i) x m before after → TouchedAs n b no e kind tick start stop out out' m before after
   touching_by {x = x} told h = record { done = λ p st k. by_number (λ i. i) x (told.done p st (into at k)) h }
 
-  pub next_by : {b no e : List ℕ} {tick cell m f k f' k' : ℕ} {x : Result (Option ℕ) Refusal}
-      → NextTested s b no e tick cell (answer_by near_told x) → Handed flagged x m (f, k) (f', k') → NextAs n b no e tick cell m (near f k) (near f' k')
+  pub next_by : {b no e : List ℕ} {kind tick cell m f k f' k' : ℕ} {x : Result (Option ℕ) Refusal}
+      → NextTested s b no e kind tick cell (answer_by near_told x) → Handed flagged x m (f, k) (f', k') → NextAs n b no e kind tick cell m (near f k) (near f' k')
   next_by {x = x} told h = record { done = λ p st known. by_near x (told.done p st (into at known)) h }
 
-  pub last_by : {b no e : List ℕ} {tick cell m f k f' k' : ℕ} {x : Result (Option ℕ) Refusal}
-      → LastTested s b no e tick cell (answer_by near_told x) → Handed flagged x m (f, k) (f', k') → LastAs n b no e tick cell m (near f k) (near f' k')
+  pub last_by : {b no e : List ℕ} {kind tick cell m f k f' k' : ℕ} {x : Result (Option ℕ) Refusal}
+      → LastTested s b no e kind tick cell (answer_by near_told x) → Handed flagged x m (f, k) (f', k') → LastAs n b no e kind tick cell m (near f k) (near f' k')
   last_by {x = x} told h = record { done = λ p st known. by_near x (told.done p st (into at known)) h }
 
-  pub cells_by : {b st no e : List ℕ} {tick start stop : ℕ} {bytes bytes' held held' : List ℕ} {m : ℕ} (x : Result Unit Refusal)
-      → CellsTested s b st no e tick start stop bytes bytes' held held' (answer_by (λ _. tt) x) → m ≡ told_by x → CellsAs n b st no e tick start stop bytes bytes' held held' m
+  pub cells_by : {b st no e : List ℕ} {kind tick start stop : ℕ} {bytes bytes' held held' : List ℕ} {m : ℕ} (x : Result Unit Refusal)
+      → CellsTested s b st no e kind tick start stop bytes bytes' held held' (answer_by (λ _. tt) x) → m ≡ told_by x → CellsAs n b st no e kind tick start stop bytes bytes' held held' m
   cells_by x told h = record { done = λ p k. by_done x (told.done p (into at k)) h }
 
   pub write_by : {b st no e out out' : List ℕ} {m before after : ℕ} {x : Result ℕ Refusal}

@@ -31,28 +31,28 @@ pub record BlockAs (state : ℕ) (blocks store : List ℕ) (k r : ℕ) (before a
       → ByNumber (BlockGivenBy (tables pieces blocks store nodes entries) k) r before after
 
 -- `servercape_find_tested`
-pub record FoundAs (state : ℕ) (blocks nodes entries : List ℕ) (tick start stop : ℕ) (out out' : List ℕ) (r : ℕ) (before after : Counts) : Type 0 where
+pub record FoundAs (state : ℕ) (blocks nodes entries : List ℕ) (kind tick start stop : ℕ) (out out' : List ℕ) (r : ℕ) (before after : Counts) : Type 0 where
   pub done : (pieces store : List ℕ) → Kept (state_numbered state) (tables pieces blocks store nodes entries)
-      → ByNumber (FoundBy (tables pieces blocks store nodes entries) tick start stop out out') r before after
+      → ByNumber (FoundBy (tables pieces blocks store nodes entries) kind tick start stop out out') r before after
 
 -- `servercape_touching_tested`
-pub record TouchedAs (state : ℕ) (blocks nodes entries : List ℕ) (tick start stop : ℕ) (out out' : List ℕ) (r before after : ℕ) : Type 0 where
+pub record TouchedAs (state : ℕ) (blocks nodes entries : List ℕ) (kind tick start stop : ℕ) (out out' : List ℕ) (r before after : ℕ) : Type 0 where
   pub done : (pieces store : List ℕ) → Kept (state_numbered state) (tables pieces blocks store nodes entries)
-      → ByNumber (TouchedBy (tables pieces blocks store nodes entries) tick start stop out out') r before after
+      → ByNumber (TouchedBy (tables pieces blocks store nodes entries) kind tick start stop out out') r before after
 
 -- `servercape_next_tested` and `servercape_last_tested`
-pub record NextAs (state : ℕ) (blocks nodes entries : List ℕ) (tick cell r : ℕ) (before after : Near) : Type 0 where
+pub record NextAs (state : ℕ) (blocks nodes entries : List ℕ) (kind tick cell r : ℕ) (before after : Near) : Type 0 where
   pub done : (pieces store : List ℕ) → Kept (state_numbered state) (tables pieces blocks store nodes entries)
-      → ByNumber (NextGivenBy (tables pieces blocks store nodes entries) tick cell) r before after
+      → ByNumber (NextGivenBy (tables pieces blocks store nodes entries) kind tick cell) r before after
 
-pub record LastAs (state : ℕ) (blocks nodes entries : List ℕ) (tick cell r : ℕ) (before after : Near) : Type 0 where
+pub record LastAs (state : ℕ) (blocks nodes entries : List ℕ) (kind tick cell r : ℕ) (before after : Near) : Type 0 where
   pub done : (pieces store : List ℕ) → Kept (state_numbered state) (tables pieces blocks store nodes entries)
-      → ByNumber (LastGivenBy (tables pieces blocks store nodes entries) tick cell) r before after
+      → ByNumber (LastGivenBy (tables pieces blocks store nodes entries) kind tick cell) r before after
 
 -- `servercape_read_cells_tested`
-pub record CellsAs (state : ℕ) (blocks store nodes entries : List ℕ) (tick start stop : ℕ) (bytes bytes' held held' : List ℕ) (r : ℕ) : Type 0 where
+pub record CellsAs (state : ℕ) (blocks store nodes entries : List ℕ) (kind tick start stop : ℕ) (bytes bytes' held held' : List ℕ) (r : ℕ) : Type 0 where
   pub done : (pieces : List ℕ) → Kept (state_numbered state) (tables pieces blocks store nodes entries)
-      → ByNumber (CellsReadBy (tables pieces blocks store nodes entries) tick start stop bytes bytes' held held') r tt tt
+      → ByNumber (CellsReadBy (tables pieces blocks store nodes entries) kind tick start stop bytes bytes' held held') r tt tt
 
 -- `servercape_write_tested`
 pub record WrittenAs (state : ℕ) (blocks store nodes entries out out' : List ℕ) (r before after : ℕ) : Type 0 where

@@ -41,13 +41,14 @@ pub fn servercape_state(
     u64::from(index_test::test(lent))
 }
 
-// Records an operation.
+// Records an operation of a kind.
 pub fn servercape_record_tested(
     state: u64,
     pieces: &mut [u64],
     blocks: &mut [u64],
     store: &mut [u8],
     scratch: &[u64],
+    kind: u8,
     tick: u64,
     first: u64,
     bytes: &[u8],
@@ -55,10 +56,15 @@ pub fn servercape_record_tested(
     cell: &mut u64,
 ) -> u64
     ensures { RecordedAs state pieces.old blocks.old store.old pieces.new blocks.new store.new
-        (length scratch.now) (operation tick first bytes.now) result
+        (length scratch.now) (operation kind tick first bytes.now) result
         (changes updated.old cell.old) (changes updated.new cell.new) }
 {
-    let op = Operation { tick, first, bytes };
+    let op = Operation {
+        kind: u64::from(kind),
+        tick,
+        first,
+        bytes,
+    };
     let recorded = index_tested::record_tested(
         State::from(state),
         pieces,
@@ -91,12 +97,13 @@ pub fn servercape_block_tested(
     answers::block(given, kind, first, length, created, destroyed, offset)
 }
 
-// The live blocks whose first cell is in [start, end) at a tick: their numbers go into the lent answer.
+// The live blocks of a kind whose first cell is in [start, end) at a tick: their numbers go into the lent answer.
 pub fn servercape_find_tested(
     state: u64,
     blocks: &[u64],
     nodes: &[u64],
     entries: &[u64],
+    kind: u8,
     tick: u64,
     start: u64,
     end: u64,
@@ -104,7 +111,7 @@ pub fn servercape_find_tested(
     count: &mut u64,
     visited: &mut u64,
 ) -> u64
-    ensures { FoundAs state blocks.now nodes.now entries.now tick start end answer.old answer.new result
+    ensures { FoundAs state blocks.now nodes.now entries.now kind tick start end answer.old answer.new result
         (counts count.old visited.old) (counts count.new visited.new) }
 {
     let closed = Closed {
@@ -112,23 +119,32 @@ pub fn servercape_find_tested(
         nodes,
         entries,
     };
-    let asked = index_tested::find_tested(State::from(state), &closed, tick, start, end, answer);
+    let asked = index_tested::find_tested(
+        State::from(state),
+        &closed,
+        kind,
+        tick,
+        start,
+        end,
+        answer,
+    );
     answers::found(asked, count, visited)
 }
 
-// The live blocks that hold a cell of [start, end) at a tick, ascending by first cell: their numbers go into the lent answer.
+// The live blocks of a kind that hold a cell of [start, end) at a tick, ascending by first cell: their numbers go into the lent answer.
 pub fn servercape_touching_tested(
     state: u64,
     blocks: &[u64],
     nodes: &[u64],
     entries: &[u64],
+    kind: u8,
     tick: u64,
     start: u64,
     end: u64,
     answer: &mut [u64],
     count: &mut u64,
 ) -> u64
-    ensures { TouchedAs state blocks.now nodes.now entries.now tick start end answer.old answer.new result
+    ensures { TouchedAs state blocks.now nodes.now entries.now kind tick start end answer.old answer.new result
         count.old count.new }
 {
     let closed = Closed {
@@ -139,6 +155,7 @@ pub fn servercape_touching_tested(
     let touched = reads_tested::touching_tested(
         State::from(state),
         &closed,
+        kind,
         tick,
         start,
         end,
@@ -147,18 +164,19 @@ pub fn servercape_touching_tested(
     answers::number(touched, count)
 }
 
-// The first live block that starts at the cell or after it: 1 and its number, or 0 and 0 where there is none.
+// The first live block of a kind that starts at the cell or after it: 1 and its number, or 0 and 0 where there is none.
 pub fn servercape_next_tested(
     state: u64,
     blocks: &[u64],
     nodes: &[u64],
     entries: &[u64],
+    kind: u8,
     tick: u64,
     cell: u64,
     found: &mut u64,
     number: &mut u64,
 ) -> u64
-    ensures { NextAs state blocks.now nodes.now entries.now tick cell result
+    ensures { NextAs state blocks.now nodes.now entries.now kind tick cell result
         (near found.old number.old) (near found.new number.new) }
 {
     let closed = Closed {
@@ -166,22 +184,30 @@ pub fn servercape_next_tested(
         nodes,
         entries,
     };
-    let block = reads_tested::near_tested(State::from(state), &closed, Side::From, tick, cell);
+    let block = reads_tested::near_tested(
+        State::from(state),
+        &closed,
+        Side::From,
+        kind,
+        tick,
+        cell,
+    );
     answers::maybe(block, found, number)
 }
 
-// The last live block whose cells are all below the cell: 1 and its number, or 0 and 0 where there is none.
+// The last live block of a kind whose cells are all below the cell: 1 and its number, or 0 and 0 where there is none.
 pub fn servercape_last_tested(
     state: u64,
     blocks: &[u64],
     nodes: &[u64],
     entries: &[u64],
+    kind: u8,
     tick: u64,
     cell: u64,
     found: &mut u64,
     number: &mut u64,
 ) -> u64
-    ensures { LastAs state blocks.now nodes.now entries.now tick cell result
+    ensures { LastAs state blocks.now nodes.now entries.now kind tick cell result
         (near found.old number.old) (near found.new number.new) }
 {
     let closed = Closed {
@@ -189,24 +215,32 @@ pub fn servercape_last_tested(
         nodes,
         entries,
     };
-    let block = reads_tested::near_tested(State::from(state), &closed, Side::Before, tick, cell);
+    let block = reads_tested::near_tested(
+        State::from(state),
+        &closed,
+        Side::Before,
+        kind,
+        tick,
+        cell,
+    );
     answers::maybe(block, found, number)
 }
 
-// The byte of each cell of [start, end) at a tick, and 1 where a live block holds it.
+// The byte of each cell of [start, end) of a kind at a tick, and 1 where a live block holds it.
 pub fn servercape_read_cells_tested(
     state: u64,
     blocks: &[u64],
     store: &[u8],
     nodes: &[u64],
     entries: &[u64],
+    kind: u8,
     tick: u64,
     start: u64,
     end: u64,
     bytes: &mut [u8],
     held: &mut [u8],
 ) -> u64
-    ensures { CellsAs state blocks.now store.now nodes.now entries.now tick start end
+    ensures { CellsAs state blocks.now store.now nodes.now entries.now kind tick start end
         bytes.old bytes.new held.old held.new result }
 {
     let closed = Closed {
@@ -218,6 +252,7 @@ pub fn servercape_read_cells_tested(
         State::from(state),
         &closed,
         store,
+        kind,
         tick,
         start,
         end,

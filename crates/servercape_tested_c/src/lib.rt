@@ -23,7 +23,7 @@ pub extern "C" fn servercape_state(
     servercape_tested::servercape_state(pieces, blocks, store, nodes, entries)
 }
 
-// Records an operation.
+// Records an operation of a kind.
 #[unsafe(no_mangle)]
 pub extern "C" fn servercape_record_tested(
     state: u64,
@@ -31,6 +31,7 @@ pub extern "C" fn servercape_record_tested(
     blocks: &mut [u64],
     store: &mut [u8],
     scratch: &[u64],
+    kind: u8,
     tick: u64,
     first: u64,
     bytes: &[u8],
@@ -38,11 +39,11 @@ pub extern "C" fn servercape_record_tested(
     cell: &mut u64,
 ) -> u64
     ensures { RecordedAs state pieces.old blocks.old store.old pieces.new blocks.new store.new
-        (length scratch.now) (operation tick first bytes.now) result
+        (length scratch.now) (operation kind tick first bytes.now) result
         (changes updated.old cell.old) (changes updated.new cell.new) }
 {
     servercape_tested::servercape_record_tested(
-        state, pieces, blocks, store, scratch, tick, first, bytes, updated, cell,
+        state, pieces, blocks, store, scratch, kind, tick, first, bytes, updated, cell,
     )
 }
 
@@ -69,13 +70,14 @@ pub extern "C" fn servercape_block_tested(
     )
 }
 
-// The live blocks whose first cell is in [start, end) at a tick: their numbers go into the lent answer.
+// The live blocks of a kind whose first cell is in [start, end) at a tick: their numbers go into the lent answer.
 #[unsafe(no_mangle)]
 pub extern "C" fn servercape_find_tested(
     state: u64,
     blocks: &[u64],
     nodes: &[u64],
     entries: &[u64],
+    kind: u8,
     tick: u64,
     start: u64,
     end: u64,
@@ -83,76 +85,79 @@ pub extern "C" fn servercape_find_tested(
     count: &mut u64,
     visited: &mut u64,
 ) -> u64
-    ensures { FoundAs state blocks.now nodes.now entries.now tick start end answer.old answer.new result
+    ensures { FoundAs state blocks.now nodes.now entries.now kind tick start end answer.old answer.new result
         (counts count.old visited.old) (counts count.new visited.new) }
 {
     servercape_tested::servercape_find_tested(
-        state, blocks, nodes, entries, tick, start, end, answer, count, visited,
+        state, blocks, nodes, entries, kind, tick, start, end, answer, count, visited,
     )
 }
 
-// The live blocks that hold a cell of [start, end) at a tick, ascending by first cell: their numbers go into the lent answer.
+// The live blocks of a kind that hold a cell of [start, end) at a tick, ascending by first cell: their numbers go into the lent answer.
 #[unsafe(no_mangle)]
 pub extern "C" fn servercape_touching_tested(
     state: u64,
     blocks: &[u64],
     nodes: &[u64],
     entries: &[u64],
+    kind: u8,
     tick: u64,
     start: u64,
     end: u64,
     answer: &mut [u64],
     count: &mut u64,
 ) -> u64
-    ensures { TouchedAs state blocks.now nodes.now entries.now tick start end answer.old answer.new result
+    ensures { TouchedAs state blocks.now nodes.now entries.now kind tick start end answer.old answer.new result
         count.old count.new }
 {
     servercape_tested::servercape_touching_tested(
-        state, blocks, nodes, entries, tick, start, end, answer, count,
+        state, blocks, nodes, entries, kind, tick, start, end, answer, count,
     )
 }
 
-// The first live block that starts at the cell or after it: 1 and its number, or 0 and 0 where there is none.
+// The first live block of a kind that starts at the cell or after it: 1 and its number, or 0 and 0 where there is none.
 #[unsafe(no_mangle)]
 pub extern "C" fn servercape_next_tested(
     state: u64,
     blocks: &[u64],
     nodes: &[u64],
     entries: &[u64],
+    kind: u8,
     tick: u64,
     cell: u64,
     found: &mut u64,
     number: &mut u64,
 ) -> u64
-    ensures { NextAs state blocks.now nodes.now entries.now tick cell result
+    ensures { NextAs state blocks.now nodes.now entries.now kind tick cell result
         (near found.old number.old) (near found.new number.new) }
 {
     servercape_tested::servercape_next_tested(
-        state, blocks, nodes, entries, tick, cell, found, number,
+        state, blocks, nodes, entries, kind, tick, cell, found, number,
     )
 }
 
-// The last live block whose cells are all below the cell: 1 and its number, or 0 and 0 where there is none.
+// The last live block of a kind whose cells are all below the cell: 1 and its number, or 0 and 0 where there is none.
 #[unsafe(no_mangle)]
 pub extern "C" fn servercape_last_tested(
     state: u64,
     blocks: &[u64],
     nodes: &[u64],
     entries: &[u64],
+    kind: u8,
     tick: u64,
     cell: u64,
     found: &mut u64,
     number: &mut u64,
 ) -> u64
-    ensures { LastAs state blocks.now nodes.now entries.now tick cell result
+    ensures { LastAs state blocks.now nodes.now entries.now kind tick cell result
         (near found.old number.old) (near found.new number.new) }
 {
     servercape_tested::servercape_last_tested(
-        state, blocks, nodes, entries, tick, cell, found, number,
+        state, blocks, nodes, entries, kind, tick, cell, found, number,
     )
 }
 
-// The byte of each cell of [start, end) at a tick, and 1 where a live block holds it.
+// The byte of each cell of [start, end) of a kind at a tick, and 1 where a live block holds it.
 #[unsafe(no_mangle)]
 pub extern "C" fn servercape_read_cells_tested(
     state: u64,
@@ -160,17 +165,18 @@ pub extern "C" fn servercape_read_cells_tested(
     store: &[u8],
     nodes: &[u64],
     entries: &[u64],
+    kind: u8,
     tick: u64,
     start: u64,
     end: u64,
     bytes: &mut [u8],
     held: &mut [u8],
 ) -> u64
-    ensures { CellsAs state blocks.now store.now nodes.now entries.now tick start end
+    ensures { CellsAs state blocks.now store.now nodes.now entries.now kind tick start end
         bytes.old bytes.new held.old held.new result }
 {
     servercape_tested::servercape_read_cells_tested(
-        state, blocks, store, nodes, entries, tick, start, end, bytes, held,
+        state, blocks, store, nodes, entries, kind, tick, start, end, bytes, held,
     )
 }
 

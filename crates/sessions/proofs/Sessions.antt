@@ -1,6 +1,6 @@
 -- Calls with a true state are the public calls: call by call, then over every list. Assumes nothing.
 use mathlib.Core.Path.{◌≡◌, sym, ap₂, subst}
-use mathlib.Core.List.{List, [], ◌∷◌}
+use mathlib.Core.List.{List}
 use Prim.Native.Nat.{ℕ}
 use Rattle.history.specs.Words.{Operation}
 use Rattle.history.specs.Results.{Result}
@@ -24,13 +24,13 @@ stays s t t' e k = subst (λ (x : Tables). Kept s x) (sym e) k
 
 step : (s : State) (a : Asked) (t t' : Tables) → Kept s t → Tested s a t t' → Public a t t' × Kept s t'
 step s (recorded scratch o a) t t' k d = record_step s scratch o a t t' k d
-step s (found tick start stop out out' a) t t' k d = ((d.0.done t.pieces t.store k, d.1), stays s t t' d.1 k)
+step s (found kind tick start stop out out' a) t t' k d = ((d.0.done t.pieces t.store k, d.1), stays s t t' d.1 k)
 step s (block n a) t t' k d = ((d.0.done t.pieces t.nodes t.entries k, d.1), stays s t t' d.1 k)
 step s (carried n bytes) t t' k d = ((d.0.done t.pieces t.nodes t.entries k, d.1), stays s t t' d.1 k)
-step s (touched tick start stop out out' a) t t' k d = ((d.0.done t.pieces t.store k, d.1), stays s t t' d.1 k)
-step s (next tick cell a) t t' k d = ((d.0.done t.pieces t.store k, d.1), stays s t t' d.1 k)
-step s (last tick cell a) t t' k d = ((d.0.done t.pieces t.store k, d.1), stays s t t' d.1 k)
-step s (shown tick start stop bytes bytes' held held' a) t t' k d = ((d.0.done t.pieces k, d.1), stays s t t' d.1 k)
+step s (touched kind tick start stop out out' a) t t' k d = ((d.0.done t.pieces t.store k, d.1), stays s t t' d.1 k)
+step s (next kind tick cell a) t t' k d = ((d.0.done t.pieces t.store k, d.1), stays s t t' d.1 k)
+step s (last kind tick cell a) t t' k d = ((d.0.done t.pieces t.store k, d.1), stays s t t' d.1 k)
+step s (shown kind tick start stop bytes bytes' held held' a) t t' k d = ((d.0.done t.pieces k, d.1), stays s t t' d.1 k)
 step s (written out out' a) t t' k d = ((d.0.done t.pieces k, d.1), stays s t t' d.1 k)
 step s (clocked cell a) t t' k d = ((d.0.done t.pieces t.store t.nodes t.entries k, d.1), stays s t t' d.1 k)
 

@@ -16,7 +16,7 @@ use Rattle.tables.specs.Columns.{head_state}
 use Rattle.layout.specs.Tables.{Tables, lengths_of, head_at}
 use Rattle.layout.specs.Encodes.{Encodes, state_of, open_state, closed_state}
 use Rattle.layout.specs.Formed.{WellFormed}
-use Rattle.layout.specs.Relations.{opening_of, opened_tables, left_by, OpenedBy, RecordLeaves, RecordedBy, InstallLeaves, InstalledBy, DaysLeave, DaysInstalledBy}
+use Rattle.layout.specs.Relations.{opening_of, left_by, OpenedBy, RecordLeaves, RecordedBy, InstallLeaves, InstalledBy, DaysLeave, DaysInstalledBy}
 use Rattle.layout.specs.Files.{LoadedBy}
 use Rattle.layout.proofs.Opening.{opened_encodes}
 use Rattle.spacetime_file.specs.Law.{IsFile}
@@ -30,7 +30,7 @@ use Rattle.sessions.specs.States.{StatesFollow}
 
 -- ── open ──
 
-opened_state : (a : Opening) → state_of (opened a).tree ≡ open_state
+opened_state : (a : Opening) → state_of (opened a).trees ≡ open_state
 unfolding opened
 opened_state a = refl
 
@@ -38,11 +38,11 @@ opened_sound : (a : Opening) → open_answer a ≡ accepted tt → Sound (opened
 unfolding after_all history
 opened_sound a taken = (the_law a taken []).sound.sound
 
-opens : (end kind : ℕ) (t t' : Tables) → OpenedBy end kind t t' (accepted tt) → too_short (lengths_of t) ≡ false → Kept Open t'
+opens : (end : ℕ) (kinds : List ℕ) (t t' : Tables) → OpenedBy end kinds t t' (accepted tt) → too_short (lengths_of t) ≡ false → Kept Open t'
 unfolding left_by
-opens end kind t t' d fits =
-    let fed = opening_of end kind t in
-    let enc : Encodes t' (opened fed) = subst (λ (x : Tables). Encodes x (opened fed)) (sym d.left) (opened_encodes end kind t fits) in
+opens end kinds t t' d fits =
+    let fed = opening_of end kinds t in
+    let enc : Encodes t' (opened fed) = subst (λ (x : Tables). Encodes x (opened fed)) (sym d.left) (opened_encodes end kinds t fits) in
     kept_open refl (record {
       formed = record { ledger = opened fed; encodes = enc; sound = opened_sound fed (sym d.answered) };
       state = enc.state ∙ opened_state fed;
@@ -66,15 +66,15 @@ keeps k bad on = record {
   closed = λ e. on closed_state (k.closed e);
 }
 
--- so does a sound ledger with a tree as before
-goes_on : {head : ℕ} {t t' : Tables} {l l' : Ledger} → Encodes t l → Encodes t' l' → Sound l' → state_of l'.tree ≡ state_of l.tree → head_at t head_state ≡ head
+-- so does a sound ledger with trees as before
+goes_on : {head : ℕ} {t t' : Tables} {l l' : Ledger} → Encodes t l → Encodes t' l' → Sound l' → state_of l'.trees ≡ state_of l.trees → head_at t head_state ≡ head
     → StandsIn head t'
 goes_on {l' = l'} before after s same h = record {
   formed = record { ledger = l'; encodes = after; sound = s };
   state = after.state ∙ same ∙ sym before.state ∙ h;
 }
 
-record_state : (l : Ledger) (o : Operation) → state_of (record_by l o).tree ≡ state_of l.tree
+record_state : (l : Ledger) (o : Operation) → state_of (record_by l o).trees ≡ state_of l.trees
 unfolding record_by
 record_state l o = refl
 
@@ -91,7 +91,7 @@ records s scratch o t t' a k told =
     recorded scratch o t t' w.ledger w.encodes w.sound here.state (record_answer w.ledger scratch o) refl
     (told.formed w.ledger w.encodes w.sound).1)
 
-install_state : (l : Ledger) (numbers : List ℕ) → state_of (install_by l numbers).tree ≡ state_of l.tree
+install_state : (l : Ledger) (numbers : List ℕ) → state_of (install_by l numbers).trees ≡ state_of l.trees
 unfolding install_by
 install_state l numbers = refl
 
@@ -108,7 +108,7 @@ installs s numbers t t' a k told =
     installed numbers t t' w.ledger w.encodes w.sound here.state (install_answer w.ledger numbers) refl
     (told.formed w.ledger w.encodes w.sound).1)
 
-days_state : (l : Ledger) (numbers : List ℕ) → state_of (install_days_by l numbers).tree ≡ state_of l.tree
+days_state : (l : Ledger) (numbers : List ℕ) → state_of (install_days_by l numbers).trees ≡ state_of l.trees
 unfolding install_days_by
 days_state l numbers = refl
 
@@ -125,8 +125,8 @@ installs_days s numbers t t' a k told =
     days_installed numbers t t' w.ledger w.encodes w.sound here.state (days_answer w.ledger numbers) refl
     (told.formed w.ledger w.encodes w.sound).1)
 
-plays : {s : State} {scratch : ℕ} {list : List ℕ} {most at next : ℕ} {t t' : Tables} {given : List (Answer Result)} → Kept s t
-    → Plays scratch list most at t given next t' → Kept s t'
+plays : {s : State} {scratch kind : ℕ} {list : List ℕ} {most at next : ℕ} {t t' : Tables} {given : List (Answer Result)} → Kept s t
+    → Plays scratch kind list most at t given next t' → Kept s t'
 plays k plays_full = k
 plays k (plays_end e) = k
 plays k (plays_more e r rest) = plays (records _ _ _ _ _ _ k r) rest
@@ -138,5 +138,5 @@ states_follow = record {
   records = records;
   installs = installs;
   installs_days = installs_days;
-  lists = λ s scratch list t t' answers answers' count next k all. plays k all.calls;
+  lists = λ s scratch kind list t t' answers answers' count next k all. plays k all.calls;
 }

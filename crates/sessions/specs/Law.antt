@@ -18,13 +18,13 @@ use Rattle.reads_tested.specs.Tested.{TouchedTested, NextTested, LastTested, Cel
 -- a call, with what it was lent besides the tables and what came of it
 pub data Asked : Type 0 where
   recorded : (scratch : ℕ) (o : Operation) (answer : Answer Result) → Asked
-  found : (tick start stop : ℕ) (out out' : List ℕ) (answer : Answer Counts) → Asked
+  found : (kind tick start stop : ℕ) (out out' : List ℕ) (answer : Answer Counts) → Asked
   block : (k : ℕ) (answer : Answer Fields) → Asked
   carried : (k : ℕ) (bytes : List ℕ) → Asked
-  touched : (tick start stop : ℕ) (out out' : List ℕ) (answer : Answer ℕ) → Asked
-  next : (tick cell : ℕ) (answer : Answer Near) → Asked
-  last : (tick cell : ℕ) (answer : Answer Near) → Asked
-  shown : (tick start stop : ℕ) (bytes bytes' held held' : List ℕ) (answer : Answer Unit) → Asked
+  touched : (kind tick start stop : ℕ) (out out' : List ℕ) (answer : Answer ℕ) → Asked
+  next : (kind tick cell : ℕ) (answer : Answer Near) → Asked
+  last : (kind tick cell : ℕ) (answer : Answer Near) → Asked
+  shown : (kind tick start stop : ℕ) (bytes bytes' held held' : List ℕ) (answer : Answer Unit) → Asked
   written : (out out' : List ℕ) (answer : Answer ℕ) → Asked
   clocked : (cell : ℕ) (answer : Answer ℕ) → Asked
 
@@ -38,13 +38,13 @@ pub data Run (Does : Asked → Tables → Tables → Type 0) : Tables → List A
 -- a read leaves them as they were
 abbrev pub Public : Asked → Tables → Tables → Type 0
 Public (recorded scratch o a) t t' = RecordedBy scratch o t t' a
-Public (found tick start stop out out' a) t t' = FoundBy t tick start stop out out' a × (t' ≡ t)
+Public (found kind tick start stop out out' a) t t' = FoundBy t kind tick start stop out out' a × (t' ≡ t)
 Public (block k a) t t' = BlockGivenBy t k a × (t' ≡ t)
 Public (carried k bytes) t t' = BytesGivenBy t k bytes × (t' ≡ t)
-Public (touched tick start stop out out' a) t t' = TouchedBy t tick start stop out out' a × (t' ≡ t)
-Public (next tick cell a) t t' = NextGivenBy t tick cell a × (t' ≡ t)
-Public (last tick cell a) t t' = LastGivenBy t tick cell a × (t' ≡ t)
-Public (shown tick start stop bytes bytes' held held' a) t t' = CellsReadBy t tick start stop bytes bytes' held held' a × (t' ≡ t)
+Public (touched kind tick start stop out out' a) t t' = TouchedBy t kind tick start stop out out' a × (t' ≡ t)
+Public (next kind tick cell a) t t' = NextGivenBy t kind tick cell a × (t' ≡ t)
+Public (last kind tick cell a) t t' = LastGivenBy t kind tick cell a × (t' ≡ t)
+Public (shown kind tick start stop bytes bytes' held held' a) t t' = CellsReadBy t kind tick start stop bytes bytes' held held' a × (t' ≡ t)
 Public (written out out' a) t t' = WrittenBy t out out' a × (t' ≡ t)
 Public (clocked cell a) t t' = ClockGivenBy t cell a × (t' ≡ t)
 
@@ -58,14 +58,14 @@ pub record RecordStep (s : State) (scratch : ℕ) (o : Operation) (answer : Answ
 
 abbrev pub Tested : State → Asked → Tables → Tables → Type 0
 Tested s (recorded scratch o a) t t' = RecordStep s scratch o a t t'
-Tested s (found tick start stop out out' a) t t' = FoundTested s t.blocks t.nodes t.entries tick start stop out out' a × (t' ≡ t)
+Tested s (found kind tick start stop out out' a) t t' = FoundTested s t.blocks t.nodes t.entries kind tick start stop out out' a × (t' ≡ t)
 Tested s (block k a) t t' = BlockTested s t.blocks t.store k a × (t' ≡ t)
 Tested s (carried k bytes) t t' = BytesTested s t.blocks t.store k bytes × (t' ≡ t)
-Tested s (touched tick start stop out out' a) t t' = TouchedTested s t.blocks t.nodes t.entries tick start stop out out' a × (t' ≡ t)
-Tested s (next tick cell a) t t' = NextTested s t.blocks t.nodes t.entries tick cell a × (t' ≡ t)
-Tested s (last tick cell a) t t' = LastTested s t.blocks t.nodes t.entries tick cell a × (t' ≡ t)
-Tested s (shown tick start stop bytes bytes' held held' a) t t' =
-    CellsTested s t.blocks t.store t.nodes t.entries tick start stop bytes bytes' held held' a × (t' ≡ t)
+Tested s (touched kind tick start stop out out' a) t t' = TouchedTested s t.blocks t.nodes t.entries kind tick start stop out out' a × (t' ≡ t)
+Tested s (next kind tick cell a) t t' = NextTested s t.blocks t.nodes t.entries kind tick cell a × (t' ≡ t)
+Tested s (last kind tick cell a) t t' = LastTested s t.blocks t.nodes t.entries kind tick cell a × (t' ≡ t)
+Tested s (shown kind tick start stop bytes bytes' held held' a) t t' =
+    CellsTested s t.blocks t.store t.nodes t.entries kind tick start stop bytes bytes' held held' a × (t' ≡ t)
 Tested s (written out out' a) t t' = WrittenTested s t.blocks t.store t.nodes t.entries out out' a × (t' ≡ t)
 Tested s (clocked cell a) t t' = ClockTested s t.blocks cell a × (t' ≡ t)
 

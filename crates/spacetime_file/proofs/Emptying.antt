@@ -7,32 +7,34 @@ use Prim.Native.Nat.{ℕ, ◌+◌, ◌≤◌, ◌<◌}
 use native.Mathlib.Omega.{arith}
 use lib.ListN.{length, take, drop}
 use borrow.Author.Tests.{le-ltb}
-use Rattle.lists.specs.Lists.{All, all_nil, here, has, count_from, sum_of}
+use Rattle.lists.specs.Lists.{All, all_nil, all_cons, here, has, count_from, sum_of}
 use Rattle.lists.proofs.Lists.{all_mem}
 use Rattle.lists.proofs.Numbers.{lt_or_le, decided}
-use Rattle.lists.proofs.Counting.{has_decides}
-use Rattle.history.specs.Words.{Block}
+use Rattle.lists.proofs.Counting.{has_decides, all_count_from}
+use Rattle.history.specs.Words.{Block, all_kinds, only_kind, own_life}
 use Rattle.history.specs.Lent.{Lent, node_rows}
-use Rattle.history.specs.Tree.{Tree, node_count, entries_in}
+use Rattle.history.specs.Tree.{Tree, block_at, node_count, entries_in}
 use Rattle.history.specs.Ledger.{Ledger}
 use Rattle.history.specs.Reads.{tree_in, block_by}
 use Rattle.history.specs.Refusals.{Answer, accepted, refused}
-use Rattle.history.specs.File.{Read, got, fault, onward, read_file, File, Loaded, load, bytes_of, node_bytes, nodes_of, file_bytes, file_by, contents, those_with, written, map_tree, place_in, rule20, rule22, ◌>>=◌}
-use Rattle.history.specs.Rules.{is_hole}
-use Rattle.history.specs.Sound.{is_empty}
+use Rattle.history.specs.File.{file_of, Read, got, fault, onward, read_file, File, Loaded, load, bytes_of, node_bytes, nodes_of, file_bytes, file_part, file_by, contents, those_with, written, map_tree, place_in, rule20, rule22, ◌>>=◌}
+use Rattle.history.specs.Rules.{every, is_hole}
+use Rattle.history.specs.Sound.{none_of}
+use Rattle.history.proofs.ByKind.{only_length, only_at, own_same, own-lives}
 use Rattle.history.proofs.RulesLaws.{numbered_decides, rule23_decides}
 use Rattle.history.proofs.TreeCounts.{entry_count_in}
 use Rattle.history.proofs.FileReads.{number_cut}
 use Rattle.history.proofs.FileRenumbered.{map_tree_same}
 use Rattle.history.proofs.FileRules.{rule20_decides}
 use Rattle.history.proofs.FileIntervals.{tree_from-nodes_of}
-use Rattle.history.proofs.FileKept.{Writable, entered_lives, written-rule21}
+use Rattle.history.proofs.FileKept.{entered_lives, written-rule21}
 use Rattle.history.proofs.FileLoad.{load_fault, load_blocks, file_some, file_none, read_written}
 use Rattle.history.proofs.FileReloaded.{index_fits}
+use Rattle.history.proofs.FileSound.{file_only}
 use Rattle.layout.specs.Tables.{Tables, lengths_of}
 use Rattle.layout.specs.Files.{WrittenBy, LoadLeaves, LoadedBy, position_of, after_fault}
-use Rattle.spacetime_file.specs.Law.{Slices, ClosedIn, Lives, EmptyFiles}
-use Rattle.spacetime_file.proofs.Closed.{tree_sound, writable, file_written, file_bytes_lem}
+use Rattle.spacetime_file.specs.Law.{ClosedIn, Lives, EmptyFiles}
+use Rattle.spacetime_file.proofs.Closed.{KindIn, kind_in, trees_sound, file_written, file_bytes_lem}
 use Rattle.spacetime_file.proofs.Saving.{stands_at}
 
 -- ── faults ──
@@ -45,11 +47,24 @@ fault_answered {t} {t'} n e d = (d.answered ∙ ap position_of e, subst (λ (r :
 
 -- ── no bytes ──
 
+no_part : (t : Tables) (l : Ledger) → ClosedIn t l → (kind : ℕ) → kind ≤ 4 → none_of kind l.now.blocks ≡ true → file_part l kind ≡ []
+no_part t l c kind low none =
+    let no_node : is_hole (tree_in l kind) ≡ true = ((trees_sound c).each kind low).rooted ∙ none in
+    file_none kind l.opening.end l.now.blocks (tree_in l kind) no_node
+
+no_parts : (l : Ledger) {ks : List ℕ} → All (λ kind. file_part l kind ≡ []) ks → flat_map (file_part l) ks ≡ []
+unfolding flat_map
+no_parts l all_nil = refl
+no_parts l (all_cons p ps) = rw (p, no_parts l ps) refl
+
+none-empty : (kind : ℕ) {bs : List Block} → bs ≡ [] → none_of kind bs ≡ true
+unfolding every
+none-empty kind e = rw e refl
+
 nothing_written : (t : Tables) (l : Ledger) → ClosedIn t l → l.now.blocks ≡ [] → (out out' : List ℕ) (wrote : Answer ℕ) → WrittenBy t out out' wrote
     → (wrote ≡ accepted 0) × (out' ≡ out)
 nothing_written t l c none out out' wrote w =
-    let no_node : is_hole (tree_in l) ≡ true = (tree_sound c).rooted ∙ ap is_empty none in
-    let no_bytes : file_by l ≡ [] = file_none l.opening.kind l.opening.end l.now.blocks (tree_in l) no_node in
+    let no_bytes : file_by l ≡ [] = no_parts l {ks = all_kinds} (all_count_from 0 5 (λ kind from below. no_part t l c kind (omega arith) (none-empty kind none))) in
     let f = file_written c w (rw no_bytes (omega arith)) in
     (f.0 ∙ (rw no_bytes refl), f.1 ∙ (rw no_bytes refl))
 
@@ -75,26 +90,33 @@ no_entries (x ∷ xs) n below none =
     let there = decided (has x (x ∷ xs)) (has_decides x (x ∷ xs)) (here refl) in
     absurd (true≢false (sym there ∙ none x less))
 
-module _ {t : Tables} {l : Ledger} (slices : Slices t) (c : ClosedIn t l) (some_block : 0 < length l.now.blocks) (lifeless : (k : ℕ) → Lives l k → ⊥) where
+module _ {t : Tables} {l : Ledger} {kind : ℕ} (c : KindIn t l kind) (lifeless : (k : ℕ) → Lives l kind k → ⊥) where
+  -- the blocks as the kind sees them
   abbrev bs : List Block
-  bs = l.now.blocks
+  bs = only_kind kind l.now.blocks
 
   abbrev tree : Tree
-  tree = tree_in l
+  tree = tree_in l kind
 
-  w : Writable l.opening.kind l.opening.end bs tree
-  w = writable c slices some_block
+  -- none of them has a life
+  dead : (k : ℕ) → k < length bs → (block_at bs k).destroyed ≤ (block_at bs k).created
+  dead k less =
+      ⊎_elim
+      (λ lives.
+      let at-k = only_at kind l.now.blocks k in
+      let same : (block_by l k).kind ≡ kind = own-lives kind (block_by l k) (own_life kind (block_by l k)).created (rw at-k at lives) in
+      let ticks : (block_by l k).created < (block_by l k).destroyed = rw (at-k ∙ own_same kind (block_by l k) same) at lives in
+      absurd (lifeless k (record { number = omega (arith, only_length kind l.now.blocks); of_kind_lem = same; ticks = omega arith })))
+      (λ h. h) (lt_or_le (block_at bs k).created (block_at bs k).destroyed)
 
   unlisted : (k : ℕ) → k < length bs → has k (entries_in tree) ≡ false
   unlisted k less =
-      entered_lives l.opening.kind l.opening.end bs tree w k less
-      ∙ le-ltb (block_by l k).created (block_by l k).destroyed
-      (⊎_elim (λ lives. absurd (lifeless k (record { number = less; ticks = omega arith }))) (λ h. h) (lt_or_le (block_by l k).created (block_by l k).destroyed))
+      entered_lives kind l.opening.end bs tree c.can k less ∙ le-ltb (block_at bs k).created (block_at bs k).destroyed (dead k less)
 
   no_entry : entries_in tree ≡ []
   no_entry =
       no_entries (entries_in tree) (length bs)
-      ((numbered_decides (length bs) tree).yes ((rule23_decides l.opening.end bs tree).yes w.rule_23).numbers) unlisted
+      ((numbered_decides (length bs) tree).yes ((rule23_decides l.opening.end bs tree).yes c.can.rule_23).numbers) unlisted
 
   none_written : written bs tree ≡ []
   none_written = none_has (entries_in tree) (count_from 0 (length bs)) no_entry
@@ -104,20 +126,23 @@ module _ {t : Tables} {l : Ledger} (slices : Slices t) (c : ClosedIn t l) (some_
 
   -- what the file says
   abbrev said : File
-  said = record { kind = l.opening.kind; blocks = []; nodes = nodes_of 0 l.opening.end tree }
+  said = record { kind = kind; blocks = []; nodes = nodes_of 0 l.opening.end tree }
 
-  says : contents l.opening.kind l.opening.end bs tree ≡ said
+  says : contents kind l.opening.end bs tree ≡ said
   unfolding contents
   says = rw (none_written, same_tree (place_in [])) refl
 
-  file_says : file_by l ≡ file_bytes said
-  file_says = file_some l.opening.kind l.opening.end bs tree w.rooted ∙ ap file_bytes says
+  part_is : file_part l kind ≡ file_of kind l.opening.end bs tree
+  part_is = sym (file_only kind l.opening.end l.now.blocks tree c.can)
 
-  lifeless_file : file_by l ≡ bytes_of 1 l.opening.kind ++ (bytes_of 8 0 ++ node_bytes (nodes_of 0 l.opening.end tree))
+  file_says : file_part l kind ≡ file_bytes said
+  file_says = part_is ∙ file_some kind l.opening.end bs tree c.can.rooted ∙ ap file_bytes says
+
+  lifeless_file : file_part l kind ≡ bytes_of 1 kind ++ (bytes_of 8 0 ++ node_bytes (nodes_of 0 l.opening.end tree))
   unfolding file_bytes flatten flat_map
   lifeless_file =
       file_says
-      ∙ ap (λ (xs : List ℕ). bytes_of 1 l.opening.kind ++ (bytes_of 8 0 ++ xs)) (append-nil (node_bytes (nodes_of 0 l.opening.end tree)))
+      ∙ ap (λ (xs : List ℕ). bytes_of 1 kind ++ (bytes_of 8 0 ++ xs)) (append-nil (node_bytes (nodes_of 0 l.opening.end tree)))
 
   -- room for the nodes is room for all
   lifeless_room : (n : Lent) → node_count tree ≤ node_rows n → rule20 n said ≡ true
@@ -136,15 +161,18 @@ module _ {t : Tables} {l : Ledger} (slices : Slices t) (c : ClosedIn t l) (some_
   no_block_lem e = refl
 
   -- 22
-  lifeless_load : (n : Lent) → node_count tree ≤ node_rows n → (file : List ℕ) (at : ℕ) → take (length (file_by l)) (drop at file) ≡ file_by l → load n file at ≡ fault 22
+  lifeless_load : (n : Lent) → node_count tree ≤ node_rows n → (file : List ℕ) (at : ℕ) → take (length (file_part l kind)) (drop at file) ≡ file_part l kind
+      → load n file at ≡ fault 22
   lifeless_load n room file at e =
-      let s = stands_at file (file_by l) at (file_bytes_lem l.opening.kind l.opening.end bs tree w.rooted) e in
-      let read : read_file file at ≡ got said (at + length (file_by l)) =
-      subst (λ (p : ℕ). read_file file p ≡ got said (p + length (file_by l))) s.place
-      (subst (λ (f : List ℕ). read_file f (length s.before) ≡ got said (length s.before + length (file_by l))) (sym s.whole)
-      (read_written l.opening.kind l.opening.end bs tree w.rooted (index_fits l.opening.kind l.opening.end bs tree w) s.before s.behind
-      ∙ ap (λ (f : File). got f (length s.before + length (file_by l))) says)) in
-      load_blocks n file at said _ read (lifeless_room n room) (rw (same_tree (place_in (written bs tree))) at (written-rule21 l.opening.kind l.opening.end bs tree w))
+      let part = file_of kind l.opening.end bs tree in
+      let same : take (length part) (drop at file) ≡ part = rw part_is at e in
+      let s = stands_at file part at (file_bytes_lem kind l.opening.end bs tree c.can.rooted) same in
+      let read : read_file file at ≡ got said (at + length part) =
+      subst (λ (p : ℕ). read_file file p ≡ got said (p + length part)) s.place
+      (subst (λ (f : List ℕ). read_file f (length s.before) ≡ got said (length s.before + length part)) (sym s.whole)
+      (read_written kind l.opening.end bs tree c.can.rooted (index_fits kind l.opening.end bs tree c.can) s.before s.behind
+      ∙ ap (λ (f : File). got f (length s.before + length part)) says)) in
+      load_blocks n file at said _ read (lifeless_room n room) (rw (same_tree (place_in (written bs tree))) at (written-rule21 kind l.opening.end bs tree c.can))
       (no_block_lem _)
 
 -- ── all of it ──
@@ -152,8 +180,10 @@ module _ {t : Tables} {l : Ledger} (slices : Slices t) (c : ClosedIn t l) (some_
 pub empty_files : EmptyFiles
 unfolding after_fault
 empty_files = record {
+  no_part = no_part;
   nothing = nothing_written;
   at_end = λ file at t t' answer past d. fault_answered 17 (load_fault (lengths_of t) file at 17 (read_end file at past)) d;
-  lifeless = λ t l slices c some_block none. lifeless_file slices c some_block none;
-  refused_22 = λ t l slices c some_block none file at same u u' answer room d. fault_answered 22 (lifeless_load slices c some_block none (lengths_of u) room file at same) d;
+  lifeless = λ t l slices c kind some_block none. lifeless_file (kind_in slices c kind some_block) none;
+  refused_22 = λ t l slices c kind some_block none file at same u u' answer room d.
+      fault_answered 22 (lifeless_load (kind_in slices c kind some_block) none (lengths_of u) room file at same) d;
 }

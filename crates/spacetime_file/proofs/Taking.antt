@@ -15,7 +15,7 @@ use Rattle.history.specs.File.{File, Read, got, fault, Loaded, load, loaded_from
 use Rattle.history.proofs.FileYields.{Yielded, spans_fits}
 use Rattle.history.proofs.FileRoundTrip.{FileFits, gives_file}
 use Rattle.history.proofs.FileLoad.{Accepted, LoadedOf, load-taken, load_accepted, loaded_written, read_inside}
-use Rattle.history.proofs.FileSound.{loaded_sound}
+use Rattle.history.proofs.FileSound.{loaded_sound, loaded_file}
 use Rattle.layout.specs.Tables.{Tables, lengths_of}
 use Rattle.layout.specs.Encodes.{Encodes}
 use Rattle.layout.specs.Files.{LoadedTables, LoadLeaves, LoadedBy, position_of, after_fault, zeroed_tables}
@@ -53,6 +53,14 @@ module _ {file : List ℕ} {at next : ℕ} {t t' : Tables} (small : IsFile file)
 
 -- ── loaded and written ──
 
+-- what is loaded is of a known kind
+kind_low : (n : Lent) (file : List ℕ) → IsFile file → (at : ℕ) (x : Loaded) (next : ℕ) → load n file at ≡ got x next → x.kind ≤ 4
+kind_low n file small at x next e =
+    let z : LoadedOf n file at x next = load_accepted n file at x next e in
+    let begun = read_inside file at z.said next z.read in
+    let y : Yielded file (λ g w. FileFits g × (w ≡ file_bytes g)) at z.said next = (gives_file file small).yields at z.said next begun z.read in
+    rw z.same y.says.0.kindly
+
 -- the bytes read are in the file
 read_many : (n : Lent) (file : List ℕ) → IsFile file → (at : ℕ) (x : Loaded) (next : ℕ) → load n file at ≡ got x next → length (take (next - at) (drop at file)) ≡ next - at
 read_many n file small at x next e =
@@ -65,7 +73,8 @@ pub loaded_and_written : LoadedAndWritten
 loaded_and_written file at next t t' small head d out out' wrote w =
     let k = took d in
     let c : ClosedIn t' (ledger small head k) = record { encodes = stands small head k; sound = sound small head k; closed = refl } in
-    let bytes : file_by (ledger small head k) ≡ take (next - at) (drop at file) = loaded_written (lengths_of t) file small at k.index next k.is in
+    let bytes : file_by (ledger small head k) ≡ take (next - at) (drop at file) =
+    loaded_file (lengths_of t') k.index (kind_low (lengths_of t) file small at k.index next k.is) ∙ loaded_written (lengths_of t) file small at k.index next k.is in
     let many : length (file_by (ledger small head k)) ≡ next - at = ap length bytes ∙ read_many (lengths_of t) file small at k.index next k.is in
     record {
       held = λ h. let f = file_written c w (omega arith) in (f.0 ∙ ap {B = Answer ℕ} accepted many, f.1 ∙ ap (λ (x : List ℕ). sets out 0 x) bytes);

@@ -1,8 +1,8 @@
 -- What is proved of write and load. Statements alone: the proofs stand in proofs/.
-use Rattle.std.specs.Prelude.{◌≡◌, true, List, [], ◌++◌, map, ℕ, ◌+◌, ◌-◌, ◌^◌, ◌≤◌, ◌<◌, length, take, drop}
+use Rattle.std.specs.Prelude.{◌≡◌, true, false, List, [], ◌++◌, map, ℕ, suc, ◌+◌, ◌-◌, ◌^◌, ◌≤◌, ◌<◌, length, take, drop}
 use Rattle.std.proofs.lemmas.List.Edits.{sets}
 use Rattle.lists.specs.Lists.{All}
-use Rattle.history.specs.Words.{life}
+use Rattle.history.specs.Words.{all_kinds, life}
 use Rattle.history.specs.Lent.{Lent, piece_head, node_rows}
 use Rattle.history.specs.Tree.{node_count}
 use Rattle.history.specs.Rules.{rule23, apart}
@@ -11,8 +11,9 @@ use Rattle.history.specs.Reads.{tree_in, block_by}
 use Rattle.history.specs.Results.{Result}
 use Rattle.history.specs.Refusals.{Answer, accepted, refused, open_answer, max_end_tick}
 use Rattle.history.specs.Calls.{Call, after_all}
-use Rattle.history.specs.Sound.{Sound}
-use Rattle.history.specs.File.{File, bytes_of, node_bytes, nodes_of, new_number, contents, file_by, got, read_file, tree_from, end_of, rule20, rule21, rule22, loaded_from, loaded_ledger}
+use Rattle.history.specs.Sound.{none_of, Sound}
+use Rattle.history.specs.File.{File, bytes_of, node_bytes, nodes_of, new_number, contents, file_part, file_by, part_at, got, read_file, tree_from, end_of, rule20, rule21, rule22, loaded_from, loaded_ledger}
+use Rattle.kind_mask.specs.Masks.{Taken}
 use Rattle.layout.specs.Tables.{Tables, lengths_of}
 use Rattle.layout.specs.Encodes.{Encodes}
 use Rattle.layout.specs.Formed.{WellFormed}
@@ -42,43 +43,52 @@ pub record ClosedIn (t : Tables) (l : Ledger) : Type 0 where
 
 -- ── written and loaded ──
 
--- block k has a life: created < destroyed
-pub record Lives (l : Ledger) (k : ℕ) : Type 0 where
+-- block k is of the kind and has a life: created < destroyed
+pub record Lives (l : Ledger) (kind k : ℕ) : Type 0 where
   pub number : k < length l.now.blocks
+  pub of_kind_lem : (block_by l k).kind ≡ kind
   pub ticks : 0 < life (block_by l k)
 
--- its number in the file: its place among those that have a life
-abbrev pub number_in : Ledger → (k : ℕ) → ℕ
-number_in l = new_number l.now.blocks (tree_in l)
+-- its number in the file: its place among those of the kind that have a life
+abbrev pub number_in : Ledger → (kind k : ℕ) → ℕ
+number_in l kind = new_number l.now.blocks (tree_in l kind)
 
--- Tables u answer as tables t, in which the ledger stands; the blocks of no life are gone, and the others are numbered accordingly.
-pub record AnswersAlike (l : Ledger) (t u : Tables) : Type 0 where
-  -- a block that has a life is block by its new number,
-  pub blocks : (k : ℕ) → Lives l k → (old new : Answer Fields) → BlockGivenBy t k old → BlockGivenBy u (number_in l k) new
+-- Tables u answer for a kind as tables t, in which the ledger stands; the blocks of other kinds and of no life are gone, and the others are numbered
+-- accordingly.
+pub record AnswersAlike (l : Ledger) (kind : ℕ) (t u : Tables) : Type 0 where
+  -- a block of the kind that has a life is block by its new number,
+  pub blocks : (k : ℕ) → Lives l kind k → (old new : Answer Fields) → BlockGivenBy t k old → BlockGivenBy u (number_in l kind k) new
       → values_of (block_in u.store) new ≡ values_of (block_in t.store) old
   -- no others are left,
-  pub no_others : (j : ℕ) (f : Fields) → BlockGivenBy u j (accepted f) → (k : ℕ) × Lives l k × (number_in l k ≡ j)
+  pub no_others : (j : ℕ) (f : Fields) → BlockGivenBy u j (accepted f) → (k : ℕ) × Lives l kind k × (number_in l kind k ≡ j)
   -- and they are in the same order;
-  pub in_order : (j k : ℕ) → Lives l j → Lives l k → j < k → number_in l j < number_in l k
+  pub in_order : (j k : ℕ) → Lives l kind j → Lives l kind k → j < k → number_in l kind j < number_in l kind k
   -- find refuses alike, or lists as many and visits as many nodes: the same blocks in the same order, under their new numbers;
-  pub finds : (tick start stop : ℕ) (out old new : List ℕ) (a b : Answer Counts) → FoundBy t tick start stop out old a → FoundBy u tick start stop out new b
-      → (b ≡ a) × ((c : Counts) → a ≡ accepted c → take c.count new ≡ map (number_in l) (take c.count old))
+  pub finds : (tick start stop : ℕ) (out old new : List ℕ) (a b : Answer Counts) → FoundBy t kind tick start stop out old a → FoundBy u kind tick start stop out new b
+      → (b ≡ a) × ((c : Counts) → a ≡ accepted c → take c.count new ≡ map (number_in l kind) (take c.count old))
   -- read cells refuses alike, or gives the same bytes and the same held cells.
-  pub cells : (tick start stop : ℕ) (bytes bytes₁ bytes₂ held held₁ held₂ : List ℕ) (a b : Answer Unit)
-      → CellsReadBy t tick start stop bytes bytes₁ held held₁ a → CellsReadBy u tick start stop bytes bytes₂ held held₂ b
+  pub cells : (tick start stop : ℕ) (bytes bytes₁ bytes₂ held held₁ held₂ : List ℕ) (a b : Answer Unit) → stop < 2 ^ 64
+      → CellsReadBy t kind tick start stop bytes bytes₁ held held₁ a → CellsReadBy u kind tick start stop bytes bytes₂ held held₂ b
       → (b ≡ a) × (bytes₂ ≡ bytes₁) × (held₂ ≡ held₁)
 
--- What write writes into a slice that holds it can be loaded, wherever it stands in a file, into any tables that have room; then these are good.
-abbrev pub Reloads : (t : Tables) (l : Ledger) (Room Good : Tables → Type 0) → Type 0
-Reloads t l Room Good =
+-- Of what write writes into a slice that holds it, the part of a kind, at its position, can be loaded, wherever it stands in a file, into any tables that have
+-- room; then these are good.
+abbrev pub Reloads : (t : Tables) (l : Ledger) (kind : ℕ) (Room Good : Tables → Type 0) → Type 0
+Reloads t l kind Room Good =
     (out out' : List ℕ) (wrote : Answer ℕ) → WrittenBy t out out' wrote → length (file_by l) ≤ length out
-    → (file : List ℕ) (at : ℕ) → IsFile file → take (length (file_by l)) (drop at file) ≡ take (length (file_by l)) out'
+    → (file : List ℕ) (at : ℕ) → IsFile file → take (length (file_part l kind)) (drop at file) ≡ take (length (file_part l kind)) (drop (part_at l kind) out')
     → (u u' : Tables) (loaded : Answer ℕ) → Room u → LoadedBy file at u u' loaded
-    → (wrote ≡ accepted (length (file_by l))) × (loaded ≡ accepted (at + length (file_by l))) × Good u'
+    → (wrote ≡ accepted (length (file_by l))) × (loaded ≡ accepted (at + length (file_part l kind))) × Good u'
 
--- Room: rule 20 holds of what the file says, and the piece table holds its head.
-pub record RoomFor (l : Ledger) (u : Tables) : Type 0 where
-  pub room : rule20 (lengths_of u) (contents l.opening.kind l.opening.end l.now.blocks (tree_in l)) ≡ true
+-- The parts of the kinds follow one another by kind code, and are all that is written.
+pub record PartsFollow (l : Ledger) : Type 0 where
+  pub first : part_at l 0 ≡ 0
+  pub next : (kind : ℕ) → part_at l (suc kind) ≡ part_at l kind + length (file_part l kind)
+  pub last : part_at l (length all_kinds) ≡ length (file_by l)
+
+-- Room: rule 20 holds of what the kind's part says, and the piece table holds its head.
+pub record RoomFor (l : Ledger) (kind : ℕ) (u : Tables) : Type 0 where
+  pub room : rule20 (lengths_of u) (contents kind l.opening.end l.now.blocks (tree_in l kind)) ≡ true
   pub head : piece_head ≤ length u.pieces
 
 -- each table is as long or longer
@@ -89,23 +99,27 @@ pub record AsLong (t u : Tables) : Type 0 where
   pub nodes : length t.nodes ≤ length u.nodes
   pub entries : length t.entries ≤ length u.entries
 
--- an index that calls have reached, loaded again: it answers alike, and read cells shows the history
-pub record LoadedAgain (a : Opening) (ks : List Call) (t u : Tables) : Type 0 where
-  pub alike : AnswersAlike (after_all (opened a) ks) t u
-  pub shows : ShowsHistory a ks u
+-- a kind of an index that calls have reached, loaded again: it answers alike, and read cells shows the history of the kind
+pub record LoadedAgain (a : Opening) (ks : List Call) (kind : ℕ) (t u : Tables) : Type 0 where
+  pub alike : AnswersAlike (after_all (opened a) ks) kind t u
+  pub shows : ShowsHistory a ks kind u
 
 pub record SavedAndLoaded : Type 0 where
-  -- Any closed index of which a block has a life, into tables with room for it;
-  pub any : (t : Tables) (l : Ledger) → Slices t → ClosedIn t l → (k : ℕ) → Lives l k → Reloads t l (RoomFor l) (AnswersAlike l t)
-  -- for every opening that is taken and every list of calls that leaves a finished index with blocks, into any tables as long as those in which it stands;
-  pub reached : (a : Opening) → open_answer a ≡ accepted tt → (ks : List Call) → finished (after_all (opened a) ks) ≡ true
-      → 0 < length (after_all (opened a) ks).now.blocks → (t : Tables) → Slices t → Encodes t (after_all (opened a) ks)
-      → Reloads t (after_all (opened a) ks) (AsLong t) (LoadedAgain a ks t)
+  -- What is written has a part for each kind.
+  pub parts : (l : Ledger) → PartsFollow l
+  -- Of any closed index, each kind of which a block has a life, into tables with room for it;
+  pub any : (t : Tables) (l : Ledger) → Slices t → ClosedIn t l → (kind k : ℕ) → Lives l kind k → Reloads t l kind (RoomFor l kind) (AnswersAlike l kind t)
+  -- for every opening that is taken and every list of calls that leaves a finished index, each kind that has blocks, into any tables as long as those in
+  -- which it stands;
+  pub reached : (a : Opening) → open_answer a ≡ accepted tt → (ks : List Call) → finished (after_all (opened a) ks) ≡ true → (kind : ℕ)
+      → none_of kind (after_all (opened a) ks).now.blocks ≡ false → (t : Tables) → Slices t → Encodes t (after_all (opened a) ks)
+      → Reloads t (after_all (opened a) ks) kind (AsLong t) (LoadedAgain a ks kind t)
   -- so for every index that was opened in tables of any contents and finished by any list of calls, each done by its contract.
-  pub called : (end kind : ℕ) → 1 ≤ end → end ≤ max_end_tick → kind ≤ 4 → (t t₀ t' : Tables) (opening : Answer Unit) → OpenedBy end kind t t₀ opening
-      → (ks : List Call) (given : List (Answer Result)) → Run t₀ ks given t' → finished (after_all (opened (opening_of end kind t)) ks) ≡ true
-      → 0 < length (after_all (opened (opening_of end kind t)) ks).now.blocks → Slices t'
-      → Reloads t' (after_all (opened (opening_of end kind t)) ks) (AsLong t') (LoadedAgain (opening_of end kind t) ks t')
+  pub called : (end : ℕ) (kinds : List ℕ) → 1 ≤ end → end ≤ max_end_tick → Taken kinds → (t t₀ t' : Tables) (opening : Answer Unit)
+      → OpenedBy end kinds t t₀ opening → (ks : List Call) (given : List (Answer Result)) → Run t₀ ks given t'
+      → finished (after_all (opened (opening_of end kinds t)) ks) ≡ true → (kind : ℕ)
+      → none_of kind (after_all (opened (opening_of end kinds t)) ks).now.blocks ≡ false → Slices t'
+      → Reloads t' (after_all (opened (opening_of end kinds t)) ks) kind (AsLong t') (LoadedAgain (opening_of end kinds t) ks kind t')
 
 -- ── loaded and written ──
 
@@ -147,17 +161,19 @@ TakenAndNotRefused = (file : List ℕ) (at : ℕ) (t t' : Tables) (answer : Answ
 -- ── empty files ──
 
 pub record EmptyFiles : Type 0 where
-  -- An empty closed index writes nothing,
+  -- A kind without blocks writes nothing,
+  pub no_part : (t : Tables) (l : Ledger) → ClosedIn t l → (kind : ℕ) → kind ≤ 4 → none_of kind l.now.blocks ≡ true → file_part l kind ≡ []
+  -- and so does an empty closed index;
   pub nothing : (t : Tables) (l : Ledger) → ClosedIn t l → l.now.blocks ≡ [] → (out out' : List ℕ) (wrote : Answer ℕ) → WrittenBy t out out' wrote
       → (wrote ≡ accepted 0) × (out' ≡ out)
-  -- and those bytes cannot be loaded: a position at or past the end is refused 17.
+  -- those bytes cannot be loaded: a position at or past the end is refused 17.
   pub at_end : (file : List ℕ) (at : ℕ) (t t' : Tables) (answer : Answer ℕ) → length file ≤ at → LoadedBy file at t t' answer
       → (answer ≡ refused 17) × (t' ≡ t)
-  -- One with blocks of no life alone writes kind, count 0 and its nodes,
-  pub lifeless : (t : Tables) (l : Ledger) → Slices t → ClosedIn t l → 0 < length l.now.blocks → ((k : ℕ) → Lives l k → ⊥)
-      → file_by l ≡ bytes_of 1 l.opening.kind ++ (bytes_of 8 0 ++ node_bytes (nodes_of 0 l.opening.end (tree_in l)))
+  -- A kind with blocks of no life alone writes kind, count 0 and its nodes,
+  pub lifeless : (t : Tables) (l : Ledger) → Slices t → ClosedIn t l → (kind : ℕ) → none_of kind l.now.blocks ≡ false → ((k : ℕ) → Lives l kind k → ⊥)
+      → file_part l kind ≡ bytes_of 1 kind ++ (bytes_of 8 0 ++ node_bytes (nodes_of 0 l.opening.end (tree_in l kind)))
   -- which the loader refuses 22, if its table has room for the nodes; the tables hold zeros then.
-  pub refused_22 : (t : Tables) (l : Ledger) → Slices t → ClosedIn t l → 0 < length l.now.blocks → ((k : ℕ) → Lives l k → ⊥)
-      → (file : List ℕ) (at : ℕ) → take (length (file_by l)) (drop at file) ≡ file_by l
-      → (u u' : Tables) (answer : Answer ℕ) → node_count (tree_in l) ≤ node_rows (lengths_of u) → LoadedBy file at u u' answer
+  pub refused_22 : (t : Tables) (l : Ledger) → Slices t → ClosedIn t l → (kind : ℕ) → none_of kind l.now.blocks ≡ false → ((k : ℕ) → Lives l kind k → ⊥)
+      → (file : List ℕ) (at : ℕ) → take (length (file_part l kind)) (drop at file) ≡ file_part l kind
+      → (u u' : Tables) (answer : Answer ℕ) → node_count (tree_in l kind) ≤ node_rows (lengths_of u) → LoadedBy file at u u' answer
       → (answer ≡ refused 22) × (u' ≡ zeroed_tables u)

@@ -32,7 +32,7 @@ pub fn serialize_to(lent: Tables, out: &mut [u8]) -> Result<u64, Refusal>
     file_write::write_closed(&closed, lent.store, out)
 }
 
-// Loads the index whose file starts at a position, and gives the next one. The tables stand one by one, as in `file_load`.
+// Loads the tree of a kind whose file starts at a position, and gives the next one. The tables stand one by one, as in `file_load`.
 pub fn deserialize(
     pieces: &mut [u64],
     blocks: &mut [u64],
@@ -48,7 +48,8 @@ pub fn deserialize(
     file_load::load(pieces, blocks, store, nodes, entries, file, at)
 }
 
-// An index that was written and loaded answers every find, block and read of cells alike, and shows the history.
+// Each kind's part of what was written, at its position, is loaded and answers every find, block and read of cells as the index does for that kind, and shows
+// its history; the positions follow one another.
 #[tactic(auto, using(crate::proofs::Reached::saved_and_loaded))]
 pub fn saved_and_loaded()
     ensures { SavedAndLoaded }
@@ -66,7 +67,7 @@ pub fn taken_and_not_refused()
     ensures { TakenAndNotRefused }
 {}
 
-// An empty index, and one whose blocks all have no life, cannot be loaded again.
+// A kind without blocks writes nothing, and one whose blocks all have no life cannot be loaded again.
 #[tactic(auto, using(crate::proofs::Emptying::empty_files))]
 pub fn empty_files()
     ensures { EmptyFiles }

@@ -1,23 +1,23 @@
--- `held_part` and `held_bytes`: one step for each return. Assumes nothing.
-use mathlib.Core.Path.{◌≡◌, sym, ap, ◌∙◌}
+-- `held_bytes`: one step for each return. Assumes nothing.
+use mathlib.Core.Path.{◌≡◌, sym, ap, ap₂, ◌∙◌}
 use mathlib.Core.Logic.{inl, inr}
 use mathlib.Core.Option.{none, some, none-ne-some}
 use mathlib.Core.List.{List, [], ◌∷◌, ◌++◌, map}
-use Prim.Native.Nat.{ℕ, ◌+◌, ◌-◌, ◌≤◌, ◌<◌, min}
+use Prim.Native.Nat.{ℕ, ◌+◌, ◌-◌, ◌≤◌, ◌<◌, ◌^◌, min}
 use native.Mathlib.Omega.{arith}
 use lib.ListN.{length, get_or, drop}
 use Rattle.lists.specs.Lists.{All, all_cons}
 use Rattle.lists.proofs.Lists.{all_left, all_right, all_map, all_append, all_head, all_tail}
 use Rattle.lists.proofs.Maps.{map-append}
 use Rattle.lists.proofs.Numbers.{lt_or_le}
-use Rattle.history.specs.Words.{Stretch, Piece, byte_at, differs_from, held_at}
+use Rattle.history.specs.Words.{Stretch, Piece, line_of, cell_place, byte_at, differs_from, held_at}
 use Rattle.history.specs.Ledger.{first_change}
 use Rattle.history.proofs.Value.{byte_cell}
 use Rattle.history.proofs.Comparing.{Agrees, Other, agrees_byte, Comparison, alike, apart, compared}
-use Rattle.tables.specs.Columns.{column, piece_offset}
+use Rattle.tables.specs.Columns.{column, piece_offset, piece_owner}
 use Rattle.tables.specs.Sums.{plus_up_to}
 use Rattle.merge_set.specs.Table.{first_at}
-use Rattle.piece_table.specs.Piece.{PieceRow, piece_at, Filled, Follow}
+use Rattle.piece_table.specs.Piece.{PieceRow, read_at, piece_at, Filled, Follow}
 use Rattle.piece_table.specs.Rep.{Linked}
 use Rattle.piece_table.specs.Calls.{end_at}
 use Rattle.piece_table.specs.Shown.{shown, Stored}
@@ -25,6 +25,7 @@ use Rattle.piece_table.proofs.Order.{follow_from, follow_right}
 use Rattle.piece_table.proofs.Parts.{Left}
 use Rattle.piece_table.proofs.Showing.{shown-size}
 use Rattle.piece_table.proofs.Cells.{Misses, byte_some}
+use Rattle.piece_table.specs.declared.Piece.{Piece as CodePiece}
 use Rattle.comparison.specs.Comparison.{Compared}
 use Rattle.std.specs.Prelude.{Some, None}
 use Rattle.survey.specs.Survey.{Matched, Lowest, HeldBytes}
@@ -124,66 +125,83 @@ module _ (t store bytes : List ℕ) (link first place next same : ℕ) (at : fir
 
 -- ── `held_bytes` ──
 
-at_place : (first place same : ℕ) → first ≤ place → place - first ≡ same → first + same ≡ place
-at_place first place same from is = omega arith
+-- cells of one kind, and their places
+at_place : (line first place same : ℕ) → first ≤ place → place - first ≡ same → line + first + same ≡ line + place
+at_place line first place same from is = omega arith
 
-module _ {store bytes : List ℕ} {p : PieceRow} {first place same : ℕ} where
-  pub held_bytes_before : place < first → HeldBytes store bytes p first place same same
-  held_bytes_before h = record { says = λ t link next xs ys ep low m. matched_moved m (λ e. omega arith) }
+distance : (line a b : ℕ) → a - b ≡ line + a - (line + b)
+distance line a b = omega arith
 
-  pub held_bytes_found : (place - first ≡ same → ⊥) → HeldBytes store bytes p first place same same
-  held_bytes_found h = record { says = λ t link next xs ys ep low m. matched_moved m (λ e. h (omega arith)) }
+on_one : (t : List ℕ) (link kind : ℕ) {p : CodePiece} → p ≡ read_at t link → column t link piece_owner ≡ kind → first_at t link ≡ cell_place kind p.first
+on_one t link kind ep own = ap₂ cell_place own (sym (ap (λ (q : CodePiece). q.first) ep))
+
+-- what a step is to show, where the row of the link holds the piece
+abbrev Step : (store bytes : List ℕ) (p : CodePiece) (kind first place same out : ℕ) → Type 0
+Step store bytes p kind first place same out =
+    (t : List ℕ) (link next : ℕ) (xs ys : List ℕ) → p ≡ read_at t link → column t link piece_owner ≡ kind → first + length bytes < 2 ^ 64
+    → Lowest t store bytes link (cell_place kind first) (cell_place kind place) (cell_place kind next) xs ys
+    → Matched (map (shown store) (map (piece_at t) (xs ++ link ∷ ys))) (cell_place kind first) bytes (cell_place kind place) same
+    → Matched (map (shown store) (map (piece_at t) (xs ++ link ∷ ys))) (cell_place kind first) bytes (cell_place kind next) out
+
+module _ {store bytes : List ℕ} {p : CodePiece} {kind first place same : ℕ} where
+  pub held_bytes_before : place < first → HeldBytes store bytes p kind first place same same
+  held_bytes_before h = record { says = λ t link next xs ys ep own near low m. matched_moved m (λ e. omega arith) }
+
+  pub held_bytes_found : (place - first ≡ same → ⊥) → HeldBytes store bytes p kind first place same same
+  held_bytes_found h = record { says = λ t link next xs ys ep own near low m. matched_moved m (λ e. h (omega arith)) }
 
   module _ (from : first ≤ place) (told-at : place - first ≡ same) where
-    pub held_bytes_ahead : place < p.first → HeldBytes store bytes p first place same same
-    held_bytes_ahead h = record {
-      says = λ t link next xs ys ep low m.
-          let h' : place < first_at t link = rw ep at h in
-          record {
-            small = m.small;
-            rest = m.rest;
-            stops = inr (inr (change_here (board t store bytes link first place next same (at_place first place same from told-at) xs ys low) first bytes same (omega (arith, low.within)) (has-none (get_or bytes same 0) (ahead t store bytes link first place next same (at_place first place same from told-at) xs ys low h'))));
-          };
-    }
+    pub held_bytes_ahead : place < p.first → HeldBytes store bytes p kind first place same same
+    held_bytes_ahead h = record { says = go }
+      where
+        go : Step store bytes p kind first place same same
+        go t link next xs ys ep own near low m =
+            let h' : cell_place kind place < first_at t link = omega (arith, on_one t link kind ep own, h) in
+            record {
+              small = m.small;
+              rest = m.rest;
+              stops = inr (inr (change_here (board t store bytes link (cell_place kind first) (cell_place kind place) (cell_place kind next) same (at_place (line_of kind) first place same from told-at) xs ys low) (cell_place kind first) bytes same (omega (arith, at_place (line_of kind) first place same from told-at, low.within)) (has-none (get_or bytes same 0) (ahead t store bytes link (cell_place kind first) (cell_place kind place) (cell_place kind next) same (at_place (line_of kind) first place same from told-at) xs ys low h'))));
+            }
 
     module _ (le : p.first ≤ place) where
-      pub held_bytes_cell : {cell : ℕ} → Compared store p first bytes (Some cell) → HeldBytes store bytes p first place same (cell - first)
+      pub held_bytes_cell : {cell : ℕ} → Compared store p kind first bytes (Some cell) → HeldBytes store bytes p kind first place same (cell - first)
       held_bytes_cell {cell} cmp = record { says = go }
         where
-          go : (t : List ℕ) (link next : ℕ) (xs ys : List ℕ) → p ≡ piece_at t link → Lowest t store bytes link first place next xs ys
-              → Matched (map (shown store) (map (piece_at t) (xs ++ link ∷ ys))) first bytes place same → Matched (map (shown store) (map (piece_at t) (xs ++ link ∷ ys))) first bytes next (cell - first)
-          go t link next xs ys ep low m =
-              let le' : first_at t link ≤ place = rw ep at le in
-              let cmp' : Compared store (piece_at t link) first bytes (Some cell) = rw ep at cmp in
-              let st : Stored store (piece_at t link) = has_bytes t store bytes link first place next same (at_place first place same from told-at) xs ys low in
-              view le' (cmp'.is (whole link xs ys low.linked) st low.near) (compared (shown store (piece_at t link)).stretch first bytes)
+          go : Step store bytes p kind first place same (cell - first)
+          go t link next xs ys ep own near low m =
+              let le' : first_at t link ≤ cell_place kind place = omega (arith, on_one t link kind ep own, le) in
+              let cmp' : Compared store (read_at t link) kind first bytes (Some cell) = rw ep at cmp in
+              let st : Stored store (piece_at t link) = has_bytes t store bytes link (cell_place kind first) (cell_place kind place) (cell_place kind next) same (at_place (line_of kind) first place same from told-at) xs ys low in
+              view le' (cmp'.is (whole link xs ys low.linked) st near) (compared (shown store (piece_at t link)).stretch (cell_place kind first) bytes)
             where
-              view : first_at t link ≤ place → some cell ≡ differs_from (shown store (piece_at t link)).stretch first bytes → Comparison (shown store (piece_at t link)).stretch first bytes
-                  → Matched (map (shown store) (map (piece_at t) (xs ++ link ∷ ys))) first bytes next (cell - first)
-              view le' told (alike none_there f) = absurd (none-ne-some cell (sym none_there ∙ sym told))
+              view : first_at t link ≤ cell_place kind place → some (cell_place kind cell) ≡ differs_from (shown store (piece_at t link)).stretch (cell_place kind first) bytes → Comparison (shown store (piece_at t link)).stretch (cell_place kind first) bytes
+                  → Matched (map (shown store) (map (piece_at t) (xs ++ link ∷ ys))) (cell_place kind first) bytes (cell_place kind next) (cell - first)
+              view le' told (alike none_there f) = absurd (none-ne-some (cell_place kind cell) (sym none_there ∙ sym told))
               view le' told (apart n is h f o) =
-                  let c : cell ≡ first + n = let z = told ∙ is in cc in
+                  let c : cell_place kind cell ≡ cell_place kind first + n = let z = told ∙ is in cc in
                   let n_out : n ≡ cell - first = omega arith in
-                  rw n_out at (held-apart t store bytes link first place next same (at_place first place same from told-at) xs ys low le' m n h f o)
+                  rw n_out at (held-apart t store bytes link (cell_place kind first) (cell_place kind place) (cell_place kind next) same (at_place (line_of kind) first place same from told-at) xs ys low le' m n h f o)
 
-      pub held_bytes_nothing : {e : ℕ} → Compared store p first bytes None → e ≡ plus_up_to p.first p.size → HeldBytes store bytes p first place same (min (e - first) (length bytes))
+      pub held_bytes_nothing : {e : ℕ} → Compared store p kind first bytes None → e ≡ plus_up_to p.first p.size → HeldBytes store bytes p kind first place same (min (e - first) (length bytes))
       held_bytes_nothing {e} cmp ee = record { says = go }
         where
-          go : (t : List ℕ) (link next : ℕ) (xs ys : List ℕ) → p ≡ piece_at t link → Lowest t store bytes link first place next xs ys
-              → Matched (map (shown store) (map (piece_at t) (xs ++ link ∷ ys))) first bytes place same → Matched (map (shown store) (map (piece_at t) (xs ++ link ∷ ys))) first bytes next (min (e - first) (length bytes))
-          go t link next xs ys ep low m =
-              let le' : first_at t link ≤ place = rw ep at le in
-              let cmp' : Compared store (piece_at t link) first bytes None = rw ep at cmp in
-              let ee' : e ≡ plus_up_to (first_at t link) (piece_at t link).size = rw ep at ee in
+          go : Step store bytes p kind first place same (min (e - first) (length bytes))
+          go t link next xs ys ep own near low m =
+              let le' : first_at t link ≤ cell_place kind place = omega (arith, on_one t link kind ep own, le) in
+              let cmp' : Compared store (read_at t link) kind first bytes None = rw ep at cmp in
+              let ee' : e ≡ plus_up_to (read_at t link).first (read_at t link).size = rw ep at ee in
               let w : Filled (piece_at t link) = whole link xs ys low.linked in
-              let st : Stored store (piece_at t link) = has_bytes t store bytes link first place next same (at_place first place same from told-at) xs ys low in
-              let z : e ≡ next = omega (arith, ee', w.near, low.ends) in
-              view le' z (cmp'.is w st low.near) (compared (shown store (piece_at t link)).stretch first bytes)
+              let st : Stored store (piece_at t link) = has_bytes t store bytes link (cell_place kind first) (cell_place kind place) (cell_place kind next) same (at_place (line_of kind) first place same from told-at) xs ys low in
+              let line : line_of (column t link piece_owner) ≡ line_of kind = ap line_of own in
+              let z : e ≡ next = omega (arith, ee', w.near, low.ends, line) in
+              view le' z (cmp'.is w st near) (compared (shown store (piece_at t link)).stretch (cell_place kind first) bytes)
             where
-              view : first_at t link ≤ place → e ≡ next → none ≡ differs_from (shown store (piece_at t link)).stretch first bytes → Comparison (shown store (piece_at t link)).stretch first bytes
-                  → Matched (map (shown store) (map (piece_at t) (xs ++ link ∷ ys))) first bytes next (min (e - first) (length bytes))
-              view le' z told (alike none_there f) = held_all t store bytes link first place next same (at_place first place same from told-at) xs ys low le' m (min (e - first) (length bytes)) (ap (λ (k : ℕ). min (k - first) (length bytes)) z) f
-              view le' z told (apart n is h f o) = absurd (none-ne-some (first + n) (told ∙ is))
+              view : first_at t link ≤ cell_place kind place → e ≡ next → none ≡ differs_from (shown store (piece_at t link)).stretch (cell_place kind first) bytes → Comparison (shown store (piece_at t link)).stretch (cell_place kind first) bytes
+                  → Matched (map (shown store) (map (piece_at t) (xs ++ link ∷ ys))) (cell_place kind first) bytes (cell_place kind next) (min (e - first) (length bytes))
+              view le' z told (alike none_there f) =
+                  held_all t store bytes link (cell_place kind first) (cell_place kind place) (cell_place kind next) same (at_place (line_of kind) first place same from told-at) xs ys low le' m (min (e - first) (length bytes))
+                  (ap (λ (k : ℕ). min (k - first) (length bytes)) z ∙ ap (λ (k : ℕ). min k (length bytes)) (distance (line_of kind) next first)) f
+              view le' z told (apart n is h f o) = absurd (none-ne-some (cell_place kind first + n) (told ∙ is))
 
 -- the steps, one for each return
 pub ruleset holding = (held_bytes_before, held_bytes_found, held_bytes_ahead, held_bytes_cell, held_bytes_nothing)

@@ -32,18 +32,18 @@ module _ (store : List ℕ) (ps : List PieceRow) (stored : All (Stored store) ps
   unfolding changed
   survey_changed = rw now counts.change
 
-  pub survey_pieces : (kind : ℕ) → length (update_by kind m o).pieces ≡ s.pieces
+  pub survey_pieces : length (update_by m o).pieces ≡ s.pieces
   unfolding update_by
-  survey_pieces kind =
+  survey_pieces =
       let f : ℕ = (stretch_of o).first in
       let e : ℕ = ends (stretch_of o) in
       let b : length (below f m.pieces) ≡ length (rows_below f ps) = ap (λ (l : List Piece). length (below f l)) now ∙ ap length (shown-below store ps stored f) ∙ length-map (rows_below f ps) (shown store) in
       let a : length (above e m.pieces) ≡ length (rows_above e ps) = ap (λ (l : List Piece). length (above e l)) now ∙ ap length (shown-above store ps stored e) ∙ length-map (rows_above e ps) (shown store) in
-      omega (arith, length-append (below f m.pieces) (piece_of kind o ∷ above e m.pieces), counts.pieces)
+      omega (arith, length-append (below f m.pieces) (piece_of o ∷ above e m.pieces), counts.pieces)
 
-  pub survey_blocks : (kind : ℕ) → length (update_by kind m o).blocks ≡ length m.blocks + s.blocks
+  pub survey_blocks : length (update_by m o).blocks ≡ length m.blocks + s.blocks
   unfolding update_by
-  survey_blocks kind =
+  survey_blocks =
       let f : ℕ = (stretch_of o).first in
       let e : ℕ = ends (stretch_of o) in
       let i : length (inside f e m.pieces) ≡ length (rows_inside f e ps) = ap (λ (l : List Piece). length (inside f e l)) now ∙ ap length (shown-inside store ps stored f e) ∙ length-map (rows_inside f e ps) (shown store) in

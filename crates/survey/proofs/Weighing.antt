@@ -1,6 +1,6 @@
 -- Pieces, blocks and rests as sums over the pieces. A turn of the survey takes the lowest piece that ends past the place: the sum over the others is
 -- the sum over those that end past its end. Assumes nothing.
-use mathlib.Core.Path.{◌≡◌, refl, ap, ◌∙◌}
+use mathlib.Core.Path.{◌≡◌, refl, sym, ap, ◌∙◌}
 use mathlib.Core.Logic.{◌⊎◌, inl, inr}
 use mathlib.Core.Bool.{Bool, true, false, cond, ◌&&◌}
 use mathlib.Core.Option.{Option, none, some}
@@ -97,6 +97,17 @@ one_le a b h = rw (le-ltb a b h)
 
 pub crosses_yes : (was next cell : ℕ) → was < cell → cell < next → crosses was next cell ≡ 1
 crosses_yes was next cell h k = rw (lt-ltb was cell h, lt-ltb cell next k)
+
+-- on another line it is the same
+ltb_line : (l a b : ℕ) → ltb (l + a) (l + b) ≡ ltb a b
+ltb_line l a b =
+    elim (lt_or_le a b) [
+      | inl h ↦ lt-ltb (l + a) (l + b) (omega arith) ∙ sym (lt-ltb a b h)
+      | inr h ↦ le-ltb (l + a) (l + b) (omega arith) ∙ sym (le-ltb a b h)
+    ]
+
+pub crosses_line : (l was next cell : ℕ) → crosses (l + was) (l + next) (l + cell) ≡ crosses was next cell
+crosses_line l was next cell = rw (ltb_line l was cell, ltb_line l cell next) refl
 
 pub crosses_before : (was next cell : ℕ) → cell ≤ was → crosses was next cell ≡ 0
 crosses_before was next cell h = rw (le-ltb was cell h)

@@ -1,13 +1,16 @@
--- What record asks before it changes anything: the ledger's first change, and how many pieces and blocks there would be. Definitions alone.
+-- What record asks before it changes anything: the ledger's first change, and how many pieces and blocks there would be. Where a kind stands beside them,
+-- `first`, `place` and `next` are its cells; else they are places. Definitions alone.
 use Rattle.std.specs.Prelude.{◌≡◌, ◌⊎◌, cond, ◌&&◌, List, ◌∷◌, ◌++◌, map, ℕ, suc, ◌+◌, ◌≤◌, ◌<◌, ◌^◌, length, drop, ltb}
 use Rattle.std.proofs.Math.Option.{Option, none, some}
 use Rattle.lists.specs.Lists.{All}
-use Rattle.history.specs.Words.{Piece}
+use Rattle.history.specs.Words.{Piece, cell_place}
 use Rattle.history.specs.Ledger.{first_change}
-use Rattle.piece_table.specs.Piece.{PieceRow, row_end, piece_at, rows_below, rows_inside, rows_above}
+use Rattle.tables.specs.Columns.{column, piece_owner}
+use Rattle.piece_table.specs.Piece.{PieceRow, row_end, read_at, piece_at, rows_below, rows_inside, rows_above}
 use Rattle.piece_table.specs.Rep.{Linked, Rep}
 use Rattle.piece_table.specs.Calls.{end_at}
 use Rattle.piece_table.specs.Shown.{shown, Stored}
+use Rattle.piece_table.specs.declared.Piece.{Piece as CodePiece}
 use Rattle.survey.specs.declared.Report.{Report}
 
 -- ── the first change ──
@@ -34,13 +37,13 @@ pub record Lowest (t store : List ℕ) (bytes : List ℕ) (link first place next
   pub ends : next ≡ end_at t link
   pub stored : All (Stored store) (map (piece_at t) (xs ++ link ∷ ys))
   pub within : place < first + length bytes
-  pub near : first + length bytes < 2 ^ 64
 
--- `held_bytes`: the lowest piece is looked at too
-pub record HeldBytes (store bytes : List ℕ) (p : PieceRow) (first place same out : ℕ) : Type 0 where
-  pub says : (t : List ℕ) (link next : ℕ) (xs ys : List ℕ) → p ≡ piece_at t link → Lowest t store bytes link first place next xs ys
-      → Matched (map (shown store) (map (piece_at t) (xs ++ link ∷ ys))) first bytes place same
-      → Matched (map (shown store) (map (piece_at t) (xs ++ link ∷ ys))) first bytes next out
+-- `held_bytes`: the lowest piece, of the operation's kind, is looked at too
+pub record HeldBytes (store bytes : List ℕ) (p : CodePiece) (kind first place same out : ℕ) : Type 0 where
+  pub says : (t : List ℕ) (link next : ℕ) (xs ys : List ℕ) → p ≡ read_at t link → column t link piece_owner ≡ kind → first + length bytes < 2 ^ 64
+      → Lowest t store bytes link (cell_place kind first) (cell_place kind place) (cell_place kind next) xs ys
+      → Matched (map (shown store) (map (piece_at t) (xs ++ link ∷ ys))) (cell_place kind first) bytes (cell_place kind place) same
+      → Matched (map (shown store) (map (piece_at t) (xs ++ link ∷ ys))) (cell_place kind first) bytes (cell_place kind next) out
 
 -- ── counting ──
 
@@ -71,5 +74,5 @@ pub record Counts (store : List ℕ) (ps : List PieceRow) (first : ℕ) (bytes :
   pub pieces : s.pieces ≡ length (rows_below first ps) + suc (length (rows_above (first + length bytes) ps))
 
 -- `survey`
-pub record Surveyed (t store : List ℕ) (first : ℕ) (bytes : List ℕ) (s : Report) : Type 0 where
-  pub says : (ps : List PieceRow) → Rep t ps → All (Stored store) ps → 0 < length bytes → first + length bytes < 2 ^ 64 → Counts store ps first bytes s
+pub record Surveyed (t store : List ℕ) (kind first : ℕ) (bytes : List ℕ) (s : Report) : Type 0 where
+  pub says : (ps : List PieceRow) → Rep t ps → All (Stored store) ps → 0 < length bytes → first + length bytes < 2 ^ 64 → Counts store ps (cell_place kind first) bytes s

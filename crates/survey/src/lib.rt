@@ -25,8 +25,8 @@ pub struct Report {
     pub near: u64,
 }
 
-// How far a survey has come: the cells below `place` are looked at; so many leading cells are held with their bytes, all below `place`, or up to a change;
-// so many pieces are met, `low` is the link of the lowest of them, and they leave so many rests.
+// How far a survey has come: the cells of the operation's kind below `place` are looked at; so many leading cells are held with their bytes, all below `place`,
+// or up to a change; so many pieces are met, `low` is the link of the lowest of them, and they leave so many rests.
 #[derive(Clone, Copy, Default)]
 struct Seen {
     place: u64,
@@ -51,10 +51,10 @@ impl Seen {
     }
 }
 
-// How many leading cells are held with their bytes, once the lowest piece that ends after `place` is looked at too.
+// How many leading cells are held with their bytes, once the lowest piece that ends after `place` is looked at too, which is of the operation's kind.
 #[tactic(auto, using(crate::proofs::Matching::holding))]
-fn held_bytes(store: &[u8], first: u64, bytes: &[u8], piece: Piece, seen: Seen) -> u64
-    ensures { HeldBytes store.now bytes.now piece first seen.place seen.same result }
+fn held_bytes(store: &[u8], kind: u64, first: u64, bytes: &[u8], piece: Piece, seen: Seen) -> u64
+    ensures { HeldBytes store.now bytes.now piece kind first seen.place seen.same result }
 {
     if seen.place < first || seen.place - first != seen.same {
         return seen.same;
@@ -62,7 +62,7 @@ fn held_bytes(store: &[u8], first: u64, bytes: &[u8], piece: Piece, seen: Seen) 
     if seen.place < piece.first {
         return seen.same;
     }
-    match comparison::first_difference(store, piece, first, bytes) {
+    match comparison::first_difference(store, piece, kind, first, bytes) {
         Some(cell) => cell.saturating_sub(first),
         None => piece.end().saturating_sub(first).min(bytes.len() as u64),
     }
@@ -76,12 +76,12 @@ fn rests_of(was: u64, next: u64, first: u64, end: u64) -> u64
     u64::from(was < first) + u64::from(end < next)
 }
 
-// Surveys an operation. Each turn looks at the lowest piece that ends after the place, mostly without a way down from the root: the search before it has
-// left guesses. The place rises, so that it ends on any table.
+// Surveys an operation of a kind. Each turn looks at the lowest piece that ends after the place, mostly without a way down from the root: the search before it
+// has left guesses. The place rises, so that it ends on any table.
 // No `for` goes over the pieces: the next place is where one ends.
 #[tactic(auto, using(crate::proofs::Surveying::survey_start))]
-pub fn survey(pieces: &[u64], store: &[u8], first: u64, bytes: &[u8]) -> Report
-    ensures { Surveyed pieces.now store.now first bytes.now result }
+pub fn survey(pieces: &[u64], store: &[u8], kind: u64, first: u64, bytes: &[u8]) -> Report
+    ensures { Surveyed pieces.now store.now kind first bytes.now result }
 {
     let count = tables::get(pieces, 0, piece::COUNT);
     let end = first.saturating_add(bytes.len() as u64);
@@ -91,13 +91,18 @@ pub fn survey(pieces: &[u64], store: &[u8], first: u64, bytes: &[u8]) -> Report
         ..Seen::default()
     };
     while seen.place < end {
-        let Some(found) = piece_table::search_next(pieces, seen.place, guess.link, guess.after)
-        else {
+        let Some(found) = piece_table::search_next(
+            pieces,
+            kind,
+            seen.place,
+            guess.link,
+            guess.after,
+        ) else {
             break;
         };
         guess = found;
         let link = found.link;
-        if !merge_set::starts_below(pieces, link, end) {
+        if !merge_set::starts_below(pieces, link, kind, end) {
             break;
         }
         let piece = piece_table::read(pieces, link);
@@ -109,7 +114,7 @@ pub fn survey(pieces: &[u64], store: &[u8], first: u64, bytes: &[u8]) -> Report
         let low = if seen.met == 0 { link } else { seen.low };
         seen = Seen {
             place: next,
-            same: held_bytes(store, first, bytes, piece, seen),
+            same: held_bytes(store, kind, first, bytes, piece, seen),
             met: seen.met.saturating_add(1),
             rests: seen.rests.saturating_add(rests),
             low,

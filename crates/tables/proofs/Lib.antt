@@ -1,2 +1,4 @@
 pub mod Past
 pub mod Parts
+pub mod Places
+pub mod Masks

@@ -88,8 +88,9 @@ head_state = 0
 abbrev pub head_end : ℕ
 head_end = 1
 
-abbrev pub head_kind : ℕ
-head_kind = 2
+-- the set of kinds, as a mask
+abbrev pub head_kinds : ℕ
+head_kinds = 2
 
 abbrev pub head_count : ℕ
 head_count = 3

@@ -23,7 +23,8 @@ pub const STATE: usize = 0;
 
 pub const END: usize = 1;
 
-pub const KIND: usize = 2;
+// The set of kinds, as a mask.
+pub const KINDS: usize = 2;
 
 pub const COUNT: usize = 3;
 

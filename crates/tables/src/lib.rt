@@ -5,8 +5,12 @@
 //   specs/Sums      sums of numbers that nobody has tested
 //   specs/Parts     parts of bytes
 //   specs/Kinds     the code of each kind
+//   specs/Masks     a set of kinds as a mask
+//   specs/Places    which place is below another
 //   piece, block, node, entry   its names in code
 //   kind            the kinds by name
+//   kinds           sets of kinds
+//   place           places in order
 
 #![tactic(auto)]
 
@@ -20,8 +24,10 @@ ghost use Rattle.tables.specs.Parts.{part_of};
 pub mod block;
 pub mod entry;
 pub mod kind;
+pub mod kinds;
 pub mod node;
 pub mod piece;
+pub mod place;
 
 // Numbers in a row of pieces, blocks or nodes.
 pub const ROW: usize = 8;

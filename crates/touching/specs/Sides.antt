@@ -6,6 +6,6 @@ use Rattle.layout.specs.Relations.{Near, NextGivenBy, LastGivenBy}
 use Rattle.segment_near.specs.declared.Side.{Side}
 use Rattle.segment_near.specs.declared.Side.TheVariants.{From, Before}
 
-abbrev pub NearGivenBy : Side → (t : Tables) (tick cell : ℕ) (answer : Answer Near) → Type 0
-NearGivenBy From t tick cell answer = NextGivenBy t tick cell answer
-NearGivenBy Before t tick cell answer = LastGivenBy t tick cell answer
+abbrev pub NearGivenBy : Side → (t : Tables) (kind tick cell : ℕ) (answer : Answer Near) → Type 0
+NearGivenBy From t kind tick cell answer = NextGivenBy t kind tick cell answer
+NearGivenBy Before t kind tick cell answer = LastGivenBy t kind tick cell answer

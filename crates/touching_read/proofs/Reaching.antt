@@ -6,17 +6,19 @@ use mathlib.Core.List.{List}
 use Prim.Native.Nat.{ℕ, ◌-◌, ◌^◌, ◌≤◌, ◌<◌}
 use native.Mathlib.Omega.{arith}
 use Rattle.lists.proofs.Lists.{all_at, all_mem}
-use Rattle.history.specs.Words.{ends, live}
+use Rattle.history.specs.Words.{end_cell, live_of}
 use Rattle.history.specs.Tree.{no_block, block_at}
 use Rattle.history.specs.Ledger.{Ledger, finished}
 use Rattle.history.specs.Sound.{Sound}
-use Rattle.tables.specs.Columns.{block_column, head_end, head_kind}
+use Rattle.tables.specs.Masks.{opens}
+use Rattle.tables.specs.Columns.{block_column, head_end, head_kinds}
 use Rattle.segment_table.specs.Closed.{TreeOf}
 use Rattle.segment_near.specs.declared.Side.TheVariants.{Before}
 use Rattle.segment_near.specs.declared.Neighbour.{Neighbour}
 use Rattle.segment_near.specs.Neighbours.{NearestLive}
 use Rattle.layout.specs.Tables.{tables}
 use Rattle.layout.specs.Encodes.{Encodes}
+use Rattle.layout.proofs.ReadLaws.{opens_kind_lem}
 use Rattle.runs.specs.Runs.{ClosedAt}
 use Rattle.runs.proofs.Seeing.{live-number, passed_last, passed_first}
 use Rattle.runs.proofs.Living.{near_in, living}
@@ -25,52 +27,60 @@ use Rattle.touching_read.specs.Reads.{EndOf, Reaches, OverAt}
 -- ── a closed index ──
 
 -- the tables of a closed index, at a tick below its end
-pub closed_at : {pieces blocks store nodes entries : List ℕ} {tick : ℕ} {l : Ledger} → Encodes (tables pieces blocks store nodes entries) l → Sound l → finished l ≡ true
-    → tick < block_column blocks 0 head_end → ClosedAt blocks store nodes entries (block_column blocks 0 head_kind) tick l
-closed_at {pieces} e s done h = record { pieces = pieces; encodes = e; sound = s; done = done; own_kind = e.kind; before_end = omega (arith, e.end) }
+pub closed_at : {pieces blocks store nodes entries : List ℕ} (kind : ℕ) {tick : ℕ} {l : Ledger} → Encodes (tables pieces blocks store nodes entries) l → Sound l → finished l ≡ true
+    → opens (block_column blocks 0 head_kinds) kind ≡ true → tick < block_column blocks 0 head_end → ClosedAt blocks store nodes entries kind tick l
+closed_at {pieces} kind e s done k h = record {
+  pieces = pieces;
+  encodes = e;
+  sound = s;
+  done = done;
+  opened = opens_kind_lem e kind ∙ k;
+  before_end = omega (arith, e.end);
+}
 
 -- the end that a live block's row has is the block's
 pub end_is : {blocks store nodes entries : List ℕ} {kind tick : ℕ} {l : Ledger} → ClosedAt blocks store nodes entries kind tick l → (k r : ℕ)
-    → live tick (block_at l.now.blocks k) ≡ true → EndOf blocks k r → r ≡ ends (block_at l.now.blocks k).stretch
-end_is {l = l} c k r lives e =
+    → live_of kind tick (block_at l.now.blocks k) ≡ true → EndOf blocks k r → r ≡ end_cell (block_at l.now.blocks k)
+end_is {kind = kind} {tick} {l} c k r lives e =
     let v = living c in
-    let n = live-number l.now.blocks _ v.apart v.filled k lives in
+    let n = live-number l.now.blocks kind tick v.apart v.used v.lies k lives in
     let row = v.row k n in
-    let most : ends (block_at l.now.blocks k).stretch ≤ 2 ^ 64 - 1 = (all_at no_block c.sound.board.blocks k n).stretch.no_wrap in
+    let whole = (all_at no_block c.sound.board.blocks k n).stretch in
+    let most : end_cell (block_at l.now.blocks k) ≤ 2 ^ 64 - 1 = omega (arith, whole.no_wrap, whole.from_line) in
     e.ended row.known ∙ omega (arith, row.ended)
 
 -- ── the returns of `over` ──
 
-module _ {blocks nodes entries ns es : List ℕ} {kind last tick place : ℕ} {found : Option Neighbour} (t : TreeOf blocks nodes entries ns es kind last)
-    (n : NearestLive ns es kind last tick Before place found) where
-  pub over_none : found ≡ None → OverAt blocks nodes entries tick place None
+module _ {blocks nodes entries ns es : List ℕ} {kind own last tick place : ℕ} {found : Option Neighbour} (t : TreeOf blocks nodes entries kind ns es own last)
+    (n : NearestLive ns es own last tick Before place found) where
+  pub over_none : found ≡ None → OverAt blocks nodes entries kind tick place None
   over_none is = record {
     block = λ x z. let no : ◌≡◌ {A = ℕ} 0 1 = cc in absurd (omega arith);
     nothing = λ _ store l c.
         let v = living c in
         let without = (v.near Before place (near_in t n)).nothing is in
-        passed_first l.now.blocks tick v.apart v.filled place (λ j b g. all_mem without (v.met j b) g);
+        passed_first l.now.blocks kind tick v.apart v.used v.lies place (λ j b g. all_mem without (v.met j b) g);
   }
 
   module _ {b : Neighbour} {end : ℕ} (is : found ≡ Some b) (at : EndOf blocks b.number end) where
-    pub over_ended : end ≤ place → OverAt blocks nodes entries tick place None
+    pub over_ended : end ≤ place → OverAt blocks nodes entries kind tick place None
     over_ended h = record {
       block = λ x z. let no : ◌≡◌ {A = ℕ} 0 1 = cc in absurd (omega arith);
       nothing = λ _ store l c.
           let v = living c in
           let m = (v.near Before place (near_in t n)).block b is in
           let a = v.lives b.number m.listed in
-          passed_last l.now.blocks tick v.apart v.filled b.number place a (λ j y g. all_mem m.nearest (v.met j y) g) (omega (arith, end_is c b.number end a at));
+          passed_last l.now.blocks kind tick v.apart v.used v.lies b.number place a (λ j y g. all_mem m.nearest (v.met j y) g) (omega (arith, end_is c b.number end a at));
     }
 
-    pub over_block : place < end → OverAt blocks nodes entries tick place (Some b)
+    pub over_block : place < end → OverAt blocks nodes entries kind tick place (Some b)
     over_block h = record {
       block = λ x z store l c.
           let v = living c in
           let m = (v.near Before place (near_in t n)).block b is in
           let a = v.lives b.number m.listed in
           let same : b ≡ x = cc in
-          subst (λ (y : Neighbour). Reaches l.now.blocks tick place y.number) same
+          subst (λ (y : Neighbour). Reaches l.now.blocks kind tick place y.number) same
           (record { lives = a; before = m.beside; beyond = omega (arith, end_is c b.number end a at) });
       nothing = λ z. let no : ◌≡◌ {A = ℕ} 0 1 = cc in absurd (omega arith);
     }

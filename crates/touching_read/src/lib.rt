@@ -17,7 +17,7 @@ use refusals::Refusal;
 use segment_near::{Neighbour, Side};
 use segment_table::lent::Closed;
 use segment_walk::walk::Query;
-use tables::block;
+use tables::{block, kinds};
 
 // The place behind the last cell of a block.
 fn end_of(blocks: &[u64], number: u64) -> u64
@@ -31,11 +31,11 @@ fn end_of(blocks: &[u64], number: u64) -> u64
     first.saturating_add(block::get(blocks, link, block::LENGTH))
 }
 
-// The block that is live at the tick, starts before a place and reaches over it.
-fn over(closed: &Closed, tick: u64, place: u64) -> Option<Neighbour>
-    ensures { OverAt closed.now.blocks.now closed.now.nodes.now closed.now.entries.now tick place result }
+// The block of a kind that is live at the tick, starts before a place and reaches over it.
+fn over(closed: &Closed, kind: u64, tick: u64, place: u64) -> Option<Neighbour>
+    ensures { OverAt closed.now.blocks.now closed.now.nodes.now closed.now.entries.now kind tick place result }
 {
-    let tree = closed.tree();
+    let tree = closed.tree(kind);
     let before = segment_near::nearest_live(&tree, tick, Side::Before, place)?;
     if end_of(closed.blocks, before.number) <= place {
         return None;
@@ -43,19 +43,23 @@ fn over(closed: &Closed, tick: u64, place: u64) -> Option<Neighbour>
     Some(before)
 }
 
-// The live blocks that hold a cell of [start, end), ascending: 14, 15 and 16 in their order. The one that reaches over the start comes first; its place is
-// kept free until all the others have gone into the answer. An empty window has no cell to hold.
+// The live blocks of a kind that hold a cell of [start, end), ascending: 25, 14, 15 and 16 in their order. The one that reaches over the start comes first; its
+// place is kept free until all the others have gone into the answer. An empty window has no cell to hold.
 pub fn touching_closed(
     closed: &Closed,
+    kind: u64,
     tick: u64,
     start: u64,
     end: u64,
     answer: &mut [u64],
 ) -> Result<u64, Refusal>
-    ensures { TouchingClosed closed.now.blocks.now closed.now.nodes.now closed.now.entries.now tick start end
+    ensures { TouchingClosed closed.now.blocks.now closed.now.nodes.now closed.now.entries.now kind tick start end
         answer.old answer.new (answer_by (λ n. n) result) }
 {
-    let tree = closed.tree();
+    if !kinds::has(block_table::kinds(closed.blocks), kind) {
+        return Err(Refusal::KindNotOpened);
+    }
+    let tree = closed.tree(kind);
     if tree.end <= tick {
         return Err(Refusal::NoSuchTick);
     }
@@ -70,7 +74,7 @@ pub fn touching_closed(
         start,
         stop: end,
     };
-    let before = over(closed, tick, start);
+    let before = over(closed, kind, tick, start);
     let at = usize::from(before.is_some());
     let listed = segment_touch::starting(&tree, query, answer, at);
     let Some(count) = listed else {
@@ -82,18 +86,22 @@ pub fn touching_closed(
     Ok(count as u64)
 }
 
-// The neighbour of a cell, or 14: from it, the first live block that starts at the cell or after it; before it, the last one whose cells are all below the
-// cell. Where a block reaches over the cell that is the one before it.
+// The neighbour of a cell of a kind, or 25 or 14: from it, the first live block that starts at the cell or after it; before it, the last one whose cells are
+// all below the cell. Where a block reaches over the cell that is the one before it.
 #[tactic(auto, using(crate::proofs::Nearing::nearing))]
 pub fn near_closed(
     closed: &Closed,
     side: Side,
+    kind: u64,
     tick: u64,
     cell: u64,
 ) -> Result<Option<u64>, Refusal>
-    ensures { NearClosed side closed.now.blocks.now closed.now.nodes.now closed.now.entries.now tick cell (answer_by near_told result) }
+    ensures { NearClosed side closed.now.blocks.now closed.now.nodes.now closed.now.entries.now kind tick cell (answer_by near_told result) }
 {
-    let tree = closed.tree();
+    if !kinds::has(block_table::kinds(closed.blocks), kind) {
+        return Err(Refusal::KindNotOpened);
+    }
+    let tree = closed.tree(kind);
     if tree.end <= tick {
         return Err(Refusal::NoSuchTick);
     }

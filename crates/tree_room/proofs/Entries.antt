@@ -1,4 +1,5 @@
--- The entries that one block makes: below a node that its life does not cover, no more than the halves' together. Assumes nothing.
+-- The entries that one block makes: below a node that its life does not cover, no more than the halves' together. A block makes them in the tree of its kind
+-- alone, so that those of all trees are no more than those of all blocks. Assumes nothing.
 use mathlib.Core.Path.{◌≡◌, refl, ap, ◌∙◌}
 use mathlib.Core.Logic.{◌⊎◌, inl, inr}
 use mathlib.Core.Bool.{Bool, true, false, cond}
@@ -6,13 +7,16 @@ use mathlib.Core.List.{List, [], ◌∷◌, map}
 use Prim.Native.Nat.{ℕ, zero, suc, ◌+◌, ◌*◌, ◌-◌, ◌^◌, ◌≤◌, ◌<◌}
 use native.Mathlib.Nat.{mul-add, suc-mul, mul-le-mul_left}
 use native.Mathlib.Omega.{arith}
-use lib.Dec.{ltb}
+use lib.Dec.{ltb, eqb}
 use lib.ListN.{length}
-use borrow.Author.Tests.{ltb-true, lt-ltb, le-ltb}
-use Rattle.lists.specs.Lists.{All, all_nil, all_cons, here, there, sum_of}
-use Rattle.lists.proofs.Numbers.{le_or_lt}
-use Rattle.history.specs.Words.{Block}
-use Rattle.history.specs.Tree.{mid, tree_of, entry_count}
+use borrow.Author.Tests.{ltb-true, lt-ltb, le-ltb, eq-eqb, ne_eqb}
+use Rattle.lists.specs.Lists.{All, all_nil, all_cons, here, there, count_from, sum_of}
+use Rattle.lists.proofs.Numbers.{le_or_lt, eq_or_ne}
+use Rattle.lists.proofs.Lists.{all_any}
+use Rattle.lists.proofs.Maps.{map-map, map_all}
+use Rattle.lists.proofs.Counting.{sum_plus, sum-none, all_count_from}
+use Rattle.history.specs.Words.{Block, all_kinds, of_kind}
+use Rattle.history.specs.Tree.{mid, tree_of, trees_of, entry_count, entries_all}
 use Rattle.history.proofs.TreeAdding.{all, part, covering, half_left, half_right}
 use Rattle.history.proofs.TreeCounts.{new_entries, tree_of_entries}
 use Rattle.tree_room.specs.Room.{entries_for}
@@ -77,6 +81,33 @@ module _ (c d : ℕ) where
         ]
       ]
 
+-- ── one kind for each block ──
+
+-- of kinds that follow one another at most one is a block's
+none_above : (own x n many : ℕ) → own < n → sum_of (map (λ kind. cond (eqb own kind) x 0) (count_from n many)) ≡ 0
+none_above own x n many h = sum-none (λ kind. cond (eqb own kind) x 0) (all_count_from n many (λ kind from below. rw (ne_eqb own kind (λ e. omega arith)) refl))
+
+one_kind : (own x n many : ℕ) → sum_of (map (λ kind. cond (eqb own kind) x 0) (count_from n many)) ≤ x
+unfolding count_from sum_of
+one_kind own x n zero = omega arith
+one_kind own x n (suc many) =
+    elim (eq_or_ne own n) [
+      | inl e ↦ rw (eq-eqb own n e) (omega (arith, none_above own x (suc n) many (omega arith)))
+      | inr e ↦ rw (ne_eqb own n e) (omega (arith, one_kind own x (suc n) many))
+    ]
+
+-- so what the blocks of each kind make is no more than what all make
+by_kind : (f : Block → ℕ) (bs : List Block) → sum_of (map (λ kind. sum_of (map (λ b. cond (of_kind kind b) (f b) 0) bs)) all_kinds) ≤ sum_of (map f bs)
+unfolding sum_of
+by_kind f [] = omega (arith, sum-none (λ kind. 0) (all_any all_kinds (λ kind. refl)))
+by_kind f (b ∷ bs) =
+    omega (
+      arith,
+      sum_plus (λ kind. cond (of_kind kind b) (f b) 0) (λ kind. sum_of (map (λ c. cond (of_kind kind c) (f c) 0) bs)) all_kinds,
+      one_kind b.kind (f b) 0 5,
+      by_kind f bs,
+    )
+
 -- ── all blocks ──
 
 module _ (n e : ℕ) (w : e ≤ 2 ^ n) where
@@ -97,5 +128,27 @@ module _ (n e : ℕ) (w : e ≤ 2 ^ n) where
   all_entries_lem [] all_nil = omega arith
   all_entries_lem (b ∷ bs) (all_cons h hs) = omega (arith, one_block b h, all_entries_lem bs hs, suc-mul (length bs) (1 + 2 * (n - 1)))
 
-  pub tree_entries : (bs : List Block) → All (λ (b : Block). b.created < e) bs → entry_count (tree_of e bs) ≤ entries_for n (length bs)
-  tree_entries bs h = rw (tree_of_entries e bs) (all_entries_lem bs h)
+  -- those of a kind are among them
+  own_entries : (kind : ℕ) (f : Block → ℕ) (bs : List Block) → sum_of (map (λ b. cond (of_kind kind b) (f b) 0) bs) ≤ sum_of (map f bs)
+  unfolding sum_of
+  own_entries kind f [] = omega arith
+  own_entries kind f (b ∷ bs) = omega (arith, part (of_kind kind b), own_entries kind f bs)
+    where
+      part : (u : Bool) → cond u (f b) 0 ≤ f b
+      part true = omega arith
+      part false = omega arith
+
+  pub tree_entries : (kind : ℕ) (bs : List Block) → All (λ (b : Block). b.created < e) bs → entry_count (tree_of kind e bs) ≤ entries_for n (length bs)
+  tree_entries kind bs h =
+      rw (tree_of_entries kind e bs) (omega (arith, own_entries kind (λ b. new_entries 63 b.created b.destroyed 0 e) bs, all_entries_lem bs h))
+
+  -- of all trees together
+  pub trees_entries_lem : (bs : List Block) → All (λ (b : Block). b.created < e) bs → entries_all (trees_of e bs) ≤ entries_for n (length bs)
+  unfolding trees_of
+  trees_entries_lem bs h =
+      rw (
+        map-map entry_count (λ kind. tree_of kind e bs) all_kinds,
+        map_all (λ kind. entry_count (tree_of kind e bs)) (λ kind. sum_of (map (λ b. cond (of_kind kind b) (new_entries 63 b.created b.destroyed 0 e) 0) bs))
+            (all_any all_kinds (λ kind. tree_of_entries kind e bs)),
+      )
+      (omega (arith, by_kind (λ b. new_entries 63 b.created b.destroyed 0 e) bs, all_entries_lem bs h))

@@ -1,6 +1,6 @@
 -- The nodes of all blocks: one has halves only where one of the blocks' ticks is inside it. So on each level there are two for each tick, and no more. Assumes
 -- nothing.
-use mathlib.Core.Path.{◌≡◌, ap, sym, ◌∙◌}
+use mathlib.Core.Path.{◌≡◌, refl, ap, sym, ◌∙◌}
 use mathlib.Core.Logic.{◌⊎◌, inl, inr}
 use mathlib.Core.Bool.{true, false, true≢false}
 use mathlib.Core.List.{List}
@@ -109,10 +109,17 @@ module _ (ts : List ℕ) where
 
   -- ── all blocks ──
 
-  pub tree_nodes : (n e : ℕ) (bs : List Block) → e ≤ max_end_tick → e ≤ 2 ^ n → All (TicksAmong e ts) bs → node_count (tree_of e bs) ≤ nodes_for n (length ts)
+  pub tree_nodes : (n kind e : ℕ) (bs : List Block) → e ≤ max_end_tick → e ≤ 2 ^ n → All (λ (b : Block). b.kind ≡ kind → TicksAmong e ts b) bs
+      → node_count (tree_of kind e bs) ≤ nodes_for n 1 (length ts)
   unfolding Cut
-  tree_nodes n e bs top w among =
-      let cut : Cut 0 e (tree_of e bs) =
-      tree_by e bs (λ _ T. Cut 0 e T) (λ k T h c. cut_add (key_in bs) k e (block_at bs k) (all_at no_block among k h) 63 T top c) tt in
+  tree_nodes n kind e bs top w among =
+      let cut : Cut 0 e (tree_of kind e bs) =
+      tree_by kind e bs (λ _ T. Cut 0 e T) (λ k T h own c. cut_add (key_in bs) k e (block_at bs k) (all_at no_block among k h own) 63 T top c) (λ k T h other c. c) tt in
       let few : 2 * ticks_in 0 e ts ≤ 2 * length ts = omega (arith, ticks_most 0 e ts) in
-      omega (arith, nodes_most n 0 e (tree_of e bs) (omega arith) (omega arith) cut, mul-le-mul_left n few)
+      omega (arith, nodes_most n 0 e (tree_of kind e bs) (omega arith) (omega arith) cut, mul-le-mul_left n few)
+
+-- without blocks of the kind there is no node
+pub tree_none : (kind e : ℕ) (bs : List Block) → All (λ (b : Block). b.kind ≡ kind → ⊥) bs → node_count (tree_of kind e bs) ≡ 0
+unfolding node_count
+tree_none kind e bs other =
+    ap node_count (tree_by kind e bs (λ _ T. T ≡ hole) (λ k T h own q. absurd (all_at no_block other k h own)) (λ k T h another q. q) refl)

@@ -1,16 +1,21 @@
 -- The law of room: the bounds by ticks and by blocks, and finish. Assumes nothing.
-use mathlib.Core.Path.{◌≡◌, refl, ap}
+use mathlib.Core.Path.{◌≡◌, refl, ap, ◌∙◌, subst}
+use mathlib.Core.Logic.{inl, inr}
+use mathlib.Core.Bool.{true, false}
 use mathlib.Core.List.{List, [], ◌∷◌, map}
 use Prim.Native.Nat.{ℕ, ◌+◌, ◌-◌, ◌*◌, ◌^◌, ◌≤◌, ◌<◌}
-use native.Mathlib.Nat.{mul-le-mul_right}
+use native.Mathlib.Nat.{mul-zero, mul-add, mul-le-mul_right}
 use native.Mathlib.Omega.{arith}
 use lib.ListN.{length, length-append, length-map}
 use borrow.Author.Tests.{le-ltb}
-use Rattle.lists.specs.Lists.{All, all_nil, all_cons, Mem, here, there}
-use Rattle.lists.proofs.Lists.{all_map, all_both, all_mem, all_of_map}
-use Rattle.history.specs.Words.{Operation, Block, block_of}
+use Rattle.lists.specs.Lists.{All, all_nil, all_cons, Mem, here, there, has, sum_of}
+use Rattle.lists.proofs.Numbers.{bool_cases}
+use Rattle.lists.proofs.Lists.{all_map, all_both, all_mem}
+use Rattle.lists.proofs.Maps.{map-map}
+use Rattle.lists.proofs.Counting.{has_decides}
+use Rattle.history.specs.Words.{Operation, Block, all_kinds, those_with, set_of, line_of, block_of}
 use Rattle.history.specs.Lent.{block_rows, node_rows, entry_rows}
-use Rattle.history.specs.Tree.{insert, add_location, add_all, tree_of, node_count, entry_count}
+use Rattle.history.specs.Tree.{insert, add_location, add_all, tree_of, trees_of, node_count, nodes_in, entries_all}
 use Rattle.history.specs.Ledger.{Opening, Ledger, opened, settled}
 use Rattle.history.specs.Results.{done}
 use Rattle.history.specs.Refusals.{accepted, first_of, max_end_tick, finish_refusals, finish_answer}
@@ -19,10 +24,10 @@ use Rattle.history.specs.Sound.{SoundBoard}
 use Rattle.history.specs.Law.{LedgerLaw}
 use Rattle.history.proofs.Steps.{all_settled}
 use Rattle.history.proofs.EveryList.{the_law, opening_kept}
-use Rattle.tree_room.specs.Room.{nodes_for, entries_for, TicksAmong, TreeFits, Awaits, LawOfRoom}
-use Rattle.tree_room.proofs.Entries.{tree_entries}
-use Rattle.tree_room.proofs.Nodes.{tree_nodes}
-use Rattle.tree_room.proofs.Noting.{Noted, noted_ticks}
+use Rattle.tree_room.specs.Room.{nodes_for, entries_for, TicksAmong, TreeFits, Awaits, nodes_of_kinds, LawOfRoom}
+use Rattle.tree_room.proofs.Entries.{tree_entries, trees_entries_lem}
+use Rattle.tree_room.proofs.Nodes.{tree_nodes, tree_none}
+use Rattle.tree_room.proofs.Noting.{Called, Noted, noted_ticks}
 
 -- ── by blocks ──
 
@@ -43,21 +48,52 @@ ticks_among e (b ∷ bs) (all_cons h hs) =
     all_cons (record { in-time = h; created = λ _. here refl; destroyed = λ _. there (here refl) })
     (all_map (λ x t. record { in-time = t.in-time; created = λ c. there (there (t.created c)); destroyed = λ d. there (there (t.destroyed d)) }) (ticks_among e bs hs))
 
-tree_fits : (n e : ℕ) (bs : List Block) → e ≤ max_end_tick → e ≤ 2 ^ n → TreeFits n e bs
-tree_fits n e bs top w = record {
-  nodes = λ ts among. tree_nodes ts n e bs top w among;
-  nodes_by_blocks = λ h. rw (← ticks_length bs) (tree_nodes (ticks_of bs) n e bs top w (ticks_among e bs h));
-  entries = tree_entries n e w bs;
+tree_fits : (n kind e : ℕ) (bs : List Block) → e ≤ max_end_tick → e ≤ 2 ^ n → TreeFits n kind e bs
+tree_fits n kind e bs top w = record {
+  nodes = λ ts among. tree_nodes ts n kind e bs top w among;
+  nodes_by_blocks = λ h. rw (← ticks_length bs) (tree_nodes (ticks_of bs) n kind e bs top w (all_map (λ b x own. x) (ticks_among e bs h)));
+  entries = tree_entries n e w kind bs;
 }
+
+-- ── all kinds ──
+
+-- a number for each of the kinds ks, which is 0 where the kind does not stand in a list, and at most another where it does
+sum-most : (f g : ℕ → ℕ) (kinds : List ℕ) → ((k : ℕ) → has k kinds ≡ true → f k ≤ g k) → ((k : ℕ) → has k kinds ≡ false → f k ≡ 0) → (ks : List ℕ)
+    → sum_of (map f ks) ≤ sum_of (map g (those_with kinds ks))
+unfolding those_with sum_of
+sum-most f g kinds among other [] = omega arith
+sum-most f g kinds among other (k ∷ ks) =
+    elim (bool_cases (has k kinds)) [
+      | inl e ↦ rw e (omega (arith, among k e, sum-most f g kinds among other ks))
+      | inr e ↦ rw e (omega (arith, other k e, sum-most f g kinds among other ks))
+    ]
+
+-- a root for each, and nodes for the ticks of all
+sum_trees : (n : ℕ) (ticks : ℕ → List ℕ) (ks : List ℕ)
+    → sum_of (map (λ kind. nodes_for n 1 (length (ticks kind))) ks) ≡ nodes_for n (length ks) (sum_of (map (λ kind. length (ticks kind)) ks))
+unfolding sum_of
+sum_trees n ticks [] = let none : n * (2 * 0) ≡ 0 = mul-zero n in omega arith
+sum_trees n ticks (k ∷ ks) =
+    let own = length (ticks k) in
+    let rest = sum_of (map (λ kind. length (ticks kind)) ks) in
+    let two : 2 * (own + rest) ≡ 2 * own + 2 * rest = omega arith in
+    let split : n * (2 * (own + rest)) ≡ n * (2 * own) + n * (2 * rest) = ap (λ (x : ℕ). n * x) two ∙ mul-add n (2 * own) (2 * rest) in
+    omega (arith, sum_trees n ticks ks)
 
 -- ── finish ──
 
-module _ (n : ℕ) (ts : List ℕ) (a : Opening) (ks : List Call) (w : Awaits n ts a ks) where
+module _ (n : ℕ) (kinds : List ℕ) (ticks : ℕ → List ℕ) (a : Opening) (ks : List Call) (w : Awaits n kinds ticks a ks) where
   abbrev l : Ledger
   l = after_all (opened a) ks
 
   abbrev h : List Operation
   h = history [] (opened a) ks
+
+  abbrev e : ℕ
+  e = l.opening.end
+
+  abbrev bs : List Block
+  bs = settled l.opening.end l.now
 
   law : LedgerLaw l h
   law = the_law a w.opens ks
@@ -65,36 +101,36 @@ module _ (n : ℕ) (ts : List ℕ) (a : Opening) (ks : List Call) (w : Awaits n 
   board : SoundBoard l
   board = law.sound.sound.board
 
-  same_opening : l.opening ≡ a
-  unfolding opened
-  same_opening = opening_kept ks (opened a)
-
   same_end : l.opening.end ≡ a.end
-  same_end = ap (λ (x : Opening). x.end) same_opening
+  unfolding opened
+  same_end = ap (λ (x : Opening). x.end) (opening_kept ks (opened a))
 
   same_lent : l.opening.lent ≡ a.lent
-  same_lent = ap (λ (x : Opening). x.lent) same_opening
+  unfolding opened
+  same_lent = ap (λ (x : Opening). x.lent) (opening_kept ks (opened a))
 
-  -- the ticks of the calls are among those given
-  known : {t : ℕ} → Mem t (map (λ (o : Operation). o.tick) h) → Mem t ts
-  known m = all_mem (all_of_map (λ (o : Operation). o.tick) w.recorded) m
+  -- the kinds and ticks of the calls are among those given
+  known : {kind t : ℕ} → Called h kind t → Mem kind kinds × Mem t (ticks kind)
+  known c = let z = all_mem w.recorded c.member in (rw c.of_kind_lem at z.0, rw (c.of_kind_lem, c.when) at z.1)
 
   -- no block is created after the last accepted tick, and that is below E
   created_in_time : All (λ (b : Block). b.created < l.opening.end) l.now.blocks
   created_in_time =
       all_both (λ b s d. omega (arith, s.forward, d, board.last_below_end)) board.blocks (law.open_blocks w.still_open)
 
-  among : All (TicksAmong l.opening.end ts) (settled l.opening.end l.now)
+  -- of each block its kind and its ticks
+  among : All (λ (b : Block). Mem b.kind kinds × TicksAmong e (ticks b.kind) b) bs
   among =
-      all_settled l.opening.end l.now (TicksAmong l.opening.end ts)
-      (all_both (λ b x t. record { in-time = t; created = λ _. known x.created; destroyed = λ _. known x.destroyed }) noted.blocks created_in_time)
-      (all_both (λ p x s. record { in-time = omega (arith, s.written_by_last, board.last_below_end); created = λ _. known x; destroyed = λ d. absurd (omega (arith, d)) })
+      all_settled e l.now (λ (b : Block). Mem b.kind kinds × TicksAmong e (ticks b.kind) b)
+      (all_both (λ b x t. ((known x.created).0, record { in-time = t; created = λ _. (known x.created).1; destroyed = λ _. (known x.destroyed).1 })) noted.blocks created_in_time)
+      (all_both (λ p x s.
+      ((known x).0, record { in-time = omega (arith, s.written_by_last, board.last_below_end); created = λ _. (known x).1; destroyed = λ d. absurd (omega (arith, d)) }))
       noted.pieces board.pieces)
     where
       noted : Noted l.now h
-      noted = noted_ticks a ks w.still_open
+      noted = noted_ticks a w.opens ks w.still_open
 
-  settled_few : length (settled l.opening.end l.now) ≤ block_rows l.opening.lent
+  settled_few : length bs ≤ block_rows l.opening.lent
   unfolding settled
   settled_few =
       omega (
@@ -104,23 +140,41 @@ module _ (n : ℕ) (ts : List ℕ) (a : Opening) (ks : List Call) (w : Awaits n 
         board.blocks_fit,
       )
 
-  fits : TreeFits n l.opening.end (settled l.opening.end l.now)
-  fits = tree_fits n l.opening.end _ board.end_most (rw same_end w.halved)
+  halved : e ≤ 2 ^ n
+  halved = rw same_end w.halved
 
-  nodes_fit : nodes_for n (length ts) ≤ node_rows a.lent → node_count (tree_of l.opening.end (settled l.opening.end l.now)) ≤ node_rows l.opening.lent
-  nodes_fit many = rw same_lent (omega (arith, many, fits.nodes ts among))
+  -- the tree of a kind
+  own_nodes : (kind : ℕ) → node_count (tree_of kind e bs) ≤ nodes_for n 1 (length (ticks kind))
+  own_nodes kind = tree_nodes (ticks kind) n kind e bs board.end_most halved (all_map (λ b x own. subst (λ (k : ℕ). TicksAmong e (ticks k) b) own x.1) among)
 
-  entries_fit : entries_for n (block_rows a.lent) ≤ entry_rows a.lent → entry_count (tree_of l.opening.end (settled l.opening.end l.now)) ≤ entry_rows l.opening.lent
+  -- a kind that is not among those given has none
+  no_nodes : (kind : ℕ) → has kind kinds ≡ false → node_count (tree_of kind e bs) ≡ 0
+  no_nodes kind out = tree_none kind e bs (all_map (λ b x own. (has_decides kind kinds).not out (rw own at x.0)) among)
+
+  trees_nodes : nodes_in (trees_of e bs) ≤ nodes_of_kinds n kinds ticks
+  unfolding trees_of
+  trees_nodes =
+      rw (map-map node_count (λ kind. tree_of kind e bs) all_kinds)
+      (omega (
+        arith,
+        sum-most (λ kind. node_count (tree_of kind e bs)) (λ kind. nodes_for n 1 (length (ticks kind))) kinds (λ kind _. own_nodes kind) no_nodes all_kinds,
+        sum_trees n ticks (set_of kinds),
+      ))
+
+  nodes_fit : nodes_of_kinds n kinds ticks ≤ node_rows a.lent → nodes_in (trees_of e bs) ≤ node_rows l.opening.lent
+  nodes_fit many = rw same_lent (omega (arith, many, trees_nodes))
+
+  entries_fit : entries_for n (block_rows a.lent) ≤ entry_rows a.lent → entries_all (trees_of e bs) ≤ entry_rows l.opening.lent
   entries_fit many =
       let few = rw same_lent at settled_few in
-      rw same_lent (omega (arith, many, fits.entries (all_map (λ b x. x.in-time) among), mul-le-mul_right (1 + 2 * (n - 1)) few))
+      rw same_lent (omega (arith, many, trees_entries_lem n e halved bs (all_map (λ b x. x.1.in-time) among), mul-le-mul_right (1 + 2 * (n - 1)) few))
 
-  pub finish_taken : nodes_for n (length ts) ≤ node_rows a.lent → entries_for n (block_rows a.lent) ≤ entry_rows a.lent → finish_answer l ≡ accepted done
+  pub finish_taken : nodes_of_kinds n kinds ticks ≤ node_rows a.lent → entries_for n (block_rows a.lent) ≤ entry_rows a.lent → finish_answer l ≡ accepted done
   unfolding finish_refusals first_of
   finish_taken x y =
       let heads = rw (← same_lent) at w.heads in
       rw (heads, w.still_open, le-ltb _ _ (nodes_fit x), le-ltb _ _ (entries_fit y))
 
 pub law_of_room : LawOfRoom
-unfolding tree_of add_all add_location insert node_count
+unfolding tree_of add_all add_location insert node_count line_of
 law_of_room = record { tree = tree_fits; reached = refl; finish = finish_taken }

@@ -3,7 +3,7 @@ use Rattle.board_run.proofs.Running.{play_refused, play_opened}
 use Rattle.board_run.proofs.play.Goals as goal
 
 pub returns-in-Ok : goal.returns-in-Ok
-returns-in-Ok c = play_opened c.open.ensures c.in-Ok.is c.play_open.ensures
+returns-in-Ok c = play_opened c.open_one.ensures c.in-Ok.is (rw c.from-kind.ensures at c.play_open.ensures)
 
 pub returns-in-Err : goal.returns-in-Err
-returns-in-Err c = play_refused c.open.ensures c.in-Err.is c.from.ensures c.open_refused.ensures
+returns-in-Err c = play_refused c.open_one.ensures c.in-Err.is c.from.ensures c.open_refused.ensures

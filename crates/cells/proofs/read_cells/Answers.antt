@@ -9,4 +9,4 @@ returns-in_err-closed c =
     rw (p.1, p.2) (cells_not_closed c.test.result c.test.ensures c.closed.ensures c.in_err-closed.was)
 
 pub returns : goal.returns
-returns c = cells_read c.test.result c.test.ensures c.closed.ensures c.in_ok-closed.was c.read_closed.ensures
+returns c = rw c.from.ensures at (cells_read c.test.result c.test.ensures c.closed.ensures c.in_ok-closed.was c.read_closed.ensures)

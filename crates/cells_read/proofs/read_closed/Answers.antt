@@ -2,6 +2,9 @@ use Rattle.cells_read.proofs.Reading.{reading}
 use Rattle.cells_read.proofs.read_closed.Goals as goal
 use Rattle.cells_read.proofs.read_closed.Goals.{then-bytes-many-via-then-bytes-many, then-bytes-many-via-else-bytes-many+then-held-many}
 
+pub returns-then-not-has : goal.returns-then-not-has
+returns-then-not-has c = search reading
+
 pub returns-then-end-tick : goal.returns-then-end-tick
 returns-then-end-tick c = search reading
 

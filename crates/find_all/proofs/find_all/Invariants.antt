@@ -5,4 +5,4 @@ use Rattle.find_all.proofs.find_all.Given as goal
 
 abbrev pub invariant-loop-i : goal.invariant-loop-i
 invariant-loop-i l =
-    Turning l.state (held l.lent) l.queries l.fn.answers l.answers l.fn.numbers l.numbers l.most l.i l.used
+    Turning l.state (held l.lent) l.kind l.queries l.fn.answers l.answers l.fn.numbers l.numbers l.most l.i l.used

@@ -9,4 +9,4 @@ returns-in_err-closed c =
     rw (p.1, p.2) (find_not_closed c.test.result c.test.ensures c.closed.ensures c.in_err-closed.was)
 
 pub returns : goal.returns
-returns c = find_found c.test.result c.test.ensures c.closed.ensures c.in_ok-closed.was c.find_closed.ensures
+returns c = find_found c.test.result c.test.ensures c.closed.ensures c.in_ok-closed.was (rw c.from.ensures at c.find_closed.ensures)

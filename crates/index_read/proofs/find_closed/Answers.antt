@@ -1,5 +1,8 @@
-use Rattle.index_read.proofs.Finding.{finding}
+use Rattle.index_read.proofs.Finding.{finding, find_25}
 use Rattle.index_read.proofs.find_closed.Goals as goal
+
+pub returns-then-not-has : goal.returns-then-not-has
+returns-then-not-has c = find_25 c.kinds.ensures c.has.ensures c.if-not-has.true
 
 pub returns-then-tree-tick : goal.returns-then-tree-tick
 returns-then-tree-tick c = search finding

@@ -1,7 +1,7 @@
--- The tree is not that of the blocks.
+-- The trees are not those of the blocks.
 use native.Mathlib.Omega.{arith}
 use Rattle.index_test.proofs.Tested.{closing}
 use Rattle.index_test.proofs.test_closed.Goals as goal
 
-pub returns-else-test_tree : goal.returns-else-test_tree
-returns-else-test_tree c = search (closing, arith)
+pub returns-else-test_trees : goal.returns-else-test_trees
+returns-else-test_trees c = search (closing, arith)

@@ -9,4 +9,4 @@ returns-in_err-closed c =
     rw (p.1, p.2) (found_not_closed c.args.state c.closed.ensures c.in_err-closed.was)
 
 pub returns : goal.returns
-returns c = found_closed c.args.state c.closed.ensures c.in_ok-closed.was c.find_closed.ensures
+returns c = found_closed c.args.state c.closed.ensures c.in_ok-closed.was (rw c.from.ensures at c.find_closed.ensures)

@@ -9,4 +9,4 @@ returns-in_err-closed c =
     rw (p.1, p.2) (cells_not_closed c.args.state c.closed.ensures c.in_err-closed.was)
 
 pub returns : goal.returns
-returns c = cells_taken c.args.state c.closed.ensures c.in_ok-closed.was c.read_closed.ensures
+returns c = cells_taken c.args.state c.closed.ensures c.in_ok-closed.was (rw c.from.ensures at c.read_closed.ensures)

@@ -9,4 +9,4 @@ returns-in_err-closed c =
     rw (p.1, p.2) (touching_refused c.args.state c.closed.ensures c.in_err-closed.was)
 
 pub returns : goal.returns
-returns c = touching_taken c.args.state c.closed.ensures c.in_ok-closed.was c.touching_closed.ensures
+returns c = touching_taken c.args.state c.closed.ensures c.in_ok-closed.was (rw c.from.ensures at c.touching_closed.ensures)

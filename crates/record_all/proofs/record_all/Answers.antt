@@ -22,7 +22,7 @@ pub record_one-requires : goal.record_one-requires
 record_one-requires c = turn_room c.loop-count.invariant c.loop-count-test.true
 
 pub loop-count-preserved : goal.loop-count-preserved
-loop-count-preserved c = turn_on c.loop-count.invariant c.in-Some.ensures c.loop-count-test.true c.record_one.ensures
+loop-count-preserved c = turn_on c.loop-count.invariant c.in-Some.ensures c.loop-count-test.true (rw c.from.ensures at c.record_one.ensures)
 
 pub returns : goal.returns
 returns c = turn_full c.loop-count.invariant c.loop-count-test.false

@@ -17,5 +17,5 @@ returns c =
       | then-loop-seen-test+in-Some+then-not-starts_below w ↦
           survey_right c.get-count.ensures c.loop-seen.invariant (rw w.in-Some.is at w.search_next.ensures) (rw c.saturating_add-end.ensures at w.starts_below.ensures) w.if-not-starts_below.true c.report.ensures
       | then-loop-seen-test+in-Some+else-not-starts_below+then-next-seen w ↦
-          survey_stuck c.get-count.ensures c.loop-seen.invariant (rw w.in-Some.is at w.search_next.ensures) w.read-piece.ensures w.end-next.ensures w.if-next-seen.true
+          survey_stuck c.get-count.ensures c.loop-seen.invariant (rw w.in-Some.is at w.search_next.ensures) w.read-piece.ensures w.end-next.ensures (rw c.saturating_add-end.ensures at w.starts_below.ensures) w.if-not-starts_below.false w.if-next-seen.true
     ]

@@ -6,7 +6,7 @@ use Rattle.touching.proofs.near.Goals as goal
 pub returns-in_err-closed : goal.returns-in_err-closed
 returns-in_err-closed c =
     let p = err_from_is_err_and c.from_residual.result c.from_residual.ensures.1 in
-    rw (p.1, p.2) (near_refused _ _ _ _ _ _ _ c.test.result c.test.ensures c.closed.ensures c.args.side c.in_err-closed.was)
+    rw (p.1, p.2) (near_refused _ _ _ _ _ _ _ _ c.test.result c.test.ensures c.closed.ensures c.args.side c.in_err-closed.was)
 
 pub returns : goal.returns
-returns c = near_taken _ _ _ _ _ _ _ c.test.result c.test.ensures c.closed.ensures _ c.args.side c.in_ok-closed.was c.near_closed.ensures
+returns c = near_taken _ _ _ _ _ _ _ _ c.test.result c.test.ensures c.closed.ensures _ c.args.side c.in_ok-closed.was (rw c.from.ensures at c.near_closed.ensures)

@@ -3,7 +3,7 @@ use Rattle.board_lines.proofs.Recording.{turn_first, turn_inside, turn_forward, 
 use Rattle.board_lines.proofs.records.record_all.Goals as goal
 
 pub loop-record-init : goal.loop-record-init
-loop-record-init c = turn_first _ _ _ _ _
+loop-record-init c = turn_first _ _ _ _ _ _
 
 pub slice_bounds-op-count : goal.slice_bounds-op-count
 slice_bounds-op-count c = turn_forward c.loop-record.invariant (rw c.in-Some-Ok.field-0-is at c.in-Some-Ok.ensures)

@@ -1,12 +1,11 @@
 -- each run goes on where what is shown so far ends
 use Rattle.std.proofs.Common.{List, ℕ, ◌-◌, ◌≤◌}
-use Rattle.tables.specs.Columns.{block_column, head_kind}
 use Rattle.cells_read.specs.Shows.{Shown}
 use Rattle.cells_read.proofs.show.show.Given as goal
 
 abbrev pub invariant-loop-place : goal.invariant-loop-place
 invariant-loop-place l =
-    let shown = Shown l.closed.blocks.now l.store l.closed.nodes.now l.closed.entries.now (block_column l.closed.blocks.now 0 head_kind) l.tick l.start l.end in
+    let shown = Shown l.closed.blocks.now l.store l.closed.nodes.now l.closed.entries.now l.kind l.tick l.start l.end in
     record {
       from : l.start ≤ l.place;
       within : l.place ≤ l.end;

@@ -3,4 +3,4 @@ use Rattle.file_put.proofs.Laying.{ListedTo}
 use Rattle.file_nodes.proofs.numbers.put_living.Given as goal
 
 abbrev pub invariant-loop-k : goal.invariant-loop-k
-invariant-loop-k l = ListedTo l.blocks l.fn.out l.at l.k l.out l.next
+invariant-loop-k l = ListedTo l.blocks l.kind l.fn.out l.at l.k l.out l.next

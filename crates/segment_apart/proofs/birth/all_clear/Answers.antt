@@ -11,7 +11,7 @@ use Rattle.segment_apart.proofs.birth.all_clear.Goals as goal
 
 pub returns : goal.returns
 returns c =
-    let told : Bool → ℕ → Type 0 = Told c.args.claim.now.tables.blocks.now c.args.claim.now.tables.nodes.now c.args.claim.now.tables.entries.now c.args.claim.now.kind c.args.claim.now.end in
+    let told : Bool → ℕ → Type 0 = Told c.args.claim.now.tables.blocks.now c.args.claim.now.tables.nodes.now c.args.claim.now.tables.entries.now c.args.claim.now.end in
     clear_told
     (cases_from_all _ _ _ (told true) (told false) c.all.ensures.ran (YieldsList-from_range 0 c.args.claim.now.n c.args.claim.now.n refl (omega arith))
     (λ x q k. search (rules, tests)) (λ x q k. search (rules, tests)))

@@ -1,9 +1,12 @@
 use native.Mathlib.Omega.{arith}
-use Rattle.segment_handed.proofs.Holding.{run_starts, run_passes, run_holds}
+use Rattle.segment_handed.proofs.Holding.{run_starts, run_done, run_passes, run_holds}
 use Rattle.segment_handed.proofs.Walk.hold_run.Goals as goal
 
 pub loop-row-init : goal.loop-row-init
 loop-row-init c = run_starts {rows = c.rows_of-rows.result}
+
+pub returns : goal.returns
+returns c = rw c.rows_of-rows.ensures at (run_done {rows = c.rows_of-rows.result} (omega arith) c.loop-row.invariant)
 
 pub loop-row-preserved-then-read-node-2 : goal.loop-row-preserved-then-read-node-2
 loop-row-preserved-then-read-node-2 c =

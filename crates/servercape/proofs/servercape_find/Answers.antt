@@ -1,7 +1,0 @@
--- `servercape::servercape_find` meets its contract: what the call behind answers, by its number. Assumes nothing.
-use Rattle.index_read.specs.Answers.{counts_given}
-use Rattle.servercape.proofs.Answering.{by_number}
-use Rattle.servercape.proofs.servercape_find.Goals as goal
-
-pub returns : goal.returns
-returns c = by_number counts_given c.find-asked.result c.find-asked.ensures c.found.ensures

@@ -1,6 +1,0 @@
--- `servercape::servercape_open` meets its contract: what the call behind answers, by its number. Assumes nothing.
-use Rattle.servercape.proofs.Answering.{by_done}
-use Rattle.servercape.proofs.servercape_open.Goals as goal
-
-pub returns : goal.returns
-returns c = by_done c.open.result c.open.ensures c.done.ensures
