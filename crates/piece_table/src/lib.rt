@@ -121,18 +121,13 @@ pub fn remove_piece(table: &mut [u64], link: u64)
 }
 
 // Whether so many cells of a kind from `first` on end after another kind's cell. It subtracts and does not add: in tables that nobody has tested the sum may
-// pass 2^64.
+// pass 2^64. The cells are compared before the kinds are, so that the loop of the seek has no branch to guess.
 #[tactic(auto, using(crate::proofs::Seeking::ending))]
 fn ends_past(owner: u64, first: u64, length: u64, kind: u64, cell: u64) -> bool
     ensures { EndsPast owner first length kind cell result }
 {
-    if owner != kind {
-        return kind < owner;
-    }
-    if cell < first {
-        return true;
-    }
-    cell - first < length
+    let own = cell < first || cell - first < length;
+    if owner == kind { own } else { kind < owner }
 }
 
 // Whether the piece of a link ends after a kind's cell.

@@ -1,21 +1,23 @@
 -- Adding a life at a node, by where it begins and ends there: the model's add_location, or the rows are spent. Assumes nothing.
 use mathlib.Core.Path.{◌≡◌, refl, sym, ◌∙◌}
+use mathlib.Core.Logic.{◌⊎◌, inl, inr, ⊎_elim}
 use mathlib.Core.Bool.{Bool, true, false, true≢false, false≢true, cond, not}
 use mathlib.Core.List.{List, []}
-use Prim.Native.Nat.{ℕ, zero, suc, ◌+◌, ◌-◌, ◌*◌, ◌^◌, ◌≤◌, ◌<◌}
+use Prim.Native.Nat.{ℕ, zero, suc, ◌+◌, ◌-◌, ◌^◌, ◌≤◌, ◌<◌}
 use native.Mathlib.Omega.{arith}
-use lib.ListN.{length, set}
+use lib.ListN.{length}
 use lib.Dec.{ltb}
 use borrow.Author.Tests.{lt-ltb, le-ltb}
-use Rattle.history.specs.Lent.{row_width}
+use Rattle.lists.proofs.Numbers.{lt_or_le}
+use Rattle.history.specs.Lent.{row_width, node_head}
 use Rattle.history.specs.Tree.{Tree, hole, node, mid, covers, entries_of, left_of, right_of, insert, add_location, node_count}
 use Rattle.history.proofs.TreeAdding.{made, listed, half_left, half_right, add_here, add_below, add_narrow, Half, went, kept, add_by}
 use Rattle.history.proofs.TreeInserting.{insert-length}
 use Rattle.history.proofs.TreeCounts.{node_count_add}
-use Rattle.tables.specs.Columns.{node_left, node_right, node_entries}
-use Rattle.tables.specs.Sums.{most, plus_up_to}
-use Rattle.segment_table.specs.Closed.{nodes_used, count_at}
-use Rattle.segment_tree.specs.Count.{rows_in, fullest, CountAt, Life, Spot, spot, spot_in, half_on, link_at, Standing, Grown, Outcome, Added, Reached, was_there, new_row, no_row_lem}
+use Rattle.tables.specs.Columns.{node_left, node_right}
+use Rattle.tables.specs.Sums.{most}
+use Rattle.segment_table.specs.Closed.{nodes_used}
+use Rattle.segment_tree.specs.Count.{rows_in, fullest, CountAt, Life, Spot, spot, spot_in, half_on, link_at, Standing, Grown, Outcome, Added, Bumped, Reached, was_there, new_row, no_parent, no_row_lem}
 use Rattle.segment_tree.proofs.Presence.{new_hole}
 use Rattle.segment_tree.proofs.Growing.{grown-none, standing_grown, grown_trans, made_link, grown_new, grown_entry, left_stands, right_stands, grown_left, grown_right}
 
@@ -94,9 +96,11 @@ entered t t₁ s link hole some (new_row z room is e) stands =
     let g : Grown t t₁ s hole (node [] hole hole) = rw e (grown_new t s stands room) in
     record { grown = g; it = rw e (made_link t s stands room ∙ sym is); stands = standing_grown t s hole stands t₁ (node [] hole hole) g }
 entered t t₁ s link hole some (no_row_lem a b z e) stands = absurd (some z)
+entered t t₁ s link hole some (no_parent a z e) stands = absurd (some z)
 entered t t₁ s link (node xs l r) some (was_there a b e) stands = rw e (record { grown = grown-none t s (node xs l r) stands; it = sym b; stands = stands })
 entered t t₁ s link (node xs l r) some (new_row z room is e) stands = absurd (omega (arith, stands.here.0.some))
 entered t t₁ s link (node xs l r) some (no_row_lem a b z e) stands = absurd (some z)
+entered t t₁ s link (node xs l r) some (no_parent a z e) stands = absurd (some z)
 
 pub add_spent : {t t₁ : List ℕ} {s : Spot} {life : Life} {link : ℕ} → Reached t t₁ s link → link ≡ 0 → Added t t₁ s life false
 unfolding CountAt node_count
@@ -108,6 +112,16 @@ add_spent {t} {t₁} {s} {life} (no_row_lem a b c e) z = record { done = λ key 
         → Outcome t t₁ s false T (add_location key n x life.created life.destroyed s.lo s.hi T)
     go key n x hole w stands = short (omega (arith, nodes_some key x life.created life.destroyed n s.lo s.hi))
     go key n x (node xs l r) w stands = absurd (omega (arith, stands.here.0.some))
+add_spent {t} {t₁} {s} {life} (no_parent a c e) z = record { done = λ key n x T w few stands. go key n x T stands (lt_or_le (length t) node_head) }
+  where
+    low : {T : Tree} → Standing t s T → s.col < row_width
+    low stands = ⊎_elim (λ h. omega (arith, stands.at_root (omega arith))) (λ h. omega (arith, (stands.at_half h).1)) (lt_or_le s.parent 1)
+
+    go : (key : ℕ → ℕ) (n x : ℕ) (T : Tree) → Standing t s T → (length t < node_head) ⊎ (node_head ≤ length t)
+        → Outcome t t₁ s false T (add_location key n x life.created life.destroyed s.lo s.hi T)
+    go key n x hole stands (inl h) = short (omega (arith, stands.inside, nodes_some key x life.created life.destroyed n s.lo s.hi))
+    go key n x (node xs l r) stands (inl h) = absurd (omega (arith, stands.inside, stands.here.0.some, stands.here.0.used))
+    go key n x T stands (inr h) = absurd (omega (arith, a h (low stands), stands.parent_used, stands.inside))
 
 -- ── one step after another ──
 
@@ -121,12 +135,13 @@ outcome_after t t₁ t₂ s T X Y r stands g o = record {
 -- ── the node itself ──
 
 pub add_covered : {t t₁ t₂ : List ℕ} {s : Spot} {life : Life} {link : ℕ} → Reached t t₁ s link → (link ≡ 0 → ⊥)
-    → covers life.created life.destroyed s.lo s.hi ≡ true → t₂ ≡ set t₁ (row_width * link + node_entries) (plus_up_to (count_at t₁ link) 1)
-    → Added t t₂ s life true
-add_covered {t} {t₁} {t₂} {s} {life} {link} reached some covered is = record {
+    → covers life.created life.destroyed s.lo s.hi ≡ true → Bumped t₁ t₂ link → Added t t₂ s life true
+unfolding CountAt
+add_covered {t} {t₁} {t₂} {s} {life} {link} reached some covered bumped = record {
   done = λ key n b T w few stands.
       let e = entered t t₁ s link T some reached stands in
       let own : length (entries_of T) < most = omega (arith, fewer_in T) in
+      let is = bumped.is (omega arith) (omega (arith, e.it, e.stands.here.0.used, e.stands.inside)) in
       rw (add_here key b life.created life.destroyed s.lo s.hi T n covered)
       (enough (grown_trans t s T stands t₁ (made T) e.grown t₂ (listed key b T)
       (grown_entry t₁ s link (entries_of T) (insert key b (entries_of T)) (left_of T) (right_of T) e.stands e.it own (insert-length key b (entries_of T)) t₂ is)));

@@ -4,17 +4,13 @@ use mathlib.Core.Path.{◌≡◌, ap, sym, ◌∙◌}
 use mathlib.Core.Logic.{◌⊎◌, inl, inr}
 use mathlib.Core.Bool.{Bool, true, false, true≢false, cond, not}
 use mathlib.Core.List.{List}
-use Prim.Native.Nat.{ℕ, ◌+◌, ◌*◌, ◌≤◌, ◌<◌}
+use Prim.Native.Nat.{ℕ, ◌+◌, ◌≤◌, ◌<◌}
 use native.Mathlib.Omega.{arith}
-use lib.ListN.{set}
 use borrow.Author.Tests.{ltb-true, ltb-false}
-use Rattle.history.specs.Lent.{row_width}
 use Rattle.history.specs.Tree.{mid, halves, covers}
 use Rattle.history.proofs.TreeAdding.{covers_yes, covering, all, part}
-use Rattle.tables.specs.Columns.{node_left, node_entries}
-use Rattle.tables.specs.Sums.{plus_up_to}
-use Rattle.segment_table.specs.Closed.{count_at}
-use Rattle.segment_tree.specs.Count.{Life, Spot, spot, spot_in, left_half, right_half, half_on, meets, Added, AddedAt, Whole, AddedWhole, Lasts, Splits, Reached}
+use Rattle.tables.specs.Columns.{node_left}
+use Rattle.segment_tree.specs.Count.{Bumped, Life, Spot, spot, spot_in, left_half, right_half, half_on, meets, Added, AddedAt, Whole, AddedWhole, Lasts, Splits, Reached}
 use Rattle.segment_tree.specs.declared.Span.{Span}
 use Rattle.segment_tree.specs.declared.Place.{Place}
 use Rattle.segment_tree.proofs.Adding.{Parted, Goes, Stays, add_spent, add_covered, add_narrowest, add_neither, add_one, add_one_spent, add_both}
@@ -44,7 +40,7 @@ module _ {t : List ℕ} {kind link : ℕ} {span : Span} {life : Life} where
   at_spent z = record { from = λ before parent col r. add_spent r z }
 
   module _ (some : link ≡ 0 → ⊥) where
-    pub at_covered : {t₂ : List ℕ} → covers life.created life.destroyed span.lo span.hi ≡ true → t₂ ≡ set t (row_width * link + node_entries) (plus_up_to (count_at t link) 1)
+    pub at_covered : {t₂ : List ℕ} → covers life.created life.destroyed span.lo span.hi ≡ true → Bumped t t₂ link
         → AddedAt t t₂ kind link span.lo span.hi life true
     at_covered e is = record { from = λ before parent col r. add_covered r some e is }
 
@@ -78,8 +74,7 @@ module _ {t : List ℕ} {kind link : ℕ} {span : Span} {life : Life} where
 pub whole_spent : {t t₁ : List ℕ} {s : Spot} {link : ℕ} → Reached t t₁ s link → link ≡ 0 → AddedWhole t t₁ s false
 whole_spent reached z = record { each = λ life w. add_spent reached z }
 
-pub whole_more : {t t₁ t₂ : List ℕ} {s : Spot} {link : ℕ} → Reached t t₁ s link → (link ≡ 0 → ⊥) → t₂ ≡ set t₁ (row_width * link + node_entries) (plus_up_to (count_at t₁ link) 1)
-    → AddedWhole t t₂ s true
+pub whole_more : {t t₁ t₂ : List ℕ} {s : Spot} {link : ℕ} → Reached t t₁ s link → (link ≡ 0 → ⊥) → Bumped t₁ t₂ link → AddedWhole t t₂ s true
 whole_more {s} reached some is = record {
   each = λ life w. add_covered reached some (covers_yes life.created life.destroyed s.lo s.hi w.from w.to) is;
 }
@@ -97,7 +92,7 @@ module _ {t₀ t : List ℕ} {kind top lo₀ hi₀ link : ℕ} {span : Span} {li
   down_none z = u.rest t false (at_spent z)
 
   module _ (some : link ≡ 0 → ⊥) {q : Bool} (asked : q ≡ covers life.created life.destroyed span.lo span.hi) where
-    pub down_covered : q ≡ true → {t₂ : List ℕ} → t₂ ≡ set t (row_width * link + node_entries) (plus_up_to (count_at t link) 1) → AddedAt t₀ t₂ kind top lo₀ hi₀ life true
+    pub down_covered : q ≡ true → {t₂ : List ℕ} → Bumped t t₂ link → AddedAt t₀ t₂ kind top lo₀ hi₀ life true
     down_covered e {t₂} is = u.rest t₂ true (at_covered some (sym asked ∙ e) is)
 
     module _ (misses : q ≡ false) {h : Bool} (split : h ≡ halves span.lo span.hi) where
@@ -181,7 +176,7 @@ module _ {to_end : Bool} {t₀ t : List ℕ} {kind top : ℕ} {whole : Span} {li
   way_none z = u.down.rest t false (at_spent z)
 
   module _ (some : link ≡ 0 → ⊥) {q : Bool} (asked : q ≡ covers life.created life.destroyed span.lo span.hi) where
-    pub way_covered : q ≡ true → {t₂ : List ℕ} → t₂ ≡ set t (row_width * link + node_entries) (plus_up_to (count_at t link) 1) → AddedAt t₀ t₂ kind top whole.lo whole.hi life true
+    pub way_covered : q ≡ true → {t₂ : List ℕ} → Bumped t t₂ link → AddedAt t₀ t₂ kind top whole.lo whole.hi life true
     way_covered e {t₂} is = u.down.rest t₂ true (at_covered some (sym asked ∙ e) is)
 
     module _ (misses : q ≡ false) {pair : Place × Place} (halved : pair ≡ (half_on to_end span, half_on (not to_end) span)) {m : Bool} (meet : m ≡ meets to_end life pair.1.span) where

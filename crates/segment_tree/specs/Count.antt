@@ -2,8 +2,8 @@
 use Rattle.std.specs.Prelude.{◌≡◌, Bool, true, false, cond, List, ℕ, zero, suc, ◌+◌, ◌-◌, ◌*◌, ◌/◌, ◌^◌, ◌≤◌, ◌<◌, max, length, set, ltb}
 use Rattle.history.specs.Lent.{row_width, node_head}
 use Rattle.history.specs.Tree.{Tree, hole, node, mid, covers, add_location, node_count, entry_count}
-use Rattle.tables.specs.Columns.{column, node_min, node_max, node_left, node_right, node_kind, nodes_count}
-use Rattle.tables.specs.Sums.{most}
+use Rattle.tables.specs.Columns.{column, node_min, node_max, node_left, node_right, node_entries, node_kind, nodes_count}
+use Rattle.tables.specs.Sums.{most, plus_up_to}
 use Rattle.segment_table.specs.Closed.{nodes_used, left_at, right_at, count_at}
 use Rattle.segment_tree.specs.declared.Life.{Life as CodeLife}
 use Rattle.segment_tree.specs.declared.Span.{Span}
@@ -177,11 +177,16 @@ with_node nodes s =
     set (set (set (set (set nodes (row_width * 0 + nodes_count) link) (row_width * s.parent + s.col) link) (row_width * link + node_min) s.lo)
     (row_width * link + node_max) s.hi) (row_width * link + node_kind) s.kind
 
--- the link of the node there, made if there was none and a row was left
+-- the link of the node there, made if there was none and a row was left; none without a parent
 pub data Reached (nodes nodes' : List ℕ) (s : Spot) (link : ℕ) : Type 0 where
   was_there : (link ≡ 0 → ⊥) → link ≡ link_at nodes s → nodes' ≡ nodes → Reached nodes nodes' s link
   new_row : link_at nodes s ≡ 0 → nodes_used nodes < rows_in nodes → link ≡ nodes_used nodes + 1 → nodes' ≡ with_node nodes s → Reached nodes nodes' s link
+  no_parent : (node_head ≤ length nodes → s.col < row_width → rows_in nodes < s.parent) → link ≡ 0 → nodes' ≡ nodes → Reached nodes nodes' s link
   no_row_lem : link_at nodes s ≡ 0 → rows_in nodes ≤ nodes_used nodes → link ≡ 0 → nodes' ≡ nodes → Reached nodes nodes' s link
+
+-- one entry more in the node of a link, if it is one of the table's
+pub record Bumped (nodes nodes' : List ℕ) (link : ℕ) : Type 0 where
+  pub is : 0 < link → link ≤ rows_in nodes → nodes' ≡ set nodes (row_width * link + node_entries) (plus_up_to (count_at nodes link) 1)
 
 -- ── at a node that is reached ──
 

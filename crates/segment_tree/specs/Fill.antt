@@ -11,6 +11,7 @@ use Rattle.segment_table.specs.Closed.{Tables, Closed, nodes_used, left_at, righ
 use Rattle.segment_table.specs.Alone.{TreeAlone}
 use Rattle.entry_sort.specs.Rows.{sort_rows}
 use Rattle.entry_sort.specs.Sorts.{entry_rows}
+use Rattle.segment_tree.specs.declared.Place.{Place}
 use Rattle.segment_tree.specs.Count.{rows_in, entries_to, all_entries, CountRow, Life, spot, Outside, Whole}
 use Rattle.segment_tree.specs.Runs.{LikeButRuns, AssignedRuns}
 use Rattle.segment_tree.specs.Lives.{Owned, owned_of, block_life, Counted, entry_rows_in}
@@ -100,6 +101,16 @@ with_entry entries row b cell = set (set entries (entry_head + (entry_width * ro
 pub record WroteEntry (nodes entries nodes' entries' : List ℕ) (link b cell : ℕ) : Type 0 where
   pub nodes_are : nodes' ≡ with_next nodes link
   pub entries_are : entries' ≡ with_entry entries (first_at nodes link) b cell
+
+-- .. if the tables have the node's row and that place; else nothing
+pub data PutEntry (nodes entries nodes' entries' : List ℕ) (link b cell : ℕ) : Type 0 where
+  put : WroteEntry nodes entries nodes' entries' link b cell → PutEntry nodes entries nodes' entries' link b cell
+  no_place : (0 < link → link ≤ rows_in nodes → entry_rows_in entries ≤ first_at nodes link) → nodes' ≡ nodes → entries' ≡ entries
+      → PutEntry nodes entries nodes' entries' link b cell
+
+-- the link at a place in the row of `link`, if it is one of the table's
+pub record HalfRead (nodes : List ℕ) (link : ℕ) (p : Place) (next : ℕ) : Type 0 where
+  pub is : 0 < link → link ≤ rows_in nodes → p.col < row_width → next ≡ column nodes link p.col
 
 -- ── all blocks ──
 

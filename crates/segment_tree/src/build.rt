@@ -1,48 +1,68 @@
 // Building the trees in the node table: each life goes down from the root of its kind, nodes are made, entries are counted.
-ghost use Rattle.std.specs.Prelude.{◌≡◌, map, ◌+◌, ◌*◌, ◌<◌, set};
+ghost use Rattle.std.specs.Prelude.{◌≡◌, map, ◌+◌, ◌≤◌, ◌<◌, length};
 ghost use Rattle.lists.specs.Lists.{count_from};
-ghost use Rattle.history.specs.Lent.{row_width};
-ghost use Rattle.tables.specs.Columns.{node_entries};
-ghost use Rattle.tables.specs.Sums.{plus_up_to};
-ghost use Rattle.segment_table.specs.Closed.{count_at};
-ghost use Rattle.segment_tree.specs.Count.{spot_in, Reached, Added, AddedAt, AddedWhole, Lasts, Splits};
+ghost use Rattle.history.specs.Lent.{row_width, node_head};
+ghost use Rattle.tables.specs.Columns.{column};
+ghost use Rattle.segment_tree.specs.Count.{rows_in, spot_in, Bumped, Reached, Added, AddedAt, AddedWhole, Lasts, Splits};
 ghost use Rattle.segment_tree.specs.Lives.{block_life, piece_life, root_spot, AddedRows, rows_to_count, CountedTrees};
 
 use crate::{Life, Owned, Place, Span};
 use refusals::Refusal;
-use tables::{entry, node};
+use tables::{ROW, entry, node};
 
-// One entry more in the node of `link`.
+// One entry more in the node of `link`, where the table has its row. One test a row, here and below: that is most of what the ways down do.
+#[inline(always)]
 fn bump(nodes: &mut [u64], link: u64)
-    ensures { nodes.new ≡ set nodes.old (row_width * link + node_entries) (plus_up_to (count_at nodes.old link) 1) }
+    ensures { Bumped nodes.old nodes.new link }
 {
-    let count = tables::get(nodes, link, node::ENTRIES);
-    tables::put(nodes, link, node::ENTRIES, count.saturating_add(1));
+    let row = link as usize;
+    if row < nodes.len() / ROW {
+        let count = nodes[ROW * row + node::ENTRIES];
+        nodes[ROW * row + node::ENTRIES] = count.saturating_add(1);
+    }
 }
 
-// The node at a place in the row of `parent`, made where there is none; 0 if the rows are spent. A link and no Option, as it goes on as the parent of the next.
-fn reach(nodes: &mut [u64], parent: u64, place: Place, kind: u64) -> u64
+// A new node at a place in the row of `parent`; 0 if the rows are spent.
+#[inline(always)]
+fn make(nodes: &mut [u64], parent: usize, place: Place, kind: u64) -> u64
+    requires there { parent ≤ rows_in nodes.old × node_head ≤ length nodes.old × place.col < row_width }
+    requires free { column nodes.old parent place.col ≡ 0 }
     ensures { Reached nodes.old nodes.new (spot_in kind parent place) result }
 {
-    let there = tables::get(nodes, parent, place.col);
-    if there != 0 {
-        return there;
-    }
-    let used = tables::get(nodes, 0, node::COUNT);
+    let used = nodes[node::COUNT];
     if tables::rows(nodes.len(), node::HEAD) <= used {
         return 0;
     }
     let link = used + 1;
-    tables::put(nodes, 0, node::COUNT, link);
-    tables::put(nodes, parent, place.col, link);
-    tables::put(nodes, link, node::MIN, place.span.lo);
-    tables::put(nodes, link, node::MAX, place.span.hi);
-    tables::put(nodes, link, node::KIND, kind);
+    let row = link as usize;
+    nodes[node::COUNT] = link;
+    nodes[ROW * parent + place.col] = link;
+    nodes[ROW * row + node::MIN] = place.span.lo;
+    nodes[ROW * row + node::MAX] = place.span.hi;
+    nodes[ROW * row + node::KIND] = kind;
     link
+}
+
+// The node at a place in the row of `parent`, made where there is none; 0 if the rows are spent, or have no such parent. A link and no Option, as it goes on
+// as the parent of the next.
+#[inline(always)]
+fn reach(nodes: &mut [u64], parent: u64, place: Place, kind: u64) -> u64
+    ensures { Reached nodes.old nodes.new (spot_in kind parent place) result }
+{
+    let row = parent as usize;
+    if nodes.len() / ROW <= row || ROW <= place.col {
+        return 0;
+    }
+    let there = nodes[ROW * row + place.col];
+    if there != 0 {
+        return there;
+    }
+    make(nodes, row, place, kind)
 }
 
 // One entry more in the node at a place in the row of `parent`. False if the rows are spent, here and below.
 #[tactic(auto, using(crate::proofs::Ways::whole_node))]
+#[inline(always)]
 fn add_whole(nodes: &mut [u64], parent: u64, place: Place, kind: u64) -> bool
     ensures { AddedWhole nodes.old nodes.new (spot_in kind parent place) result }
 {
@@ -55,8 +75,10 @@ fn add_whole(nodes: &mut [u64], parent: u64, place: Place, kind: u64) -> bool
 }
 
 // Adds a life that lasts over the end of the node of `from`, or from its beginning on, at this node, which was reached last. Where it meets both halves of
-// a node, it covers the one at that end. No `for` goes down: the row says which node is next.
+// a node, it covers the one at that end. No `for` goes down: the row says which node is next. It stays a call, so that its loop has the registers for
+// itself.
 #[tactic(auto, using(crate::proofs::Ways::one_way))]
+#[inline(never)]
 fn add_way<const TO_END: bool>(
     nodes: &mut [u64],
     from: u64,

@@ -1,10 +1,10 @@
 // Closing the counted trees: each node gets its run of the entry table, the blocks fill the runs in recorded order, and each run is sorted.
 ghost use Rattle.segment_tree.specs.Count.{Lasts, Splits};
 ghost use Rattle.segment_tree.specs.Runs.{AssignedRuns};
-ghost use Rattle.segment_tree.specs.Fill.{WroteEntry, Written, WrittenWhole, WrittenAll, ClosedRuns, lent_tables, ClosedTrees};
+ghost use Rattle.segment_tree.specs.Fill.{HalfRead, PutEntry, Written, WrittenWhole, WrittenAll, ClosedRuns, lent_tables, ClosedTrees};
 
-use crate::{Life, Owned, Span};
-use tables::{block, entry, node};
+use crate::{Life, Owned, Place, Span};
+use tables::{ROW, block, entry, node};
 
 // Gives each of the rows 1 to n its run, in row order, and returns how many entries they have. The counts stay, so that runs can be given out
 // again when they are filled.
@@ -28,18 +28,38 @@ struct Entry {
     key: u64,
 }
 
-// An entry at the next free place of the node of `link`.
-fn write_entry(nodes: &mut [u64], entries: &mut [u64], link: u64, entry: Entry)
-    ensures { WroteEntry nodes.old entries.old nodes.new entries.new link entry.block entry.key }
+// The link of a half of the node of `link`; 0 where the table has no such row. One test a row here and below, as in `build`.
+#[inline(always)]
+fn half(nodes: &[u64], link: u64, place: Place) -> u64
+    ensures { HalfRead nodes.now link place result }
 {
-    let row = tables::get(nodes, link, node::FIRST);
-    entry::put(entries, row, entry::BLOCK, entry.block);
-    entry::put(entries, row, entry::KEY, entry.key);
-    tables::put(nodes, link, node::FIRST, row.saturating_add(1));
+    let row = link as usize;
+    if row < nodes.len() / ROW && place.col < ROW {
+        return nodes[ROW * row + place.col];
+    }
+    0
+}
+
+// An entry at the next free place of the node of `link`, where the tables have its row and the place.
+#[inline(always)]
+fn write_entry(nodes: &mut [u64], entries: &mut [u64], link: u64, entry: Entry)
+    ensures { PutEntry nodes.old entries.old nodes.new entries.new link entry.block entry.key }
+{
+    let row = link as usize;
+    if row < nodes.len() / ROW {
+        let next = nodes[ROW * row + node::FIRST];
+        if next < entry::rows(entries) {
+            let at = next as usize;
+            entries[entry::HEAD + (entry::WIDTH * at + entry::BLOCK)] = entry.block;
+            entries[entry::HEAD + (entry::WIDTH * at + entry::KEY)] = entry.key;
+            nodes[ROW * row + node::FIRST] = next + 1;
+        }
+    }
 }
 
 // An entry in the node of `link`, if there is one.
 #[tactic(auto, using(crate::proofs::WritingWays::whole_node))]
+#[inline(always)]
 fn write_whole(nodes: &mut [u64], entries: &mut [u64], link: u64, entry: Entry)
     ensures { WrittenWhole nodes.old entries.old nodes.new entries.new link entry.block entry.key }
 {
@@ -50,6 +70,8 @@ fn write_whole(nodes: &mut [u64], entries: &mut [u64], link: u64, entry: Entry)
 
 // Writes an entry into the nodes from that of `from` on that list it, where its life lasts over the end of this node, or from its beginning on. It goes the
 // way of `build::add_way`, as far, by a loop as there; but no node is made here, so that nothing can fail, and one function for both would carry a failure.
+// It stays a call, as there.
+#[inline(never)]
 fn write_way<const TO_END: bool>(
     nodes: &mut [u64],
     entries: &mut [u64],
@@ -69,10 +91,10 @@ fn write_way<const TO_END: bool>(
             return;
         }
         let (sure, other) = span.sides::<TO_END>();
-        let next = tables::get(nodes, link, sure.col);
+        let next = half(nodes, link, sure);
         if life.meets::<TO_END>(other.span) {
             write_whole(nodes, entries, next, entry);
-            link = tables::get(nodes, link, other.col);
+            link = half(nodes, link, other);
             span = other.span;
         } else {
             link = next;
@@ -94,9 +116,9 @@ fn write_both(
     ensures { Written nodes.old entries.old nodes.new entries.new link span.lo span.hi life entry.block entry.key }
 {
     let (left, right) = span.halves();
-    let first = tables::get(nodes, link, left.col);
+    let first = half(nodes, link, left);
     write_way::<true>(nodes, entries, first, left.span, life, entry);
-    let second = tables::get(nodes, link, right.col);
+    let second = half(nodes, link, right);
     write_way::<false>(nodes, entries, second, right.span, life, entry);
 }
 
@@ -129,13 +151,13 @@ fn write_location(
                 write_both(nodes, entries, link, span, life, entry);
                 return;
             }
-            link = tables::get(nodes, link, left.col);
+            link = half(nodes, link, left);
             span = left.span;
         } else {
             if life.destroyed <= mid {
                 return;
             }
-            link = tables::get(nodes, link, right.col);
+            link = half(nodes, link, right);
             span = right.span;
         }
     }

@@ -3,4 +3,4 @@ use Rattle.segment_tree.proofs.close.write_both.Goals as goal
 
 pub returns : goal.returns
 returns c =
-    both_wrote c.requires c.halves.ensures c.get-first.ensures c.write_way.ensures c.get-second.ensures c.write_way-2.ensures
+    both_wrote c.requires c.halves.ensures c.half-first.ensures c.write_way.ensures c.half-second.ensures c.write_way-2.ensures

@@ -10,7 +10,7 @@ returns-then-mid-life c = c.loop-link.invariant.rest _ _ c.write_both.ensures
 
 pub loop-link-preserved-then-life-mid : goal.loop-link-preserved-then-life-mid
 loop-link-preserved-then-life-mid c =
-    onto_one c.loop-link.invariant c.loop-link-test.true c.covers.ensures c.if-covers.false c.has_halves.ensures c.if-not-has_halves.false c.halves.ensures false c.if-life-mid.true c.if-mid-life.false c.get-link.ensures
+    onto_one c.loop-link.invariant c.loop-link-test.true c.covers.ensures c.if-covers.false c.has_halves.ensures c.if-not-has_halves.false c.halves.ensures false c.if-life-mid.true c.if-mid-life.false c.half-link.ensures
 
 pub returns-then-life-mid-2 : goal.returns-then-life-mid-2
 returns-then-life-mid-2 c =
@@ -18,4 +18,4 @@ returns-then-life-mid-2 c =
 
 pub loop-link-preserved : goal.loop-link-preserved
 loop-link-preserved c =
-    onto_one c.loop-link.invariant c.loop-link-test.true c.covers.ensures c.if-covers.false c.has_halves.ensures c.if-not-has_halves.false c.halves.ensures true c.if-life-mid-2.false c.if-life-mid.false c.get-link-else-life-mid.ensures
+    onto_one c.loop-link.invariant c.loop-link-test.true c.covers.ensures c.if-covers.false c.has_halves.ensures c.if-not-has_halves.false c.halves.ensures true c.if-life-mid-2.false c.if-life-mid.false c.half-link-else-life-mid.ensures

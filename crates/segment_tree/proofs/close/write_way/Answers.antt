@@ -7,11 +7,11 @@ returns-then-covers_rest g c =
 
 pub loop-link-preserved-then-meets : goal.loop-link-preserved-then-meets
 loop-link-preserved-then-meets g c =
-    onto_way_other c.loop-link.invariant c.covers_rest.ensures c.if-covers_rest.false c.sides.ensures c.meets.ensures c.get-next.ensures c.if-meets.true c.write_whole.ensures c.get-link.ensures
+    onto_way_other c.loop-link.invariant c.covers_rest.ensures c.if-covers_rest.false c.sides.ensures c.meets.ensures c.half-next.ensures c.if-meets.true c.write_whole.ensures c.half-link.ensures
 
 pub loop-link-preserved : goal.loop-link-preserved
 loop-link-preserved g c =
-    onto_way_sure c.loop-link.invariant c.covers_rest.ensures c.if-covers_rest.false c.sides.ensures c.meets.ensures c.get-next.ensures c.if-meets.false
+    onto_way_sure c.loop-link.invariant c.covers_rest.ensures c.if-covers_rest.false c.sides.ensures c.meets.ensures c.half-next.ensures c.if-meets.false
 
 pub returns : goal.returns
 returns g c = onto_way_none c.loop-link.invariant c.loop-link-test.false
