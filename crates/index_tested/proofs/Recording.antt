@@ -15,7 +15,7 @@ use Rattle.history.specs.Sound.{Sound}
 use Rattle.history.proofs.EveryList.{record_sound}
 use Rattle.tables.specs.Columns.{head_state}
 use Rattle.layout.specs.Tables.{Tables, tables, head_at}
-use Rattle.layout.specs.Encodes.{Encodes, state_of, open_state}
+use Rattle.layout.specs.Encodes.{Encodes, state_of}
 use Rattle.layout.specs.Relations.{RecordLeaves}
 use Rattle.std.specs.Prelude.{Option, Ok, Err, Result as Told}
 use Rattle.refusals.specs.declared.Refusal.{Refusal}
@@ -34,18 +34,23 @@ use Rattle.index_tested.proofs.Keeping.{stands_open, stands_closed, kept_open, f
 
 -- ── the state stays ──
 
-same_state : (l : Ledger) (o : Operation) → state_of (record_by l o).trees ≡ state_of l.trees
-unfolding record_by
-same_state l o = refl
-
--- an open index stays open and well formed
-stays_open : (scratch : ℕ) (o : Operation) (t t' : Tables) (l : Ledger) → Encodes t l → Sound l → head_at t head_state ≡ open_state
-    → (a : Answer Result) → record_answer l scratch o ≡ a → RecordLeaves a l o t t' → StandsIn open_state t'
-stays_open scratch o t t' l e s h (accepted r) q left = record {
-  formed = record { ledger = record_by l o; encodes = left.0; sound = record_sound l scratch o q s };
-  state = left.0.state ∙ same_state l o ∙ sym e.state ∙ h;
+-- what a call leaves stands in the state of before, where it is a sound ledger with trees as before
+pub goes_on : {head : ℕ} {t t' : Tables} {l l' : Ledger} → Encodes t l → Encodes t' l' → Sound l' → state_of l'.trees ≡ state_of l.trees → head_at t head_state ≡ head
+    → StandsIn head t'
+goes_on {l' = l'} before after s same h = record {
+  formed = record { ledger = l'; encodes = after; sound = s };
+  state = after.state ∙ same ∙ sym before.state ∙ h;
 }
-stays_open scratch o t t' l e s h (refused n) q left = rw left (record { formed = record { ledger = l; encodes = e; sound = s }; state = h })
+
+record_state : (l : Ledger) (o : Operation) → state_of (record_by l o).trees ≡ state_of l.trees
+unfolding record_by
+record_state l o = refl
+
+-- so does what record leaves
+pub record_stays : {head : ℕ} (scratch : ℕ) (o : Operation) (t t' : Tables) (l : Ledger) → Encodes t l → Sound l → head_at t head_state ≡ head
+    → (a : Answer Result) → record_answer l scratch o ≡ a → RecordLeaves a l o t t' → StandsIn head t'
+record_stays scratch o t t' l enc s h (accepted r) q left = goes_on enc left.0 (record_sound l scratch o q s) (record_state l o) h
+record_stays scratch o t t' l enc s h (refused n) q left = rw left (goes_on enc enc s refl h)
 
 -- ── the returns ──
 
@@ -91,7 +96,7 @@ module _ {s : State} {pieces blocks store : List ℕ} {scratch : ℕ} {o : Opera
             formed = λ l enc sound. f.formed nodes entries l scratch enough enc sound (here.state l enc);
             unformed = λ n. absurd (n w);
           },
-          kept_open e (stays_open scratch o t t' w.ledger w.encodes w.sound (k.opened e).state (record_answer w.ledger scratch o) refl one.1),
+          kept_open e (record_stays scratch o t t' w.ledger w.encodes w.sound (k.opened e).state (record_answer w.ledger scratch o) refl one.1),
         );
   }
 

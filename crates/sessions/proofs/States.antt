@@ -6,17 +6,17 @@ use Prim.Native.Nat.{ℕ, ◌≤◌}
 use lib.ListN.{length}
 use Rattle.history.specs.Words.{Operation}
 use Rattle.history.specs.Lent.{piece_head, too_short}
-use Rattle.history.specs.Ledger.{Opening, Ledger, opened, record_by, install_by, install_days_by}
+use Rattle.history.specs.Ledger.{Opening, Ledger, opened, install_by, install_days_by}
 use Rattle.history.specs.Calls.{after_all, history}
 use Rattle.history.specs.Results.{Result}
 use Rattle.history.specs.Refusals.{Answer, accepted, refused, open_answer, record_answer, install_answer, days_answer}
 use Rattle.history.specs.Sound.{Sound}
-use Rattle.history.proofs.EveryList.{the_law, record_sound, install_sound, days_sound}
+use Rattle.history.proofs.EveryList.{the_law, install_sound, days_sound}
 use Rattle.tables.specs.Columns.{head_state}
 use Rattle.layout.specs.Tables.{Tables, lengths_of, head_at}
 use Rattle.layout.specs.Encodes.{Encodes, state_of, open_state, closed_state}
 use Rattle.layout.specs.Formed.{WellFormed}
-use Rattle.layout.specs.Relations.{opening_of, left_by, OpenedBy, RecordLeaves, RecordedBy, InstallLeaves, InstalledBy, DaysLeave, DaysInstalledBy}
+use Rattle.layout.specs.Relations.{opening_of, left_by, OpenedBy, RecordedBy, InstallLeaves, InstalledBy, DaysLeave, DaysInstalledBy}
 use Rattle.layout.specs.Files.{LoadedBy}
 use Rattle.layout.proofs.Opening.{opened_encodes}
 use Rattle.spacetime_file.specs.Law.{IsFile}
@@ -26,6 +26,7 @@ use Rattle.index_test.specs.declared.State.{State}
 use Rattle.index_test.specs.declared.State.TheVariants.{Open, Closed}
 use Rattle.index_tested.specs.Kept.{StandsIn, Kept}
 use Rattle.index_tested.proofs.Keeping.{kept_open, kept_closed}
+use Rattle.index_tested.proofs.Recording.{goes_on, record_stays}
 use Rattle.sessions.specs.States.{StatesFollow}
 
 -- ── open ──
@@ -66,29 +67,12 @@ keeps k bad on = record {
   closed = λ e. on closed_state (k.closed e);
 }
 
--- so does a sound ledger with trees as before
-goes_on : {head : ℕ} {t t' : Tables} {l l' : Ledger} → Encodes t l → Encodes t' l' → Sound l' → state_of l'.trees ≡ state_of l.trees → head_at t head_state ≡ head
-    → StandsIn head t'
-goes_on {l' = l'} before after s same h = record {
-  formed = record { ledger = l'; encodes = after; sound = s };
-  state = after.state ∙ same ∙ sym before.state ∙ h;
-}
-
-record_state : (l : Ledger) (o : Operation) → state_of (record_by l o).trees ≡ state_of l.trees
-unfolding record_by
-record_state l o = refl
-
-recorded : {head : ℕ} (scratch : ℕ) (o : Operation) (t t' : Tables) (l : Ledger) → Encodes t l → Sound l → head_at t head_state ≡ head
-    → (a : Answer Result) → record_answer l scratch o ≡ a → RecordLeaves a l o t t' → StandsIn head t'
-recorded scratch o t t' l enc s h (accepted r) q left = goes_on enc left.0 (record_sound l scratch o q s) (record_state l o) h
-recorded scratch o t t' l enc s h (refused n) q left = rw left (goes_on enc enc s refl h)
-
 records : (s : State) (scratch : ℕ) (o : Operation) (t t' : Tables) (a : Answer Result) → Kept s t → RecordedBy scratch o t t' a → Kept s t'
 records s scratch o t t' a k told =
     keeps k (λ n. (told.unformed n).1)
     (λ head here.
     let w = here.formed in
-    recorded scratch o t t' w.ledger w.encodes w.sound here.state (record_answer w.ledger scratch o) refl
+    record_stays scratch o t t' w.ledger w.encodes w.sound here.state (record_answer w.ledger scratch o) refl
     (told.formed w.ledger w.encodes w.sound).1)
 
 install_state : (l : Ledger) (numbers : List ℕ) → state_of (install_by l numbers).trees ≡ state_of l.trees
