@@ -1,6 +1,6 @@
 // The rows of a node's entries, which ascend by key, the first of them from a key on, and those in a window.
 ghost use Rattle.std.specs.Prelude.{◌≡◌, ◌≤◌, ◌<◌, ◌^◌, cond};
-ghost use Rattle.segment_walk.specs.Rowing.{rows_at, table_rows, Lower, Between, InWindow};
+ghost use Rattle.segment_walk.specs.Rowing.{rows_at, table_rows, key_at, Lower, Between, InWindow};
 
 use crate::walk;
 
@@ -29,6 +29,15 @@ pub fn rows_of(nodes: &[u64], entries: &[u64], link: u64) -> Rows
     }
 }
 
+// The key of a row that the table has.
+#[inline(always)]
+fn key_at(entries: &[u64], row: usize) -> u64
+    requires { row < table_rows entries.now }
+    ensures { result ≡ key_at entries.now row }
+{
+    entries[tables::entry::HEAD + (tables::entry::WIDTH * row + tables::entry::KEY)]
+}
+
 // So few rows are tried one by one.
 const FEW: usize = 4;
 
@@ -50,10 +59,7 @@ fn halved(entries: &[u64], rows: Rows, key: u64) -> Rows
     let mut left = rows.to - from;
     while left > FEW {
         let half = left / 2;
-        let last = from + half - 1;
-        let passed = entries[tables::entry::HEAD
-            + (tables::entry::WIDTH * last + tables::entry::KEY)]
-            < key;
+        let passed = key_at(entries, from + half - 1) < key;
         from += step(half, passed);
         left -= half;
     }
@@ -63,17 +69,24 @@ fn halved(entries: &[u64], rows: Rows, key: u64) -> Rows
     }
 }
 
-// The first of the rows whose key is not below `key`, or their end: by halves, and one by one where few are left. Rows past the table's end, which
-// `rows_of` does not give, are not searched.
+// The first of the rows whose key is not below `key`, or their end. A window often has all rows of a node, so the first and the last of them are looked at
+// before any halving. Rows past the table's end, which `rows_of` does not give, are not searched.
 pub fn lower(entries: &[u64], rows: Rows, key: u64) -> usize
     ensures { Lower entries.now rows key result }
 {
-    if tables::entry::rows(entries) < rows.to as u64 || rows.to < rows.from {
-        return rows.from;
+    let Rows { from, to } = rows;
+    if tables::entry::rows(entries) < to as u64 || to <= from {
+        return from;
+    }
+    if key <= key_at(entries, from) {
+        return from;
+    }
+    if key_at(entries, to - 1) < key {
+        return to;
     }
     let few = halved(entries, rows, key);
     for row in few.from..few.to {
-        if key <= entries[tables::entry::HEAD + (tables::entry::WIDTH * row + tables::entry::KEY)] {
+        if key <= key_at(entries, row) {
             return row;
         }
     }
@@ -93,7 +106,7 @@ fn lower_near(entries: &[u64], rows: Rows, key: u64) -> usize
     }
     let near = from.saturating_add(STEPS).min(to);
     for row in from..near {
-        if key <= entries[tables::entry::HEAD + (tables::entry::WIDTH * row + tables::entry::KEY)] {
+        if key <= key_at(entries, row) {
             return row;
         }
     }
