@@ -79,7 +79,7 @@ fn windows(
     let mut count = 0;
     let mut room = places;
     for k in 0..depth {
-        let rows = rows::in_window::<true>(nodes, entries, notes[k].from as u64, start, stop);
+        let rows = rows::in_window(nodes, entries, notes[k].from as u64, start, stop);
         let many = rows.to - rows.from;
         if room < many {
             return None;

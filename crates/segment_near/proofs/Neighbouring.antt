@@ -3,7 +3,7 @@ use Rattle.std.specs.Prelude.{Option, Some, None}
 use mathlib.Core.Path.{◌≡◌, refl}
 use mathlib.Core.Logic.{⊎_elim}
 use mathlib.Core.Bool.{Bool, true}
-use mathlib.Core.List.{List, ◌++◌}
+use mathlib.Core.List.{List, [], ◌++◌, append_assoc, append-nil}
 use Prim.Native.Nat.{ℕ, ◌-◌, ◌≤◌, ◌<◌}
 use native.Mathlib.Omega.{arith}
 use Rattle.lists.specs.Lists.{All, all_nil}
@@ -192,33 +192,34 @@ pub ruleset nearing = (nearer_below, nearer_own, nearer_from_below, nearer_from_
 -- ── the returns of `nearest` ──
 
 module _ {nodes entries : List ℕ} {n : Node} {tick : ℕ} {side : Side} {place : ℕ} where
-  pub nearest_none : {t : Bool} → Decides t (Absent n) → t ≡ true → NearestBelow nodes entries n tick side place None
+  pub nearest_none : {t : Bool} {best : Option Neighbour} → Decides t (Absent n) → t ≡ true → NearestBelow nodes entries n tick side place best best
   unfolding path
-  nearest_none d e = record { of_way = λ blocks kind tree s. rw (absent_hole (d.yes e) s) (no_block_lem all_nil) }
+  nearest_none d e = record { of_way = λ blocks kind tree list s b. rw (absent_hole (d.yes e) s, append-nil) b }
 
-  -- the nearer of a node's own neighbour and that of its half
-  pub nearest_both : {rows : Rows} {h : Node} {own below r : Option Neighbour} → Present n → rows ≡ rows_at nodes entries n.link → OwnNeighbour entries rows side place own
-      → h ≡ half_at nodes tick n → NearestBelow nodes entries h tick side place below → Nearer side own below r → NearestBelow nodes entries n tick side place r
+  -- what is nearest so far, then a node's own neighbour, then the way down from its half
+  pub nearest_both : {rows : Rows} {h : Node} {best own near r : Option Neighbour} → Present n → rows ≡ rows_at nodes entries n.link
+      → OwnNeighbour entries rows side place own → h ≡ half_at nodes tick n → Nearer side best own near → NearestBelow nodes entries h tick side place near r
+      → NearestBelow nodes entries n tick side place best r
   unfolding TreeAt
-  nearest_both {rows} {h} {own} {below} {r} at e here half there both = record { of_way = go }
+  nearest_both {rows} {h} {best} {own} {near} {r} at e here half both there = record { of_way = go }
     where
-      go : (blocks : List ℕ) (kind : ℕ) (tree : Tree) → Stands blocks nodes entries kind n tree
-          → Neighbours side (first_cell_in blocks) place (path tick n.min n.max tree) r
-      go blocks kind hole s = absurd (at.row s.stood)
-      go blocks kind (node xs l r') s =
+      go : (blocks : List ℕ) (kind : ℕ) (tree : Tree) (list : List ℕ) → Stands blocks nodes entries kind n tree
+          → Neighbours side (first_cell_in blocks) place list best → Neighbours side (first_cell_in blocks) place (list ++ path tick n.min n.max tree) r
+      go blocks kind hole list s b = absurd (at.row s.stood)
+      go blocks kind (node xs l r') list s b =
           let d : Down blocks nodes entries kind tick n h xs (node xs l r') = down blocks nodes entries kind tick n xs l r' s h half in
           let run : RunOf blocks entries rows xs = rw e (run_of blocks nodes entries kind n xs l r' s) in
-          rw d.way
-          (both.of_both (first_cell_in blocks) place xs (path tick h.min h.max d.below) (here.of_run blocks xs run)
-          (there.of_way blocks kind d.below d.stands))
+          rw (d.way, ← append_assoc list xs (path tick h.min h.max d.below))
+          (there.of_way blocks kind d.below (list ++ xs) d.stands
+          (both.of_both (first_cell_in blocks) place list xs b (here.of_run blocks xs run)))
 
 -- ── the whole tree ──
 
 pub nearest_live : {nodes entries : List ℕ} {kind end tick : ℕ} {side : Side} {place : ℕ} {root : Node} {r : Option Neighbour} → root ≡ root_at nodes kind end
-    → NearestBelow nodes entries root tick side place r → NearestLive nodes entries kind end tick side place r
+    → NearestBelow nodes entries root tick side place None r → NearestLive nodes entries kind end tick side place r
 nearest_live {nodes} {entries} {kind} {end} {tick} {side} {place} {root} {r} e below =
     record {
       of_tree = λ blocks tree s.
           let st : Stands blocks nodes entries kind root tree = rw e s in
-          rw e at (below.of_way blocks kind tree st);
+          rw e at (below.of_way blocks kind tree [] st (no_block_lem all_nil));
     }

@@ -46,10 +46,10 @@ pub record OwnNeighbour (entries : List ℕ) (rows : Rows) (side : Side) (place 
 pub record Nearer (side : Side) (a b r : Option Neighbour) : Type 0 where
   pub of_both : (key : ℕ → ℕ) (place : ℕ) (xs ys : List ℕ) → Neighbours side key place xs a → Neighbours side key place ys b → Neighbours side key place (xs ++ ys) r
 
--- on the way down to the tick from a node
-pub record NearestBelow (nodes entries : List ℕ) (n : Node) (tick : ℕ) (side : Side) (place : ℕ) (r : Option Neighbour) : Type 0 where
-  pub of_way : (blocks : List ℕ) (kind : ℕ) (tree : Tree) → Stands blocks nodes entries kind n tree
-      → Neighbours side (first_cell_in blocks) place (path tick n.min n.max tree) r
+-- of a list, of which `best` is the neighbour, and behind it the way down to the tick from a node
+pub record NearestBelow (nodes entries : List ℕ) (n : Node) (tick : ℕ) (side : Side) (place : ℕ) (best r : Option Neighbour) : Type 0 where
+  pub of_way : (blocks : List ℕ) (kind : ℕ) (tree : Tree) (list : List ℕ) → Stands blocks nodes entries kind n tree
+      → Neighbours side (first_cell_in blocks) place list best → Neighbours side (first_cell_in blocks) place (list ++ path tick n.min n.max tree) r
 
 -- of the blocks of a kind that are live at the tick
 pub record NearestLive (nodes entries : List ℕ) (kind end tick : ℕ) (side : Side) (place : ℕ) (r : Option Neighbour) : Type 0 where

@@ -69,18 +69,29 @@ fn nearer(side: Side, own: Option<Neighbour>, below: Option<Neighbour>) -> Optio
     }
 }
 
-// The neighbour of a place on the way down to the tick from a node. The node's width falls at each call.
-fn nearest(tree: &Tree, node: Node, tick: u64, side: Side, place: u64) -> Option<Neighbour>
-    ensures { NearestBelow tree.now.nodes.now tree.now.entries.now node tick side place result }
+// The nearer one of `best` and the neighbour of a place on the way down to the tick from a node. It calls itself at its end, with the node as three
+// numbers, so that it becomes a loop. The node's width falls at each call.
+fn nearest(
+    tree: &Tree,
+    link: u64,
+    min: u64,
+    max: u64,
+    tick: u64,
+    side: Side,
+    place: u64,
+    best: Option<Neighbour>,
+) -> Option<Neighbour>
+    ensures { NearestBelow tree.now.nodes.now tree.now.entries.now (record { link = link; min = min; max = max }) tick side place best result }
 {
+    let node = Node { link, min, max };
     if walk::absent(node) {
-        return None;
+        return best;
     }
-    let rows = rows::rows_of(tree.nodes, tree.entries, node.link);
+    let rows = rows::rows_of(tree.nodes, tree.entries, link);
     let own = own_neighbour(tree.entries, rows, side, place);
+    let near = nearer(side, best, own);
     let half = walk::half(tree.nodes, node, tick);
-    let below = nearest(tree, half, tick, side, place);
-    nearer(side, own, below)
+    nearest(tree, half.link, half.min, half.max, tick, side, place, near)
 }
 
 // The block of a tree that is live at the tick and next to the place on one side: the first that starts at it or after it, or the last that starts before it.
@@ -88,5 +99,5 @@ pub fn nearest_live(tree: &Tree, tick: u64, side: Side, place: u64) -> Option<Ne
     ensures { NearestLive tree.now.nodes.now tree.now.entries.now tree.now.kind tree.now.end tick side place result }
 {
     let root = walk::root(tree.nodes, tree.kind, tree.end);
-    nearest(tree, root, tick, side, place)
+    nearest(tree, root.link, root.min, root.max, tick, side, place, None)
 }

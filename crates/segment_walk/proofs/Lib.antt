@@ -1,5 +1,4 @@
 pub mod Halving
-pub mod Parting
 pub mod Rowing
 pub mod Windows
 pub mod Agreeing

@@ -49,6 +49,14 @@ pub record Lower (entries : List ℕ) (rows : Rows) (x r : ℕ) : Type 0 where
   pub inside : rows.from ≤ rows.to → (rows.from ≤ r) × (r ≤ rows.to)
   pub parts : rows.to ≤ table_rows entries → Ordered entries rows → Parts entries rows x r
 
+-- rows before lo have keys below x, rows from hi on have not; between them nothing is settled
+pub record Between (entries : List ℕ) (rows : Rows) (x lo hi : ℕ) : Type 0 where
+  pub low : rows.from ≤ lo
+  pub high : hi ≤ rows.to
+  pub order : rows.from ≤ rows.to → lo ≤ hi
+  pub below : Ordered entries rows → (i : ℕ) → rows.from ≤ i → i < lo → key_at entries i < x
+  pub above : Ordered entries rows → (i : ℕ) → hi ≤ i → i < rows.to → x ≤ key_at entries i
+
 -- ── rows in a window ──
 
 -- r is the part of a node's rows whose keys are in [start, stop)

@@ -2,7 +2,7 @@
 // on the tables of a closed index they answer as the model of history does. What is looked for on the way stands in the crates above.
 //
 //   walk   specs/Walking   proofs/Halving           the way down by halves
-//   rows   specs/Rowing    proofs/Parting, Rowing   a node's rows, and binary search in them
+//   rows   specs/Rowing    proofs/Rowing            a node's rows, and binary search in them
 //                          proofs/Windows           its rows in a window
 //          proofs/Agreeing                          for callers: by the blocks of the model
 

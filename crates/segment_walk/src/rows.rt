@@ -1,6 +1,6 @@
 // The rows of a node's entries, which ascend by key, the first of them from a key on, and those in a window.
-ghost use Rattle.std.specs.Prelude.{◌≡◌};
-ghost use Rattle.segment_walk.specs.Rowing.{rows_at, Lower, InWindow};
+ghost use Rattle.std.specs.Prelude.{◌≡◌, ◌≤◌, ◌<◌, ◌^◌, cond};
+ghost use Rattle.segment_walk.specs.Rowing.{rows_at, table_rows, key_at, Lower, Between, InWindow};
 
 use crate::walk;
 
@@ -29,25 +29,68 @@ pub fn rows_of(nodes: &[u64], entries: &[u64], link: u64) -> Rows
     }
 }
 
-// The first of the rows whose key is not below `key`, or their end: a binary search. Rows past the table's end, which `rows_of` does not give, are
-// not searched. It is written out: by `partition_point` over rows as pairs a find of an hour takes a tenth longer.
+// The key of a row that the table has.
+#[inline(always)]
+fn key_at(entries: &[u64], row: usize) -> u64
+    requires { row < table_rows entries.now }
+    ensures { result ≡ key_at entries.now row }
+{
+    entries[tables::entry::HEAD + (tables::entry::WIDTH * row + tables::entry::KEY)]
+}
+
+// So few rows are tried one by one.
+const FEW: usize = 4;
+
+// `half` if it is passed, else 0. By shifts: what is known as a choice or a product the compiler makes a branch, which in a search is foreseen half the time.
+fn step(half: usize, passed: bool) -> usize
+    requires { half < 2 ^ 63 }
+    ensures { result ≡ cond passed half 0 }
+{
+    (half << passed as u32) - half
+}
+
+// Halves the rows until few are left among which the first is whose key is not below `key`, or behind which it is.
+fn halved(entries: &[u64], rows: Rows, key: u64) -> Rows
+    requires order { rows.from ≤ rows.to }
+    requires room { rows.to ≤ table_rows entries.now }
+    ensures { Between entries.now rows key result.from result.to }
+{
+    let mut from = rows.from;
+    let mut left = rows.to - from;
+    while left > FEW {
+        let half = left / 2;
+        let passed = key_at(entries, from + half - 1) < key;
+        from += step(half, passed);
+        left -= half;
+    }
+    Rows {
+        from,
+        to: from + left,
+    }
+}
+
+// The first of the rows whose key is not below `key`, or their end. A window often has all rows of a node, so the first and the last of them are looked at
+// before any halving. Rows past the table's end, which `rows_of` does not give, are not searched.
 pub fn lower(entries: &[u64], rows: Rows, key: u64) -> usize
     ensures { Lower entries.now rows key result }
 {
-    let mut lo = rows.from;
-    let mut hi = rows.to;
-    if tables::entry::rows(entries) < hi as u64 {
-        return lo;
+    let Rows { from, to } = rows;
+    if tables::entry::rows(entries) < to as u64 || to <= from {
+        return from;
     }
-    while lo < hi {
-        let mid = lo + (hi - lo) / 2;
-        if entries[tables::entry::HEAD + (tables::entry::WIDTH * mid + tables::entry::KEY)] < key {
-            lo = mid + 1;
-        } else {
-            hi = mid;
+    if key <= key_at(entries, from) {
+        return from;
+    }
+    if key_at(entries, to - 1) < key {
+        return to;
+    }
+    let few = halved(entries, rows, key);
+    for row in few.from..few.to {
+        if key <= key_at(entries, row) {
+            return row;
         }
     }
-    lo
+    few.to
 }
 
 // So many rows are tried before halving.
@@ -63,32 +106,20 @@ fn lower_near(entries: &[u64], rows: Rows, key: u64) -> usize
     }
     let near = from.saturating_add(STEPS).min(to);
     for row in from..near {
-        if key <= entries[tables::entry::HEAD + (tables::entry::WIDTH * row + tables::entry::KEY)] {
+        if key <= key_at(entries, row) {
             return row;
         }
     }
     lower(entries, Rows { from: near, to }, key)
 }
 
-// The rows of a node whose key is in [start, stop). The second search begins where the first one ended, and tries the next rows first where the window
-// is `SMALL`, as find's mostly are. Find alone asks so: with one caller the compiler puts that copy in line, long as it is.
+// The rows of a node whose key is in [start, stop). The second search begins where the first one ended, and tries the next rows first, since most windows are small.
 #[tactic(auto, using(crate::proofs::Windows::in_window))]
-pub fn in_window<const SMALL: bool>(
-    nodes: &[u64],
-    entries: &[u64],
-    link: u64,
-    start: u64,
-    stop: u64,
-) -> Rows
+pub fn in_window(nodes: &[u64], entries: &[u64], link: u64, start: u64, stop: u64) -> Rows
     ensures { InWindow nodes.now entries.now link start stop result }
 {
     let rows = rows_of(nodes, entries, link);
     let from = lower(entries, rows, start);
-    let left = Rows { from, to: rows.to };
-    let to = if SMALL {
-        lower_near(entries, left, stop)
-    } else {
-        lower(entries, left, stop)
-    };
+    let to = lower_near(entries, Rows { from, to: rows.to }, stop);
     Rows { from, to }
 }

@@ -6,9 +6,9 @@ use Rattle.segment_near.proofs.+nearest.Goals as goal
 pub returns-then-absent : goal.returns-then-absent
 returns-then-absent t c = nearest_none c.absent.ensures c.if-absent.true
 
-pub nearest-below-requires : goal.nearest-below-requires
-nearest-below-requires t c = (omega (arith, c.decreases, half_falls _ _ _ _ (present c.absent.ensures c.if-absent.false) c.half-half.ensures), tt)
+pub nearest-requires : goal.nearest-requires
+nearest-requires t c = (omega (arith, c.decreases, half_falls _ _ _ _ (present c.absent.ensures c.if-absent.false) c.half-half.ensures), tt)
 
 pub returns : goal.returns
 returns t c =
-    nearest_both (present c.absent.ensures c.if-absent.false) c.rows_of-rows.ensures c.own_neighbour-own.ensures c.half-half.ensures c.nearest-below.ensures c.nearer.ensures
+    nearest_both (present c.absent.ensures c.if-absent.false) c.rows_of-rows.ensures c.own_neighbour-own.ensures c.half-half.ensures c.nearer-near.ensures c.nearest.ensures

@@ -1,10 +1,6 @@
--- The bounds enclose the answer, and come closer.
-use Prim.Native.Nat.{◌-◌}
-use Rattle.segment_walk.proofs.Parting.{Between}
+-- The rows passed are below the key; of the others the last few enclose the answer.
+use Rattle.segment_walk.specs.Rowing.{Between}
 use Rattle.segment_walk.proofs.rows.lower.Given as goal
 
-abbrev pub invariant-loop-lo : goal.invariant-loop-lo
-invariant-loop-lo l = Between l.entries l.fn.rows l.key l.lo l.hi
-
-abbrev pub decreases-loop-lo : goal.decreases-loop-lo
-decreases-loop-lo l = l.hi - l.lo
+abbrev pub invariant-loop-row : goal.invariant-loop-row
+invariant-loop-row l = Between l.entries l.fn.rows l.key l.row l.few.to

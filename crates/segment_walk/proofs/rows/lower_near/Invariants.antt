@@ -1,5 +1,5 @@
 -- The rows passed are below the key.
-use Rattle.segment_walk.proofs.Parting.{Between}
+use Rattle.segment_walk.specs.Rowing.{Between}
 use Rattle.segment_walk.proofs.rows.lower_near.Given as goal
 
 abbrev pub invariant-loop-row : goal.invariant-loop-row
