@@ -23,7 +23,6 @@
 ghost use Rattle.apart_laws.specs.Law.{TheoremH};
 
 // H1 and H2 make rule 24.
-#[tactic(auto, using(crate::proofs::Downward::theorem_h))]
 pub fn theorem_h()
     ensures { TheoremH }
 {}

@@ -71,14 +71,6 @@ appended-append ps qs b h =
 pub countable_less : {b : List ℕ} {m n : ℕ} → m ≤ n → Countable b n → Countable b m
 countable_less h c = record { head = c.head; fits = omega (arith, c.fits) }
 
--- what is appended counts
-pub countable_more : (ps qs : List BlockRow) (b : List ℕ) → Countable b (length (ps ++ qs)) → Countable (appended ps b) (length qs)
-countable_more ps qs b c =
-    record {
-      head = rw (appended-length ps b) c.head;
-      fits = rw (appended-count ps b c.head) (omega (arith, c.fits, length-append ps qs));
-    }
-
 -- ── what stands in the table afterwards ──
 
 -- a column of an earlier block, or of the head but for the count, is as it was

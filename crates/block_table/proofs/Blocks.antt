@@ -1,6 +1,6 @@
 -- Laws of the blocks that the rows of a block table stand for: how many, which, and what of table and store they depend on. Assumes nothing.
 use mathlib.Core.Path.{◌≡◌, sym, ap, ◌∙◌}
-use mathlib.Core.List.{List, [], ◌∷◌, ◌++◌, map}
+use mathlib.Core.List.{List, ◌++◌, map}
 use Prim.Native.Nat.{ℕ, suc, ◌+◌, ◌-◌, ◌≤◌, ◌<◌}
 use native.Mathlib.Omega.{arith}
 use lib.ListN.{length, get_or, take, drop, length-drop}
@@ -48,10 +48,6 @@ unfolding blocks_of
 blocks_more store t n m =
     let e : 1 + n ≡ suc n = omega arith in
     rw (count_from_append 1 n m, e) (map-append (block_of_row store t) (count_from 1 n) (count_from (suc n) m))
-
-pub blocks_one_more : (store t : List ℕ) (n : ℕ) → blocks_of store t (suc n) ≡ blocks_of store t n ++ block_of_row store t (suc n) ∷ []
-unfolding count_from
-blocks_one_more store t n = let e : n + 1 ≡ suc n = omega arith in rw e at (blocks_more store t n 1)
 
 -- ── what of the table they depend on ──
 

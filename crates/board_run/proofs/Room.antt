@@ -8,6 +8,7 @@ use Prim.Native.Nat.{ℕ, suc, ◌+◌, ◌*◌, ◌≤◌, ◌<◌}
 use native.Mathlib.Omega.{arith}
 use lib.Dec.{leb}
 use lib.ListN.{length, length-append}
+use Rattle.lists.specs.Lists.{sum_of}
 use Rattle.lists.proofs.Numbers.{le_or_lt}
 use Rattle.lists.proofs.Maps.{length_of_map}
 use Rattle.history.specs.Words.{Operation, Block, size, block_of, first_cell}
@@ -28,7 +29,8 @@ use Rattle.board_input.proofs.Meeting.{law_of_input}
 use Rattle.board_text.proofs.Lines.{law_of_lines}
 use Rattle.board_run.specs.Runs.{printed_of}
 use Rattle.board_run.specs.Room.{output_most}
-use Rattle.board_run.proofs.Sizes.{block_sizes, Held, held-opened, held_record, held-settled}
+use Rattle.history.proofs.Cutting.{block_cells}
+use Rattle.board_run.proofs.Sizes.{Held, held-opened, held_record, held-settled}
 
 -- ── lines ──
 
@@ -56,8 +58,8 @@ block_length_lem b =
       law_of_lines.bytes_length bytes,
     ))
 
-blocks_length : (bs : List Block) → length (flat_map block_line bs) ≤ 90 * length bs + 2 * block_sizes bs
-unfolding flat_map block_sizes
+blocks_length : (bs : List Block) → length (flat_map block_line bs) ≤ 90 * length bs + 2 * block_cells bs
+unfolding flat_map sum_of
 blocks_length [] = omega arith
 blocks_length (b ∷ bs) = omega (arith, length-append (block_line b) (flat_map block_line bs), block_length_lem b, blocks_length bs)
 
@@ -104,7 +106,7 @@ settled_few l r =
     let fits = rw r.lent at r.law.sound.sound.board.blocks_fit in
     omega (arith, length-append l.now.blocks (map (block_of l.opening.end) l.now.pieces), length_of_map (block_of l.opening.end) l.now.pieces, fits)
 
-settled_small : (l : Ledger) → Roomy l → block_sizes (settled l.opening.end l.now) ≤ 65536
+settled_small : (l : Ledger) → Roomy l → block_cells (settled l.opening.end l.now) ≤ 65536
 settled_small l r =
     let fits = rw r.lent at r.law.sound.sound.board.store_fits in
     omega (arith, held-settled l.opening.end l.now r.held, fits)
@@ -119,7 +121,7 @@ last_length l r = go (answer_to l finish_call)
     few : length bs ≤ 1024
     few = settled_few l r
 
-    small : block_sizes bs ≤ 65536
+    small : block_cells bs ≤ 65536
     small = settled_small l r
 
     go : (a : Answer Result) → length (last_lines (leaves a l (finish_by l)) a) ≤ last_most

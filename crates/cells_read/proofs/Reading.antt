@@ -1,10 +1,12 @@
 -- The returns of `read_closed`: over a closed index they are the ledger's answers. Assumes nothing.
-use mathlib.Core.Path.{◌≡◌, refl, ◌∙◌}
+use mathlib.Core.Path.{◌≡◌, refl, sym, ◌∙◌}
 use mathlib.Core.Bool.{Bool, true, false}
-use mathlib.Core.List.{List}
-use Prim.Native.Nat.{ℕ, ◌-◌, ◌^◌, ◌≤◌, ◌<◌}
+use mathlib.Core.List.{List, ◌++◌}
+use Prim.Native.Nat.{ℕ, ◌+◌, ◌-◌, ◌^◌, ◌≤◌, ◌<◌}
 use native.Mathlib.Omega.{arith}
-use lib.ListN.{length}
+use lib.ListN.{length, take, drop, length-take}
+use lib.Seq.{sets}
+use Rattle.std.proofs.lemmas.List.Edits.{sets-eq}
 use borrow.Author.Tests.{lt-ltb, le-ltb}
 use Rattle.history.specs.Ledger.{Ledger, finished}
 use Rattle.history.specs.Reads.{cells_by}
@@ -14,8 +16,9 @@ use Rattle.tables.specs.Columns.{block_column, head_kinds, head_end}
 use Rattle.layout.specs.Tables.{Tables, tables, head_at}
 use Rattle.layout.specs.Encodes.{Encodes}
 use Rattle.layout.proofs.ReadLaws.{mask_opens, opens_kind_lem, window_25, window_14, window_15, window_rest, closed_refuses}
-use Rattle.runs.specs.Runs.{ClosedAt}
-use Rattle.cells_read.specs.Shows.{Shown}
+use Rattle.live_blocks.specs.Live.{ClosedAt}
+use Rattle.cells_paint.specs.Painting.{Slices, Shown}
+use Rattle.cells_read.proofs.Showing.{cells_shown}
 use Rattle.cells_read.specs.Answers.{CellsHanded, ReadClosed}
 
 -- ── what a closed ledger answers ──
@@ -32,6 +35,10 @@ module _ {t : Tables} {l : Ledger} (e : Encodes t l) (done : finished l ≡ true
   cells_given room room' = window_rest e done _ _ kind tick start stop k h b ∙ rw (le-ltb bytes (stop - start) room, le-ltb held (stop - start) room')
 
 -- ── the returns ──
+
+-- a list written to the front of another
+in_front : (many : ℕ) (out xs : List ℕ) → length xs ≡ many → many ≤ length out → xs ++ drop many out ≡ sets out 0 xs
+in_front many out xs long room = let front : 0 + length xs ≡ many = omega arith in sym (rw front at (sets-eq xs out 0 (omega arith)))
 
 -- a refusal: its number, and both slices as they were
 pub cells_refused : {bytes held : List ℕ} {n : ℕ} → CellsHanded bytes bytes held held (refused n) (refused n)
@@ -61,10 +68,11 @@ module _ {blocks store nodes entries : List ℕ} {kind tick start stop mask : �
         → ReadClosed blocks store nodes entries kind tick start stop bytes bytes held held (refused 16)
     read_16_held h b room short = refuses 16 (λ pieces l enc done. cells_held enc done kind tick start stop (length bytes) (length held) (mask_opens m is q) (omega arith) b room short)
 
-    pub read_filled : {bytes' held' : List ℕ} → tick < last → start ≤ stop → stop < 2 ^ 64 → stop - start ≤ length bytes
-        → stop - start ≤ length held → Shown blocks store nodes entries kind tick start stop stop bytes bytes' held held'
-        → ReadClosed blocks store nodes entries kind tick start stop bytes bytes' held held' (accepted tt)
-    read_filled h b small room room' shown = record {
+    -- both slices begin with the window's cells
+    pub read_filled : {many : ℕ} {xs ys : List ℕ} → tick < last → start ≤ stop → stop < 2 ^ 64 → many ≡ stop - start → many ≤ length bytes
+        → many ≤ length held → length xs ≡ length (take many bytes) → length ys ≡ length (take many held) → Shown blocks nodes entries store kind tick start stop xs ys
+        → ReadClosed blocks store nodes entries kind tick start stop bytes (xs ++ drop many bytes) held (ys ++ drop many held) (accepted tt)
+    read_filled {many} {xs = xs} {ys} h b small size room room' long long' shown = record {
       read = λ pieces. record {
         closed = λ l enc s done.
             let at : ClosedAt blocks store nodes entries kind tick l = record {
@@ -75,9 +83,13 @@ module _ {blocks store nodes entries : List ℕ} {kind tick start stop mask : �
               opened = opens_kind_lem enc kind ∙ mask_opens m is q;
               before_end = omega (arith, enc.end);
             } in
-            let to = (shown.shown l at small room room').0 in
-            rw (cells_given enc done kind tick start stop (length bytes) (length held) (mask_opens m is q) (omega arith) b room room')
-            (record { answered = refl; in_bytes = to.in_bytes; in_held = to.in_held });
+            let w : Slices start stop xs ys = record { bytes_long = omega (arith, length-take many bytes); held_long = omega (arith, length-take many held) } in
+            rw (cells_given enc done kind tick start stop (length bytes) (length held) (mask_opens m is q) (omega arith) b (omega arith) (omega arith), cells_shown at small w shown)
+            (record {
+              answered = refl;
+              in_bytes = in_front many bytes xs (w.bytes_long ∙ sym size) room;
+              in_held = in_front many held ys (w.held_long ∙ sym size) room';
+            });
       };
     }
 

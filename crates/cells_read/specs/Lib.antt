@@ -1,2 +1,1 @@
-pub mod Shows
 pub mod Answers

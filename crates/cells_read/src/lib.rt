@@ -1,16 +1,13 @@
-// Read cells of a closed index, without the test of its tables: for callers that have tested them. It goes from block to block, each found by a search
-// of the tree (crate `runs`), and writes every cell of the range once.
+// Read cells of a closed index, without the test of its tables: for callers that have tested them. The refusals, then crate `cells_paint`.
 //
-//   specs/Answers   what is handed out
-//   show            specs/Shows   proofs/Filling, Showing   cells written run by run
-//   lib             proofs/Reading                          25, 14, 15 and 16
+//   specs/Answers    what is handed out
+//   proofs/Showing   what is painted are the ledger's cells
+//   proofs/Reading   25, 14, 15 and 16
 
 #![tactic(auto)]
 
 ghost use Rattle.refusals.specs.Numbers.{answer_by};
 ghost use Rattle.cells_read.specs.Answers.{ReadClosed};
-
-mod show;
 
 use refusals::Refusal;
 use segment_table::lent::Closed;
@@ -43,6 +40,8 @@ pub fn read_closed(
     if bytes.len() < many || held.len() < many {
         return Err(Refusal::ResultTooLong);
     }
-    show::show(closed, store, kind, tick, start, end, bytes, held);
+    let bytes = &mut bytes[..many];
+    let held = &mut held[..many];
+    cells_paint::show(closed, store, kind, tick, start, end, bytes, held);
     Ok(())
 }

@@ -42,10 +42,6 @@ use Rattle.demand.specs.Theorem.{CallDone, Run, run_nil, run_cons, Finished, Bal
 
 -- ── tables too short ──
 
--- well-formed tables hold their heads
-formed_heads : (t : Tables) → WellFormed t → too_short (lengths_of t) ≡ false
-formed_heads t w = w.encodes.heads
-
 -- of a ledger whose lengths are too short every call is refused 2
 short_answer : (l : Ledger) (k : Call) → too_short l.opening.lent ≡ true → answer_to l k ≡ refused 2
 unfolding answer_to first_of record_refusals finish_refusals install_refusals days_refusals

@@ -44,7 +44,7 @@ live_cell store b sound kind t cell mine has =
     let lives = within_true b.created b.destroyed t (and_right (of_kind kind b) (live t b) mine) in
     let line = ap line_of same in
     record {
-      of_kind_lem = same;
+      same_kind = same;
       born = lives.0;
       alive = lives.1;
       from = omega (arith, has.from, line);
@@ -75,7 +75,7 @@ module _ (l : Ledger) (h : List Operation) (sound : Sound l) (done : finished l 
         let held : HoldsCell kind t cell b = rw place.2 holder.2 in (
           place.0,
           live_mem l sound done kind t (touches s n) place.0
-              (and_both (of_kind kind b) (live t b) (eq-eqb b.kind kind held.of_kind_lem) (within_in b.created b.destroyed t held.born held.alive))
+              (and_both (of_kind kind b) (live t b) (eq-eqb b.kind kind held.same_kind) (within_in b.created b.destroyed t held.born held.alive))
               (touches_cell s n b cell from below held.from held.below),
           faithful.byte kind t cell before b (mem_at no_block l.now.blocks place.0 place.1) held ∙ e,
         );

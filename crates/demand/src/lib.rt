@@ -20,7 +20,6 @@ pub fn demand_3()
 {}
 
 // After every list of calls with an accepted finish read cells shows exactly what the history says.
-#[tactic(auto, using(crate::proofs::Shown::cells_shown))]
 pub fn shows_history()
     ensures { CellsShown }
 {}

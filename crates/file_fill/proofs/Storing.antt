@@ -1,7 +1,7 @@
 -- Rows written: one step for each return of the functions that write a row, and numbers written in front of others; zeros from the start on. Assumes nothing.
 use mathlib.Core.Path.{◌≡◌, refl, sym, ◌∙◌}
 use mathlib.Core.List.{List, [], ◌∷◌, ◌++◌}
-use Prim.Native.Nat.{ℕ, suc, min, ◌+◌, ◌-◌, ◌*◌, ◌≤◌, ◌<◌}
+use Prim.Native.Nat.{ℕ, min, ◌+◌, ◌-◌, ◌≤◌, ◌<◌}
 use native.Mathlib.Omega.{arith}
 use lib.ListN.{length, set, get_or, take, drop, length-take, replicate, length-replicate, replicate-append-replicate}
 use lib.Seq.{sets}
@@ -10,7 +10,6 @@ use Rattle.std.proofs.lemmas.Bool.{cases_lt}
 use Rattle.std.proofs.lemmas.List.{take_more}
 use Rattle.std.proofs.lemmas.List.Edits.{sets-eq}
 use Rattle.lists.proofs.Stores.{sets-append}
-use Rattle.history.specs.Lent.{entry_width, entry_head}
 use Rattle.tables.proofs.Past.{sets_front}
 
 -- ── a row ──
@@ -21,13 +20,6 @@ pub row_more : (t : List ℕ) (p q i : ℕ) (row : List ℕ) {u v : List ℕ} �
 row_more t p q i row a b e h =
     let long : length (take i row) ≡ i = simp length-take (omega arith) in
     b ∙ rw (a, e, take_more row i 0 h, sets-append t p (take i row) (get_or row i 0 ∷ []), long) refl
-
-pub entry_put : (t : List ℕ) (row number cell : ℕ) {t₁ t₂ : List ℕ} → t₁ ≡ set t (entry_head + (entry_width * row + 0)) number
-    → t₂ ≡ set t₁ (entry_head + (entry_width * row + 1)) cell → t₂ ≡ sets t (entry_head + entry_width * row) (number ∷ cell ∷ [])
-entry_put t row number cell p q =
-    let none : entry_head + (entry_width * row + 0) ≡ entry_head + entry_width * row = omega arith in
-    let one : entry_head + (entry_width * row + 1) ≡ suc (entry_head + entry_width * row) = omega arith in
-    q ∙ rw (p, none, one) refl
 
 -- ── zeros ──
 

@@ -17,11 +17,10 @@ use Rattle.history.specs.Sound.{none_of}
 use Rattle.history.specs.File.{trees_with, got, many, read_block, give, ◌>>=◌}
 use Rattle.history.proofs.RulesLaws.{rule23_decides}
 use Rattle.history.proofs.OneTree.{trees_own, trees_other}
-use Rattle.history.proofs.ByKind.{own_dead, only_length, only_at, only_same}
+use Rattle.history.proofs.ByKind.{own_dead, only_length, only_at, only_same, none_owned, one-owned}
 use Rattle.history.proofs.FileYields.{got_value}
 use Rattle.file_scan.proofs.Readers.{onward_got, refuse_got}
 use Rattle.file_scan.proofs.RowReads.{block_parts}
-use Rattle.segment_test.proofs.Owning.{none_owned, one-owned}
 
 -- ── its rules, kind by kind ──
 

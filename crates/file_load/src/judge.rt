@@ -41,10 +41,11 @@ pub fn judge(claim: &Claim<'_>) -> Result<(), Refusal>
     if !all_live(claim.tables.blocks, claim.n, claim.end) {
         return Err(Refusal::FileBlocks);
     }
-    if !segment_test::test_trees(claim) {
+    let found = segment_apart::test(claim);
+    if !found.trees {
         return Err(Refusal::FileEntries);
     }
-    if !segment_apart::apart(claim) {
+    if !found.apart {
         return Err(Refusal::FileShared);
     }
     Ok(())

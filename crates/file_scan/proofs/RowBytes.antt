@@ -37,17 +37,6 @@ block_bytes_lem kind file at {b} {n} e =
 
 -- ── a node ──
 
--- the entry in place i
-pub numbers_at_get_d : (file : List ℕ) (at count i : ℕ) → i < count → get_or (numbers_at file at count) i 0 ≡ number_of (take 8 (drop (at + 8 * i) file))
-unfolding numbers_at
-numbers_at_get_d file at zero i h = absurd (omega arith)
-numbers_at_get_d file at (suc count) zero h =
-    let e : at + 8 * 0 ≡ at = omega arith in
-    rw e refl
-numbers_at_get_d file at (suc count) (suc i) h =
-    let e : at + 8 + 8 * i ≡ at + 8 * suc i = omega arith in
-    numbers_at_get_d file (at + 8) count i (omega arith) ∙ rw e refl
-
 many_numbers : (file : List ℕ) (at count : ℕ) {ns : List ℕ} {n : ℕ} → at ≤ length file → many (number 8) count file at ≡ got ns n → ns ≡ numbers_at file at count
 many_numbers file at count i e =
     ⊎_elim (λ h. got_value (sym e ∙ many_got file at count h)) (λ h. absurd (fault_got (sym (many_end file at count i h) ∙ e))) (le_or_lt (at + 8 * count) (length file))

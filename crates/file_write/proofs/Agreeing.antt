@@ -65,9 +65,9 @@ living_entered es blocks kind (suc n) f =
     ∙ rw (living_entered es blocks kind n (λ k h. f k (omega arith)), f n (omega arith)) refl
 
 -- a block has a life for a kind if it is of the kind and has one
-own-lives : (kind : ℕ) (b : Block) → ltb (own_life kind b).created (own_life kind b).destroyed ≡ (of_kind kind b && ltb b.created b.destroyed)
+lives_own : (kind : ℕ) (b : Block) → ltb (own_life kind b).created (own_life kind b).destroyed ≡ (of_kind kind b && ltb b.created b.destroyed)
 unfolding own_life
-own-lives kind b = go (of_kind kind b)
+lives_own kind b = go (of_kind kind b)
   where
     dead : Block
     dead = record { kind = b.kind; stretch = b.stretch; created = 0; destroyed = 0 }
@@ -161,7 +161,7 @@ module _ (pieces blocks store nodes entries : List ℕ) (l : Ledger) (e : Encode
         entry_life l.opening.end (only_kind kind bs) tree (omega (arith, s.board.some_tick)) (sound.each kind low).rule_21 (sound.each kind low).rule_23 k
         (omega (arith, e.count, only_length kind bs))
         ∙ ap (λ (b : Block). ltb b.created b.destroyed) (only_at kind bs k)
-        ∙ own-lives kind (block_at bs k)
+        ∙ lives_own kind (block_at bs k)
         ∙ ap (λ (b : Block). of_kind kind b && ltb b.created b.destroyed) (row_block k h)
 
     those : written l.now.blocks tree ≡ living blocks kind (block_count blocks)

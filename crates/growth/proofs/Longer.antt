@@ -146,6 +146,3 @@ longer-tables = record {
   reads = reads_alike;
   takes = takes_alike;
 }
-
--- a name without a dash, which an attribute can say
-pub ruleset lengthening = (longer-tables)

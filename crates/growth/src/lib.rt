@@ -14,13 +14,11 @@ ghost use Rattle.growth.specs.Longer.{LongerTables};
 ghost use Rattle.growth.specs.Steps.{GrownBoards};
 
 // Tables with zeros behind them stand for the same ledger, which is lent more and answers alike.
-#[tactic(auto, using(crate::proofs::Longer::lengthening))]
 pub fn longer_tables()
     ensures { LongerTables }
 {}
 
 // A board whose tables grow is the board of tables that had the room from the start.
-#[tactic(auto, using(crate::proofs::Steps::grown_boards))]
 pub fn grown_boards()
     ensures { GrownBoards }
 {}

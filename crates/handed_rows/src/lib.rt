@@ -11,13 +11,14 @@
 
 #![tactic(auto)]
 
-ghost use Rattle.std.specs.Prelude.{◌≤◌};
+ghost use Rattle.std.specs.Prelude.{◌≡◌, ◌≤◌, set};
 ghost use Rattle.history.specs.Words.{cell_place};
 ghost use Rattle.tables.specs.Columns.{column, pieces_count};
+ghost use Rattle.ordering.specs.Order.{next_place};
 ghost use Rattle.handed_rows.specs.Handed.{Common, HandsOn, TalliedRows, TalliedPieces, TakenOver, AllTaken, SeenHanded};
 
 use block_table::Row;
-use row_seek::{MARKS, Mark};
+use row_seek::Guide;
 use tables::{block, piece};
 
 // How many rows of a tick are passed over before the cell is sought among them, and again after that.
@@ -53,29 +54,30 @@ fn passed(blocks: &[u64], i: u64, n: u64, stretch: Stretch, left: u64) -> u64
     if left != MANY {
         return i;
     }
-    let from = Mark {
-        row: i,
-        tick: stretch.tick,
-    };
-    row_seek::search(
-        blocks,
-        from,
-        n,
-        stretch.tick,
-        stretch.kind,
-        stretch.first,
-        0,
-    )
+    row_seek::search(blocks, i, n, stretch.tick, stretch.kind, stretch.first)
+}
+
+// Sets what is counted in a row, under one test where the table has it, as `block_table::read`: this is done for each of them.
+#[inline(always)]
+fn set_next(blocks: &mut [u64], link: u64, count: u64)
+    ensures { blocks.new ≡ set blocks.old (next_place link) count }
+{
+    let row = link as usize;
+    if block::HEAD <= blocks.len() && row <= (blocks.len() - block::HEAD) / tables::ROW {
+        blocks[tables::ROW * row + (block::BASE + block::NEXT)] = count;
+        return;
+    }
+    block::put(blocks, link, block::NEXT, count);
 }
 
 // Counts a stretch for the rows that are destroyed at its tick and have cells in common with it. Where a row is full already, two stretches have a cell
 // in common, and no more is counted.
 // No `for` goes over the rows: a turn may jump to where the cell is sought.
 #[tactic(auto, using(crate::proofs::Along::along))]
-fn hand_on(blocks: &mut [u64], n: u64, marks: &[Mark; MARKS], stretch: Stretch)
+fn hand_on(blocks: &mut [u64], n: u64, guide: &Guide, stretch: Stretch)
     ensures { HandsOn blocks.old blocks.new n (cell_place stretch.kind stretch.first) stretch.length stretch.tick }
 {
-    let mut i = row_seek::seek(blocks, n, marks, stretch.tick);
+    let mut i = row_seek::seek(blocks, n, guide, stretch.tick);
     let mut left = 2 * MANY;
     while i < n {
         i += 1;
@@ -94,14 +96,14 @@ fn hand_on(blocks: &mut [u64], n: u64, marks: &[Mark; MARKS], stretch: Stretch)
             if row.length <= row.next {
                 return;
             }
-            block::put(blocks, i, block::NEXT, row.next.saturating_add(part));
+            set_next(blocks, i, row.next.saturating_add(part));
         }
     }
 }
 
 // Counts the blocks 1 to n that have a life.
 #[tactic(auto, using(crate::proofs::Tallying::rows))]
-fn tally_rows(blocks: &mut [u64], n: u64, marks: &[Mark; MARKS])
+fn tally_rows(blocks: &mut [u64], n: u64, guide: &Guide)
     ensures { TalliedRows blocks.old blocks.new n }
 {
     for k in 0..n {
@@ -113,14 +115,14 @@ fn tally_rows(blocks: &mut [u64], n: u64, marks: &[Mark; MARKS])
                 length: row.length,
                 tick: row.created,
             };
-            hand_on(blocks, n, marks, stretch);
+            hand_on(blocks, n, guide, stretch);
         }
     }
 }
 
 // Counts the pieces of the rows 1 to m, in whatever order they stand.
 #[tactic(auto, using(crate::proofs::Tallying::pieces))]
-fn tally_pieces(pieces: &[u64], m: u64, blocks: &mut [u64], n: u64, marks: &[Mark; MARKS])
+fn tally_pieces(pieces: &[u64], m: u64, blocks: &mut [u64], n: u64, guide: &Guide)
     ensures { TalliedPieces pieces.now m blocks.old blocks.new n }
 {
     for k in 0..m {
@@ -130,7 +132,7 @@ fn tally_pieces(pieces: &[u64], m: u64, blocks: &mut [u64], n: u64, marks: &[Mar
             length: tables::get(pieces, k + 1, piece::LENGTH),
             tick: tables::get(pieces, k + 1, piece::WRITTEN),
         };
-        hand_on(blocks, n, marks, stretch);
+        hand_on(blocks, n, guide, stretch);
     }
 }
 
@@ -157,10 +159,10 @@ pub fn handed_on(pieces: &[u64], blocks: &mut [u64], n: u64) -> bool
     if !ends_apart::ends_apart(blocks, n) {
         return false;
     }
-    let marks = row_seek::mark_rows(blocks, n);
-    tally_rows(blocks, n, &marks);
+    let guide = Guide::of(blocks, n);
+    tally_rows(blocks, n, &guide);
     let m = tables::get(pieces, 0, piece::COUNT);
-    tally_pieces(pieces, m, blocks, n, &marks);
+    tally_pieces(pieces, m, blocks, n, &guide);
     let all = all_taken(blocks, n);
     ordering::clear_order(blocks, n);
     all

@@ -1,7 +1,7 @@
 -- Kinds: their places on the number line, the set that opening keeps, and the blocks as one kind sees them. One proof for every kind. Assumes nothing.
 use mathlib.Core.Path.{◌≡◌, refl, sym, ◌∙◌, ap, subst, fun_ext}
 use mathlib.Core.Logic.{◌⊎◌, inl, inr}
-use mathlib.Core.Bool.{Bool, true, false, cond, ◌&&◌, false≢true}
+use mathlib.Core.Bool.{Bool, true, false, cond, ◌&&◌, not, true≢false, false≢true}
 use mathlib.Core.Option.{Option, none, some, or_else}
 use mathlib.Core.List.{List, [], ◌∷◌, map, filter_map-map}
 use Prim.Native.Nat.{ℕ, zero, suc, ◌+◌, ◌-◌, ◌/◌, ◌%◌, ◌^◌, ◌≤◌, ◌<◌}
@@ -10,16 +10,17 @@ use lib.Dec.{leb, eqb}
 use lib.ListN.{length, get_or}
 use borrow.Author.Tests.{eq-eqb, ne_eqb, eqb-true}
 use Rattle.lists.specs.Lists.{All, all_nil, all_cons, has}
-use Rattle.lists.proofs.Numbers.{lt_or_le, eq_or_ne, cond_same}
-use Rattle.lists.proofs.Lists.{all_map, all_mem, pairs-map}
+use Rattle.lists.proofs.Numbers.{bool_cases, lt_or_le, eq_or_ne, cond_same}
+use Rattle.lists.proofs.Lists.{all_map, all_mem, all_at, all_of_at, pairs-map}
 use Rattle.lists.proofs.Maps.{length_of_map, pairs_of_map, filter_map_all}
 use Rattle.lists.proofs.Counting.{has_decides, count_from_below, has-count_from, count_from_pairs}
 use Rattle.history.specs.Words.{Operation, Block, line_of, cell_place, stretch_of, cells_of, ends, byte_at, set_of, all_kinds, of_kind, own_life, only_kind, first_cell, live, life, Holds, HoldsCell}
 use Rattle.history.specs.Tree.{no_block, block_at, key_in}
-use Rattle.history.specs.Rules.{Apart}
+use Rattle.history.specs.Rules.{every, Apart}
 use Rattle.history.specs.Calls.{value_at}
 use Rattle.history.specs.Reads.{shows, seen}
-use Rattle.history.specs.Sound.{SoundKinds, SoundStretch, SoundBlock}
+use Rattle.history.specs.Sound.{none_of, SoundKinds, SoundStretch, SoundBlock}
+use Rattle.history.proofs.RulesLaws.{every_all, all_every}
 use Rattle.history.proofs.Within.{within_high}
 use Rattle.history.proofs.Clip.{byte_at_in, byte_at_low, byte_at_high}
 use Rattle.history.proofs.Seen.{shows-none}
@@ -89,7 +90,7 @@ module _ (store : List ℕ) (b : Block) (s : SoundStretch b.kind store b.stretch
   holds_cell low h =
       let same : b.kind ≡ kind = one_kind (eq_or_ne b.kind kind) in
       record {
-        of_kind_lem = same;
+        same_kind = same;
         born = h.born;
         alive = h.alive;
         from = rw same (omega (arith, h.has.from));
@@ -107,7 +108,7 @@ module _ (store : List ℕ) (b : Block) (s : SoundStretch b.kind store b.stretch
   -- .. and the other way round
   pub cell_holds : HoldsCell kind t c b → Holds t (cell_place kind c) b
   cell_holds h =
-      let same = ap line_of h.of_kind_lem in
+      let same = ap line_of h.same_kind in
       record { born = h.born; alive = h.alive; has = record { from = omega (arith, h.from, s.from_line); below = omega (arith, h.below, s.from_line) } }
 
   -- it has no cell past 2^64 − 1
@@ -270,3 +271,27 @@ only_seen kinds e store kind {bs} sound t c low =
 -- A set is its own set, so that a set of tables stands for one ledger.
 pub set_same : (kinds : List ℕ) → SoundKinds kinds → set_of kinds ≡ kinds
 set_same kinds s = those_with_ascending 0 5 s.ascending (all_map (λ k h. (omega arith, omega arith)) s.known)
+
+-- ── whether there are any ──
+
+pub none_owned : (kind : ℕ) (bs : List Block) → ((k : ℕ) → k < length bs → (block_at bs k).kind ≡ kind → ⊥) → none_of kind bs ≡ true
+none_owned kind bs other = all_every (λ b. not (of_kind kind b)) (all_of_at no_block bs (λ i h. ap not (ne_eqb (block_at bs i).kind kind (other i h))))
+
+pub one-owned : (kind : ℕ) (bs : List Block) (k : ℕ) → k < length bs → (block_at bs k).kind ≡ kind → none_of kind bs ≡ false
+one-owned kind bs k h is =
+    elim (bool_cases (none_of kind bs)) [
+      | inl e ↦
+          let each : All (λ (b : Block). not (of_kind kind b) ≡ true) bs = every_all (λ b. not (of_kind kind b)) bs e in
+          absurd (false≢true (sym (ap not (eq-eqb (block_at bs k).kind kind is)) ∙ all_at no_block each k h))
+      | inr e ↦ e
+    ]
+
+pub some-owned : (kind : ℕ) (bs : List Block) → none_of kind bs ≡ false → (k : ℕ) × (k < length bs) × ((block_at bs k).kind ≡ kind)
+unfolding every
+some-owned kind [] e = absurd (true≢false e)
+some-owned kind (b ∷ bs) e = go (of_kind kind b) refl e (some-owned kind bs)
+  where
+    go : (u : Bool) → of_kind kind b ≡ u → (not u && none_of kind bs) ≡ false → (none_of kind bs ≡ false → (k : ℕ) × (k < length bs) × ((block_at bs k).kind ≡ kind))
+        → (k : ℕ) × (k < length (b ∷ bs)) × ((block_at (b ∷ bs) k).kind ≡ kind)
+    go true q f rest = (0, omega arith, eqb-true b.kind kind q)
+    go false q f rest = let r = rest f in (suc r.0, omega (arith, r.1), r.2)

@@ -208,13 +208,6 @@ known_at ps c (b ∷ bs) k i h = go (has b (held_at c ps)) refl k i h (known_at 
     go true q r zero h ih = rw add-zero q
     go true q r (suc i) h ih = subst (λ (m : ℕ). has (get_or bs i 0) (held_at m ps) ≡ true) (omega arith) (ih r i (omega arith))
 
-pub known_all : (ps : List Piece) (c : ℕ) (bs : List ℕ) → ((i : ℕ) → i < length bs → has (get_or bs i 0) (held_at (c + i) ps) ≡ true) → first_change ps c bs ≡ none
-unfolding first_change
-known_all ps c [] h = refl
-known_all ps c (b ∷ bs) h =
-    rw (rw add-zero at (h 0 (omega arith)))
-    (known_all ps (suc c) bs (λ i p. subst (λ (n : ℕ). has (get_or bs i 0) (held_at n ps) ≡ true) (omega arith) (h (suc i) (omega arith))))
-
 -- a read is where there is no change
 pub read_known : (m : Moment) (o : Operation) → is_read m o ≡ true → first_change m.pieces (stretch_of o).first (stretch_of o).bytes ≡ none
 unfolding changed

@@ -4,10 +4,10 @@ use mathlib.Core.List.{List}
 use Prim.Native.Nat.{ℕ, ◌<◌, ◌≤◌, ◌+◌}
 use native.Mathlib.Omega.{arith}
 use lib.ListN.{length, get_or, take, drop}
-use borrow.Author.Tests.{eq-eqb, ne_eqb}
+use borrow.Author.Tests.{eq-eqb}
 use Rattle.history.specs.Words.{Block, a_block}
 use Rattle.history.specs.File.{got, ◌>>=◌, onward, give, refuse◌unless◌, field, read_block, fault, Reader}
-use Rattle.history.proofs.FileReads.{field_read, field_cut, number_cut, byte_read}
+use Rattle.history.proofs.FileReads.{field_read, byte_read}
 use Rattle.history.proofs.FileFields.{four_read, four_cut, number_at}
 
 -- a block's head: the kind byte, first cell, length, created, destroyed
@@ -24,17 +24,7 @@ block_in file at =
     a_block (get_or file at 0) (number_at file (at + 1)) (take (number_at file (at + 9)) (drop (at + block_head_bytes) file)) (number_at file (at + 17)) (number_at file (at + 25))
 
 module _ (kind : ℕ) (file : List ℕ) (at : ℕ) where
-  -- no kind byte
-  pub block_past : length file ≤ at → read_block kind file at ≡ fault 17
-  unfolding read_block ◌>>=◌ onward
-  block_past h = rw (number_cut 1 file at (omega arith)) refl
-
   module _ (inside : at < length file) where
-    -- 18
-    pub block_unlike : (get_or file at 0 ≡ kind → ⊥) → read_block kind file at ≡ fault 18
-    unfolding read_block ◌>>=◌ onward refuse◌unless◌
-    block_unlike h = rw (byte_read file at inside, ne_eqb (get_or file at 0) kind h) refl
-
     module _ (e : get_or file at 0 ≡ kind) where
       -- behind the kind byte: the four numbers and the bytes
       abbrev behind : ℕ → ℕ → ℕ → ℕ → Reader Block
@@ -47,14 +37,6 @@ module _ (kind : ℕ) (file : List ℕ) (at : ℕ) where
       block_short h =
           rw (byte_read file at inside, eq-eqb (get_or file at 0) kind e)
           (four_cut behind file (at + 1) (at + 9) (at + 17) (at + 25) (at + 33) (omega arith) (omega arith) (omega arith) (omega arith) h)
-
-      -- cut in the bytes
-      pub block_few : at + block_head_bytes ≤ length file → length file < block_end file at → read_block kind file at ≡ fault 17
-      unfolding read_block ◌>>=◌ onward refuse◌unless◌
-      block_few h z =
-          rw (byte_read file at inside, eq-eqb (get_or file at 0) kind e)
-          (four_read behind file (at + 1) (at + 9) (at + 17) (at + 25) (at + 33) (omega arith) (omega arith) (omega arith) (omega arith) h
-          ∙ rw (field_cut (number_at file (at + 9)) file (at + 33) z) refl)
 
       -- whole
       pub block_whole : block_end file at ≤ length file → read_block kind file at ≡ got (block_in file at) (block_end file at)

@@ -36,17 +36,6 @@ module _ (width : ℕ) (file : List ℕ) where
       let more : width * suc n ≡ width * n + width = mul-suc width n in
       rw (number_read width file at (omega arith), numbers_read n (at + width) (omega arith)) (ap (got (numbers_at width file at (suc n))) (omega arith))
 
-  -- or the bytes end inside one
-  pub numbers_cut : (n at : ℕ) → length file < at + width * n → at ≤ length file → many (number width) n file at ≡ fault 17
-  unfolding many ◌>>=◌ onward
-  numbers_cut zero at h z = absurd (let none : width * 0 ≡ 0 = mul-zero width in omega arith)
-  numbers_cut (suc n) at h z =
-      let more : width * suc n ≡ width * n + width = mul-suc width n in
-      elim (le_or_lt (at + width) (length file)) [
-        | inl fits ↦ rw (number_read width file at fits, numbers_cut n (at + width) (omega arith) fits) refl
-        | inr cut ↦ rw (number_cut width file at cut) refl
-      ]
-
 -- ── four numbers ──
 
 -- four numbers and what follows them, with the positions that lie between

@@ -5,12 +5,11 @@ use mathlib.Core.List.{List, [], ◌∷◌}
 use Prim.Native.Nat.{ℕ, ◌<◌, ◌≤◌, ◌+◌, suc, ◌*◌}
 use native.Mathlib.Omega.{arith}
 use lib.ListN.{length, get_or}
-use borrow.Author.Tests.{lt-leb}
 use Rattle.history.specs.File.{got, ◌>>=◌, onward, give, refuse◌unless◌, number, many, read_root, Nodes, absent, Read, fault, Reader, read_node, present}
 use Rattle.history.proofs.FileNumbers.{Bytes}
 use Rattle.history.proofs.FileReads.{byte_read}
-use Rattle.history.proofs.FileFields.{numbers_read, numbers_cut, four_read, four_cut, number_at, numbers_at}
-use Rattle.history.proofs.FileFuel.{node_past, read_root_node}
+use Rattle.history.proofs.FileFields.{numbers_read, four_read, four_cut, number_at, numbers_at}
+use Rattle.history.proofs.FileFuel.{read_root_node}
 
 -- ── a node, whatever its children are read by ──
 
@@ -32,11 +31,6 @@ module _ (child : Reader Nodes) (file : List ℕ) (at : ℕ) (inside : at < leng
   unfolding ◌>>=◌ onward refuse◌unless◌ give
   node_absent e = rw (byte_read file at inside, e) refl
 
-  -- 19: neither 0 nor 1
-  pub node_wrong : 1 < get_or file at 0 → read_node child file at ≡ fault 19
-  unfolding ◌>>=◌ onward refuse◌unless◌
-  node_wrong h = rw (byte_read file at inside, lt-leb (get_or file at 0) 1 h) refl
-
   module _ (e : get_or file at 0 ≡ 1) where
     -- behind the presence byte: the four numbers, the entries, the children
     abbrev behind : ℕ → ℕ → ℕ → ℕ → Reader Nodes
@@ -48,14 +42,6 @@ module _ (child : Reader Nodes) (file : List ℕ) (at : ℕ) (inside : at < leng
     node_short h =
         rw (byte_read file at inside, e)
         (four_cut behind file (at + 1) (at + 9) (at + 17) (at + 25) (at + 33) (omega arith) (omega arith) (omega arith) (omega arith) h)
-
-    -- cut in the entries
-    pub node_few : at + node_head_bytes ≤ length file → length file < child_at file at → read_node child file at ≡ fault 17
-    unfolding ◌>>=◌ onward refuse◌unless◌
-    node_few h z =
-        rw (byte_read file at inside, e)
-        (four_read behind file (at + 1) (at + 9) (at + 17) (at + 25) (at + 33) (omega arith) (omega arith) (omega arith) (omega arith) h
-        ∙ rw (numbers_cut 8 file (number_at file (at + 25)) (at + 33) z h) refl)
 
     -- whole: the two children follow
     pub node_whole : child_at file at ≤ length file
@@ -75,33 +61,13 @@ node_over file at (l ∷ []) = []
 node_over file at (l ∷ r ∷ ts) = node_at file at l r ∷ ts
 
 module _ (file : List ℕ) (bytes : Bytes file) (p at : ℕ) where
-  -- no presence byte
-  pub forest_cut : length file ≤ at → many read_root (suc p) file at ≡ fault 17
-  unfolding many ◌>>=◌ onward
-  forest_cut h = rw (read_root_node file bytes at, node_past read_root file at h) refl
-
   module _ (inside : at < length file) where
     -- byte 0: one fewer to come
     pub forest_absent : get_or file at 0 ≡ 0 → many read_root (suc p) file at ≡ onward (many read_root p file (at + 1)) (λ ts n. got (absent ∷ ts) n)
     unfolding many ◌>>=◌ onward give
     forest_absent e = rw (read_root_node file bytes at, node_absent read_root file at inside e) refl
 
-    -- 19: neither 0 nor 1
-    pub forest_wrong : 1 < get_or file at 0 → many read_root (suc p) file at ≡ fault 19
-    unfolding many ◌>>=◌ onward
-    forest_wrong h = rw (read_root_node file bytes at, node_wrong read_root file at inside h) refl
-
     module _ (e : get_or file at 0 ≡ 1) where
-      -- cut in the head
-      pub forest_short : length file < at + node_head_bytes → many read_root (suc p) file at ≡ fault 17
-      unfolding many ◌>>=◌ onward
-      forest_short h = rw (read_root_node file bytes at, node_short read_root file at inside e h) refl
-
-      -- cut in the entries
-      pub forest_few : at + node_head_bytes ≤ length file → length file < child_at file at → many read_root (suc p) file at ≡ fault 17
-      unfolding many ◌>>=◌ onward
-      forest_few h z = rw (read_root_node file bytes at, node_few read_root file at inside e h z) refl
-
       -- one that is whole leaves two more to come
       pub forest_present : child_at file at ≤ length file
           → many read_root (suc p) file at ≡ onward (many read_root (suc (suc p)) file (child_at file at)) (λ ts n. got (node_over file at ts) n)

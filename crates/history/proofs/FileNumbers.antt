@@ -19,14 +19,6 @@ unfolding bytes_of
 bytes_of-length zero n = refl
 bytes_of-length (suc w) n = ap suc (bytes_of-length w (n / 256))
 
--- each a byte
-pub bytes_of_bytes : (width n : ℕ) → Bytes (bytes_of width n)
-unfolding bytes_of
-bytes_of_bytes zero n = all_nil
-bytes_of_bytes (suc w) n =
-    let low : n % 256 < 256 = omega arith in
-    all_cons low (bytes_of_bytes w (n / 256))
-
 -- the number of its bytes
 pub number_of-bytes_of : (width n : ℕ) → n < 256 ^ width → number_of (bytes_of width n) ≡ n
 unfolding bytes_of number_of

@@ -20,14 +20,14 @@ use Rattle.history.specs.Words.{Block, all_kinds, cell_place, size, of_kind, own
 use Rattle.history.specs.Tree.{Tree, hole, no_block, block_at, tree_at, node_count, entry_count, widths}
 use Rattle.history.specs.Reads.{tree_in, seen, find_by, cells_by}
 use Rattle.history.specs.File.{written, written_blocks, renumbered, new_number, contents, file_of, file_part, file_by, part_at, file_bytes, got, tree_from, rule20, load, end_of, Loaded, File, loaded_from, reloaded, trees_with, loaded_ledger, saved_ledger}
-use Rattle.history.specs.Rules.{every, filled, halved, numbered, placed, sorted, rule23}
+use Rattle.history.specs.Rules.{filled, halved, numbered, placed, sorted, rule23}
 use Rattle.history.specs.Lent.{Lent}
 use Rattle.history.specs.Days.{rises_from, days_taken}
 use Rattle.history.specs.Ledger.{Ledger}
 use Rattle.history.specs.Sound.{Stored, SoundBlock, Sound, none_of, SoundBoard, SoundTree, SoundClosed}
 use Rattle.history.proofs.OneTree.{holes_but_own, sum_with}
-use Rattle.history.proofs.ByKind.{own_same, own_kind, own_stretch, own-ends, own_forward, own_dead, own-lives, only_length, only_at, only_same, only_apart, only_seen}
-use Rattle.history.proofs.RulesLaws.{every_all, all_every, rule23_decides, apart_decides, filled_decides}
+use Rattle.history.proofs.ByKind.{own_same, own_kind, own_stretch, own-ends, own_forward, own_dead, own-lives, only_length, only_at, only_same, only_apart, only_seen, none_owned, one-owned}
+use Rattle.history.proofs.RulesLaws.{every_all, rule23_decides, apart_decides, filled_decides}
 use Rattle.history.proofs.FileNumbers.{Bytes}
 use Rattle.history.proofs.FileYields.{Yielded}
 use Rattle.history.proofs.FileRoundTrip.{gives_file, BlockFits, FileFits}
@@ -79,15 +79,6 @@ hole_sound e bs kind none =
           });
     }
 
--- blocks of one kind: none of any other
-none_other : (kind k : ℕ) {bs : List Block} → (kind ≡ k → ⊥) → All (λ (b : Block). b.kind ≡ kind) bs → none_of k bs ≡ true
-none_other kind k n own = all_every (λ b. not (of_kind k b)) (all_map (λ b e. rw (ne_eqb b.kind k (λ q. n (sym e ∙ q))) refl) own)
-
-some-own : (kind : ℕ) {bs : List Block} → 0 < length bs → All (λ (b : Block). b.kind ≡ kind) bs → none_of kind bs ≡ false
-unfolding every
-some-own kind h all_nil = absurd (omega arith)
-some-own kind h (all_cons {x = b} e es) = rw (eq-eqb b.kind kind e) refl
-
 -- Whatever the loader takes is well formed.
 accepted_sound : (n : Lent) (f : File) → FileFits f → Accepted n f → Sound (loaded_ledger n (loaded_from f))
 unfolding node_count entry_count has days_taken rises_from
@@ -138,11 +129,11 @@ accepted_sound n f fits rules =
         rw (eq-eqb f.kind k e)
         (subst (λ (j : ℕ). SoundTree (end_of f.nodes) f.blocks j (tree_from f.nodes)) e
         (record {
-          rooted = tree_from_rooted f.nodes halves.some_tick ∙ sym (some-own f.kind blocks.some_block own);
+          rooted = tree_from_rooted f.nodes halves.some_tick ∙ sym (one-owned f.kind f.blocks 0 blocks.some_block (all_at no_block own 0 blocks.some_block));
           rule_21 = halves.halves;
           rule_23 = rw (only_same f.kind own) rules.entries;
         }))
-    tree_sound k (inr n) = rw (ne_eqb f.kind k n) (hole_sound (end_of f.nodes) f.blocks k (none_other f.kind k n own))
+    tree_sound k (inr n) = rw (ne_eqb f.kind k n) (hole_sound (end_of f.nodes) f.blocks k (none_owned k f.blocks (λ j h q. n (sym (all_at no_block own j h) ∙ q))))
 
     sound_block : (b : Block) → LivingBlock (end_of f.nodes) b → BlockFits f.kind b × Stored (flat_map (λ b. b.stretch.bytes) f.blocks) b.stretch
         → SoundBlock (f.kind ∷ []) (end_of f.nodes) (flat_map (λ b. b.stretch.bytes) f.blocks) b

@@ -1,7 +1,7 @@
 -- What find lists, over any sound tree: exactly the live blocks whose first cell is in the window, each once. Assumes nothing.
 use mathlib.Core.Path.{◌≡◌, refl, sym, ◌∙◌, subst}
 use mathlib.Core.Logic.{inl, inr}
-use mathlib.Core.Bool.{Bool, true, false, true≢false, cond, ◌&&◌}
+use mathlib.Core.Bool.{Bool, true, false, cond, ◌&&◌}
 use mathlib.Core.List.{List, [], ◌∷◌, map}
 use Prim.Native.Nat.{ℕ, ◌+◌, ◌≤◌, ◌<◌}
 use native.Mathlib.Nat.{zero-add}
@@ -9,16 +9,15 @@ use native.Mathlib.Omega.{arith}
 use lib.ListN.{length}
 use lib.Dec.{eqb}
 use borrow.Author.Tests.{ne_eqb}
-use Rattle.lists.specs.Lists.{All, Mem, Distinct, has, count, sum_of}
-use Rattle.lists.proofs.Numbers.{eq_or_ne, cond_same, decides_same, counts_one}
-use Rattle.lists.proofs.Counting.{has_decides, count_distinct}
+use Rattle.lists.specs.Lists.{All, Mem, count, sum_of}
+use Rattle.lists.proofs.Numbers.{eq_or_ne, cond_same}
 use Rattle.history.specs.Words.{within, Block, first_cell, live}
 use Rattle.history.specs.Tree.{Tree, no_block, block_at, key_in}
 use Rattle.history.specs.Find.{path, window, find}
 use Rattle.history.specs.Rules.{halved, rule23}
 use Rattle.history.proofs.Within.{within_high}
 use Rattle.history.proofs.FindMet.{path-met}
-use Rattle.history.proofs.Counted.{counted_holds, counted_mem, counted_numbers, counted_length}
+use Rattle.history.proofs.Counted.{counted_holds, counted_numbers, counted_length}
 
 -- ── the window ──
 
@@ -69,21 +68,9 @@ module _ (e : ℕ) (bs : List Block) (tree : Tree) (halves : halved 0 e tree ≡
   pub find-listed : (k : ℕ) → Mem k (find e bs tree t s n) → (live t (block_at bs k) && within s n (key_in bs k)) ≡ true
   find-listed = counted_holds bs listed_now no_block_lem (find e bs tree t s n) find-count
 
-  pub find_lists : (k : ℕ) → (live t (block_at bs k) && within s n (key_in bs k)) ≡ true → Mem k (find e bs tree t s n)
-  find_lists = counted_mem bs listed_now no_block_lem (find e bs tree t s n) find-count
-
-  pub find-has : (k : ℕ) → has k (find e bs tree t s n) ≡ (live t (block_at bs k) && within s n (key_in bs k))
-  find-has k =
-      decides_same (has k (find e bs tree t s n)) (listed_now (block_at bs k)) (has_decides k (find e bs tree t s n))
-      (record { yes = find_lists k; not = λ h m. true≢false (sym (find-listed k m) ∙ h) })
-
   -- all are numbers of blocks
   pub find_numbers : All (λ k. k < length bs) (find e bs tree t s n)
   find_numbers = counted_numbers bs listed_now no_block_lem (find e bs tree t s n) find-count
-
-  -- nothing is listed twice
-  pub find_distinct : Distinct (find e bs tree t s n)
-  find_distinct = count_distinct (find e bs tree t s n) (λ k. rw (find-count k) (counts_one (listed_now (block_at bs k))))
 
   -- The list is as long as there are such blocks.
   pub find-length : length (find e bs tree t s n) ≡ sum_of (map (λ b. cond (live t b && within s n (first_cell b)) 1 0) bs)

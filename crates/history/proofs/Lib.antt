@@ -1,6 +1,7 @@
 pub mod Within
 pub mod ByKind
 pub mod Clip
+pub mod Cutting
 pub mod Seen
 pub mod Parts
 pub mod Apart

@@ -2,17 +2,16 @@
 use mathlib.Core.Path.{◌≡◌, ◌∙◌, ap, ap₂}
 use mathlib.Core.Logic.{◌⊎◌, inl, inr}
 use mathlib.Core.Option.{Option, none, some}
-use mathlib.Core.List.{List, [], ◌++◌, filter_map, filter_map-append, filter_map-some, append-nil}
+use mathlib.Core.List.{List, [], filter_map, filter_map-some}
 use Prim.Native.Nat.{ℕ, ◌-◌, ◌≤◌, ◌<◌, min, max}
 use native.Mathlib.Omega.{arith}
 use lib.ListN.{length, take, drop}
 use lib.Seq.{take-length}
 use borrow.Author.Tests.{lt-ltb, le-ltb}
-use Rattle.history.specs.Words.{Stretch, Piece, ends, size, byte_at, clip, clip_piece, below, inside, above, held_at}
+use Rattle.history.specs.Words.{Stretch, Piece, ends, size, clip, clip_piece, below, inside, above}
 use Rattle.lists.specs.Lists.{All}
 use Rattle.lists.proofs.Lists.{all_map, all_both}
 use Rattle.lists.proofs.Maps.{filter_map_all, filter_map_none}
-use Rattle.history.proofs.Clip.{byte_at_low, byte_at_high}
 
 -- operation and `rs` all starting at or after its end, then `ls` and `rs` stay as they are and only `ms` is cut. Assumes nothing.
 
@@ -86,40 +85,3 @@ inside_left x y a = lose (clip_piece x y) (all_map (λ p l. clip_piece_out x y p
 pub inside_right : (x y : ℕ) {ps : List Piece} → Right y ps → inside x y ps ≡ []
 unfolding inside
 inside_right x y a = lose (clip_piece x y) (all_map (λ p r. clip_piece_out x y p (inr r)) a)
-
--- ── the split ──
-
-module _ (x y : ℕ) (ordered : x ≤ y) (ls ms rs : List Piece) (left : Left x ls) (right : Right y rs) where
-  pub below_split : Filled ls → below x (ls ++ (ms ++ rs)) ≡ ls ++ below x ms
-  unfolding below
-  below_split n =
-      filter_map-append (clip_piece 0 x) ls (ms ++ rs)
-      ∙ ap₂ (λ (u v : List Piece). u ++ v) (below_left x left n)
-      (filter_map-append (clip_piece 0 x) ms rs ∙ ap (λ (v : List Piece). below x ms ++ v) (below_right x (all_map (λ p r. omega arith) right)) ∙ append-nil (below x ms))
-
-  pub above_split : Filled rs → above y (ls ++ (ms ++ rs)) ≡ above y ms ++ rs
-  unfolding above
-  above_split n =
-      filter_map-append (λ p. clip_piece y (ends p.stretch) p) ls (ms ++ rs)
-      ∙ ap₂ (λ (u v : List Piece). u ++ v) (above_left y (all_map (λ p l. omega arith) left))
-      (filter_map-append (λ p. clip_piece y (ends p.stretch) p) ms rs ∙ ap (λ (v : List Piece). above y ms ++ v) (above_right y right n))
-
-  pub inside_split : inside x y (ls ++ (ms ++ rs)) ≡ inside x y ms
-  unfolding inside
-  inside_split =
-      filter_map-append (clip_piece x y) ls (ms ++ rs)
-      ∙ ap₂ (λ (u v : List Piece). u ++ v) (inside_left x y left)
-      (filter_map-append (clip_piece x y) ms rs ∙ ap (λ (v : List Piece). inside x y ms ++ v) (inside_right x y right) ∙ append-nil (inside x y ms))
-
-  -- a cell of [x, y) is held by the middle pieces only
-  pub held_at_split : (c : ℕ) → x ≤ c → c < y → held_at c (ls ++ (ms ++ rs)) ≡ held_at c ms
-  unfolding held_at
-  held_at_split c p q =
-      filter_map-append byte ls (ms ++ rs)
-      ∙ ap₂ (λ (u v : List ℕ). u ++ v) (filter_map_all byte (λ p. none) (all_map (λ z l. byte_at_high c z.stretch (omega arith)) left) ∙ filter_map_none ls)
-      (filter_map-append byte ms rs
-      ∙ ap (λ (v : List ℕ). held_at c ms ++ v) (filter_map_all byte (λ p. none) (all_map (λ z r. byte_at_low c z.stretch (omega arith)) right) ∙ filter_map_none rs)
-      ∙ append-nil (held_at c ms))
-    where
-      byte : Piece → Option ℕ
-      byte p = byte_at c p.stretch

@@ -99,7 +99,7 @@ module _ (l : Ledger) (kind t s n k : ℕ) where
   touching_live : Touching l kind t s n k → (live_of kind t (block_by l k) && touches s n (block_by l k)) ≡ true
   touching_live h =
       and_both (live_of kind t (block_by l k)) (touches s n (block_by l k))
-      (and_both (of_kind kind (block_by l k)) (live t (block_by l k)) (eq-eqb (block_by l k).kind kind h.held.of_kind_lem)
+      (and_both (of_kind kind (block_by l k)) (live t (block_by l k)) (eq-eqb (block_by l k).kind kind h.held.same_kind)
       (within_in (block_by l k).created (block_by l k).destroyed t h.held.born h.held.alive))
       (touches_cell s n (block_by l k) h.cell h.from h.below h.held.from h.held.below)
 
@@ -113,7 +113,7 @@ module _ (l : Ledger) (kind t s n k : ℕ) where
         from = omega arith;
         below = omega arith;
         held = record {
-          of_kind_lem = eqb-true (block_by l k).kind kind (and_left (of_kind kind (block_by l k)) (live t (block_by l k)) mine);
+          same_kind = eqb-true (block_by l k).kind kind (and_left (of_kind kind (block_by l k)) (live t (block_by l k)) mine);
           born = lives.0;
           alive = lives.1;
           from = omega arith;

@@ -95,12 +95,6 @@ unfolding entry_count entries_in
 entry_count_in hole = refl
 entry_count_in (node es l r) = rw (length-append es (entries_in l ++ entries_in r), length-append (entries_in l) (entries_in r), entry_count_in l, entry_count_in r)
 
--- no node, no entry
-pub node_count_hole : (T : Tree) → node_count T ≡ 0 → T ≡ hole
-unfolding node_count
-node_count_hole hole h = refl
-node_count_hole (node es l r) h = absurd (omega arith)
-
 -- ── all blocks ──
 
 -- the tree of a kind has the entries of each of its blocks

@@ -1,25 +1,25 @@
 -- The tree does not depend on the order in which blocks are added, where any two that live together differ in first cell, as rule 24 says: the
 -- tree of finish, which adds in recorded order, is that of any order. Assumes nothing.
 use mathlib.Core.Path.{◌≡◌, refl, ap, sym, ◌∙◌}
-use mathlib.Core.Logic.{◌⊎◌, inl, inr, ◌≢◌}
+use mathlib.Core.Logic.{inl, inr, ◌≢◌}
 use mathlib.Core.Bool.{Bool, true, false, cond, ◌&&◌}
 use mathlib.Core.List.{List, [], ◌∷◌}
 use Prim.Native.Nat.{ℕ, zero, suc, ◌+◌, ◌<◌}
 use native.Mathlib.Omega.{arith}
-use lib.ListN.{length, get_or}
+use lib.ListN.{length}
 use lib.Dec.{ltb, eqb}
 use borrow.Author.Tests.{ltb-true, eq-eqb, ne_eqb}
 use Rattle.lists.specs.Lists.{All, Mem, here, there, count}
 use Rattle.lists.proofs.Numbers.{bool_cases, lt_or_le, eq_or_ne, and_left}
 use Rattle.lists.proofs.Counting.{count_here, count_mem}
-use Rattle.history.specs.Words.{Block, of_kind, only_kind}
-use Rattle.history.specs.Tree.{Tree, hole, node, mid, halves, covers, entries_of, left_of, right_of, add_location, add_all, no_block, block_at, key_in, tree_of}
+use Rattle.history.specs.Words.{Block, only_kind}
+use Rattle.history.specs.Tree.{Tree, node, mid, halves, covers, entries_of, left_of, right_of, add_location, block_at, key_in}
 use Rattle.history.specs.Rules.{Apart}
 use Rattle.history.proofs.TreeInserting.{insert-two}
 use Rattle.history.proofs.TreeAdding.{covers-inside, made, listed, deeper, add_here, add_last, add_below, add_block}
 use Rattle.history.proofs.TreePath.{block_none}
 use Rattle.history.proofs.TreeSorted.{Standing, Together, cells_differ}
-use Rattle.history.proofs.ByKind.{only_at, only_length, own_same}
+use Rattle.history.proofs.ByKind.{only_length}
 
 -- ── two blocks ──
 
@@ -205,38 +205,6 @@ module _ (at : ℕ → Block) (key : ℕ → ℕ) (e : ℕ) (some : 0 < e) (diff
 
 -- ── the tree of a kind ──
 
--- the numbers of the kind's blocks, from number n on
-unfoldable pub numbers_of : (kind n : ℕ) → List Block → List ℕ
-numbers_of kind n [] = []
-numbers_of kind n (b ∷ bs) =
-    let rest = numbers_of kind (suc n) bs in
-    cond (of_kind kind b) (n ∷ rest) rest
-
--- finish adds the kind's blocks in recorded order
-pub tree_of_each : (kind e : ℕ) (bs : List Block) → tree_of kind e bs ≡ add_each (block_at (only_kind kind bs)) (key_in bs) e (numbers_of kind 0 bs) hole
-unfolding tree_of add_all add_each numbers_of
-tree_of_each kind e bs = go 0 bs hole (λ j l. let z : 0 + j ≡ j = omega arith in rw z)
-  where
-    go : (n : ℕ) (cs : List Block) (T : Tree) → ((j : ℕ) → j < length cs → block_at bs (n + j) ≡ get_or cs j no_block)
-        → add_all (key_in bs) kind e n cs T ≡ add_each (block_at (only_kind kind bs)) (key_in bs) e (numbers_of kind n cs) T
-    go n [] T same = refl
-    go n (c ∷ cs) T same =
-        choose (eq_or_ne c.kind kind) (λ X. go (suc n) cs X (λ j l. let q : suc n + j ≡ n + suc j = omega arith in rw q (same (suc j) (omega arith))))
-      where
-        this : block_at bs n ≡ c
-        this = let z : n + 0 ≡ n = omega arith in rw z at (same 0 (omega arith))
-
-        choose : (c.kind ≡ kind) ⊎ (c.kind ≡ kind → ⊥)
-            → ((X : Tree) → add_all (key_in bs) kind e (suc n) cs X ≡ add_each (block_at (only_kind kind bs)) (key_in bs) e (numbers_of kind (suc n) cs) X)
-            → add_all (key_in bs) kind e (suc n) cs (cond (of_kind kind c) (add_location (key_in bs) 63 n c.created c.destroyed 0 e T) T)
-            ≡ add_each (block_at (only_kind kind bs)) (key_in bs) e (cond (of_kind kind c) (n ∷ numbers_of kind (suc n) cs) (numbers_of kind (suc n) cs)) T
-        choose (inl p) rest =
-            let mine : block_at (only_kind kind bs) n ≡ c = only_at kind bs n ∙ own_same kind (block_at bs n) (rw this p) ∙ this in
-            rw (eq-eqb c.kind kind p)
-            (rest (add_location (key_in bs) 63 n c.created c.destroyed 0 e T)
-            ∙ sym (ap (λ (x : Block). add_each (block_at (only_kind kind bs)) (key_in bs) e (numbers_of kind (suc n) cs) (add_location (key_in bs) 63 n x.created x.destroyed 0 e T)) mine))
-        choose (inr p) rest = rw (ne_eqb c.kind kind p) (rest T)
-
 -- the kind's blocks that live together differ in first cell, whichever has the lower number
 pub cells_apart : (kind : ℕ) (bs : List Block) → Apart bs → All Standing bs → (i j : ℕ) → i ≢ j
     → Together (block_at (only_kind kind bs) i) (block_at (only_kind kind bs) j) → key_in bs i ≢ key_in bs j
@@ -255,9 +223,3 @@ cells_apart kind bs apart standing i j n both =
 
     turn : Together (block_at (only_kind kind bs) i) (block_at (only_kind kind bs) j) → Together (block_at (only_kind kind bs) j) (block_at (only_kind kind bs) i)
     turn b = record { tick = b.tick; born = b.other_born; alive = b.other_alive; other_born = b.born; other_alive = b.alive }
-
--- The kind's blocks in any order give the tree of finish.
-pub tree_of_order : (kind e : ℕ) (bs : List Block) → 0 < e → Apart bs → All Standing bs → (numbers : List ℕ) → ((k : ℕ) → count k numbers ≡ count k (numbers_of kind 0 bs))
-    → tree_of kind e bs ≡ add_each (block_at (only_kind kind bs)) (key_in bs) e numbers hole
-tree_of_order kind e bs some apart standing numbers same =
-    tree_of_each kind e bs ∙ each_order (block_at (only_kind kind bs)) (key_in bs) e some (cells_apart kind bs apart standing) (numbers_of kind 0 bs) numbers hole (λ k. sym (same k))

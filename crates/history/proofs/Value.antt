@@ -62,9 +62,9 @@ speaks o h kind t c = go (eq_or_ne o.kind kind) (lt_or_le t o.tick) (has_cell c 
   where
     go : (o.kind ≡ kind) ⊎ (o.kind ≡ kind → ⊥) → (t < o.tick) ⊎ (o.tick ≤ t) → HasCell (cells_of o) c ⊎ (byte_at c (cells_of o) ≡ none)
         → CoversBy kind t c o ⊎ ((CoversBy kind t c o → ⊥) × (value_at (o ∷ h) kind t c ≡ value_at h kind t c))
-    go (inr n) x y = inr ((λ k. n k.covers.of_kind_lem), value_other o h kind t c n)
+    go (inr n) x y = inr ((λ k. n k.covers.same_kind), value_other o h kind t c n)
     go (inl e) (inl x) y = inr ((λ k. omega (arith, k.by)), value_later o h kind t c x)
-    go (inl e) (inr x) (inl y) = inl (record { by = x; covers = record { of_kind_lem = e; has = y } })
+    go (inl e) (inr x) (inl y) = inl (record { by = x; covers = record { same_kind = e; has = y } })
     go (inl e) (inr x) (inr y) =
         inr ((λ k. none-ne-some _ (sym y ∙ byte_at_in c (cells_of o) k.covers.has.from k.covers.has.below)), value_uncovered o h kind t c y)
 
@@ -89,7 +89,7 @@ none_then (o ∷ h) kind t c e = go (speaks o h kind t c) (none_then h kind t c)
   where
     go : CoversBy kind t c o ⊎ ((CoversBy kind t c o → ⊥) × (value_at (o ∷ h) kind t c ≡ value_at h kind t c))
         → (value_at h kind t c ≡ none → All (λ (o : Operation). CoversBy kind t c o → ⊥) h) → All (λ (o : Operation). CoversBy kind t c o → ⊥) (o ∷ h)
-    go (inl k) ih = let b = covers_byte kind t c o k in absurd (none-ne-some b.0 (sym e ∙ value_covered o h kind t c b.0 k.covers.of_kind_lem k.by b.1))
+    go (inl k) ih = let b = covers_byte kind t c o k in absurd (none-ne-some b.0 (sym e ∙ value_covered o h kind t c b.0 k.covers.same_kind k.by b.1))
     go (inr k) ih = all_cons k.0 (ih (sym k.1 ∙ e))
 
 -- ── a byte ──
@@ -98,7 +98,7 @@ some_if : (h : List Operation) (kind t c b : ℕ) → LastCall h kind t c b → 
 some_if h kind t c b k = subst (λ (x : List Operation). value_at x kind t c ≡ some b) (sym k.is) (go k.newer k.last)
   where
     go : (newer : List Operation) → All (λ (o : Operation). CoversBy kind t c o → ⊥) newer → value_at (newer ++ k.call ∷ k.older) kind t c ≡ some b
-    go [] all_nil = value_covered k.call k.older kind t c b k.covered.covers.of_kind_lem k.covered.by k.has
+    go [] all_nil = value_covered k.call k.older kind t c b k.covered.covers.same_kind k.covered.by k.has
     go (o ∷ newer) (all_cons n ns) = pass (speaks o (newer ++ k.call ∷ k.older) kind t c) (go newer ns)
       where
         pass : CoversBy kind t c o ⊎ ((CoversBy kind t c o → ⊥) × (value_at (o ∷ (newer ++ k.call ∷ k.older)) kind t c ≡ value_at (newer ++ k.call ∷ k.older) kind t c))
@@ -114,7 +114,7 @@ some_then (o ∷ h) kind t c b e = go (speaks o h kind t c) (some_then h kind t 
     go : CoversBy kind t c o ⊎ ((CoversBy kind t c o → ⊥) × (value_at (o ∷ h) kind t c ≡ value_at h kind t c)) → (value_at h kind t c ≡ some b → LastCall h kind t c b) → LastCall (o ∷ h) kind t c b
     go (inl k) ih =
         let x = covers_byte kind t c o k in
-        let same : x.0 ≡ b = some-injective x.0 b (sym (value_covered o h kind t c x.0 k.covers.of_kind_lem k.by x.1) ∙ e) in
+        let same : x.0 ≡ b = some-injective x.0 b (sym (value_covered o h kind t c x.0 k.covers.same_kind k.by x.1) ∙ e) in
         record { newer = []; call = o; older = h; is = refl; covered = k; has = x.1 ∙ ap {B = Option ℕ} some same; last = all_nil }
     go (inr k) ih =
         let r = ih (sym k.1 ∙ e) in

@@ -140,7 +140,7 @@ pub record HasCell (s : Stretch) (place : ℕ) : Type 0 where
 
 -- A call covers, and a block holds, a cell for each of its bytes, from its first cell on (01, "mod.rs").
 pub record Covers (kind cell : ℕ) (o : Operation) : Type 0 where
-  pub of_kind_lem : o.kind ≡ kind
+  pub same_kind : o.kind ≡ kind
   pub has : HasCell (cells_of o) cell
 
 -- at tick t the block is live and holds the place
@@ -151,7 +151,7 @@ pub record Holds (t place : ℕ) (b : Block) : Type 0 where
 
 -- at tick t the block is live and holds the kind's cell
 pub record HoldsCell (kind t cell : ℕ) (b : Block) : Type 0 where
-  pub of_kind_lem : b.kind ≡ kind
+  pub same_kind : b.kind ≡ kind
   pub born : b.created ≤ t
   pub alive : t < b.destroyed
   pub from : first_cell b ≤ cell

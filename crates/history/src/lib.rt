@@ -32,13 +32,11 @@ ghost use Rattle.history.specs.Boards.{MarkedBoards};
 ghost use Rattle.history.specs.Requested.{RequestedBoards};
 
 // The value of a cell, in the mission's words.
-#[tactic(auto, using(crate::proofs::Value::value_law))]
 pub fn value_at()
     ensures { ValueAt }
 {}
 
 // What an operation changes first is the lowest of the first unknown cell and of its first differences from each piece.
-#[tactic(auto, using(crate::proofs::Changing::change_law))]
 pub fn law_of_change()
     ensures { LawOfChange }
 {}
@@ -64,25 +62,21 @@ pub fn law_of_neighbours()
 {}
 
 // Station hours: open cells, 26 exactly outside hours, 27 fault by fault, and what install leaves.
-#[tactic(auto, using(crate::proofs::Installing::law_of_hours))]
 pub fn law_of_hours()
     ensures { LawOfHours }
 {}
 
 // Days of 23 and 25 hours: every minute lies in one day, what the clock shows then, 28 fault by fault, and what installing a list leaves.
-#[tactic(auto, using(crate::proofs::DaysLaws::law_of_days))]
 pub fn law_of_days()
     ensures { LawOfDays }
 {}
 
 // The boards to try come out as they must.
-#[tactic(auto, using(crate::proofs::Boards::boards_right))]
 pub fn marked_boards()
     ensures { MarkedBoards }
 {}
 
 // And so do those of document 02.
-#[tactic(auto, using(crate::proofs::Boards::requested_right))]
 pub fn requested_boards()
     ensures { RequestedBoards }
 {}

@@ -78,11 +78,6 @@ call_sized opened end last tick first size e =
 
 -- ── the ledger's answer ──
 
--- of a finished index
-pub answer_finished : (l : Ledger) (scratch : ℕ) (o : Operation) → too_short l.opening.lent ≡ false → ltb scratch least_scratch ≡ false → finished l ≡ true → record_answer l scratch o ≡ refused 3
-unfolding record_refusals first_of
-answer_finished l scratch o fits long done = rw (fits, long, done)
-
 -- of an open one
 module _ (l : Ledger) (scratch : ℕ) (o : Operation) (fits : too_short l.opening.lent ≡ false) (long : ltb scratch least_scratch ≡ false) (still : finished l ≡ false) where
   abbrev of_call : List Refusal

@@ -8,9 +8,6 @@ ghost use Rattle.index_test.specs.Board.{Numbers, HeadFormed, BoardFormed};
 use layout::Tables;
 use tables::{block, entry, node, piece};
 
-// The mask of all five kinds.
-const ALL_KINDS: u64 = 31;
-
 // Whether each table holds its head.
 #[tactic(auto, using(crate::proofs::BoardTested::fitting))]
 fn test_heads(lent: Tables) -> bool
@@ -55,7 +52,7 @@ fn test_numbers(lent: Tables) -> bool
     if kinds == 0 {
         return false;
     }
-    if ALL_KINDS < kinds {
+    if tables::kinds::ALL < kinds {
         return false;
     }
     if end <= block_table::last(lent.blocks) {

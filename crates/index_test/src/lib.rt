@@ -97,7 +97,7 @@ impl State {
 }
 
 // Whether the tables that pass as a board are those of a closed index. Linear in the rows in use for whatever calls leave; rule 24 of other tables may take
-// O(n log E log n) steps. It is tested last, as it goes by the trees.
+// O(n log E log n) steps.
 #[tactic(auto, using(crate::proofs::Tested::closing))]
 fn test_closed(lent: Tables) -> bool
     ensures { TestedClosed (held lent.entry) result }
@@ -114,7 +114,8 @@ fn test_closed(lent: Tables) -> bool
         end: block_table::end(lent.blocks),
         n: block_table::count(lent.blocks),
     };
-    segment_test::test_trees(&claim) && segment_apart::apart(&claim)
+    let found = segment_apart::test(&claim);
+    found.trees && found.apart
 }
 
 // What the tables are: of an open index, of a closed one, or not well formed.

@@ -10,7 +10,7 @@ use lib.Dec.{eqb}
 use borrow.Author.Tests.{eqb-true, eqb-false, eq-eqb, ne_eqb}
 use Rattle.lists.specs.Lists.{All, all_nil, all_cons, Mem, here, there, Distinct, Pairs, pairs_nil, pairs_cons, has, count, count_from, sum_of}
 use Rattle.lists.specs.Tests.{Decides}
-use Rattle.lists.proofs.Numbers.{bool_cases, le_or_lt, lt_or_le, eq_or_ne, confirm, refute, decides_iff, decided}
+use Rattle.lists.proofs.Numbers.{bool_cases, le_or_lt, eq_or_ne, confirm, refute, decides_iff, decided}
 use Rattle.lists.proofs.Lists.{all_any, all_map, all_mem, all_of_mem, count_from_length}
 
 -- ── members ──
@@ -173,17 +173,6 @@ map_from_at {A} {B} f at d n (x ∷ xs) h =
     let this : at n ≡ x = rw z at (h 0 (omega arith)) in
     ap₂ (λ (y : B) (r : List B). y ∷ r) (ap f this)
     (map_from_at f at d (suc n) xs (λ j l. let q : suc n + j ≡ n + suc j = omega arith in rw q (h (suc j) (omega arith))))
-
--- a list that has each number below n, none twice and no other, has what 0, 1, .. has
-pub permutes_count : (n : ℕ) (xs : List ℕ) → Distinct xs → ((k : ℕ) → Mem k xs → k < n) → ((k : ℕ) → k < n → Mem k xs) → (k : ℕ) → count k xs ≡ count k (count_from 0 n)
-permutes_count n xs once within every k =
-    elim (lt_or_le k n) [
-      | inl h ↦ omega (arith, mem_count (every k h), distinct_count k xs once, count_from_count k 0 n (omega arith) (omega arith))
-      | inr h ↦ elim (le_or_lt (count k xs) 0) [
-        | inl z ↦ omega (arith, count_from_out k 0 n (inr (omega arith)))
-        | inr z ↦ absurd (omega (arith, within k (count_mem k xs z)))
-      ]
-    ]
 
 -- ── n different numbers from 1 to n ──
 

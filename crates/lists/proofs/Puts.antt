@@ -5,8 +5,8 @@ use mathlib.Core.List.{List, [], ◌∷◌, ◌++◌}
 use Prim.Native.Nat.{ℕ, ◌+◌, ◌≤◌, ◌<◌}
 use native.Mathlib.Numerals.{add-one}
 use native.Mathlib.Omega.{arith}
-use lib.ListN.{length, get_or, set, take, drop, length-append}
-use lib.Seq.{sets, length-sets, set_out, sets-eq, take-suc, take_all, take_at, length-take-le}
+use lib.ListN.{length, get_or, take, drop, length-append}
+use lib.Seq.{sets, length-sets, set_out, sets-eq, take-suc, take_at, length-take-le}
 use Rattle.lists.specs.Puts.{behind, Put}
 use Rattle.lists.proofs.Numbers.{le_or_lt}
 use Rattle.lists.proofs.Stores.{sets-append, sets-past}
@@ -62,9 +62,6 @@ put_same e a = rw e at a
 
 -- ── one byte ──
 
-pub put_here : (out : List ℕ) (at byte : ℕ) → at < length out → Put out at (byte ∷ []) (set out at byte) (at + 1)
-put_here out at x h = record { stands = refl; ends = omega arith }
-
 pub put_past : (out : List ℕ) (at byte : ℕ) → length out ≤ at → Put out at (byte ∷ []) out at
 put_past out at x h = record { stands = sym (set_out out at x h); ends = omega arith }
 
@@ -73,6 +70,3 @@ put_past out at x h = record { stands = sym (set_out out at x h); ends = omega a
 pub put_one : {out mid out' : List ℕ} {at p q : ℕ} (xs : List ℕ) (i : ℕ) → i < length xs → Put out at (take i xs) mid p
     → Put mid p (get_or xs i 0 ∷ []) out' q → Put out at (take (i + 1) xs) out' q
 put_one xs i h a b = rw (add-one i, take-suc xs i 0 h) (put_append a b)
-
-pub put_all : {out out' : List ℕ} {at q : ℕ} (xs : List ℕ) (i : ℕ) → length xs ≤ i → Put out at (take i xs) out' q → Put out at xs out' q
-put_all xs i h a = rw (take_all i xs h) at a

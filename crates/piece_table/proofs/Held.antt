@@ -8,15 +8,12 @@ use Rattle.std.proofs.lemmas.Option.{same_Some}
 use Rattle.lists.proofs.Maps.{map-append}
 use Rattle.lists.specs.Lists.{here, all_cons}
 use Rattle.lists.proofs.Lists.{all_head, all_right}
-use Rattle.history.specs.Words.{line_of, cell_place}
-use Rattle.tables.specs.Columns.{column, piece_owner}
-use Rattle.merge_set.specs.Table.{first_at}
 use Rattle.merge_set.proofs.Links.{Put, put_at, mem_unput, found}
 use Rattle.piece_table.proofs.Order.{follow_above}
 use Rattle.piece_table.proofs.Removing.{linked_dense}
-use Rattle.piece_table.specs.Calls.{Met, Sought, RemovedPiece, ReplacedPiece, TrimmedBack, TrimmedFront, end_at, own_place}
+use Rattle.piece_table.specs.Calls.{Met, Sought, ReplacedPiece, end_at}
 use Rattle.piece_table.proofs.Parts.{Left}
-use Rattle.piece_table.specs.Piece.{PieceRow, row_end, piece_at, part, Follow}
+use Rattle.piece_table.specs.Piece.{PieceRow, row_end, piece_at, Follow}
 use Rattle.piece_table.specs.Rep.{Linked, Rep, Holds, Becomes}
 
 -- pieces that follow one another are different: where one stands is determined
@@ -94,33 +91,3 @@ pub replaced_around : {t t' : List ℕ} {link : ℕ} {p : PieceRow} {qs rs : Lis
 replaced_around {t} {t'} {p = p} {qs} {rs} put a f =
     let e : map (piece_at t) a.xs ++ p ∷ map (piece_at t) a.ys ≡ qs ++ p ∷ rs = ap₂ (λ (u v : List PieceRow). u ++ p ∷ v) a.front a.back in
     subst (Becomes t t') e (put.done a.xs a.ys a.linked (subst (Follow 0) (sym e) f))
-
-module _ {t t' : List ℕ} {link : ℕ} {p : PieceRow} (qs rs : List PieceRow) (r : Rep t (qs ++ p ∷ rs)) (h : Holds t link p) where
-  -- the pieces without the link's
-  pub remove_piece_rep : RemovedPiece t t' link → Becomes t t' (qs ++ rs)
-  remove_piece_rep gone =
-      let a : Around t link qs rs = held qs rs r h in
-      subst (Becomes t t') (map-append (piece_at t) a.xs a.ys ∙ ap₂ (λ (u v : List PieceRow). u ++ v) a.front a.back) (gone.done a.xs a.ys a.linked)
-
-  -- another piece in its place
-  pub replace_piece_rep : {q : PieceRow} → ReplacedPiece t t' link q → Follow 0 (qs ++ q ∷ rs) → Becomes t t' (qs ++ q ∷ rs)
-  replace_piece_rep put f = replaced_around put (held qs rs r h) f
-
-  -- the link's piece clipped, below `end` or from `first` on
-  pub trim_back_rep : {end : ℕ} → TrimmedBack t t' link end → p.first < cell_place p.owner end → cell_place p.owner end ≤ row_end p → Becomes t t' (qs ++ part p.first (cell_place p.owner end) p ∷ rs)
-  trim_back_rep {end} trim lo hi =
-      let a : Around t link qs rs = held qs rs r h in
-      let e₀ : first_at t link ≡ p.first = ap (λ (q : PieceRow). q.first) h.is in
-      let e₁ : end_at t link ≡ row_end p = ap row_end h.is in
-      let e₂ : line_of (column t link piece_owner) ≡ line_of p.owner = ap (λ (q : PieceRow). line_of q.owner) h.is in
-      subst (Becomes t t') (ap₂ (λ (u v : List PieceRow). u ++ part (first_at t link) (own_place t link end) (piece_at t link) ∷ v) a.front a.back ∙ ap (λ (q : PieceRow). qs ++ part q.first (cell_place q.owner end) q ∷ rs) h.is)
-      (trim.done a.xs a.ys a.linked (omega arith) (omega arith))
-
-  pub trim_front_rep : {first : ℕ} → TrimmedFront t t' link first → p.first ≤ cell_place p.owner first → cell_place p.owner first < row_end p → Becomes t t' (qs ++ part (cell_place p.owner first) (row_end p) p ∷ rs)
-  trim_front_rep {first} trim lo hi =
-      let a : Around t link qs rs = held qs rs r h in
-      let e₀ : first_at t link ≡ p.first = ap (λ (q : PieceRow). q.first) h.is in
-      let e₁ : end_at t link ≡ row_end p = ap row_end h.is in
-      let e₂ : line_of (column t link piece_owner) ≡ line_of p.owner = ap (λ (q : PieceRow). line_of q.owner) h.is in
-      subst (Becomes t t') (ap₂ (λ (u v : List PieceRow). u ++ part (own_place t link first) (end_at t link) (piece_at t link) ∷ v) a.front a.back ∙ ap (λ (q : PieceRow). qs ++ part (cell_place q.owner first) (row_end q) q ∷ rs) h.is)
-      (trim.done a.xs a.ys a.linked (omega arith) (omega arith))

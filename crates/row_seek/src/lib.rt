@@ -1,60 +1,90 @@
 // Where the rows of a tick stand, along rows whose destroyed ticks rise. It is a hint: whatever it says, what is counted there is counted rightly, and
 // a wrong place only leaves rule 24 to be decided in another way. So the functions promise no more than that they stay among the rows, that a search
-// goes on from where it starts, and that marks are what stands in the table.
+// goes on from where it starts, and that a guide sends no search behind a row of its tick.
 //
-//   specs/Marks   what is marked
+//   specs/Slots     what stands in the slots of a guide
+//   proofs/Marking  one step for each turn of the loops that make one
 
 #![tactic(auto)]
 
-ghost use Rattle.std.specs.Prelude.{◌≤◌, ◌<◌, max};
-ghost use Rattle.row_seek.specs.Marks.{Marked};
+ghost use Rattle.std.specs.Prelude.{◌≡◌, ◌≤◌, max, length};
+ghost use Rattle.row_seek.specs.Slots.{slot_at, Marked, Filled, Guides};
 
 use block_table::Row;
 use tables::place;
 
-// How many rows are marked.
-// They stand in an array, as nothing is allocated.
-pub const MARKS: usize = 64;
+// Ticks that differ in their lowest bits alone share a slot. So many bits tell the slots apart, and they stand in an array, as nothing is allocated.
+const BITS: u32 = 12;
 
-// How often a place is guessed by the tick before ranges are halved.
-const GUESSES: u64 = 8;
+const SLOTS: usize = 1 << BITS;
 
-// A place along the rows, and a destroyed tick that stands there.
-#[derive(Clone, Copy, Default)]
-pub struct Mark {
-    pub row: u64,
-    pub tick: u64,
+// So few rows are looked at one by one, and not halved: their next one is guessed better than a half.
+const FEW: u64 = 8;
+
+// For each slot the row before the first one that is destroyed at a tick of it or later: a search for a tick starts at that of its slot, and ends at
+// that of the next.
+#[derive(Drop)]
+pub struct Guide {
+    shift: u32,
+    rows: [u32; SLOTS],
 }
 
-// About so many of `width` as `part` is of `whole`.
-fn share(part: u64, whole: u64, width: u64) -> u64
-    requires whole { 0 < whole }
-    requires width { 0 < width }
+// The slot of a tick, where slots are as wide as 2^shift ticks.
+fn slot_of(tick: u64, shift: u32) -> usize
+    ensures { result ≡ slot_at tick shift }
 {
-    match part.checked_mul(width) {
-        Some(product) => product / whole,
-        None => part / (whole / width).saturating_add(1),
+    (tick >> (shift % 64)) as usize
+}
+
+// Marks the slots of the rows 1 to n: from the last row on, so that the first one of a slot stays.
+#[tactic(auto, using(crate::proofs::Marking::marking))]
+fn mark(slots: &mut [u32], blocks: &[u64], n: u64, shift: u32)
+    ensures marked { Marked slots.new blocks.now shift 0 n }
+    ensures long { length slots.new ≡ length slots.old }
+{
+    for k in (0..n).rev() {
+        let slot = slot_of(block_table::read(blocks, k + 1).destroyed, shift);
+        if slot < slots.len() {
+            slots[slot] = u32::try_from(k).unwrap_or(u32::MAX);
+        }
     }
 }
 
-// The next place from `lo` on and before `hi` to look at for a tick: a guess by the ticks there, or the middle.
-fn between(lo: Mark, hi: Mark, tick: u64, guesses: u64) -> u64
-    requires { lo.row < hi.row }
-    ensures from { lo.row ≤ result }
-    ensures before { result < hi.row }
+// Gives a slot without rows the row of the next one.
+#[tactic(auto, using(crate::proofs::Marking::filling))]
+fn fill(slots: &mut [u32])
+    ensures { Filled slots.old slots.new 0 }
 {
-    let width = hi.row - lo.row;
-    if guesses == 0 {
-        return lo.row + width / 2;
+    let mut next = u32::MAX;
+    for slot in (0..slots.len()).rev() {
+        next = next.min(slots[slot]);
+        slots[slot] = next;
     }
-    if tick <= lo.tick {
-        return lo.row;
+}
+
+impl Guide {
+    // The guide of the rows 1 to n. Slots are so wide that the last row's tick has one.
+    pub fn of(blocks: &[u64], n: u64) -> Guide
+        ensures { Guides result.rows blocks.now result.shift n }
+    {
+        let last = block_table::read(blocks, n).destroyed;
+        let shift = (64 - last.leading_zeros()).saturating_sub(BITS);
+        let mut rows = [u32::MAX; SLOTS];
+        mark(&mut rows, blocks, n, shift);
+        let used = slot_of(last, shift).saturating_add(1).min(SLOTS);
+        fill(&mut rows[..used]);
+        Guide { shift, rows }
     }
-    if hi.tick <= tick {
-        return hi.row - 1;
+
+    // What stands in a slot, as one of the rows up to n; behind the last slot n.
+    fn row(&self, slot: usize, n: u64) -> u64
+        ensures { result ≤ n }
+    {
+        if SLOTS <= slot {
+            return n;
+        }
+        n.min(u64::from(self.rows[slot]))
     }
-    let step = share(tick - lo.tick, hi.tick - lo.tick, width);
-    lo.row + step.min(width - 1)
 }
 
 // Whether the row is destroyed before the tick, or at it and ends at the kind's cell or before.
@@ -62,70 +92,44 @@ fn comes_before(row: Row, tick: u64, kind: u64, cell: u64) -> bool {
     row.destroyed < tick || row.destroyed == tick && !place::below(kind, cell, row.owner, row.end())
 }
 
-// How many rows come before the tick and the kind's cell, of those above `from` up to `to`, and those up to `from` besides.
-// No `for`, and no `partition_point` of std: where to look next is guessed by the ticks of both ends.
-pub fn search(
-    blocks: &[u64],
-    from: Mark,
-    to: u64,
-    tick: u64,
-    kind: u64,
-    cell: u64,
-    tries: u64,
-) -> u64
-    ensures onward { from.row ≤ result }
-    ensures within { result ≤ max from.row to }
+// How many rows come before the tick and the kind's cell, of those above `from` up to `to`, one by one, and those up to `from` besides.
+fn walk(blocks: &[u64], from: u64, to: u64, tick: u64, kind: u64, cell: u64) -> u64
+    ensures onward { from ≤ result }
+    ensures within { result ≤ max from to }
 {
-    let mut lo = from;
-    let mut hi = Mark {
-        row: to,
-        tick: block_table::read(blocks, to).destroyed,
-    };
-    let mut guesses = tries;
-    while lo.row < hi.row {
-        let mid = between(lo, hi, tick, guesses);
-        let row = block_table::read(blocks, mid + 1);
-        guesses = guesses.saturating_sub(1);
-        if comes_before(row, tick, kind, cell) {
-            lo = Mark {
-                row: mid + 1,
-                tick: row.destroyed,
-            };
-        } else {
-            hi = Mark {
-                row: mid,
-                tick: row.destroyed,
-            };
+    for k in from..to {
+        if !comes_before(block_table::read(blocks, k + 1), tick, kind, cell) {
+            return k;
         }
     }
-    lo.row
+    from.max(to)
 }
 
-// Rows at equal distances, with their destroyed ticks: a search that starts from these looks at few rows. The first one is the head's row, with no tick.
-pub fn mark_rows(blocks: &[u64], n: u64) -> [Mark; MARKS]
-    ensures { Marked blocks.now n result }
+// The same, by halves where they are many.
+// No `partition_point` of std, which takes a slice.
+pub fn search(blocks: &[u64], from: u64, to: u64, tick: u64, kind: u64, cell: u64) -> u64
+    ensures onward { from ≤ result }
+    ensures within { result ≤ max from to }
 {
-    let mut marks = [Mark::default(); MARKS];
-    let mut row: u64 = 0;
-    for i in 1..MARKS {
-        row = n.min(row.saturating_add(n / 64 + 1));
-        marks[i] = Mark {
-            row,
-            tick: block_table::read(blocks, row).destroyed,
-        };
+    let mut lo = from;
+    let mut hi = to;
+    while FEW < hi.saturating_sub(lo) {
+        let mid = lo + (hi - lo) / 2;
+        if comes_before(block_table::read(blocks, mid + 1), tick, kind, cell) {
+            lo = mid + 1;
+        } else {
+            hi = mid;
+        }
     }
-    marks
+    walk(blocks, lo, hi, tick, kind, cell)
 }
 
 // The row before the first one that is destroyed at the tick.
-pub fn seek(blocks: &[u64], n: u64, marks: &[Mark; MARKS], tick: u64) -> u64
+pub fn seek(blocks: &[u64], n: u64, guide: &Guide, tick: u64) -> u64
     ensures { result ≤ n }
 {
-    let before = marks[1..].partition_point(|mark| mark.tick < tick);
-    let to = marks.get(before + 1).map_or(n, |mark| n.min(mark.row));
-    let from = Mark {
-        row: to.min(marks[before].row),
-        tick: marks[before].tick,
-    };
-    search(blocks, from, to, tick, 0, 0, GUESSES)
+    let slot = slot_of(tick, guide.shift);
+    let from = guide.row(slot, n);
+    let to = guide.row(slot.saturating_add(1), n);
+    search(blocks, from, to, tick, 0, 0)
 }

@@ -1,17 +1,17 @@
 -- All blocks: the trees decide rule 24, and so does the whole test. Assumes nothing.
 use mathlib.Core.Path.{◌≡◌, refl, sym, ap, ◌∙◌}
 use mathlib.Core.Logic.{inl, inr, ⊎_elim}
-use mathlib.Core.Bool.{Bool, true, false, cond, false≢true}
+use mathlib.Core.Bool.{Bool, true, false, cond}
 use mathlib.Core.List.{List}
 use Prim.Native.Nat.{ℕ, zero, suc, ◌+◌, ◌≤◌, ◌<◌, max}
 use native.Mathlib.Omega.{arith}
 use lib.ListN.{length, get_or}
 use lib.Dec.{leb, ltb, eqb}
 use borrow.Author.Tests.{leb-true, ltb-true, eq-eqb}
-use Rattle.std.specs.Prelude.{⊤}
 use Rattle.std.specs.Bool.{MatchBool}
 use Rattle.std.specs.List.{AllWithin, HoldsAt as OneAt, range_with_len}
 use Rattle.std.proofs.lemmas.List.FromFn.{length-range_with_len, get_or-range_with_len}
+use Rattle.lists.specs.Tests.{Decides}
 use Rattle.lists.specs.Lists.{All, Mem, count}
 use Rattle.lists.proofs.Numbers.{confirm, refute, lt_or_le, eq_or_ne, and_left, and_right}
 use Rattle.lists.proofs.Lists.{all_map, all_mem, all_of_at}
@@ -34,10 +34,12 @@ use Rattle.segment_test.proofs.Owning.{own-rows}
 use Rattle.segment_walk.specs.Walking.{Rooted}
 use Rattle.segment_walk.proofs.Agreeing.{sorted_agree}
 use Rattle.segment_clear.specs.Clear.{end_in, Reached, Clears}
-use Rattle.segment_handed.specs.Handed.{SoundRows, KindUnshared, HandedOn}
+use Rattle.segment_test.specs.Parts.{Heads, Frame, AllRows, TreeTables}
+use Rattle.segment_test.proofs.Testing.{tree_frame, tree_rest}
+use Rattle.segment_handed.specs.Handed.{SoundRows, KindUnshared, Seen}
 use Rattle.segment_handed.proofs.Halves.{lives-own}
 use Rattle.segment_apart.specs.Birth.{BirthClear}
-use Rattle.segment_apart.specs.Apart.{AllBounded, ClosedApart, ToldHanded}
+use Rattle.segment_apart.specs.Apart.{AllBounded, ClosedApart}
 use Rattle.segment_apart.proofs.Creation.{Alive, Born, born_apart}
 
 -- the first k blocks are clear of those live when they are created
@@ -242,28 +244,34 @@ clear_told {blocks} {nodes} {entries} {e} {n} {r = false} (k, h, one) = record {
       refute (shared (lent blocks nodes entries) e n bs rows index bounded (owner_in blocks k) (rows.known k low) k low refl (rw (range_at n k low) at (one 0)));
 }
 
--- ── what `all_handed` says ──
+-- ── the returns of `test` ──
 
-pub handed_told : {t : Tables} {e : ℕ} {r : Bool}
-    → MatchBool r (AllWithin (λ kind. HandedOn t kind e true) (range_with_len 0 nodes_count) 0 (length (range_with_len 0 nodes_count)))
-    ((k : ℕ) × (k < length (range_with_len 0 nodes_count)) × OneAt (λ _. ⊤) (range_with_len 0 nodes_count) k) → ToldHanded t e r
-handed_told {r = true} all = record {
-  shown = λ _. record { each = λ k h. rw (range_at nodes_count k h) at (all k 0 (omega arith) (omega (arith, length-range_with_len 0 nodes_count))) };
-}
-handed_told {r = false} one = record { shown = λ y. absurd (false≢true y) }
+module _ {blocks nodes entries : List ℕ} {e n : ℕ} where
+  -- nothing is claimed of other tables
+  pub apart_wrong : ((bs : List Block) → BlockRows blocks n bs → Decides false (ClosedTrees (lent blocks nodes entries) e bs)) → ClosedApart (lent blocks nodes entries) e n false
+  apart_wrong d = record { decides = λ bs rows index bounded. absurd ((d bs rows).not refl index) }
 
--- ── the returns of `apart` ──
+  -- what is handed on
+  pub apart_handed : {r : Bool} → Seen (lent blocks nodes entries) n e r → r ≡ true → ClosedApart (lent blocks nodes entries) e n true
+  apart_handed seen y = record {
+    decides = λ bs rows index bounded.
+        confirm (all_unshared (lent blocks nodes entries) e n bs rows bounded (λ kind low. (seen.handed y kind low).shown n bs rows index low (sound bounded)));
+  }
+    where
+      sound : AllBounded blocks e n → SoundRows blocks e n
+      sound bounded = record {
+        filled = record { filled = λ link p q. (bounded.rows link p q).some_cell; no_wrap = λ link p q. omega (arith, (bounded.rows link p q).no_wrap) };
+        fits = record { each = λ k h. (bounded.rows (suc k) (omega arith) (omega arith)).no_wrap };
+        by_end = λ k h. (bounded.rows (suc k) (omega arith) (omega arith)).by_end;
+      }
 
-pub apart_handed : {blocks nodes entries : List ℕ} {e n : ℕ} {r : Bool} → ToldHanded (lent blocks nodes entries) e r → r ≡ true
-    → ClosedApart (lent blocks nodes entries) e n true
-apart_handed {blocks} {nodes} {entries} {e} {n} handed y = record {
-  decides = λ bs rows index bounded.
-      confirm (all_unshared (lent blocks nodes entries) e n bs rows bounded (λ kind low. ((handed.shown y).each kind low).shown refl n bs rows index low (sound bounded)));
-}
-  where
-    sound : AllBounded blocks e n → SoundRows blocks e n
-    sound bounded = record {
-      filled = record { filled = λ link p q. (bounded.rows link p q).some_cell; no_wrap = λ link p q. omega (arith, (bounded.rows link p q).no_wrap) };
-      fits = record { each = λ k h. (bounded.rows (suc k) (omega arith) (omega arith)).no_wrap };
-      by_end = λ k h. (bounded.rows (suc k) (omega arith) (omega arith)).by_end;
-    }
+  module _ {a b : Bool} (heads : Decides a (Heads (lent blocks nodes entries) n)) (y : a ≡ true) (frame : Decides b (Frame (lent blocks nodes entries) n)) where
+    pub trees_unframed : b ≡ false → Decides false (TreeTables (lent blocks nodes entries) n e)
+    trees_unframed z = let said : Decides b (TreeTables (lent blocks nodes entries) n e) = tree_frame frame z in rw z at said
+
+    module _ (z : b ≡ true) where
+      pub trees_seen : {r : Bool} → Seen (lent blocks nodes entries) n e r → r ≡ true → Decides true (TreeTables (lent blocks nodes entries) n e)
+      trees_seen seen q = tree_rest heads y frame z (confirm (seen.rows q))
+
+      pub trees_told : {r u : Bool} → Decides r (AllRows (lent blocks nodes entries) n e) → r ≡ u → Decides u (TreeTables (lent blocks nodes entries) n e)
+      trees_told rows q = tree_rest heads y frame z (rw q at rows)

@@ -1,12 +1,10 @@
--- Rule 24 of a closed index: what is decided, by its trees and by the whole test. Definitions alone.
-use Rattle.std.specs.Prelude.{◌≡◌, Bool, true, List, ℕ, ◌+◌, ◌-◌, ◌^◌, ◌≤◌, ◌<◌}
+-- Rule 24 of a closed index: what is decided. Definitions alone.
+use Rattle.std.specs.Prelude.{Bool, List, ℕ, ◌+◌, ◌-◌, ◌^◌, ◌≤◌, ◌<◌}
 use Rattle.lists.specs.Tests.{Decides}
 use Rattle.history.specs.Words.{Block}
 use Rattle.block_table.specs.Blocks.{first_cell_at, length_at, destroyed_at}
 use Rattle.ordering.specs.Apart.{Unshared}
 use Rattle.segment_table.specs.Closed.{Tables}
-use Rattle.tables.specs.Columns.{nodes_count}
-use Rattle.segment_handed.specs.Handed.{HandedOn}
 use Rattle.segment_test.specs.Test.{BlockRows, ClosedTrees}
 
 -- a row is not empty, has no end wrapping, and is destroyed by the end tick
@@ -23,11 +21,3 @@ pub record AllBounded (blocks : List ℕ) (end n : ℕ) : Type 0 where
 -- (ordering, `unshared-apart`).
 pub record ClosedApart (t : Tables) (end n : ℕ) (r : Bool) : Type 0 where
   pub decides : (bs : List Block) → BlockRows t.blocks n bs → ClosedTrees t end bs → AllBounded t.blocks end n → Decides r (Unshared t.blocks n)
-
--- of the first kinds, so many, the walk says yes
-pub record HandedTo (t : Tables) (end many : ℕ) : Type 0 where
-  pub each : (kind : ℕ) → kind < many → HandedOn t kind end true
-
--- yes is said only where it says so of all
-pub record ToldHanded (t : Tables) (end : ℕ) (r : Bool) : Type 0 where
-  pub shown : r ≡ true → HandedTo t end nodes_count

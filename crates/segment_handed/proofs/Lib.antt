@@ -3,3 +3,4 @@ pub mod Owing
 pub mod Holding
 pub mod Halves
 pub mod Showing
+pub mod Seeing

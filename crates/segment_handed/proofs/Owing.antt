@@ -1,4 +1,4 @@
--- One block: a step for each return of `owes_none`. Assumes nothing.
+-- One block: a step for each return of `is_paid`. Assumes nothing.
 use mathlib.Core.Path.{◌≡◌, refl, subst}
 use mathlib.Core.Logic.{inl, inr}
 use mathlib.Core.Bool.{Bool, true, false, not}
@@ -66,25 +66,25 @@ above_disjoint {blocks} {nodes} {entries} {n = n} {kind = kind} {k = k} {top = t
     let aside = clear.of_above (not-false q y) k at above is (w.all.fits.each k low.low) el here in
     all_of_mem above (λ j m ne. aside_disjoint blocks n kind k j low (w.known j m) (all_mem aside m ne))
 
-module _ {blocks nodes entries : List ℕ} {root top : Node} {min max destroyed : ℕ} {own : Own} {after : Slots} where
+module _ {blocks nodes entries : List ℕ} {root top : Node} {min max : ℕ} {own : Own} {after : Slots} where
   -- clear of the nodes above
   module _ {q : Bool} (clear : AboveClear blocks nodes entries top min (max - 1) own q) (y : not q ≡ false) where
-    pub owed_end : root.max ≤ max → Owed blocks nodes entries root top min max destroyed own after true
+    pub owed_end : root.max ≤ max → Owed blocks nodes entries root top min max own after true
     owed_end h = record {
-      shown = λ e n kind k at whole above el eh w wide low is ed dies. record { clear = above_disjoint clear y el eh w low is; owes = λ below. absurd (omega arith) };
+      shown = λ e n kind k at whole above el eh w wide low is dies. record { clear = above_disjoint clear y el eh w low is; owes = λ below. absurd (omega arith) };
     }
 
-    pub owed_slots : {r : Bool} → Holds after own.first own.end r → r ≡ true → Owed blocks nodes entries root top min max destroyed own after true
+    pub owed_slots : {r : Bool} → Holds after own.first own.end r → r ≡ true → Owed blocks nodes entries root top min max own after true
     owed_slots holds z = record {
-      shown = λ e n kind k at whole above el eh w wide low is ed dies. record {
+      shown = λ e n kind k at whole above el eh w wide low is dies. record {
         clear = above_disjoint clear y el eh w low is;
-        owes = λ below. inl (holds.refilled z (stretch_at (row_blocks blocks n kind) k) (own_reads blocks n kind k low w.all.fits refl ed is).spans);
+        owes = λ below. inl (holds.refilled z (stretch_at (row_blocks blocks n kind) k) (own_reads blocks n kind k low w.all.fits refl refl is).spans);
       };
     }
 
-    pub owed_way : {r : Bool} → max < root.max → WayClear blocks nodes entries root (max - 1) own r → Owed blocks nodes entries root top min max destroyed own after r
+    pub owed_way : {r : Bool} → max < root.max → WayClear blocks nodes entries root (max - 1) own r → Owed blocks nodes entries root top min max own after r
     owed_way {r} under way = record {
-      shown = λ e n kind k at whole above el eh w wide low is ed dies. record {
+      shown = λ e n kind k at whole above el eh w wide low is dies. record {
         clear = above_disjoint clear y el eh w low is;
         owes = λ below. inr (way_parted w.all (omega (arith, w.inside)) (omega arith) low is (rw e at way));
       };

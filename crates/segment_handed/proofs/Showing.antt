@@ -1,7 +1,7 @@
--- The walk shows rule 24 of a kind's blocks: the tables of a closed index as the laws have them, and the returns of `handed_on`. Assumes nothing.
+-- The walk shows rule 24 of a kind's blocks: the tables of a closed index as the laws have them. Assumes nothing.
 use mathlib.Core.Path.{◌≡◌, refl, sym, ◌∙◌, ap}
 use mathlib.Core.Logic.{◌⊎◌, inl, inr}
-use mathlib.Core.Bool.{Bool, true, false, cond, false≢true}
+use mathlib.Core.Bool.{Bool, true, false, cond}
 use mathlib.Core.List.{List, []}
 use Prim.Native.Nat.{ℕ, zero, suc, ◌-◌, ◌≤◌, ◌<◌}
 use native.Mathlib.Omega.{arith}
@@ -37,8 +37,7 @@ use Rattle.segment_test.proofs.Owning.{own-rows}
 use Rattle.segment_test.proofs.Ruling.{RuledAt, stands_ruled}
 use Rattle.segment_test.proofs.Testing.{closed_stands}
 use Rattle.segment_clear.specs.Above.{above-none}
-use Rattle.std.specs.Prelude.{Option, Some, None}
-use Rattle.std.specs.Option.{is_some}
+use Rattle.std.specs.Prelude.{Option, Some}
 use Rattle.segment_handed.specs.Rows.{row_blocks, Known}
 use Rattle.segment_handed.specs.Tree.{Standing, TreeHeld}
 use Rattle.segment_handed.specs.Handed.{SoundRows, KindUnshared, HandedOn}
@@ -146,13 +145,13 @@ module _ (blocks nodes entries : List ℕ) (kind e n : ℕ) (bs : List Block) (r
     known = λ tick k from below m. met_known tick k below m;
   }
 
-  module _ {born slots : Slots} {seen : Option Slots} (held : TreeHeld blocks nodes entries (root_at nodes kind e) (root_at nodes kind e) (root_at nodes kind e) born born seen)
-      (all : seen ≡ Some slots) where
+  module _ {born slots : Slots} {rest : ℕ} {left : Option ℕ} (held : TreeHeld blocks nodes entries (root_at nodes kind e) (root_at nodes kind e) (root_at nodes kind e) born born slots left)
+      (all : left ≡ Some rest) where
     own_apart : 0 < e → Apart own
     own_apart some =
         right_law.apart e own tree (record { rule_21 = rule_21; rule_23 = rule_23; by_end = by_end }) none-empty
         (slots_of born) (slots_of born) (slots_of slots)
-        (held.shown slots all n kind tree tree [] (record { all = whole some; inside = omega arith; nodes_above = above-none; known = λ j m. absurd (not_mem_nil m) }) (whole some)
+        (held.shown rest all n kind tree tree [] (record { all = whole some; inside = omega arith; nodes_above = above-none; known = λ j m. absurd (not_mem_nil m) }) (whole some)
         (record { from = 0; to = 0; stood = stood; wide = λ _. some }))
 
     -- a place that two blocks of the kind hold is a cell that both hold
@@ -187,14 +186,10 @@ module _ (blocks nodes entries : List ℕ) (kind e n : ℕ) (bs : List Block) (r
             strict : k ≤ j → k < j
             strict h = elim (eq_or_ne j k) [ inl q ↦ absurd (ne (ap suc q)) | inr q ↦ omega arith ]
 
--- ── the return of `handed_on` ──
+-- ── a walk that came to its end ──
 
-some_there : (seen : Option Slots) → is_some seen ≡ true → (slots : Slots) × (seen ≡ Some slots)
-some_there None e = absurd (false≢true e)
-some_there (Some s) e = (s, refl)
-
-pub handed_told : {blocks nodes entries : List ℕ} {kind e : ℕ} {root : Node} {born : Slots} {seen : Option Slots} → root ≡ root_at nodes kind e
-    → TreeHeld blocks nodes entries root root root born born seen → HandedOn (lent blocks nodes entries) kind e (is_some seen)
-handed_told {blocks} {nodes} {entries} {kind} {e} {seen = seen} is held = record {
-  shown = λ z n bs rows index low sound. kind_unshared blocks nodes entries kind e n bs rows index low sound (rw is at held) (some_there seen z).1;
+pub handed_told : {blocks nodes entries : List ℕ} {kind e : ℕ} {root : Node} {born slots : Slots} {rest : ℕ} {left : Option ℕ} → root ≡ root_at nodes kind e
+    → TreeHeld blocks nodes entries root root root born born slots left → left ≡ Some rest → HandedOn (lent blocks nodes entries) kind e
+handed_told {blocks} {nodes} {entries} {kind} {e} is held all = record {
+  shown = λ n bs rows index low sound. kind_unshared blocks nodes entries kind e n bs rows index low sound (rw is at held) all;
 }

@@ -1,20 +1,12 @@
 -- The blocks as one kind sees them: their rows, their lives, and whether there are any. Assumes nothing.
 use mathlib.Core.Path.{◌≡◌, refl, sym, ◌∙◌, ap}
-use mathlib.Core.Logic.{inl, inr}
-use mathlib.Core.Bool.{Bool, true, false, cond, ◌&&◌, not, true≢false, false≢true}
-use mathlib.Core.List.{List, [], ◌∷◌}
-use Prim.Native.Nat.{ℕ, suc, ◌<◌}
-use native.Mathlib.Omega.{arith}
+use mathlib.Core.Bool.{Bool, true, false, cond}
+use mathlib.Core.List.{List}
+use Prim.Native.Nat.{ℕ, ◌<◌}
 use lib.ListN.{length}
-use borrow.Author.Tests.{eq-eqb, ne_eqb, eqb-true}
-use Rattle.lists.specs.Lists.{All}
-use Rattle.lists.proofs.Numbers.{bool_cases}
-use Rattle.lists.proofs.Lists.{all_at, all_of_at}
+use borrow.Author.Tests.{ne_eqb}
 use Rattle.history.specs.Words.{Block, life, of_kind, own_life, only_kind}
-use Rattle.history.specs.Tree.{no_block, block_at}
-use Rattle.history.specs.Rules.{every}
-use Rattle.history.specs.Sound.{none_of}
-use Rattle.history.proofs.RulesLaws.{every_all, all_every}
+use Rattle.history.specs.Tree.{block_at}
 use Rattle.history.proofs.ByKind.{own_same, own_dead, only_length, only_at, only_key}
 use Rattle.tables.specs.Columns.{nodes_count}
 use Rattle.segment_test.specs.Total.{sum_to}
@@ -51,8 +43,8 @@ own-rows blocks kind n bs r = record {
 -- ── lives ──
 
 -- each block has its life for its own kind, and none for another
-own-lives : (b : Block) → b.kind < nodes_count → sum_to (λ kind. life (own_life kind b)) nodes_count ≡ life b
-own-lives b low =
+kind_lives : (b : Block) → b.kind < nodes_count → sum_to (λ kind. life (own_life kind b)) nodes_count ≡ life b
+kind_lives b low =
     sum_only (λ kind. life (own_life kind b)) b.kind nodes_count low (λ k h n. own_dead k b (ne_eqb b.kind k (λ q. n (sym q))))
     ∙ ap life (own_same b.kind b refl)
 
@@ -62,28 +54,4 @@ pub all_lives : (bs : List Block) → ((k : ℕ) → k < length bs → (block_at
 all_lives bs low =
     sum_swap (λ kind k. life (block_at (only_kind kind bs) k)) (length bs) nodes_count
     ∙ sum_same (λ k. sum_to (λ kind. life (block_at (only_kind kind bs) k)) nodes_count) (λ k. life (block_at bs k)) (length bs)
-    (λ k h. sum_same (λ kind. life (block_at (only_kind kind bs) k)) (λ kind. life (own_life kind (block_at bs k))) nodes_count (λ kind l. ap life (only_at kind bs k)) ∙ own-lives (block_at bs k) (low k h))
-
--- ── whether there are any ──
-
-pub none_owned : (kind : ℕ) (bs : List Block) → ((k : ℕ) → k < length bs → (block_at bs k).kind ≡ kind → ⊥) → none_of kind bs ≡ true
-none_owned kind bs none = all_every (λ b. not (of_kind kind b)) (all_of_at no_block bs (λ i h. ap not (ne_eqb (block_at bs i).kind kind (none i h))))
-
-pub one-owned : (kind : ℕ) (bs : List Block) (k : ℕ) → k < length bs → (block_at bs k).kind ≡ kind → none_of kind bs ≡ false
-one-owned kind bs k h is =
-    elim (bool_cases (none_of kind bs)) [
-      | inl e ↦
-          let each : All (λ (b : Block). not (of_kind kind b) ≡ true) bs = every_all (λ b. not (of_kind kind b)) bs e in
-          absurd (false≢true (sym (ap not (eq-eqb (block_at bs k).kind kind is)) ∙ all_at no_block each k h))
-      | inr e ↦ e
-    ]
-
-pub some-owned : (kind : ℕ) (bs : List Block) → none_of kind bs ≡ false → (k : ℕ) × (k < length bs) × ((block_at bs k).kind ≡ kind)
-unfolding every
-some-owned kind [] e = absurd (true≢false e)
-some-owned kind (b ∷ bs) e = go (of_kind kind b) refl e (some-owned kind bs)
-  where
-    go : (u : Bool) → of_kind kind b ≡ u → (not u && none_of kind bs) ≡ false → (none_of kind bs ≡ false → (k : ℕ) × (k < length bs) × ((block_at bs k).kind ≡ kind))
-        → (k : ℕ) × (k < length (b ∷ bs)) × ((block_at (b ∷ bs) k).kind ≡ kind)
-    go true q f rest = (0, omega arith, eqb-true b.kind kind q)
-    go false q f rest = let r = rest f in (suc r.0, omega (arith, r.1), r.2)
+    (λ k h. sum_same (λ kind. life (block_at (only_kind kind bs) k)) (λ kind. life (own_life kind (block_at bs k))) nodes_count (λ kind l. ap life (only_at kind bs k)) ∙ kind_lives (block_at bs k) (low k h))

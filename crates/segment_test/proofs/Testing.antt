@@ -12,14 +12,14 @@ use Rattle.history.specs.Tree.{Tree, hole, node, mid, tree_at, block_at, widths}
 use Rattle.history.specs.Rules.{is_hole, halved, rule23}
 use Rattle.history.specs.Sound.{none_of, SoundTree}
 use Rattle.history.proofs.RulesLaws.{halved_node, Rule23, rule23_decides}
-use Rattle.history.proofs.ByKind.{only_length}
+use Rattle.history.proofs.ByKind.{only_length, none_owned, one-owned, some-owned}
 use Rattle.tables.specs.Columns.{column, nodes_count}
 use Rattle.segment_table.specs.Closed.{Tables, nodes_used, left_at, right_at, first_at, count_at, TreeAt, Consecutive}
 use Rattle.segment_test.specs.Total.{sum_to, entries_of_row, widths_of_row, life_in, all_widths}
 use Rattle.segment_test.specs.Test.{lent, owner_in, BlockRows, ClosedTrees}
-use Rattle.segment_test.specs.Parts.{RootsOwned, Heads, OwnRows, TreeStands, AllRows, Tiled, LivesAre, TreeTables}
+use Rattle.segment_test.specs.Parts.{RootsOwned, Heads, OwnRows, TreeStands, AllRows, Tiled, LivesAre, TreeTables, Frame}
 use Rattle.segment_test.proofs.Sums.{sum_same, sum_tight, sum_trees}
-use Rattle.segment_test.proofs.Owning.{own-rows, all_lives, none_owned, one-owned, some-owned}
+use Rattle.segment_test.proofs.Owning.{own-rows, all_lives}
 use Rattle.segment_test.proofs.Ruling.{at_hole, RuledAt, stands_ruled, ruled_stands}
 use Rattle.segment_test.proofs.Links.{rows_entries, rows-widths}
 use Rattle.segment_test.proofs.Widths.{total_most, total_each, each_total}
@@ -218,19 +218,28 @@ module _ {blocks nodes entries : List ℕ} {n e : ℕ} where
   pub tree_heads : {r : Bool} → Decides r (Heads (lent blocks nodes entries) n) → r ≡ false → Decides false (TreeTables (lent blocks nodes entries) n e)
   tree_heads d f = refute (λ s. d.not f s.heads)
 
-  pub tree_unowned : {r : Bool} → Decides r (RootsOwned blocks nodes n nodes_count) → r ≡ false → Decides false (TreeTables (lent blocks nodes entries) n e)
-  tree_unowned d f = refute (λ s. d.not f s.roots)
+  pub tree_frame : {r : Bool} → Decides r (Frame (lent blocks nodes entries) n) → r ≡ false → Decides r (TreeTables (lent blocks nodes entries) n e)
+  tree_frame d f = rw f (refute (λ s. d.not f (record { roots = s.roots; tiled = s.tiled; lives = s.lives })))
 
-  pub tree_untiled : {r : Bool} → Decides r (Tiled nodes entries) → r ≡ false → Decides false (TreeTables (lent blocks nodes entries) n e)
-  tree_untiled d f = refute (λ s. d.not f s.tiled)
+  pub tree_rest : {a b r : Bool} → Decides a (Heads (lent blocks nodes entries) n) → a ≡ true → Decides b (Frame (lent blocks nodes entries) n) → b ≡ true
+      → Decides r (AllRows (lent blocks nodes entries) n e) → Decides r (TreeTables (lent blocks nodes entries) n e)
+  tree_rest da ea db eb rows = record {
+    yes = λ t. record { heads = da.yes ea; roots = (db.yes eb).roots; tiled = (db.yes eb).tiled; rows = rows.yes t; lives = (db.yes eb).lives };
+    not = λ t s. rows.not t s.rows;
+  }
 
-  pub tree_wrong : {r : Bool} → Decides r (AllRows (lent blocks nodes entries) n e) → r ≡ false → Decides r (TreeTables (lent blocks nodes entries) n e)
-  tree_wrong d f = rw f (refute (λ s. d.not f s.rows))
+-- ── test_frame ──
 
-  pub tree_rest : {a b c o r : Bool} {x : ℕ} → Decides a (Heads (lent blocks nodes entries) n) → a ≡ true → Decides o (RootsOwned blocks nodes n nodes_count) → o ≡ true
-      → Decides b (Tiled nodes entries) → b ≡ true → Decides c (AllRows (lent blocks nodes entries) n e) → c ≡ true
-      → x ≡ sum_to (widths_of_row nodes) (nodes_used nodes) → Decides r (LivesAre blocks nodes n x) → Decides r (TreeTables (lent blocks nodes entries) n e)
-  tree_rest da ea dk eo db eb dc ec wide same = record {
-    yes = λ t. record { heads = da.yes ea; roots = dk.yes eo; tiled = db.yes eb; rows = dc.yes ec; lives = rw wide at (same.yes t) };
+module _ {blocks nodes entries : List ℕ} {n : ℕ} where
+  pub frame_unowned : {r : Bool} → Decides r (RootsOwned blocks nodes n nodes_count) → r ≡ false → Decides false (Frame (lent blocks nodes entries) n)
+  frame_unowned d f = refute (λ s. d.not f s.roots)
+
+  pub frame_untiled : {r : Bool} → Decides r (Tiled nodes entries) → r ≡ false → Decides false (Frame (lent blocks nodes entries) n)
+  frame_untiled d f = refute (λ s. d.not f s.tiled)
+
+  pub frame_rest : {o b r : Bool} {x : ℕ} → Decides o (RootsOwned blocks nodes n nodes_count) → o ≡ true → Decides b (Tiled nodes entries) → b ≡ true
+      → x ≡ sum_to (widths_of_row nodes) (nodes_used nodes) → Decides r (LivesAre blocks nodes n x) → Decides r (Frame (lent blocks nodes entries) n)
+  frame_rest dk eo db eb wide same = record {
+    yes = λ t. record { roots = dk.yes eo; tiled = db.yes eb; lives = rw wide at (same.yes t) };
     not = λ t s. same.not t (rw wide s.lives);
   }

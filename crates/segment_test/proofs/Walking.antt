@@ -19,7 +19,7 @@ use Rattle.segment_table.specs.Closed.{Tables, left_at, right_at, TreeAt}
 use Rattle.segment_table.proofs.Closed.{tree_one}
 use Rattle.segment_test.specs.Test.{lent}
 use Rattle.segment_test.specs.Total.{sum_to}
-use Rattle.segment_test.specs.Parts.{NodeStands, TreeStands, Walked, AllRows}
+use Rattle.segment_test.specs.Parts.{NodeStands, TreeStands, Stood, Walked, AllRows}
 use Rattle.segment_test.proofs.Sums.{sum_more, sum_same, sum_front, sum_trees}
 
 -- ── walk ──
@@ -148,13 +148,10 @@ module _ {t : Tables} {n e budget : ℕ} where
         sum_same (λ kind. node_count (tree_at w.trees kind)) (λ kind. node_count (tree_at trees kind)) k (λ kind l. ap node_count (same kind l)),
       )
 
-  module _ {k rest root : ℕ} {out : Option ℕ} (w : WalkedTo t n e budget k rest) (top : root ≡ column t.nodes 0 k) (walk : Walked t n k root 0 e 0 0 rest out) where
-    walked : Walked t n k (column t.nodes 0 k) 0 e 0 0 rest out
-    walked = rw top at walk
-
-    pub walks_more : {left : ℕ} → out ≡ Some left → WalkedTo t n e budget (k + 1) left
-    walks_more {left} is =
-        let own = walked.stood left is in
+  module _ {k rest root left : ℕ} (w : WalkedTo t n e budget k rest) (top : root ≡ column t.nodes 0 k) (stood : Stood t n k root 0 e 0 0 rest left) where
+    pub walks_more : WalkedTo t n e budget (k + 1) left
+    walks_more =
+        let own : Stood t n k (column t.nodes 0 k) 0 e 0 0 rest left = rw top at stood in
         let before : (kind : ℕ) → kind < k → tree_at (w.trees ++ own.0 ∷ []) kind ≡ tree_at w.trees kind = λ kind l. get_or-append w.trees (own.0 ∷ []) hole kind (rw w.many l) in
         let last : tree_at (w.trees ++ own.0 ∷ []) k ≡ own.0 = get_or_at w.trees own.0 [] hole k w.many in
         record {

@@ -110,9 +110,13 @@ TreeStands t n kind link lo hi from to (node xs l r) =
     × TreeStands t n kind (left_at t.nodes link) lo (mid lo hi) lo hi l
     × TreeStands t n kind (right_at t.nodes link) (mid lo hi) hi lo hi r
 
--- What is left of a budget of node rows after a walk: each node takes one. Nothing is said to be left where the tree is wrong, or takes more.
+-- a tree stands there, and what is left of a budget of node rows when each of its nodes took one
+abbrev pub Stood : (t : Tables) (n kind link lo hi from to budget rest : ℕ) → Type 0
+Stood t n kind link lo hi from to budget rest = (tree : Tree) × TreeStands t n kind link lo hi from to tree × (budget ≡ rest + node_count tree)
+
+-- What is left of a budget after a walk. Nothing is said to be left where the tree is wrong, or takes more.
 pub record Walked (t : Tables) (n kind link lo hi from to budget : ℕ) (left : Option ℕ) : Type 0 where
-  pub stood : (rest : ℕ) → left ≡ Some rest → (tree : Tree) × TreeStands t n kind link lo hi from to tree × (budget ≡ rest + node_count tree)
+  pub stood : (rest : ℕ) → left ≡ Some rest → Stood t n kind link lo hi from to budget rest
   pub wrong : left ≡ None → (tree : Tree) → TreeStands t n kind link lo hi from to tree → node_count tree ≤ budget → ⊥
 
 -- a tree stands from the root of each kind on, and they take every row in use
@@ -137,6 +141,12 @@ pub record LivesAre (blocks nodes : List ℕ) (n total : ℕ) : Type 0 where
   pub sum : total ≡ sum_to (life_in blocks) n
 
 -- ── all of it, of the tables alone ──
+
+-- but for the nodes' places and runs
+pub record Frame (t : Tables) (n : ℕ) : Type 0 where
+  pub roots : RootsOwned t.blocks t.nodes n nodes_count
+  pub tiled : Tiled t.nodes t.entries
+  pub lives : LivesAre t.blocks t.nodes n (sum_to (widths_of_row t.nodes) (nodes_used t.nodes))
 
 -- What the tests of the tables say together; n blocks are in the block table.
 pub record TreeTables (t : Tables) (n e : ℕ) : Type 0 where

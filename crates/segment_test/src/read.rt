@@ -2,7 +2,7 @@
 ghost use Rattle.std.specs.Prelude.{◌≡◌, ◌+◌, ◌*◌, ◌<◌, ◌≤◌, length};
 ghost use Rattle.history.specs.Lent.{row_width, entry_width, block_head, node_head, entry_head};
 ghost use Rattle.tables.specs.Columns.{column, block_column, entry_column};
-ghost use Rattle.segment_table.specs.Closed.{nodes_used};
+ghost use Rattle.segment_table.specs.Closed.{nodes_used, entries_used};
 
 // The lent tables, of n blocks, when their heads are tested: all counts lie inside.
 // The three slices stand here, not a Closed: in a struct within one, the check did not find that row numbers are in range.
@@ -14,6 +14,7 @@ pub struct Tested<'a> {
     pub n: u64,
     ghost block_room: { block_head + row_width * n ≤ length blocks.now },
     ghost node_room: { node_head + row_width * nodes_used nodes.now ≤ length nodes.now },
+    ghost entry_room: { entry_head + entry_width * entries_used entries.now ≤ length entries.now },
 }
 
 impl Tested<'_> {

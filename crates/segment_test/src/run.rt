@@ -20,7 +20,7 @@ fn own_life(t: &Tested<'_>, kind: u64, k: u64) -> (u64, u64)
 }
 
 // Whether an entry row names a block below n with its first cell as key, whose life, as the kind sees it, covers the node and not the node above. Constant time.
-fn test_entry(t: &Tested<'_>, at: Place, row: u64) -> bool
+pub fn test_entry(t: &Tested<'_>, at: Place, row: u64) -> bool
     requires { Inside t.now.entries.now row 1 }
     ensures { Decides result (EntryRow t.now.blocks.now t.now.entries.now t.now.n at.kind row at.min at.max at.from at.to) }
 {
@@ -35,7 +35,7 @@ fn test_entry(t: &Tested<'_>, at: Place, row: u64) -> bool
 }
 
 // Whether the j-th of the entry rows from `first` on has a key above that of the row before it, if j is not the first. Constant time.
-fn follows(t: &Tested<'_>, first: u64, j: u64) -> bool
+pub fn follows(t: &Tested<'_>, first: u64, j: u64) -> bool
     requires { Inside t.now.entries.now first (j + 1) }
     ensures { Decides result (Follows t.now.entries.now first j) }
 {

@@ -20,7 +20,7 @@ fn bare(t: &Tested<'_>, link: u64) -> bool
 }
 
 // Whether the row of a link is in use and holds the node of the kind; one of width 1 has no halves. Constant time.
-fn test_row(t: &Tested<'_>, link: u64, at: Place) -> bool
+pub fn test_row(t: &Tested<'_>, link: u64, at: Place) -> bool
     ensures { Decides result (RowStands t.now.nodes.now at.kind link at.min at.max) }
 {
     link != 0

@@ -155,6 +155,27 @@ add_narrowest {t} {t₁} {s} {life} {link} reached some uncovered small = record
       (enough (entered t t₁ s link T some reached stands).grown);
 }
 
+-- a node that was made there counts for nothing in the model
+add_made : (key : ℕ → ℕ) (b c d n lo hi : ℕ) (T : Tree) → add_location key n b c d lo hi (made T) ≡ add_location key n b c d lo hi T
+unfolding add_location
+add_made key b c d n lo hi (node xs l r) = refl
+add_made key b c d zero lo hi hole = refl
+add_made key b c d (suc n) lo hi hole = refl
+
+made-fullest : (T : Tree) → fullest (made T) ≤ fullest T
+unfolding fullest
+made-fullest hole = omega arith
+made-fullest (node xs l r) = omega arith
+
+-- so that it may be reached before
+pub add_reached : {t t₁ t₂ : List ℕ} {s : Spot} {life : Life} {link : ℕ} {r : Bool} → Reached t t₁ s link → (link ≡ 0 → ⊥) → Added t₁ t₂ s life r → Added t t₂ s life r
+add_reached {t} {t₁} {t₂} {s} {life} {link} {r} reached some a = record {
+  done = λ key n b T w few stands.
+      let e = entered t t₁ s link T some reached stands in
+      rw (sym (add_made key b life.created life.destroyed n s.lo s.hi T))
+      (outcome_after t t₁ t₂ s T (made T) _ r stands e.grown (a.done key n b (made T) w (omega (arith, made-fullest T)) e.stands));
+}
+
 -- ── its halves ──
 
 -- the node is reached, has halves, and is not covered

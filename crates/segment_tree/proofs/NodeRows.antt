@@ -1,34 +1,18 @@
 -- Rows of the node table: reads after a write, trees whose rows stay, and the sum of counts. Assumes nothing.
 use mathlib.Core.Path.{◌≡◌, refl, sym, ◌∙◌}
 use mathlib.Core.Logic.{inl, inr}
-use mathlib.Core.Bool.{false}
 use mathlib.Core.List.{List}
-use Prim.Native.Nat.{ℕ, zero, suc, ◌+◌, ◌-◌, ◌*◌, ◌≤◌, ◌<◌}
+use Prim.Native.Nat.{ℕ, zero, suc, ◌+◌, ◌*◌, ◌≤◌, ◌<◌}
 use native.Mathlib.Omega.{arith}
 use lib.ListN.{length, set}
 use lib.Seq.{get_or-set_same, get_or-set_other}
-use lib.Dec.{ltb}
-use borrow.Author.Tests.{lt-ltb, le-ltb}
-use Rattle.lists.proofs.Numbers.{eq_or_ne, lt_or_le}
+use Rattle.lists.proofs.Numbers.{eq_or_ne}
 use Rattle.history.specs.Lent.{row_width}
-use Rattle.history.specs.Tree.{Tree, hole, node, mid, halves}
+use Rattle.history.specs.Tree.{Tree, hole, node, mid}
 use Rattle.tables.specs.Columns.{column, node_min, node_max, node_left, node_right, node_first, node_entries, node_kind, nodes_count}
 use Rattle.segment_table.specs.Closed.{nodes_used, left_at, right_at, count_at}
 use Rattle.segment_tree.specs.Count.{rows_in, min_at, max_at, kind_at, entries_to, CountRow, CountAt}
 use Rattle.segment_tree.specs.Runs.{LikeButRuns}
-
--- ── widths ──
-
--- the width above 1, tested without a sum that may wrap
-pub halves_wide : (lo hi : ℕ) → lo < hi → ltb 1 (hi - lo) ≡ halves lo hi
-halves_wide lo hi h =
-    elim (lt_or_le (lo + 1) hi) [
-      | inl w ↦ lt-ltb 1 (hi - lo) (omega arith) ∙ sym (lt-ltb (lo + 1) hi w)
-      | inr w ↦ le-ltb 1 (hi - lo) (omega arith) ∙ sym (le-ltb (lo + 1) hi w)
-    ]
-
-pub halves-none : (lo hi : ℕ) → hi ≤ lo → false ≡ halves lo hi
-halves-none lo hi h = sym (le-ltb (lo + 1) hi (omega arith))
 
 -- ── reads after a write ──
 

@@ -148,16 +148,6 @@ unfolding over bare
 over_none hole = refl
 over_none (node xs l r) = rw (over_none l, over_none r)
 
-bare_left : (T : Tree) → left_of (bare T) ≡ bare (left_of T)
-unfolding bare
-bare_left hole = refl
-bare_left (node xs l r) = refl
-
-bare_right : (T : Tree) → right_of (bare T) ≡ bare (right_of T)
-unfolding bare
-bare_right hole = refl
-bare_right (node xs l r) = refl
-
 pub new_bare : (n c d lo hi : ℕ) (T : Tree) → new_nodes n c d lo hi (bare T) ≡ new_nodes n c d lo hi T
 unfolding new_nodes bare
 new_bare zero c d lo hi hole = refl

@@ -1,15 +1,14 @@
 -- The counts of a kind's tree do not depend on which blocks are added, nor on their order: adding goes with `shape`. Assumes nothing.
 use mathlib.Core.Path.{◌≡◌, refl, ap, sym, ◌∙◌}
-use mathlib.Core.Logic.{◌⊎◌, inl, inr}
+use mathlib.Core.Logic.{inl, inr}
 use mathlib.Core.Bool.{Bool, true, false, cond, ◌&&◌}
 use mathlib.Core.List.{List, [], ◌∷◌, ◌++◌, map}
-use Prim.Native.Nat.{ℕ, zero, suc, ◌+◌, ◌≤◌, ◌<◌}
+use Prim.Native.Nat.{ℕ, zero, suc, ◌<◌}
 use native.Mathlib.Omega.{arith}
 use lib.ListN.{length, replicate, length-replicate}
 use lib.Dec.{ltb, eqb}
-use Rattle.lists.specs.Lists.{Mem, Distinct, count, count_from}
-use Rattle.lists.proofs.Numbers.{bool_cases, lt_or_le, eq_or_ne}
-use Rattle.lists.proofs.Counting.{mem_count, count_mem, distinct_count, count_from_out, count_from_count}
+use Rattle.lists.specs.Lists.{count}
+use Rattle.lists.proofs.Numbers.{bool_cases}
 use Rattle.lists.proofs.Maps.{map-cond}
 use Rattle.history.specs.Words.{Block, a_block, of_kind}
 use Rattle.history.specs.Tree.{Tree, hole, node, mid, halves, covers, entries_of, left_of, right_of, insert, add_location, add_all, key_in, tree_of, node_count, entry_count}
@@ -147,21 +146,6 @@ module _ (row : ℕ → Owned) (kind e : ℕ) where
       let left : shape (add_each row_block (λ k. k) e (own_rows xs) T) ≡ add_to e (map life_at (own_rows xs)) T = rw same at (shape_each (own_rows xs) T) in
       let right : shape (add_each row_block (λ k. k) e (own_rows ys) T) ≡ add_to e (map life_at (own_rows ys)) T = rw same at (shape_each (own_rows ys) T) in
       rw (lives-rows xs, lives-rows ys) (sym left ∙ ap shape sum ∙ right)
-
--- links that are the rows 1 to m, each once, are as often there as in row order
-pub rows_once : (m : ℕ) (links : List ℕ) → Distinct links → ((k : ℕ) → Mem k links → (0 < k) × (k ≤ m)) → ((k : ℕ) → 0 < k → k ≤ m → Mem k links)
-    → (k : ℕ) → count k links ≡ count k (count_from 1 m)
-rows_once m links once within every k =
-    elim (eq_or_ne (count k links) 0) [
-      | inl z ↦ z ∙ sym (count_from_out k 1 m (elsewhere (lt_or_le 0 k) (lt_or_le m k) z))
-      | inr n ↦ (let mem : Mem k links = count_mem k links (omega arith) in let w = within k mem in
-          omega (arith, distinct_count k links once, count_from_count k 1 m (omega (arith, w.0)) (omega (arith, w.1))))
-    ]
-  where
-    elsewhere : (0 < k) ⊎ (k ≤ 0) → (m < k) ⊎ (k ≤ m) → count k links ≡ 0 → (k < 1) ⊎ (1 + m ≤ k)
-    elsewhere (inr a) b z = inl (omega arith)
-    elsewhere (inl a) (inl b) z = inr (omega arith)
-    elsewhere (inl a) (inr b) z = absurd (omega (arith, mem_count (every k a b)))
 
 -- ── what the counts say ──
 

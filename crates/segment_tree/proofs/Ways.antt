@@ -1,19 +1,20 @@
 -- Steps of the loops of `build`: a life's way down the node table. What adding at the node that is reached leaves, adding at the first one leaves.
 -- Assumes nothing.
-use mathlib.Core.Path.{◌≡◌, ap, sym, ◌∙◌}
+use mathlib.Core.Path.{◌≡◌, refl, ap, sym, ◌∙◌}
 use mathlib.Core.Logic.{◌⊎◌, inl, inr}
 use mathlib.Core.Bool.{Bool, true, false, true≢false, cond, not}
 use mathlib.Core.List.{List}
 use Prim.Native.Nat.{ℕ, ◌+◌, ◌≤◌, ◌<◌}
 use native.Mathlib.Omega.{arith}
 use borrow.Author.Tests.{ltb-true, ltb-false}
+use Rattle.lists.proofs.Numbers.{bool_cases}
 use Rattle.history.specs.Tree.{mid, halves, covers}
 use Rattle.history.proofs.TreeAdding.{covers_yes, covering, all, part}
 use Rattle.tables.specs.Columns.{node_left}
-use Rattle.segment_tree.specs.Count.{Bumped, Life, Spot, spot, spot_in, left_half, right_half, half_on, meets, Added, AddedAt, Whole, AddedWhole, Lasts, Splits, Reached}
+use Rattle.segment_tree.specs.Count.{Bumped, Life, spot, spot_in, left_half, right_half, half_on, meets, Added, AddedAt, Whole, Lasts, Splits, Reached}
 use Rattle.segment_tree.specs.declared.Span.{Span}
 use Rattle.segment_tree.specs.declared.Place.{Place}
-use Rattle.segment_tree.proofs.Adding.{Parted, Goes, Stays, add_spent, add_covered, add_narrowest, add_neither, add_one, add_one_spent, add_both}
+use Rattle.segment_tree.proofs.Adding.{Parted, Goes, Stays, add_spent, add_covered, add_reached, add_narrowest, add_neither, add_one, add_one_spent, add_both}
 
 -- ── lives and nodes ──
 
@@ -57,9 +58,13 @@ module _ {t : List ℕ} {kind link : ℕ} {span : Span} {life : Life} where
 
         -- one half, or both
         module _ (right : Bool) (x : Goes right life (mid span.lo span.hi)) where
+          pub at_half : Stays (not right) life (mid span.lo span.hi) → {t₂ : List ℕ} {room : Bool} → Added t t₂ (spot_in kind link (half_on right span)) life room
+              → AddedAt t t₂ kind link span.lo span.hi life room
+          at_half y a = record { from = λ before parent col r. add_one (here r) right x a y }
+
           pub at_one : Stays (not right) life (mid span.lo span.hi) → {t₂ t₃ : List ℕ} {next : ℕ} {room : Bool} → Reached t t₂ (spot_in kind link (half_on right span)) next
               → AddedAt t₂ t₃ kind next (half_on right span).span.lo (half_on right span).span.hi life room → AddedAt t t₃ kind link span.lo span.hi life room
-          at_one y z a = record { from = λ before parent col r. add_one (here r) right x (a.from t link (half_on right span).col z) y }
+          at_one y z a = at_half y (a.from t link (half_on right span).col z)
 
           module _ (y : Goes (not right) life (mid span.lo span.hi)) {t₂ : List ℕ} {q : Bool} (a : Added t t₂ (spot_in kind link (half_on right span)) life q) where
             pub at_one_spent : q ≡ false → AddedAt t t₂ kind link span.lo span.hi life false
@@ -68,18 +73,6 @@ module _ {t : List ℕ} {kind link : ℕ} {span : Span} {life : Life} where
             pub at_both : q ≡ true → {t₃ t₄ : List ℕ} {next : ℕ} {room : Bool} → Reached t₂ t₃ (spot_in kind link (half_on (not right) span)) next
                 → AddedAt t₃ t₄ kind next (half_on (not right) span).span.lo (half_on (not right) span).span.hi life room → AddedAt t t₄ kind link span.lo span.hi life room
             at_both n z b = record { from = λ before parent col r. add_both (here r) right x a y n (b.from t₂ link (half_on (not right) span).col z) }
-
--- ── a node that the life covers ──
-
-pub whole_spent : {t t₁ : List ℕ} {s : Spot} {link : ℕ} → Reached t t₁ s link → link ≡ 0 → AddedWhole t t₁ s false
-whole_spent reached z = record { each = λ life w. add_spent reached z }
-
-pub whole_more : {t t₁ t₂ : List ℕ} {s : Spot} {link : ℕ} → Reached t t₁ s link → (link ≡ 0 → ⊥) → Bumped t₁ t₂ link → AddedWhole t t₂ s true
-whole_more {s} reached some is = record {
-  each = λ life w. add_covered reached some (covers_yes life.created life.destroyed s.lo s.hi w.from w.to) is;
-}
-
-pub ruleset whole_node = (whole_spent, whole_more)
 
 -- ── the way down ──
 
@@ -179,7 +172,8 @@ module _ {to_end : Bool} {t₀ t : List ℕ} {kind top : ℕ} {whole : Span} {li
     pub way_covered : q ≡ true → {t₂ : List ℕ} → Bumped t t₂ link → AddedAt t₀ t₂ kind top whole.lo whole.hi life true
     way_covered e {t₂} is = u.down.rest t₂ true (at_covered some (sym asked ∙ e) is)
 
-    module _ (misses : q ≡ false) {pair : Place × Place} (halved : pair ≡ (half_on to_end span, half_on (not to_end) span)) {m : Bool} (meet : m ≡ meets to_end life pair.1.span) where
+    module _ (misses : q ≡ false) {pair : Place × Place} (halved : pair ≡ (half_on to_end span, half_on (not to_end) span)) {t₂ : List ℕ} {next : ℕ}
+        (reached : Reached t t₂ (spot_in kind link pair.0) next) where
       uncovers : covers life.created life.destroyed span.lo span.hi ≡ false
       uncovers = sym asked ∙ misses
 
@@ -192,38 +186,57 @@ module _ {to_end : Bool} {t₀ t : List ℕ} {kind top : ℕ} {whole : Span} {li
       other_is : pair.1 ≡ half_on (not to_end) span
       other_is = ap (λ (p : Place × Place). p.1) halved
 
-      met : {v : Bool} → m ≡ v → meets to_end life (half_on (not to_end) span).span ≡ v
-      met y = rw other_is at (sym meet ∙ y)
+      sure_reached : Reached t t₂ (spot_in kind link (half_on to_end span)) next
+      sure_reached = rw sure_is at reached
 
-      pub way_sure : m ≡ false → {t₂ : List ℕ} {next : ℕ} → Reached t t₂ (spot_in kind link pair.0) next → OneWay to_end t₀ t₂ kind top whole next pair.0.span life
-      way_sure y {t₂} {next} r = rw sure_is (record {
-        lasts = lasts_sure to_end u.lasts wide;
-        down = record {
-          rest = λ t' room a.
-              u.down.rest t' room (at_one some uncovers wide to_end (sure_goes to_end u.lasts wide) (other_stays to_end life span (met y)) (rw sure_is at r) a);
-        };
-      })
+      goes : Goes to_end life (mid span.lo span.hi)
+      goes = sure_goes to_end u.lasts wide
 
-      module _ (y : m ≡ true) {t₂ : List ℕ} {full : Bool} (a : AddedWhole t t₂ (spot_in kind link pair.0) full) where
-        goes : Goes (not to_end) life (mid span.lo span.hi)
-        goes = other_goes to_end life span (met y)
+      pub way_spent : next ≡ 0 → AddedAt t₀ t₂ kind top whole.lo whole.hi life false
+      way_spent z =
+          u.down.rest t₂ false
+          (elim (bool_cases (meets to_end life (half_on (not to_end) span).span)) [
+            | inl y ↦ at_one_spent some uncovers wide to_end goes (other_goes to_end life span y) (add_spent sure_reached z) refl
+            | inr y ↦ at_half some uncovers wide to_end goes (other_stays to_end life span y) (add_spent sure_reached z)
+          ])
 
-        sure_added : Added t t₂ (spot_in kind link (half_on to_end span)) life full
-        sure_added = (rw sure_is at a).each life (sure_whole to_end u.lasts goes)
+      -- the node of the sure half is there: the way goes on to the other half if that is met too, and the life covers the sure one then
+      module _ (there : next ≡ 0 → ⊥) {m : Bool} (meet : m ≡ meets to_end life pair.1.span) {t₃ : List ℕ} (more : m ≡ true → Bumped t₂ t₃ next)
+          (same : m ≡ false → t₃ ≡ t₂) {way : Place} (chosen : way ≡ cond m pair.1 pair.0) {t₄ : List ℕ} {last : ℕ} (on : Reached t₃ t₄ (spot_in kind link way) last) where
+        met : {v : Bool} → m ≡ v → meets to_end life (half_on (not to_end) span).span ≡ v
+        met y = rw other_is at (sym meet ∙ y)
 
-        pub way_spent : full ≡ false → AddedAt t₀ t₂ kind top whole.lo whole.hi life false
-        way_spent n = u.down.rest t₂ false (at_one_spent some uncovers wide to_end (sure_goes to_end u.lasts wide) goes sure_added n)
+        way_is : {v : Bool} → m ≡ v → way ≡ cond v (half_on (not to_end) span) (half_on to_end span)
+        way_is y = rw (y, other_is, sure_is) at chosen
 
-        pub way_other : full ≡ true → {t₃ : List ℕ} {next : ℕ} → Reached t₂ t₃ (spot_in kind link pair.1) next → OneWay to_end t₀ t₃ kind top whole next pair.1.span life
-        way_other n {t₃} {next} r = rw other_is (record {
-          lasts = lasts_other to_end u.lasts wide goes;
+        to_other : m ≡ true → OneWay to_end t₀ t₄ kind top whole last (half_on (not to_end) span).span life
+        to_other y = record {
+          lasts = lasts_other to_end u.lasts wide (other_goes to_end life span (met y));
           down = record {
             rest = λ t' room b.
-                u.down.rest t' room (at_both some uncovers wide to_end (sure_goes to_end u.lasts wide) goes sure_added n (rw other_is at r) b);
+                u.down.rest t' room
+                (at_both some uncovers wide to_end goes (other_goes to_end life span (met y))
+                (add_covered sure_reached there
+                (covers_yes life.created life.destroyed _ _ (sure_whole to_end u.lasts (other_goes to_end life span (met y))).from (sure_whole to_end u.lasts (other_goes to_end life span (met y))).to)
+                (more y)) refl (rw (way_is y) at on) b);
           };
-        })
+        }
 
-pub ruleset one_way = (way_none, way_covered, way_spent)
+        to_sure : m ≡ false → OneWay to_end t₀ t₄ kind top whole last (half_on to_end span).span life
+        to_sure y = record {
+          lasts = lasts_sure to_end u.lasts wide;
+          down = record {
+            rest = λ t' room b.
+                u.down.rest t' room
+                (at_half some uncovers wide to_end goes (other_stays to_end life span (met y))
+                (add_reached sure_reached there (b.from t₂ link (half_on to_end span).col (rw (same y, way_is y) at on))));
+          };
+        }
+
+        pub way_on : OneWay to_end t₀ t₄ kind top whole last way.span life
+        way_on = elim (bool_cases m) [ inl y ↦ rw (way_is y) (to_other y) | inr y ↦ rw (way_is y) (to_sure y) ]
+
+pub ruleset one_way = (way_none, way_covered)
 
 -- ── both halves ──
 

@@ -194,10 +194,6 @@ pub record Bumped (nodes nodes' : List ℕ) (link : ℕ) : Type 0 where
 pub record AddedAt (nodes nodes' : List ℕ) (kind link lo hi : ℕ) (life : Life) (room : Bool) : Type 0 where
   pub from : (before : List ℕ) (parent col : ℕ) → Reached before nodes (spot kind parent col lo hi) link → Added before nodes' (spot kind parent col lo hi) life room
 
--- at a spot, of every life that covers the node there
-pub record AddedWhole (nodes nodes' : List ℕ) (s : Spot) (room : Bool) : Type 0 where
-  pub each : (life : Life) → Whole s.lo s.hi life → Added nodes nodes' s life room
-
 -- there is a node, and the life begins in its left half, ends in its right one, and does not cover it
 pub record Splits (link lo hi : ℕ) (life : Life) : Type 0 where
   pub some : link ≡ 0 → ⊥

@@ -1,9 +1,9 @@
 // Building the trees in the node table: each life goes down from the root of its kind, nodes are made, entries are counted.
-ghost use Rattle.std.specs.Prelude.{◌≡◌, map, ◌+◌, ◌≤◌, ◌<◌, length};
+ghost use Rattle.std.specs.Prelude.{◌≡◌, true, false, cond, map, ◌+◌, ◌≤◌, ◌<◌, length};
 ghost use Rattle.lists.specs.Lists.{count_from};
 ghost use Rattle.history.specs.Lent.{row_width, node_head};
 ghost use Rattle.tables.specs.Columns.{column};
-ghost use Rattle.segment_tree.specs.Count.{rows_in, spot_in, Bumped, Reached, Added, AddedAt, AddedWhole, Lasts, Splits};
+ghost use Rattle.segment_tree.specs.Count.{rows_in, spot_in, Bumped, Reached, Added, AddedAt, Lasts, Splits};
 ghost use Rattle.segment_tree.specs.Lives.{block_life, piece_life, root_spot, AddedRows, rows_to_count, CountedTrees};
 
 use crate::{Life, Owned, Place, Span};
@@ -60,23 +60,29 @@ fn reach(nodes: &mut [u64], parent: u64, place: Place, kind: u64) -> u64
     make(nodes, row, place, kind)
 }
 
-// One entry more in the node at a place in the row of `parent`. False if the rows are spent, here and below.
-#[tactic(auto, using(crate::proofs::Ways::whole_node))]
+// One entry more in the node of `link` if `here`, and else none: a sum, so that there is no branch to guess.
 #[inline(always)]
-fn add_whole(nodes: &mut [u64], parent: u64, place: Place, kind: u64) -> bool
-    ensures { AddedWhole nodes.old nodes.new (spot_in kind parent place) result }
+fn bump_if(nodes: &mut [u64], link: u64, here: bool)
+    ensures more { here ≡ true → Bumped nodes.old nodes.new link }
+    ensures same { here ≡ false → nodes.new ≡ nodes.old }
 {
-    let link = reach(nodes, parent, place, kind);
-    if link == 0 {
-        return false;
+    let row = link as usize;
+    if row < nodes.len() / ROW {
+        let count = nodes[ROW * row + node::ENTRIES];
+        nodes[ROW * row + node::ENTRIES] = count.saturating_add(u64::from(here));
     }
-    bump(nodes, link);
-    true
+}
+
+// x if it is the first one, else y.
+fn choose(first: bool, x: Place, y: Place) -> Place
+    ensures { result ≡ cond first x y }
+{
+    if first { x } else { y }
 }
 
 // Adds a life that lasts over the end of the node of `from`, or from its beginning on, at this node, which was reached last. Where it meets both halves of
-// a node, it covers the one at that end. No `for` goes down: the row says which node is next. It stays a call, so that its loop has the registers for
-// itself.
+// a node, it covers the one at that end. Which halves it meets is no branch: it could be guessed only half the time. No `for` goes down: the row says
+// which node is next. It stays a call, so that its loop has the registers for itself.
 #[tactic(auto, using(crate::proofs::Ways::one_way))]
 #[inline(never)]
 fn add_way<const TO_END: bool>(
@@ -97,16 +103,15 @@ fn add_way<const TO_END: bool>(
             return true;
         }
         let (sure, other) = span.sides::<TO_END>();
-        if life.meets::<TO_END>(other.span) {
-            if !add_whole(nodes, link, sure, kind) {
-                return false;
-            }
-            link = reach(nodes, link, other, kind);
-            span = other.span;
-        } else {
-            link = reach(nodes, link, sure, kind);
-            span = sure.span;
+        let next = reach(nodes, link, sure, kind);
+        if next == 0 {
+            return false;
         }
+        let both = life.meets::<TO_END>(other.span);
+        bump_if(nodes, next, both);
+        let way = choose(both, other, sure);
+        link = reach(nodes, link, way, kind);
+        span = way.span;
     }
     false
 }

@@ -1,10 +1,30 @@
 // Closing the counted trees: each node gets its run of the entry table, the blocks fill the runs in recorded order, and each run is sorted.
+ghost use Rattle.std.specs.Prelude.{◌≡◌, ◌+◌, ◌*◌, set};
+ghost use Rattle.history.specs.Lent.{row_width};
+ghost use Rattle.tables.specs.Columns.{column, node_first, node_entries};
 ghost use Rattle.segment_tree.specs.Count.{Lasts, Splits};
 ghost use Rattle.segment_tree.specs.Runs.{AssignedRuns};
 ghost use Rattle.segment_tree.specs.Fill.{HalfRead, PutEntry, Written, WrittenWhole, WrittenAll, ClosedRuns, lent_tables, ClosedTrees};
 
 use crate::{Life, Owned, Place, Span};
-use tables::{ROW, block, entry, node};
+use tables::{ROW, entry, node};
+
+// Gives a row its run, which begins at the entry `at`, and tells how many entries it has. One test a row here and below, as in `build`.
+#[inline(always)]
+fn give_run(nodes: &mut [u64], link: u64, at: u64) -> u64
+    ensures run { nodes.new ≡ set nodes.old (row_width * link + node_first) at }
+    ensures count { result ≡ column nodes.old link node_entries }
+{
+    let row = link as usize;
+    if row < nodes.len() / ROW {
+        let count = nodes[ROW * row + node::ENTRIES];
+        nodes[ROW * row + node::FIRST] = at;
+        return count;
+    }
+    let count = tables::get(nodes, link, node::ENTRIES);
+    tables::put(nodes, link, node::FIRST, at);
+    count
+}
 
 // Gives each of the rows 1 to n its run, in row order, and returns how many entries they have. The counts stay, so that runs can be given out
 // again when they are filled.
@@ -14,8 +34,7 @@ pub(crate) fn assign_runs(nodes: &mut [u64], n: u64) -> u64
     let mut at: u64 = 0;
     for j in 0..n {
         let link = j + 1;
-        let count = tables::get(nodes, link, node::ENTRIES);
-        tables::put(nodes, link, node::FIRST, at);
+        let count = give_run(nodes, link, at);
         at = at.saturating_add(count);
     }
     at
@@ -28,7 +47,7 @@ struct Entry {
     key: u64,
 }
 
-// The link of a half of the node of `link`; 0 where the table has no such row. One test a row here and below, as in `build`.
+// The link of a half of the node of `link`; 0 where the table has no such row.
 #[inline(always)]
 fn half(nodes: &[u64], link: u64, place: Place) -> u64
     ensures { HalfRead nodes.now link place result }
@@ -174,7 +193,7 @@ fn write_blocks(nodes: &mut [u64], entries: &mut [u64], blocks: &[u64], n: u64, 
         let owned = Owned::of_block(blocks, link);
         let entry = Entry {
             block: j,
-            key: block::get(blocks, link, block::FIRST),
+            key: block_table::read(blocks, link).first,
         };
         let root = tables::get(nodes, 0, owned.kind as usize);
         write_location(nodes, entries, root, end, owned.life, entry);
@@ -188,8 +207,7 @@ fn close_runs(nodes: &mut [u64], entries: &mut [u64], n: u64) -> u64
     let mut at: u64 = 0;
     for j in 0..n {
         let link = j + 1;
-        let count = tables::get(nodes, link, node::ENTRIES);
-        tables::put(nodes, link, node::FIRST, at);
+        let count = give_run(nodes, link, at);
         let to = at.saturating_add(count);
         entry_sort::sort_rows(entries, at, to);
         at = to;

@@ -19,7 +19,7 @@ ghost use Rattle.history.specs.Tree.{covers, halves};
 ghost use Rattle.segment_tree.specs.Count.{left_half, right_half, half_on, Lasts, meets};
 ghost use Rattle.segment_tree.specs.Lives.{block_life, piece_life};
 
-use tables::{block, node, piece};
+use tables::{node, piece};
 
 pub mod build;
 pub mod close;
@@ -123,11 +123,12 @@ impl Owned {
     fn of_block(blocks: &[u64], link: u64) -> Owned
         ensures { result ≡ block_life blocks.now link }
     {
+        let row = block_table::read(blocks, link);
         Owned {
-            kind: block::get(blocks, link, block::OWNER),
+            kind: row.owner,
             life: Life {
-                created: block::get(blocks, link, block::CREATED),
-                destroyed: block::get(blocks, link, block::DESTROYED),
+                created: row.created,
+                destroyed: row.destroyed,
             },
         }
     }

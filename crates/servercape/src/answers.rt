@@ -7,7 +7,6 @@ use index::{Block, Found};
 use refusals::Refusal;
 
 // A result that gives nothing.
-#[tactic(auto, using(crate::proofs::Answering::handing))]
 pub fn done(answer: Result<(), Refusal>) -> u64
     ensures { result ≡ told_by answer }
 {
@@ -18,7 +17,6 @@ pub fn done(answer: Result<(), Refusal>) -> u64
 }
 
 // A number.
-#[tactic(auto, using(crate::proofs::Answering::handing))]
 pub fn number(answer: Result<u64, Refusal>, value: &mut u64) -> u64
     ensures { Handed (λ n. n) answer result value.old value.new }
 {
@@ -32,7 +30,6 @@ pub fn number(answer: Result<u64, Refusal>, value: &mut u64) -> u64
 }
 
 // A number that may be missing: 1 and the number, or 0 and 0.
-#[tactic(auto, using(crate::proofs::Answering::handing))]
 pub fn maybe(answer: Result<Option<u64>, Refusal>, some: &mut u64, value: &mut u64) -> u64
     ensures { Handed flagged answer result (some.old, value.old) (some.new, value.new) }
 {
@@ -47,7 +44,6 @@ pub fn maybe(answer: Result<Option<u64>, Refusal>, some: &mut u64, value: &mut u
 }
 
 // What find counted.
-#[tactic(auto, using(crate::proofs::Answering::handing))]
 pub fn found(answer: Result<Found, Refusal>, count: &mut u64, visited: &mut u64) -> u64
     ensures { Handed counts_given answer result
         (counts count.old visited.old) (counts count.new visited.new) }
@@ -63,7 +59,6 @@ pub fn found(answer: Result<Found, Refusal>, count: &mut u64, visited: &mut u64)
 }
 
 // The fields of a block.
-#[tactic(auto, using(crate::proofs::Answering::handing))]
 pub fn block(
     answer: Result<Block, Refusal>,
     kind: &mut u64,

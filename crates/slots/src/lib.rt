@@ -72,19 +72,17 @@ impl Slots {
         Slots { each: [s; 4] }
     }
 
-    // The slots with [first, end) taken in by one of them.
+    // Takes [first, end) in by one of them.
     #[tactic(auto, using(crate::proofs::Steps::take_at))]
-    pub fn take(self, first: u64, end: u64) -> Slots
+    pub fn take(&mut self, first: u64, end: u64)
         requires { first ≤ end }
-        ensures { Takes self first end result }
+        ensures { Takes self.old first end self.new }
     {
-        let mut each = self.each;
-        let at = each[..LAST]
+        let at = self.each[..LAST]
             .iter()
             .position(|s| s.suits(first, end))
             .unwrap_or(LAST);
-        each[at] = each[at].take_in(first, end);
-        Slots { each }
+        self.each[at] = self.each[at].take_in(first, end);
     }
 
     // Whether one of the slots is full and has [first, end).
@@ -95,16 +93,14 @@ impl Slots {
         self.each.iter().any(|s| s.restores(first, end))
     }
 
-    // The slots for `min` when a block [first, end) has been looked at: taken in, if it is created then.
+    // A block [first, end) has been looked at, for the slots of `min`: it is taken in, if it is created then.
     #[tactic(auto, using(crate::proofs::Steps::count_other))]
-    pub fn count(self, min: u64, created: u64, first: u64, end: u64) -> Slots
+    pub fn count(&mut self, min: u64, created: u64, first: u64, end: u64)
         requires { first ≤ end }
-        ensures { Counts self min created first end result }
+        ensures { Counts self.old min created first end self.new }
     {
         if created == min {
-            self.take(first, end)
-        } else {
-            self
+            self.take(first, end);
         }
     }
 }

@@ -88,7 +88,7 @@ module _ {t : Tables} {l : Ledger} {kind : ℕ} (c : KindIn t l kind) where
   pub lives-written : (k : ℕ) → Lives l kind k → has k (written l.now.blocks (tree_in l kind)) ≡ true
   lives-written k h =
       rw same_kept at (living-written kind l.opening.end (only_kind kind l.now.blocks) (tree_in l kind) c.can k (rw (only_length kind l.now.blocks) h.number)
-      (rw (own_block k h.of_kind_lem) (omega (arith, h.ticks))))
+      (rw (own_block k h.same_kind) (omega (arith, h.ticks))))
 
 module _ {t u : Tables} {l : Ledger} {kind : ℕ} (c : KindIn t l kind) (e : Encodes u (saved_ledger (lengths_of u) l kind)) (s : Sound (saved_ledger (lengths_of u) l kind)) where
   abbrev saved : Ledger
@@ -217,7 +217,7 @@ module _ {t u : Tables} {l : Ledger} {kind : ℕ} (c : KindIn t l kind) (e : Enc
       ltb-true _ _ (sym (entered_lives kind l.opening.end only (tree_in l kind) c.can k (rw (only_length kind l.now.blocks) less)) ∙ listed) in
       let same = own_kind c k lives in
       let ticks : (block_by l k).created < (block_by l k).destroyed = rw (own_block c k same) at lives in
-      (k, record { number = less; of_kind_lem = same; ticks = omega arith }, place_in_at ascending j h)
+      (k, record { number = less; same_kind = same; ticks = omega arith }, place_in_at ascending j h)
 
   none_else : (j : ℕ) (f : Fields) → BlockGivenBy u j (accepted f) → (k : ℕ) × Lives l kind k × (number_in l kind k ≡ j)
   none_else j f g =

@@ -17,12 +17,11 @@ use Rattle.history.specs.Refusals.{Answer, accepted, refused}
 use Rattle.history.specs.Sound.{none_of, SoundClosed}
 use Rattle.history.specs.File.{file_bytes, file_of, contents, nodes_of, bytes_of, file_by}
 use Rattle.history.specs.Rules.{is_hole}
-use Rattle.history.proofs.ByKind.{kind_known}
+use Rattle.history.proofs.ByKind.{kind_known, some-owned}
 use Rattle.history.proofs.FindSound.{closed_trees}
 use Rattle.history.proofs.FileKept.{Writable}
 use Rattle.history.proofs.FileSound.{sound_writable, written_only, renumbered_only}
 use Rattle.history.proofs.FileLoad.{file_some}
-use Rattle.segment_test.proofs.Owning.{some-owned}
 use Rattle.layout.specs.Tables.{Tables}
 use Rattle.layout.specs.Files.{WrittenBy}
 use Rattle.layout.proofs.ReadLaws.{heads-held, write_fits, write_16, into_gives, into_refuses}

@@ -106,7 +106,7 @@ module _ {t : Tables} {l : Ledger} {kind : ℕ} (c : KindIn t l kind) (lifeless 
       let at-k = only_at kind l.now.blocks k in
       let same : (block_by l k).kind ≡ kind = own-lives kind (block_by l k) (own_life kind (block_by l k)).created (rw at-k at lives) in
       let ticks : (block_by l k).created < (block_by l k).destroyed = rw (at-k ∙ own_same kind (block_by l k) same) at lives in
-      absurd (lifeless k (record { number = omega (arith, only_length kind l.now.blocks); of_kind_lem = same; ticks = omega arith })))
+      absurd (lifeless k (record { number = omega (arith, only_length kind l.now.blocks); same_kind = same; ticks = omega arith })))
       (λ h. h) (lt_or_le (block_at bs k).created (block_at bs k).destroyed)
 
   unlisted : (k : ℕ) → k < length bs → has k (entries_in tree) ≡ false

@@ -1,7 +1,6 @@
 pub mod Closed
 pub mod Alike
 pub mod Saving
-pub mod Cutting
 pub mod Reached
 pub mod Taking
 pub mod Emptying

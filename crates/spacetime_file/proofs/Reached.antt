@@ -24,7 +24,6 @@ use Rattle.history.proofs.Passing.{taken}
 use Rattle.history.proofs.EveryList.{the_law, every_list, opening_kept}
 use Rattle.history.proofs.FileReloaded.{room_written}
 use Rattle.history.proofs.FileSound.{sum_at}
-use Rattle.segment_test.proofs.Owning.{some-owned}
 use Rattle.layout.specs.Tables.{Tables, lengths_of}
 use Rattle.layout.specs.Encodes.{Encodes}
 use Rattle.layout.specs.Relations.{opening_of}
@@ -35,7 +34,8 @@ use Rattle.cells.proofs.History.{cells_show_history}
 use Rattle.spacetime_file.specs.Law.{Slices, ClosedIn, Lives, Reloads, RoomFor, AsLong, LoadedAgain, SavedAndLoaded}
 use Rattle.spacetime_file.proofs.Closed.{KindIn, kind_in, trees_sound}
 use Rattle.spacetime_file.proofs.Alike.{alike, cells_back}
-use Rattle.spacetime_file.proofs.Cutting.{cells_in, block_cells, cells_append, block_cells_append, destroyed_cells, parts_cells}
+use Rattle.history.proofs.Cutting.{cells_in, block_cells, cells_append, block_cells_append, destroyed_cells, parts_cells}
+use Rattle.history.proofs.ByKind.{some-owned}
 use Rattle.spacetime_file.proofs.Saving.{parts_follow, some_written, reloads, reloads_alike}
 
 -- ── kept from call to call ──
@@ -44,13 +44,13 @@ use Rattle.spacetime_file.proofs.Saving.{parts_follow, some_written, reloads, re
 record Booked (end : ℕ) (h : List Operation) (kind : ℕ) : Type 0 where
   call : Operation
   member : Mem call h
-  of_kind_lem : call.kind ≡ kind
+  same_kind : call.kind ≡ kind
   some_cell : 0 < length call.bytes
   before_end : call.tick < end
 
 -- also where the history goes on
 booked_on : {end kind : ℕ} {h : List Operation} (o : Operation) → Booked end h kind → Booked end (o ∷ h) kind
-booked_on o b = record { call = b.call; member = there b.member; of_kind_lem = b.of_kind_lem; some_cell = b.some_cell; before_end = b.before_end }
+booked_on o b = record { call = b.call; member = there b.member; same_kind = b.same_kind; some_cell = b.some_cell; before_end = b.before_end }
 
 record Kept (l : Ledger) (h : List Operation) : Type 0 where
   -- every cell of a block or a piece has its own byte in the store;
@@ -105,7 +105,7 @@ unfolding record_by read_by
 record_kept l h scratch o e k = go (is_read l.now o)
   where
     own : Booked l.opening.end (o ∷ h) o.kind
-    own = let z = taken l scratch o e in record { call = o; member = here refl; of_kind_lem = refl; some_cell = z.some_cell; before_end = z.before_end }
+    own = let z = taken l scratch o e in record { call = o; member = here refl; same_kind = refl; some_cell = z.some_cell; before_end = z.before_end }
 
     go : (r : Bool) → Kept (with_now (cond r (read_by l.now o) (update_by l.now o)) l) (o ∷ h)
     go true = record { stored = k.stored; pieces = older l h o k k.pieces; blocks = older l h o k k.blocks }
@@ -170,11 +170,11 @@ booked_lives l h kind faithful b =
     let holder = faithful.kept kind tick o.first (omega (arith, b.before_end)) o b.member
     (record {
       by = omega (arith, b.before_end);
-      covers = record { of_kind_lem = b.of_kind_lem; has = record { from = omega arith; below = omega (arith, b.some_cell) } };
+      covers = record { same_kind = b.same_kind; has = record { from = omega arith; below = omega (arith, b.some_cell) } };
     }) in
     let place = mem_place no_block holder.1 in
     let held : HoldsCell kind tick o.first (block_by l place.0) = rw place.2 holder.2 in
-    (place.0, record { number = place.1; of_kind_lem = held.of_kind_lem; ticks = omega (arith, held.born, held.alive) })
+    (place.0, record { number = place.1; same_kind = held.same_kind; ticks = omega (arith, held.born, held.alive) })
 
 reached_lives : (a : Opening) → open_answer a ≡ accepted tt → (ks : List Call) → finished (after_all (opened a) ks) ≡ true → (kind : ℕ)
     → none_of kind (after_all (opened a) ks).now.blocks ≡ false → (k : ℕ) × Lives (after_all (opened a) ks) kind k

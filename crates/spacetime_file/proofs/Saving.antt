@@ -15,11 +15,11 @@ use Rattle.history.specs.File.{Read, got, Loaded, load, loaded_ledger, saved_led
 use Rattle.history.proofs.FilePlaces.{place_in-inside}
 use Rattle.history.proofs.FileReads.{Stands}
 use Rattle.history.proofs.FileSound.{loaded_sound, load_kind, part_split, part_next}
+use Rattle.history.proofs.ByKind.{one-owned}
 use Rattle.layout.specs.Tables.{Tables, tables, lengths_of}
 use Rattle.layout.specs.Encodes.{Encodes}
 use Rattle.layout.specs.Relations.{zeros}
 use Rattle.layout.specs.Files.{LoadedTables, LoadLeaves, position_of, headed}
-use Rattle.segment_test.proofs.Owning.{one-owned}
 use Rattle.spacetime_file.specs.Law.{Slices, ClosedIn, Lives, RoomFor, Reloads, PartsFollow, AnswersAlike}
 use Rattle.spacetime_file.proofs.Closed.{KindIn, kind_in, contents_only, file_written, take_part, file_bytes_lem}
 use Rattle.spacetime_file.proofs.Alike.{alike, lives-written}
@@ -61,7 +61,7 @@ parts_follow l = record { first = refl; next = part_next l; last = refl }
 
 -- a kind of which a block has a life has blocks
 pub lives-some : (l : Ledger) (kind k : ℕ) → Lives l kind k → none_of kind l.now.blocks ≡ false
-lives-some l kind k lives = one-owned kind l.now.blocks k lives.number lives.of_kind_lem
+lives-some l kind k lives = one-owned kind l.now.blocks k lives.number lives.same_kind
 
 module _ {t : Tables} {l : Ledger} {kind : ℕ} (c : KindIn t l kind) (some-kept : 0 < length (written l.now.blocks (tree_in l kind))) where
   -- what loading the kind's part of the file of the ledger gives

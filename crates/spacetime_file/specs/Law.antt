@@ -46,7 +46,7 @@ pub record ClosedIn (t : Tables) (l : Ledger) : Type 0 where
 -- block k is of the kind and has a life: created < destroyed
 pub record Lives (l : Ledger) (kind k : ℕ) : Type 0 where
   pub number : k < length l.now.blocks
-  pub of_kind_lem : (block_by l k).kind ≡ kind
+  pub same_kind : (block_by l k).kind ≡ kind
   pub ticks : 0 < life (block_by l k)
 
 -- its number in the file: its place among those of the kind that have a life

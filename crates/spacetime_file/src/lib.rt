@@ -4,7 +4,7 @@
 //   lib   proofs/Answering                2 and 4; the rest stands in file_write and file_load
 //         specs/Law                       the theorems, each the contract of a function without work
 //         proofs/Closed, Alike, Saving    written and loaded: the same answers
-//         proofs/Cutting, Reached         of an index that calls have reached
+//         proofs/Reached                  of an index that calls have reached
 //         proofs/Taking, Emptying         what the loader takes; files that it refuses
 
 #![tactic(auto)]

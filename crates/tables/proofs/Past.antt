@@ -1,9 +1,9 @@
 -- Past its end a table reads as 0; bytes are copied as far as a store goes. Assumes nothing.
 use mathlib.Core.Path.{◌≡◌, sym, ◌∙◌, ap}
-use mathlib.Core.List.{List, ◌++◌, append-nil, append_assoc}
+use mathlib.Core.List.{List, ◌++◌, append_assoc}
 use Prim.Native.Nat.{ℕ, ◌+◌, ◌-◌, ◌≤◌, ◌<◌, min}
 use native.Mathlib.Omega.{arith}
-use lib.ListN.{length, get_or, take, drop, replicate, get_or-eq_default, drop_of_length-le, take-append-drop}
+use lib.ListN.{length, get_or, take, drop, get_or-eq_default, take-append-drop}
 use lib.Seq.{sets, sets-eq, length-sets, take_all, length-take-le, drop-drop}
 use borrow.Rule.Slice.PartMut.{put_mid}
 use mathlib.Core.Logic.{⊎_elim}
@@ -27,12 +27,6 @@ sets-cut l vs at i h k =
 -- all of them
 sets_all : (l vs : List ℕ) (at i : ℕ) → length vs ≤ i → sets l at (take i vs) ≡ sets l at vs
 sets_all l vs at i h = rw (take_all i vs h)
-
--- zeros up to i, which is the end, are all zeros
-pub zeros_all : (i : ℕ) (l : List ℕ) → i ≤ length l → length l ≤ i → replicate i 0 ++ drop i l ≡ replicate (length l) 0
-zeros_all i l h k =
-    let e : i ≡ length l = omega arith in
-    rw (drop_of_length-le l k, append-nil, e)
 
 -- as many bytes as there is room for, in place of those that stand there
 pub copied : (store bytes : List ℕ) (at many k : ℕ) (ys : List ℕ) → at < length store → many ≡ min (length bytes) (length store - at) → k ≡ many

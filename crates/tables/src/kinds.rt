@@ -4,6 +4,9 @@ ghost use Rattle.tables.specs.Masks.{Opens};
 // How many kinds there are.
 pub const KINDS: u64 = 5;
 
+// The mask of all of them.
+pub const ALL: u64 = 31;
+
 // Whether the set has a kind.
 #[tactic(auto, using(crate::proofs::Masks::opening))]
 pub fn has(mask: u64, kind: u64) -> bool

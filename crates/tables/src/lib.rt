@@ -89,11 +89,15 @@ pub fn zero(table: &mut [u64])
     table.fill(0);
 }
 
-// Whether every number of the table is 0.
+// Whether every number of the table is 0. It goes over all of them and has no branch, so that several are read at once.
 pub fn all_zero(table: &[u64]) -> bool
     ensures { Decides result (table.now ≡ replicate (length table.now) 0) }
 {
-    table.iter().all(|&n| n == 0)
+    let mut bits = 0;
+    for i in 0..table.len() {
+        bits |= table[i];
+    }
+    bits == 0
 }
 
 // Copies bytes into the store from place `at` on, as far as the store goes.

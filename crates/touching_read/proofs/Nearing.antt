@@ -25,9 +25,9 @@ use Rattle.segment_near.specs.declared.Neighbour.{Neighbour}
 use Rattle.segment_near.specs.Neighbours.{NearestLive}
 use Rattle.layout.specs.Relations.{near_of}
 use Rattle.layout.proofs.ReadLaws.{mask_opens, neighbour_25, neighbour_14, neighbour_rest, out_refused, closed_refuses}
-use Rattle.runs.specs.Runs.{ClosedAt}
-use Rattle.runs.proofs.Seeing.{some_cell, meet_same}
-use Rattle.runs.proofs.Living.{near_in, living}
+use Rattle.live_blocks.specs.Live.{ClosedAt}
+use Rattle.live_blocks.proofs.Seeing.{some_cell, meet_same}
+use Rattle.live_blocks.proofs.Living.{near_in, living}
 use Rattle.touching_read.specs.Reads.{EndOf, NextClosed, LastClosed, NearClosed}
 use Rattle.touching_read.proofs.Reaching.{closed_at, end_is}
 

@@ -19,9 +19,9 @@ use Rattle.segment_near.specs.Neighbours.{NearestLive}
 use Rattle.layout.specs.Tables.{tables}
 use Rattle.layout.specs.Encodes.{Encodes}
 use Rattle.layout.proofs.ReadLaws.{opens_kind_lem}
-use Rattle.runs.specs.Runs.{ClosedAt}
-use Rattle.runs.proofs.Seeing.{live-number, passed_last, passed_first}
-use Rattle.runs.proofs.Living.{near_in, living}
+use Rattle.live_blocks.specs.Live.{ClosedAt}
+use Rattle.live_blocks.proofs.Seeing.{live-number, passed_last, passed_first}
+use Rattle.live_blocks.proofs.Living.{near_in, living}
 use Rattle.touching_read.specs.Reads.{EndOf, Reaches, OverAt}
 
 -- ── a closed index ──

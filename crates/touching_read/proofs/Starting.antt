@@ -23,8 +23,8 @@ use Rattle.history.proofs.Counted.{counted_holds, counted_mem}
 use Rattle.history.proofs.Touching.{live_differ, live_same, touches_cell, cell_touched}
 use Rattle.segment_touch.specs.Sorting.{sort_by}
 use Rattle.segment_touch.proofs.Sorting.{sort_count, sort_ascending}
-use Rattle.runs.specs.Runs.{Passed}
-use Rattle.runs.proofs.Seeing.{some_cell, meet_same}
+use Rattle.live_blocks.specs.Live.{Passed}
+use Rattle.live_blocks.proofs.Seeing.{some_cell, meet_same}
 use Rattle.touching_read.specs.Reads.{Reaches}
 
 module _ (l : Ledger) (sound : Sound l) (done : finished l ≡ true) (kind : ℕ) (opened : opens_kind l kind ≡ true) (t : ℕ) (before : t < l.opening.end) (s n : ℕ) where

@@ -13,7 +13,7 @@ use Rattle.segment_near.specs.declared.Neighbour.{Neighbour}
 use Rattle.layout.specs.Tables.{tables}
 use Rattle.layout.specs.Reads.{HandedOut, HandedInto, ClosedBy}
 use Rattle.layout.specs.Relations.{Near, near_of}
-use Rattle.runs.specs.Runs.{ClosedAt, Passed}
+use Rattle.live_blocks.specs.Live.{ClosedAt, Passed}
 
 -- ── where blocks end ──
 

@@ -26,7 +26,7 @@ use Rattle.history.proofs.EveryList.{the_law, law_after}
 pub record Called (h : List Operation) (kind tick : ℕ) : Type 0 where
   pub call : Operation
   pub member : Mem call h
-  pub of_kind_lem : call.kind ≡ kind
+  pub same_kind : call.kind ≡ kind
   pub when : call.tick ≡ tick
 
 pub record Bounded (h : List Operation) (b : Block) : Type 0 where
@@ -39,7 +39,7 @@ pub record Noted (m : Moment) (h : List Operation) : Type 0 where
 
 -- one call more
 called_more : (o : Operation) {h : List Operation} {kind t : ℕ} → Called h kind t → Called (o ∷ h) kind t
-called_more o c = record { call = c.call; member = there c.member; of_kind_lem = c.of_kind_lem; when = c.when }
+called_more o c = record { call = c.call; member = there c.member; same_kind = c.same_kind; when = c.when }
 
 bounded_more : (o : Operation) (h : List Operation) (b : Block) → Bounded h b → Bounded (o ∷ h) b
 bounded_more o h b x = record { created = called_more o x.created; destroyed = called_more o x.destroyed }
@@ -66,12 +66,12 @@ noted_update : (kinds : List ℕ) (m : Moment) (h : List Operation) (o : Operati
 unfolding update_by
 noted_update kinds m h o sound wrap n = record {
   pieces = all_updated o m.pieces Written (λ p. Called (o ∷ h) p.kind p.written) (λ from to p q x w. rw (x.same_tick, x.same_kind) (called_more o w))
-      (record { call = o; member = here refl; of_kind_lem = refl; when = refl }) n.pieces;
+      (record { call = o; member = here refl; same_kind = refl; when = refl }) n.pieces;
   blocks = all_append (all_map (bounded_more o h) n.blocks) (all_of_map (block_of o.tick)
       (all_inside Both (λ q. Bounded (o ∷ h) (block_of o.tick q)) (stretch_of o).first (ends (stretch_of o)) m.pieces
       (λ p q x w. record {
         created = rw (x.same_tick, x.same_kind) (called_more o w.0);
-        destroyed = rw x.same_kind (record { call = o; member = here refl; of_kind_lem = part_kind m.store o p q w.1.stretch wrap x; when = refl });
+        destroyed = rw x.same_kind (record { call = o; member = here refl; same_kind = part_kind m.store o p q w.1.stretch wrap x; when = refl });
       }) (all_both (λ p w g. (w, g)) n.pieces sound)));
 }
   where

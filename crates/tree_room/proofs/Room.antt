@@ -111,7 +111,7 @@ module _ (n : ℕ) (kinds : List ℕ) (ticks : ℕ → List ℕ) (a : Opening) (
 
   -- the kinds and ticks of the calls are among those given
   known : {kind t : ℕ} → Called h kind t → Mem kind kinds × Mem t (ticks kind)
-  known c = let z = all_mem w.recorded c.member in (rw c.of_kind_lem at z.0, rw (c.of_kind_lem, c.when) at z.1)
+  known c = let z = all_mem w.recorded c.member in (rw c.same_kind at z.0, rw (c.same_kind, c.when) at z.1)
 
   -- no block is created after the last accepted tick, and that is below E
   created_in_time : All (λ (b : Block). b.created < l.opening.end) l.now.blocks

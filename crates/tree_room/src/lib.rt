@@ -14,7 +14,6 @@
 ghost use Rattle.tree_room.specs.Room.{LawOfRoom};
 
 // The trees of an index have no more nodes and entries than the bounds say, and finish that is lent so many rows is taken.
-#[tactic(auto, using(crate::proofs::Room::law_of_room))]
 pub fn law_of_room()
     ensures { LawOfRoom }
 {}

@@ -1,4 +1,5 @@
-use Rattle.cells_read.proofs.Reading.{reading}
+use Rattle.std.proofs.Common.{arith}
+use Rattle.cells_read.proofs.Reading.{reading, read_filled}
 use Rattle.cells_read.proofs.read_closed.Goals as goal
 use Rattle.cells_read.proofs.read_closed.Goals.{then-bytes-many-via-then-bytes-many, then-bytes-many-via-else-bytes-many+then-held-many}
 
@@ -19,4 +20,6 @@ returns-then-bytes-many c =
     ]
 
 pub returns : goal.returns
-returns c = search reading
+returns c =
+    read_filled c.kinds.ensures c.has.ensures c.if-not-has.false c.end.ensures c.if-end-tick.false c.if-end-start.false c.ranges.end.fits (omega arith) c.if-bytes-many.false
+    c.if-held-many.false c.show.auto.bytes c.show.auto.held c.show.ensures

@@ -4,4 +4,4 @@ use Rattle.handed_rows.proofs.hand_on.Goals as goal
 
 pub loop-i-preserved : goal.loop-i-preserved
 loop-i-preserved c =
-    along_count c.loop-i.invariant c.loop-i-test.true c.read-row.ensures c.if-row-stretch.false c.common-part.ensures c.saturating_add.ensures c.put.ensures
+    along_count c.loop-i.invariant c.loop-i-test.true c.read-row.ensures c.if-row-stretch.false c.common-part.ensures c.saturating_add.ensures c.set_next.ensures

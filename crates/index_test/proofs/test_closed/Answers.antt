@@ -3,5 +3,5 @@ use native.Mathlib.Omega.{arith}
 use Rattle.index_test.proofs.Tested.{closing}
 use Rattle.index_test.proofs.test_closed.Goals as goal
 
-pub returns-else-test_trees : goal.returns-else-test_trees
-returns-else-test_trees c = search (closing, arith)
+pub returns-else-found : goal.returns-else-found
+returns-else-found c = search (closing, arith)

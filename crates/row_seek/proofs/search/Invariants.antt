@@ -2,8 +2,8 @@
 use Rattle.std.proofs.Common.{◌-◌, ◌≤◌, max}
 use Rattle.row_seek.proofs.search.Given as goal
 
-abbrev pub invariant-loop-lo : goal.invariant-loop-lo
-invariant-loop-lo l = (l.fn.from.row ≤ l.lo.row) × (l.lo.row ≤ max l.fn.from.row l.to) × (l.hi.row ≤ l.to)
+abbrev pub invariant-loop-mid : goal.invariant-loop-mid
+invariant-loop-mid l = (l.fn.from ≤ l.lo) × (l.lo ≤ max l.fn.from l.to) × (l.hi ≤ l.to)
 
-abbrev pub decreases-loop-lo : goal.decreases-loop-lo
-decreases-loop-lo l = l.hi.row - l.lo.row
+abbrev pub decreases-loop-mid : goal.decreases-loop-mid
+decreases-loop-mid l = l.hi - l.lo

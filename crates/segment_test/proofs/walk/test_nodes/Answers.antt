@@ -7,7 +7,7 @@ pub loop-kind-init : goal.loop-kind-init
 loop-kind-init c = rw c.used-rest.ensures walks_none
 
 pub loop-kind-preserved : goal.loop-kind-preserved
-loop-kind-preserved c = walks_more c.loop-kind.invariant c.get-root.ensures c.walk.ensures c.in-Some.is
+loop-kind-preserved c = walks_more c.loop-kind.invariant c.get-root.ensures (c.walk.ensures.stood _ c.in-Some.is)
 
 pub returns-in_default : goal.returns-in_default
 returns-in_default c = nodes_wrong refl c.loop-kind.invariant (omega arith) c.get-root.ensures c.walk.ensures c.in_default.is

@@ -1,10 +1,10 @@
-use Rattle.segment_tree.proofs.Ways.{way_sure, way_other}
+use Rattle.segment_tree.proofs.Ways.{way_spent, way_on}
 use Rattle.segment_tree.proofs.build.add_way.Goals as goal
 
-pub loop-link-preserved-then-meets : goal.loop-link-preserved-then-meets
-loop-link-preserved-then-meets g c =
-    way_other c.loop-link.invariant c.loop-link-test.true c.covers_rest.ensures c.if-covers_rest.false c.sides.ensures c.meets.ensures c.if-meets.true c.add_whole.ensures c.if-not-add_whole.false c.reach-link.ensures
+pub returns-then-next-eq0 : goal.returns-then-next-eq0
+returns-then-next-eq0 g c =
+    way_spent c.loop-link.invariant c.loop-link-test.true c.covers_rest.ensures c.if-covers_rest.false c.sides.ensures c.reach-next.ensures c.if-next-eq0.true
 
 pub loop-link-preserved : goal.loop-link-preserved
 loop-link-preserved g c =
-    way_sure c.loop-link.invariant c.loop-link-test.true c.covers_rest.ensures c.if-covers_rest.false c.sides.ensures c.meets.ensures c.if-meets.false c.reach-link-else-meets.ensures
+    way_on c.loop-link.invariant c.loop-link-test.true c.covers_rest.ensures c.if-covers_rest.false c.sides.ensures c.reach-next.ensures c.if-next-eq0.false c.meets-both.ensures c.bump_if.ensures.more c.bump_if.ensures.same c.choose-way.ensures c.reach-link.ensures

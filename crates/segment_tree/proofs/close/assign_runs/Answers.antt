@@ -8,6 +8,6 @@ pub loop-j-preserved : goal.loop-j-preserved
 loop-j-preserved c =
     let turn = c.loop-j in
     record {
-      runs = runs_more _ _ _ _ turn.invariant.runs turn.invariant.sum c.put.ensures;
-      sum = sum_more c.args.nodes.now turn.j turn.at turn.nodes turn.invariant.runs turn.invariant.sum c.get-count.ensures c.saturating_add-at.ensures;
+      runs = runs_more _ _ _ _ turn.invariant.runs turn.invariant.sum c.give_run-count.ensures.run;
+      sum = sum_more c.args.nodes.now turn.j turn.at turn.nodes turn.invariant.runs turn.invariant.sum c.give_run-count.ensures.count c.saturating_add-at.ensures;
     }

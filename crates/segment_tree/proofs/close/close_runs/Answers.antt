@@ -9,9 +9,9 @@ loop-j-init c = record { runs = (runs_none _).0; sum = (runs_none _).1; order = 
 pub loop-j-preserved : goal.loop-j-preserved
 loop-j-preserved c =
     let turn = c.loop-j in
-    let ends = sum_more c.args.nodes.now turn.j turn.at turn.nodes turn.invariant.runs turn.invariant.sum c.get-count.ensures c.saturating_add-to.ensures in
+    let ends = sum_more c.args.nodes.now turn.j turn.at turn.nodes turn.invariant.runs turn.invariant.sum c.give_run-count.ensures.count c.saturating_add-to.ensures in
     record {
-      runs = runs_more _ _ _ _ turn.invariant.runs turn.invariant.sum c.put.ensures;
+      runs = runs_more _ _ _ _ turn.invariant.runs turn.invariant.sum c.give_run-count.ensures.run;
       sum = ends;
       order = order_more c.args.nodes.now c.args.entries.now c.args.n (omega arith) (omega arith) turn.invariant.sum ends turn.invariant.order c.sort_rows.ensures;
     }

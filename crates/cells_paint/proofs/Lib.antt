@@ -1,0 +1,3 @@
+pub mod Drawing
+pub mod Rows
+pub mod Ways

@@ -1,0 +1,5 @@
+use Rattle.growth.proofs.Longer.{longer-tables}
+use Rattle.growth.proofs.longer_tables.Goals as goal
+
+pub returns : goal.returns
+returns c = longer-tables

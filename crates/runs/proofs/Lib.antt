@@ -1,3 +1,0 @@
-pub mod Seeing
-pub mod Living
-pub mod Runs
