@@ -92,7 +92,7 @@ fn read(stream: &Stream, all: &All, blocks: &[SpacetimeBlock], public: bool, mov
 }
 
 /// A public read takes the test and what the one after it takes; where the test alone takes more than this, it is not timed.
-const LONG_TEST: f64 = 2e9;
+const LONG_TEST: f64 = 3e7;
 
 /// Everything on a board of about so many pieces and with so many operations, and on one of moves.
 pub fn both(size: u64, count: u64) -> [Board; 2] {

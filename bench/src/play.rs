@@ -8,7 +8,7 @@ use crate::stream::{Op, Stream};
 use servercape::put_operation;
 
 /// From so many operations on the public calls, each of which tests all rows, would take hours.
-const LARGE: usize = 250_000;
+const LARGE: usize = 100_000;
 
 /// On such a board so many operations, the last ones, are recorded by the public call, and only they.
 const SAMPLE: usize = 16;
