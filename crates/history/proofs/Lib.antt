@@ -16,6 +16,7 @@ pub mod Passing
 pub mod Steps
 pub mod RulesLaws
 pub mod EveryList
+pub mod Reaching
 pub mod Boards
 pub mod TreeInserting
 pub mod TreeAdding
