@@ -63,3 +63,8 @@ pub mod DaysLate
 pub mod HoursLaws
 pub mod Installing
 pub mod DaysLaws
+pub mod Sums
+pub mod OccupationLaws
+pub mod ChargesLaws
+pub mod BlockSums
+pub mod ReportsBoards

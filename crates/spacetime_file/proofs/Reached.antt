@@ -215,11 +215,16 @@ module _ (a : Opening) (e : open_answer a ≡ accepted tt) (ks : List Call) (don
             (cells_back own enc sound tick start stop cells d);
       }
 
-  reached_again : Reloads t reached kind (AsLong t) (LoadedAgain a ks kind t)
-  reached_again out out' wrote w fits file at small same u u' loaded long d =
+  -- whatever follows of tables that stand for what was saved is true of those that are loaded
+  pub reached_reloads : {Good : Tables → Type 0} → ((u : Tables) → Encodes u (saved_ledger (lengths_of u) reached kind) → Sound (saved_ledger (lengths_of u) reached kind) → Good u)
+      → Reloads t reached kind (AsLong t) Good
+  reached_reloads good out out' wrote w fits file at small same u u' loaded long d =
       let one = reached_lives a e ks done kind some_block in
-      reloads own (some_written own one.0 one.1) loaded_again out out' wrote w fits file at small same u u' loaded
+      reloads own (some_written own one.0 one.1) good out out' wrote w fits file at small same u u' loaded
       (long_room closed (reached_kept a e ks) long kind) d
+
+  reached_again : Reloads t reached kind (AsLong t) (LoadedAgain a ks kind t)
+  reached_again = reached_reloads loaded_again
 
 pub saved_and_loaded : SavedAndLoaded
 saved_and_loaded = record {
