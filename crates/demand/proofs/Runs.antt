@@ -224,11 +224,11 @@ clock_short t cell answer d e = (d.read.unformed (λ w. true≢false (sym e ∙ 
 
 stands_balanced : (t : Tables) (l : Ledger) → Encodes t l → Balance l t
 stands_balanced t l e = record {
-  tree = e.linked.tree;
-  stands = e.linked.shape;
-  of_pieces = ap length e.linked.is ∙ sym (ap length e.pieces ∙ length-map e.links (λ link. shown t.store (piece_at t.pieces link)));
-  balanced = e.linked.balanced;
-  short_ways = (shallow_trees t l e e.linked.tree e.linked.shape).pieces_4096;
+  tree = e.pieces.linked.tree;
+  stands = e.pieces.linked.shape;
+  of_pieces = ap length e.pieces.linked.is ∙ sym (ap length e.pieces.shows ∙ length-map e.pieces.links (λ link. shown t.store (piece_at t.pieces link)));
+  balanced = e.pieces.linked.balanced;
+  short_ways = (shallow_trees t l e e.pieces.linked.tree e.pieces.linked.shape).pieces_4096;
 }
 
 -- a table of zeros has no pieces, even where it cannot hold its head
