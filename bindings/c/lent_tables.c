@@ -1,4 +1,5 @@
-/* A first board: two trains at one platform, and which of them stands there in the two minutes from 01:41 on. */
+/* A first board in tables of the caller: two trains at one platform, and which of them stands there in the two minutes from 01:41 on. first.c does the same with an index that
+   keeps its own. */
 #include "servercape.h"
 
 #include <inttypes.h>
