@@ -162,6 +162,7 @@ mod need;
 pub mod raw;
 mod reads;
 mod refusal;
+mod refusals;
 mod room;
 #[cfg(test)]
 mod same;
