@@ -7,7 +7,7 @@ from typing import NamedTuple
 
 from .days import Days, numbers
 from .hours import Windows, calendar
-from .library import library
+from .library import Info, library
 from .refusal import Refused, accepted
 
 # What `servercape_length` counts.
@@ -16,12 +16,7 @@ PIECES, BLOCKS, STORE, NODES, ENTRIES, SCRATCH = range(6)
 # What `servercape_state` says of tables.
 NOT_WELL_FORMED, OPEN, CLOSED = range(3)
 
-# Where counts stand (docs/LAYOUT.md): in the heads of pieces, nodes and entries, and in the last eight numbers of the head of the blocks. The list of days stands
-# in the front of that head, a count and then pairs.
-PIECE_COUNT, NODE_COUNT, ENTRY_COUNT = 1, 5, 0
-DAY_COUNT = 1305
-END, KINDS, COUNT, USED, LAST = (library.length(BLOCKS, 0)[0] - 8 + column for column in (1, 2, 3, 4, 5))
-
+NO_ROOM_TO_RECORD = (9, 10, 11)
 NO_ROOM_FOR_NODES, NO_ROOM_FOR_ENTRIES, OUTSIDE, EXCEEDS, NO_ROOM_FOR_FILE = 12, 13, 15, 16, 20
 
 # The fewest bytes of a block in a file, and of a node: its fields with one byte, its fields alone.
@@ -106,6 +101,7 @@ class Index:
     def __init__(self) -> None:
         """Tables that hold no index yet."""
         self._state = NOT_WELL_FORMED
+        self._days = Days()
         self._pieces, self._blocks, self._nodes, self._entries = (array("Q") for _ in range(4))
         self._store, self._scratch = array("B"), array("Q")
         for which, table in enumerate(self._tables):
@@ -152,20 +148,27 @@ class Index:
     def copy(self) -> "Index":
         """An index of its own that stands as this one does."""
         index = Index()
-        index._state = self._state
+        index._state, index._days = self._state, self._days
         index._pieces, index._blocks, index._store, index._nodes, index._entries = (table[:] for table in self._tables)
         return index
 
-    # ── what stands in the heads ──
+    # ── what stands in it ──
+
+    @property
+    def _info(self) -> Info:
+        """What stands in the tables; all 0 where they hold no index."""
+        _, *numbers = library.info_tested(self._state, self._pieces, self._blocks, self._nodes, self._entries)
+        return Info(*numbers)
 
     @property
     def end_tick(self) -> int:
-        return self._blocks[END]
+        return self._info.end_tick
 
     @property
     def kinds(self) -> tuple[Kind, ...]:
         """The kinds that it was opened with, by code."""
-        return tuple(kind for kind in Kind if self._blocks[KINDS] >> kind & 1)
+        opened = self._info.kinds
+        return tuple(kind for kind in Kind if opened >> kind & 1)
 
     @property
     def kind(self) -> Kind:
@@ -177,7 +180,7 @@ class Index:
     @property
     def last_tick(self) -> int:
         """The last accepted tick, 0 before any; a file does not hold it."""
-        return self._blocks[LAST]
+        return self._info.last_tick
 
     @property
     def closed(self) -> bool:
@@ -186,20 +189,20 @@ class Index:
 
     @property
     def block_count(self) -> int:
-        return self._blocks[COUNT]
+        return self._info.blocks
 
     @property
     def byte_count(self) -> int:
         """How many bytes of the store are in use."""
-        return self._blocks[USED]
+        return self._info.store
 
     @property
     def node_count(self) -> int:
-        return self._nodes[NODE_COUNT]
+        return self._info.nodes
 
     @property
     def entry_count(self) -> int:
-        return self._entries[ENTRY_COUNT]
+        return self._info.entries
 
     def __repr__(self) -> str:
         state = "closed" if self.closed else "open"
@@ -215,8 +218,8 @@ class Index:
         """
         if self.closed:
             return
-        pieces, blocks = self._pieces[PIECE_COUNT], self._blocks[COUNT]
-        needs = {PIECES: pieces + 2 * operations, BLOCKS: blocks + pieces + 3 * operations, STORE: self._blocks[USED] + size}
+        info = self._info
+        needs = {PIECES: info.pieces + 2 * operations, BLOCKS: info.blocks + info.pieces + 3 * operations, STORE: info.store + size}
         for which, rows in needs.items():
             table = self._tables[which]
             if library.length(which, rows)[0] > len(table):
@@ -226,9 +229,15 @@ class Index:
         """Records the bytes of the cells from `first` on, at a tick: the lowest cell that was unknown or had another byte, or None where nothing changed.
         Outside the station hours that are installed a byte other than 0 is refused 26, even where it changes nothing. Refusals 3, 25, 5 to 8, 26."""
         data = _bytes(data)
-        self._reserve(1, len(data))
-        number, updated, cell = library.record_tested(
-            self._state, self._pieces, self._blocks, self._store, self._scratch, self._named(kind), tick, first, data)
+        own = self._named(kind)
+
+        def record() -> tuple[int, ...]:
+            return library.record_tested(self._state, self._pieces, self._blocks, self._store, self._scratch, own, tick, first, data)
+
+        number, updated, cell = record()
+        if number in NO_ROOM_TO_RECORD:
+            self._reserve(1, len(data))
+            number, updated, cell = record()
         accepted(number)
         return cell if updated else None
 
@@ -265,14 +274,16 @@ class Index:
         """Installs a list of days in place of the one before, into an open or a finished index: pairs of a day's number and its minutes, 1,380 or 1,500, ascending by
         day, at most 64. All other days have 1,440, and an empty list takes the one before back. Clock labels and station hours go by it; what is booked already
         stays. `Days` makes such a list. Refusal 28."""
-        accepted(*library.install_days(*self._tables, numbers(listed)))
+        days = list(listed)
+        accepted(*library.install_days(*self._tables, numbers(days)))
+        self._days = Days(days)
 
     def finish(self) -> None:
         """Finishes the index: it can be read from now on, and takes no more operations. Refusal 3."""
-        blocks, pieces = self.block_count, self._pieces[PIECE_COUNT]
+        info = self._info
         # a life is put together of about as many nodes as its ticks have binary digits; where that is not enough, finish says so
-        nodes = min(2 * (blocks + pieces), 2 * self.end_tick)
-        entries = blocks * self.last_tick.bit_length() + pieces * self.end_tick.bit_length()
+        nodes = min(2 * (info.blocks + info.pieces), 2 * info.end_tick)
+        entries = info.blocks * info.last_tick.bit_length() + info.pieces * info.end_tick.bit_length()
         room = {NO_ROOM_FOR_NODES: [self._nodes, NODES, nodes + 64], NO_ROOM_FOR_ENTRIES: [self._entries, ENTRIES, entries + 64]}
         if self._state == OPEN:
             for table, which, rows in room.values():
@@ -357,7 +368,8 @@ class Index:
     def write(self) -> bytes:
         """The file of the index: of each kind that has blocks a part, by code, which is loaded by itself. An index without blocks gives no bytes. Refusal 4."""
         # of each kind its code and a count; the fields of blocks, and their bytes; the fields of nodes with a byte before each, and one for each child that is not there
-        most = 10 * len(Kind) + 33 * self.block_count + self.byte_count + 34 * self.node_count + 8 * self.entry_count
+        info = self._info
+        most = 10 * len(Kind) + 33 * info.blocks + info.store + 34 * info.nodes + 8 * info.entries
         out = array("B", _zeros(most if self.closed else 0))
         number, written = library.write_tested(self._state, self._blocks, self._store, self._nodes, self._entries, out)
         accepted(number)
@@ -368,9 +380,7 @@ class Index:
     @property
     def days(self) -> Days:
         """The list of days that is installed."""
-        count = self._blocks[DAY_COUNT]
-        pairs = self._blocks[DAY_COUNT + 1:DAY_COUNT + 1 + 2 * count]
-        return Days(zip(pairs[0::2], pairs[1::2]))
+        return self._days
 
     def clock(self, cell: int) -> int:
         """The clock label of a cell by the list of days, of an open or a finished index: hours times 100 plus minutes."""
