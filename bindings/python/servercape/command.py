@@ -15,7 +15,8 @@ from .index import Index, Kind
 from .listing import BLOCK_COLUMNS, CELL_COLUMNS, Row, block_row, block_words, cell_row, cell_words, show
 from .picture import picture
 from .places import MINUTES, Place
-from .refusal import WORDS, Refused
+from .library import VERSION
+from .refusal import ADVICE, CALLS, WORDS, Refused
 
 DONE, REFUSED, USAGE, BROKEN = range(4)
 INTERRUPTED = 130  # as a shell tells it
@@ -286,8 +287,8 @@ def explain(options: argparse.Namespace) -> int:
     if options.number is not None and options.number not in WORDS:
         options.parser.error(f"there is no refusal {options.number}: they go from {min(WORDS)} to {max(WORDS)}")
     for each in WORDS if options.number is None else [options.number]:
-        for words in WORDS[each]:
-            print(f"{each}: {words}")
+        for calls, words, advice in zip(CALLS[each], WORDS[each], ADVICE[each]):
+            print(f"{each}, {calls}: {words}\n    {advice}")
     return DONE
 
 
@@ -388,6 +389,7 @@ COMMANDS: dict[str, tuple[str, str, Callable[[argparse.Namespace], int], list[Ca
 def make_parser() -> argparse.ArgumentParser:
     parser = argparse.ArgumentParser(prog="servercape", description="The history of a planning board, by calls that are proved.", epilog=STATUS,
                                      allow_abbrev=False)
+    parser.add_argument("--version", action="version", version=f"servercape {VERSION}")
     commands = parser.add_subparsers(required=True, metavar="COMMAND")
     for name, (words, example, run, additions) in COMMANDS.items():
         about = f"{words[0].upper()}{words[1:]}."
@@ -405,7 +407,7 @@ def make_parser() -> argparse.ArgumentParser:
                                       formatter_class=argparse.RawDescriptionHelpFormatter)
         command.set_defaults(run=run, parser=command, file=name)
         if name == "explain":
-            command.add_argument("number", type=natural, nargs="?", metavar="NUMBER", help="from 1 to 28")
+            command.add_argument("number", type=natural, nargs="?", metavar="NUMBER", help=f"from {min(WORDS)} to {max(WORDS)}")
         elif name == "days":
             command.add_argument("monday", type=day_zero, metavar="MONDAY", help="the date of day 0, as 2024-01-01")
             command.add_argument("first", type=year, metavar="FIRST", help="the first year")

@@ -13,7 +13,7 @@ from typing import Any, Concatenate, NamedTuple, ParamSpec, Self, TypeVar
 
 from .days import Days, numbers
 from .hours import Windows, calendar
-from .library import library
+from .library import Info, library
 from .refusal import Refused, accepted
 from .room import Lives, need
 
@@ -24,13 +24,8 @@ PIECES, BLOCKS, STORE, NODES, ENTRIES, SCRATCH = range(6)
 NOT_WELL_FORMED, OPEN, CLOSED = range(3)
 UNKNOWN = -1
 
-# Where counts stand (docs/LAYOUT.md): in the heads of pieces, nodes and entries, and in the last eight numbers of the head of the blocks. The list of days stands
-# in the front of that head, a count and then pairs.
-PIECE_COUNT, NODE_COUNT, ENTRY_COUNT = 1, 5, 0
-DAY_COUNT = 1305
-END, KINDS, COUNT, USED, LAST = (library.length(BLOCKS, 0)[0] - 8 + column for column in (1, 2, 3, 4, 5))
-
-# Where the lives of blocks and pieces stand in their rows, of eight numbers each.
+# Where the lifetimes of blocks and pieces stand in their rows, of eight numbers each
+# (docs/LAYOUT.md): no call tells those of an open index.
 ROW = 8
 BLOCK_HEAD, CREATED, DESTROYED, BLOCK_OWNER = library.length(BLOCKS, 0)[0], 2, 3, 5
 PIECE_HEAD, WRITTEN, PIECE_OWNER = ROW, 2, 7
@@ -166,7 +161,8 @@ class Index:
     """
 
     # what nobody else sets; a subclass, or who likes to, may keep more beside it
-    __slots__ = ("_lock", "_busy", "_state", "_pieces", "_blocks", "_store", "_nodes", "_entries", "_scratch", "__dict__", "__weakref__")
+    __slots__ = ("_lock", "_busy", "_state", "_opened", "_days", "_pieces", "_blocks", "_store", "_nodes", "_entries", "_scratch",
+                 "__dict__", "__weakref__")
 
     def __new__(cls, *arguments: object, **named: object) -> Self:
         """Every index has tables, also where a subclass does not call `__init__`, and keeps its lock, where somebody calls it twice."""
@@ -180,11 +176,14 @@ class Index:
     def __init__(self) -> None:
         """Tables that hold no index yet."""
 
-    def _take(self, state: int, tables: Iterable[array]) -> None:
-        """Other tables in place of those that it has, and what `servercape_state` says of them."""
+    def _take(self, state: int, tables: Iterable[array], days: Days = Days()) -> None:
+        """Other tables in place of those that it has, what `servercape_state` says of them, and the
+        list of days that is installed in them."""
         self._state = UNKNOWN
         self._pieces, self._blocks, self._store, self._nodes, self._entries = tables
-        self._state = state
+        self._state, self._days = state, days
+        # the kinds of an index never change
+        self._opened = KIND_SETS[self._info.kinds]
 
     @property
     def _tables(self) -> tuple[array, ...]:
@@ -232,18 +231,14 @@ class Index:
     @_step
     def __copy__(self) -> Self:
         # the same numbers have the same state
-        return self._like(self._state, [table[:] for table in self._tables])
+        other = type(self).__new__(type(self))
+        vars(other).update(vars(self))
+        other._take(self._state, [table[:] for table in self._tables], self._days)
+        return other
 
     def __deepcopy__(self, memo: dict[int, Any]) -> Self:
         memo[id(self)] = other = self.__copy__()
         vars(other).update(deepcopy(vars(self), memo))
-        return other
-
-    def _like(self, state: int, tables: Iterable[array]) -> Self:
-        """One of the same class, with the same attributes and other tables."""
-        other = type(self).__new__(type(self))
-        vars(other).update(vars(self))
-        other._take(state, tables)
         return other
 
     def __reduce__(self) -> tuple[Any, ...]:
@@ -253,47 +248,52 @@ class Index:
     @_step
     def __getstate__(self) -> dict[str, Any]:
         """The rows in use, for a pickle; none of an index that was not opened."""
-        pieces, blocks = self._pieces[PIECE_COUNT], self._blocks[COUNT]
+        info = self._info
         # an open index has room for its pieces in the block table
-        rows = pieces, blocks + pieces, self._blocks[USED], self._nodes[NODE_COUNT], self._entries[ENTRY_COUNT]
+        rows = info.pieces, info.blocks + info.pieces, info.store, info.nodes, info.entries
         lengths = [library.length(which, count)[0] for which, count in enumerate(rows)]
         tables = [memoryview(table)[:length].tobytes() for table, length in zip(self._tables, lengths)]
-        return {"tables": tables if self._state != NOT_WELL_FORMED else [], "attributes": dict(vars(self))}
+        return {"tables": tables if self._state != NOT_WELL_FORMED else [], "days": list(self._days), "attributes": dict(vars(self))}
 
     def __setstate__(self, given: dict[str, Any]) -> None:
         """Takes the tables of a pickle if they are well formed; else it raises `UnpicklingError`."""
         try:
             tables = [array("B" if which == STORE else "Q", _bytes(rows)) for which, rows in enumerate(given["tables"])] or _empty_tables()
-            attributes = dict(given["attributes"])
+            days, attributes = list(given["days"]), dict(given["attributes"])
             state, = library.state(*tables)
             if len(tables) != len(self._tables):
                 raise ValueError("an index has five tables")
+            # installed anew, the list that is remembered is that of the tables
+            installed, = library.install_days(*tables, numbers(days)) if given["tables"] else (0,)
         except (AttributeError, IndexError, KeyError, TypeError, ValueError):
             raise UnpicklingError("this pickle holds no index") from None
-        if state == NOT_WELL_FORMED and given["tables"]:
+        if installed or state == NOT_WELL_FORMED and given["tables"]:
             raise UnpicklingError("the pickle of an index is damaged: its tables are not well formed")
-        self._restore(state, tables, attributes)
+        self._restore(state, tables, Days(days), attributes)
 
     @_step
-    def _restore(self, state: int, tables: Iterable[array], attributes: dict[str, Any]) -> None:
-        self._take(state, tables)
+    def _restore(self, state: int, tables: Iterable[array], days: Days, attributes: dict[str, Any]) -> None:
+        self._take(state, tables, days)
         vars(self).update(attributes)
 
-    # ── what stands in the heads ──
+    # ── what stands in it ──
+
+    @property
+    def _info(self) -> Info:
+        """What stands in the tables; all 0 where they hold no index."""
+        _, *numbers = library.info_tested(self._state, self._pieces, self._blocks, self._nodes, self._entries)
+        return Info(*numbers)
 
     @property
     @_step
     def end_tick(self) -> int:
-        return self._blocks[END]
+        return self._info.end_tick
 
     @property
     @_step
     def kinds(self) -> tuple[Kind, ...]:
         """The kinds that it was opened with, by code."""
-        return self._opened()
-
-    def _opened(self) -> tuple[Kind, ...]:
-        return KIND_SETS[self._blocks[KINDS]]
+        return self._opened
 
     @property
     @_step
@@ -302,10 +302,9 @@ class Index:
         return self._only_kind()
 
     def _only_kind(self) -> Kind:
-        kinds = self._opened()
-        if len(kinds) > 1:
+        if len(self._opened) > 1:
             raise ValueError("the index has several kinds: name one, by kind=")
-        return kinds[0] if kinds else Kind.MEMORY
+        return self._opened[0] if self._opened else Kind.MEMORY
 
     def _named(self, kind: int | None) -> int:
         """The kind that is named, or the only one."""
@@ -315,7 +314,7 @@ class Index:
     @_step
     def last_tick(self) -> int:
         """The last accepted tick, 0 before any; a file does not hold it."""
-        return self._blocks[LAST]
+        return self._info.last_tick
 
     @property
     @_step
@@ -326,29 +325,29 @@ class Index:
     @property
     @_step
     def block_count(self) -> int:
-        return self._blocks[COUNT]
+        return self._info.blocks
 
     @property
     @_step
     def byte_count(self) -> int:
         """How many bytes of the store are in use."""
-        return self._blocks[USED]
+        return self._info.store
 
     @property
     @_step
     def node_count(self) -> int:
-        return self._nodes[NODE_COUNT]
+        return self._info.nodes
 
     @property
     @_step
     def entry_count(self) -> int:
-        return self._entries[ENTRY_COUNT]
+        return self._info.entries
 
     @_step
     def __repr__(self) -> str:
         state = "closed" if self._state == CLOSED else "open"
-        kinds = "+".join(kind.name.lower() for kind in self._opened())
-        return f"<Index {kinds}, end tick {self._blocks[END]}, {self._blocks[COUNT]} blocks, {state}>"
+        kinds, info = "+".join(kind.name.lower() for kind in self._opened), self._info
+        return f"<Index {kinds}, end tick {info.end_tick}, {info.blocks} blocks, {state}>"
 
     # ── recording ──
 
@@ -400,8 +399,8 @@ class Index:
         """
         if self._state != OPEN:
             return
-        pieces, blocks = self._pieces[PIECE_COUNT], self._blocks[COUNT]
-        needs = {PIECES: pieces + 2 * operations, BLOCKS: blocks + pieces + 3 * operations, STORE: self._blocks[USED] + size}
+        info = self._info
+        needs = {PIECES: info.pieces + 2 * operations, BLOCKS: info.blocks + info.pieces + 3 * operations, STORE: info.store + size}
         for which, rows in needs.items():
             table = self._tables[which]
             if library.length(which, rows)[0] > len(table):
@@ -411,23 +410,29 @@ class Index:
         """Installs station hours in place of those before; until the first, every cell is open. A window is a pair, from and to, in minutes of the day. `week` has
         those of each weekday, Monday first, and `special` pairs of a day's number, ascending, and the windows that count on it in place of its weekday's: without
         windows it is closed. Day 0 is a Monday. Refusals 3, 27."""
-        self._install(library.install_calendar, calendar(week, special))
+        self._install_calendar(calendar(week, special))
 
     def install_days(self, listed: Iterable[tuple[int, int]]) -> None:
         """Installs a list of days in place of the one before, into an open or a finished index: pairs of a day's number and its minutes, 1,380 or 1,500, ascending by
         day, at most 64. All other days have 1,440, and an empty list takes the one before back. Clock labels and station hours go by it; what is booked already
         stays. `Days` makes such a list. Refusal 28."""
-        self._install(library.install_days, numbers(listed))
+        days = list(listed)
+        self._install_days(numbers(days), days)
 
     @_step
-    def _install(self, call: Callable[..., tuple[int, ...]], given: array) -> None:
-        accepted(*call(*self._tables, given))
+    def _install_calendar(self, given: array) -> None:
+        accepted(*library.install_calendar(*self._tables, given))
+
+    @_step
+    def _install_days(self, given: array, days: list[tuple[int, int]]) -> None:
+        accepted(*library.install_days(*self._tables, given))
+        self._days = Days(days)
 
     @_step
     def finish(self) -> None:
         """Finishes the index: it can be read from now on, and takes no more operations. Refusal 3."""
         if self._state == OPEN:
-            needs = [need(lives, self._blocks[END]) for lives in self._lives()]
+            needs = [need(lives, self._info.end_tick) for lives in self._lives()]
             _lengthen(self._nodes, NODES, sum(each.nodes for each in needs))
             _lengthen(self._entries, ENTRIES, sum(each.entries for each in needs))
         # whoever is interrupted behind the call asks the tables
@@ -438,14 +443,14 @@ class Index:
 
     def _lives(self) -> Iterator[Lives]:
         """Those of each kind."""
-        behind_blocks, behind_pieces = BLOCK_HEAD + ROW * self._blocks[COUNT], PIECE_HEAD + ROW * self._pieces[PIECE_COUNT]
+        info = self._info
+        behind_blocks, behind_pieces = BLOCK_HEAD + ROW * info.blocks, PIECE_HEAD + ROW * info.pieces
         created, destroyed, owners = (self._blocks[BLOCK_HEAD + column:behind_blocks:ROW] for column in (CREATED, DESTROYED, BLOCK_OWNER))
         written, piece_owners = (self._pieces[PIECE_HEAD + column:behind_pieces:ROW] for column in (WRITTEN, PIECE_OWNER))
-        kinds = self._opened()
-        if len(kinds) == 1:
+        if len(self._opened) == 1:
             yield Lives(created, destroyed, written)
             return
-        for kind in kinds:
+        for kind in self._opened:
             of_blocks, of_pieces = [owner == kind for owner in owners], [owner == kind for owner in piece_owners]
             yield Lives(array("Q", compress(created, of_blocks)), array("Q", compress(destroyed, of_blocks)), array("Q", compress(written, of_pieces)))
 
@@ -473,7 +478,7 @@ class Index:
         """How many blocks a closed index has. Refusal 4."""
         if self._state != CLOSED:
             raise Refused(4)
-        return self._blocks[COUNT]
+        return self._info.blocks
 
     def _listed(self, call: Callable[..., tuple[int, ...]], *arguments: int) -> tuple[list[int], *tuple[int, ...]]:
         """What a call lists, in a slice that grows where it is refused 16: a block is listed once at most."""
@@ -484,7 +489,7 @@ class Index:
             if number != EXCEEDS:
                 accepted(number)
                 return answer[:count].tolist(), *rest
-            room = min(8 * room, self._blocks[COUNT])
+            room = min(8 * room, self._info.blocks)
 
     @_step
     def find(self, tick: int, start: int, end: int, *, kind: int | None = None) -> Found:
@@ -534,7 +539,8 @@ class Index:
     def write(self) -> bytes:
         """The file of the index: of each kind that has blocks a part, by code, which is loaded by itself. An index without blocks gives no bytes. Refusal 4."""
         # of each kind its code and a count; the fields of blocks, and their bytes; the fields of nodes with a byte before each, and one for each child that is not there
-        most = 10 * len(Kind) + 33 * self._blocks[COUNT] + self._blocks[USED] + 34 * self._nodes[NODE_COUNT] + 8 * self._entries[ENTRY_COUNT]
+        info = self._info
+        most = 10 * len(Kind) + 33 * info.blocks + info.store + 34 * info.nodes + 8 * info.entries
         out = array("B", _zeros(most if self._state == CLOSED else 0))
         number, written = library.write_tested(self._state, self._blocks, self._store, self._nodes, self._entries, out)
         accepted(number)
@@ -546,9 +552,7 @@ class Index:
     @_step
     def days(self) -> Days:
         """The list of days that is installed."""
-        count = self._blocks[DAY_COUNT]
-        pairs = self._blocks[DAY_COUNT + 1:DAY_COUNT + 1 + 2 * count]
-        return Days(zip(pairs[0::2], pairs[1::2]))
+        return Days(self._days)
 
     @_step
     def clock(self, cell: int) -> int:

@@ -12,7 +12,7 @@ from pathlib import Path
 
 from support import EXAMPLES, PACKAGE, ROOT
 
-import boardfile
+from servercape import boardfile
 import many
 from servercape import WORDS, Index
 
@@ -303,9 +303,10 @@ class Reads(Command):
             self.assertIn(f"refused {number}: {WORDS[number][0]}", errors)
 
     def test_explain(self):
-        self.assertEqual(run("explain", 8), (DONE, "8: the booking's tick is below the last accepted one\n", ""))
-        self.assertEqual(run("explain", 26)[1], "26: the booking has a byte other than 0 in a minute at which the station is closed\n")
-        self.assertEqual(len(run("explain")[1].splitlines()), 29)
+        self.assertEqual(run("explain", 8), (DONE, "8, record: the booking's tick is below the last accepted one\n    give edits in order; several may have the same tick\n", ""))
+        self.assertEqual(run("explain", 26)[1], "26, record: the booking has a byte other than 0 in a minute at which the station is closed\n"
+                         "    book within the hours, or install other hours first: those that were installed last count\n")
+        self.assertEqual(len(run("explain")[1].splitlines()), 2 * 29)
 
 
 class Usage(Command):
@@ -340,7 +341,7 @@ class Usage(Command):
         link = self.folder / "link"
         link.symlink_to(COMMAND)
         done = subprocess.run([link, "explain", "3"], cwd="/", capture_output=True, check=True)
-        self.assertEqual(done.stdout, b"3: the index is finished or loaded, and takes no more bookings\n")
+        self.assertEqual(done.stdout.splitlines()[0], b"3, record, finish, install of a calendar: the index is finished or loaded, and takes no more bookings")
 
 
 class Installed(Command):
