@@ -63,7 +63,7 @@ class Found(NamedTuple):
     visited: int
 
 
-def _lengthen(table: array, which: int, rows: int) -> None:
+def _lengthen(table: "array[int]", which: int, rows: int) -> None:
     """Makes a table at least so many rows long, by zeros, which leaves it what it was."""
     length, = library.length(which, rows)
     if length == 0 and rows > 0:
@@ -109,11 +109,11 @@ class Index:
         _lengthen(self._scratch, SCRATCH, 1)
 
     @property
-    def _tables(self) -> tuple[array, ...]:
+    def _tables(self) -> "tuple[array[int], ...]":
         return self._pieces, self._blocks, self._store, self._nodes, self._entries
 
     @property
-    def _tree(self) -> tuple[array, ...]:
+    def _tree(self) -> "tuple[array[int], ...]":
         return self._blocks, self._nodes, self._entries
 
     @classmethod
@@ -284,15 +284,17 @@ class Index:
         # a life is put together of about as many nodes as its ticks have binary digits; where that is not enough, finish says so
         nodes = min(2 * (info.blocks + info.pieces), 2 * info.end_tick)
         entries = info.blocks * info.last_tick.bit_length() + info.pieces * info.end_tick.bit_length()
-        room = {NO_ROOM_FOR_NODES: [self._nodes, NODES, nodes + 64], NO_ROOM_FOR_ENTRIES: [self._entries, ENTRIES, entries + 64]}
+        tables = {NO_ROOM_FOR_NODES: NODES, NO_ROOM_FOR_ENTRIES: ENTRIES}
+        room = {NODES: nodes + 64, ENTRIES: entries + 64}
         if self._state == OPEN:
-            for table, which, rows in room.values():
-                _lengthen(table, which, rows)
+            for which, rows in room.items():
+                _lengthen(self._tables[which], which, rows)
         while number := library.finish(*self._tables)[0]:
-            if number not in room:
+            if number not in tables:
                 raise Refused(number)
-            room[number][2] *= 2
-            _lengthen(*room[number])
+            which = tables[number]
+            room[which] *= 2
+            _lengthen(self._tables[which], which, room[which])
         self._state = CLOSED
 
     def finished(self) -> "Index":
@@ -315,7 +317,7 @@ class Index:
             raise Refused(4)
         return map(self.block, range(self.block_count))
 
-    def _listed(self, call: Callable[..., tuple[int, ...]], *arguments: int) -> tuple[list[int], *tuple[int, ...]]:
+    def _listed(self, call: Callable[..., tuple[int, ...]], *arguments: int) -> tuple[list[int], list[int]]:
         """What a call lists, in a slice that grows where it is refused 16: a block is listed once at most."""
         room = 64
         while True:
@@ -323,13 +325,14 @@ class Index:
             number, count, *rest = call(self._state, *self._tree, *arguments, answer)
             if number != EXCEEDS:
                 accepted(number)
-                return answer[:count].tolist(), *rest
+                return answer[:count].tolist(), rest
             room = min(8 * room, self.block_count)
 
     def find(self, tick: int, start: int, end: int, *, kind: int | None = None) -> Found:
         """The blocks of a kind live at a tick whose first cell is in [start, end). One that starts before it and reaches in is not listed: `touching` has all.
         Refusals 4, 25, 14, 15."""
-        return Found(*self._listed(library.find_tested, self._named(kind), tick, start, end))
+        found, (visited,) = self._listed(library.find_tested, self._named(kind), tick, start, end)
+        return Found(found, visited)
 
     def touching(self, tick: int, start: int, end: int, *, kind: int | None = None) -> list[int]:
         """The blocks of a kind live at a tick that hold any cell of [start, end), ascending by first cell; an empty window lists none. Refusals 4, 25, 14, 15."""
@@ -352,7 +355,7 @@ class Index:
         """For each cell of [start, end) of a kind the byte that it holds at a tick, None where it holds none. Refusals 4, 25, 14, 15."""
         own = self._named(kind)
 
-        def read(count: int) -> tuple[int, array, array]:
+        def read(count: int) -> "tuple[int, array[int], array[int]]":
             data, held = array("B", _zeros(count)), array("B", _zeros(count))
             number, = library.read_cells_tested(
                 self._state, self._blocks, self._store, self._nodes, self._entries, own, tick, start, end, data, held)
