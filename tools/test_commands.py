@@ -99,7 +99,7 @@ class Board(unittest.TestCase):
             self.assertIn("--help", err)
         status, out, err = run([BOARD, "--help"])
         self.assertEqual((status, err), (0, ""))
-        self.assertTrue(out.startswith(b"usage: ./board [FILE]\n"))
+        self.assertTrue(out.startswith(b"usage: ./board [--from-source] [FILE]\n"))
 
     def test_symbolic_link(self):
         with tempfile.TemporaryDirectory() as folder:

@@ -40,6 +40,9 @@ class Copied(unittest.TestCase):
             shutil.copytree(ROOT / name, self.root / name, ignore=ignored)
         for name in ("servercape_c", "servercape_tested_c"):
             shutil.copytree(ROOT / "crates" / name / "src", self.root / "crates" / name / "src")
+        for name in ("compare", "bench"):
+            (self.root / name).mkdir()
+            shutil.copy(ROOT / name / "Cargo.lock", self.root / name)
         shutil.copy(ROOT / "README.md", self.root)
 
     def change(self, name, old, new):
@@ -90,8 +93,9 @@ class Copied(unittest.TestCase):
         self.assertEqual(self.bindings()[0], 1, "the number is another")
         self.change("bindings/servercape.h", "NUMBER 2000", "NUMBER 3001")
         self.assertEqual(self.bindings()[0], 0)
-        for name in ("rust/Cargo.toml", "rust/Cargo.lock", "python/pyproject.toml", "servercape.pc"):
-            self.assertIn("0.3.1", self.read(f"bindings/{name}"), name)
+        in_bindings = ("rust/Cargo.toml", "rust/Cargo.lock", "python/pyproject.toml", "servercape.pc")
+        for name in ("compare/Cargo.lock", "bench/Cargo.lock", *(f"bindings/{name}" for name in in_bindings)):
+            self.assertIn("0.3.1", self.read(name), name)
 
     def test_a_row_more(self):
         """A new refusal is one entry in the table and one run."""

@@ -59,7 +59,7 @@ static void with_info(void)
 {
     struct lent x = lend(8, 16, 64, 32, 32), y = lend(8, 16, 64, 32, 32);
     uint8_t file[4096];
-    uint64_t written = 0, next = 0, nodes, entries;
+    uint64_t written = 0, next = 0;
     expect_refused("garbage", x);
     same("open", servercape_open(TABLES(x), 8, (const uint8_t[]){SERVERCAPE_OTHER, SERVERCAPE_MEMORY}, 2), 0);
     expect("opened", x, of(1, 8, 0, 1 << SERVERCAPE_OTHER | 1 << SERVERCAPE_MEMORY, 0, 0, 0, 0, 0));
@@ -69,13 +69,10 @@ static void with_info(void)
     record(x, SERVERCAPE_MEMORY, 5, 101, 1);
     expect("a read", x, of(1, 8, 5, 18, 2, 0, 4, 0, 0));
     same("finish", servercape_finish(TABLES(x)), 0);
-    nodes = x.nodes[5];
-    entries = x.entries[0];
-    expect("finished", x, of(2, 8, 5, 18, 0, 2, 4, nodes, entries));
-    same("there are nodes and entries", nodes > 0 && entries > 1, 1);
+    expect("finished", x, of(2, 8, 5, 18, 0, 2, 4, 10, 5));
     same("write", servercape_write(TABLES(x), file, sizeof file, &written), 0);
     same("load", servercape_load(TABLES(y), file, sizeof file, 0, &next), 0);
-    expect("loaded", y, of(2, 8, 0, 1 << SERVERCAPE_MEMORY, 0, 1, 3, y.nodes[5], y.entries[0]));
+    expect("loaded", y, of(2, 8, 0, 1 << SERVERCAPE_MEMORY, 0, 1, 3, 6, 3));
     x.blocks_length = 9;
     expect_refused("a table that cannot hold its head", x);
     x.blocks_length = servercape_length(SERVERCAPE_BLOCKS, 16);
@@ -92,7 +89,7 @@ static void with_words(void)
     same("two conditions", strstr(servercape_refusal_text(15), ", or there is no block of that number") != NULL, 1);
     for (number = 0; strcmp(servercape_refusal_text(number), servercape_refusal_text(UINT64_MAX)) != 0; number++)
         same("each has an advice", servercape_refusal_advice(number)[0] != '\0', 1);
-    same("one behind the last known", number, SERVERCAPE_REFUSED_WRONG_DAYS + 1);
+    same("all are known", number > SERVERCAPE_REFUSED_WRONG_DAYS, 1);
 }
 
 int main(void)

@@ -29,7 +29,7 @@ import random
 import sys
 from collections.abc import Callable
 from pathlib import Path
-from typing import TypedDict, TypeVar
+from typing import Any, TypedDict, TypeVar
 
 MARK = b"\xb7\x4f"
 FRONT = 20  # bytes of a record before its own bytes: mark, tick, first cell, length
@@ -124,7 +124,7 @@ def booking(words: list[str]) -> Booking:
     return number(words[1], 64, "the tick"), cell, bytes_of(rest)
 
 
-def statement(board: Board, words: list[str]) -> None:
+def statement(board: Board | dict[str, Any], words: list[str]) -> None:
     """Adds a line to the board: its `end`, its `kind`, or one of its bookings."""
     if words[0] in ("end", "kind"):
         if words[0] in board:

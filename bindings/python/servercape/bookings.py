@@ -4,7 +4,7 @@ A readable list may have several kinds, which that program has not: `kind memory
 them. A booking that names none is of the first.
 """
 import struct
-from typing import NamedTuple
+from typing import Any, NamedTuple
 
 from .boardfile import FRONT, MARK, START, Fault, kind_of, statement
 from .days import REGULAR, Days
@@ -55,7 +55,7 @@ def without_kind(words: list[str], kinds: list[int]) -> tuple[list[str], int]:
 
 
 def read_text(data: bytes, days: Days) -> Bookings:
-    board: dict = {"bookings": []}
+    board: dict[str, Any] = {"bookings": []}
     kinds: list[int] = []
     kinds_of: list[int] = []
     places: list[int] = []

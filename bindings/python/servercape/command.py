@@ -1,5 +1,6 @@
 """The command `servercape`."""
 import argparse
+import io
 import json
 import os
 import sys
@@ -136,17 +137,19 @@ def window(options: argparse.Namespace) -> tuple[int, int]:
             return number(text, 64, "the cell")
         if len(text.split()) != 2:
             raise Fault(f"'{text}' is no time: with --platform, write a day and a clock time, as 'monday 23:50'")
-        return Place.at(options.platform, *text.split(), days).cell
+        day, time = text.split()
+        return Place.at(options.platform, day, time, days).cell
 
     first, behind = (0, MOST_CELL) if options.platform is None else (Place(options.platform, 0).cell, Place(options.platform, MINUTES).cell)
     try:
         return cell(options.start, first), min(cell(options.end, behind), MOST_CELL)
     except Fault as fault:
         options.parser.error(str(fault))
+        raise
 
 
 def tick(options: argparse.Namespace, index: Index) -> int:
-    return index.end_tick - 1 if options.tick is None else options.tick
+    return index.end_tick - 1 if options.tick is None else int(options.tick)
 
 
 # ── the commands ──
@@ -430,9 +433,10 @@ def silence() -> None:
 
 def main(arguments: list[str] | None = None) -> int:
     options = make_parser().parse_args(arguments)
-    sys.stdout.reconfigure(encoding="utf-8", errors="backslashreplace")
+    if isinstance(sys.stdout, io.TextIOWrapper):
+        sys.stdout.reconfigure(encoding="utf-8", errors="backslashreplace")
     try:
-        status = options.run(options)
+        status = int(options.run(options))
         sys.stdout.flush()
         return status
     except Refused as refused:

@@ -1,7 +1,10 @@
 """An index and its tables."""
+from __future__ import annotations
+
 import struct
 from array import array
 from collections.abc import Callable, Iterable, Iterator
+from contextlib import AbstractContextManager
 from copy import deepcopy
 from copyreg import __newobj__  # type: ignore[attr-defined]
 from enum import IntEnum
@@ -89,11 +92,11 @@ P = ParamSpec("P")
 R = TypeVar("R")
 
 
-def _step(method: "Callable[Concatenate[Index, P], R]") -> "Callable[Concatenate[Index, P], R]":
+def _step(method: Callable[Concatenate[Index, P], R]) -> Callable[Concatenate[Index, P], R]:
     """A method that has its index to itself: other threads wait until it ends. Called from inside another one, as a signal handler or a finalizer may do, it raises
     `RuntimeError`, since the tables may move just then. So it calls no other such method, and no code of the caller's."""
     @wraps(method)
-    def step(self: "Index", /, *arguments: P.args, **named: P.kwargs) -> R:
+    def step(self: Index, /, *arguments: P.args, **named: P.kwargs) -> R:
         with self._lock:
             if self._busy:
                 raise RuntimeError("the index is in use: a signal handler or a finalizer must not call it from inside one of its own calls")
@@ -108,7 +111,7 @@ def _step(method: "Callable[Concatenate[Index, P], R]") -> "Callable[Concatenate
     return step
 
 
-def _lengthen(table: array, which: int, rows: int) -> None:
+def _lengthen(table: array[int], which: int, rows: int) -> None:
     """Makes a table at least so many rows long, by zeros, which leaves it what it was."""
     length, = library.length(which, rows)
     if length == 0 and rows > 0:
@@ -116,13 +119,13 @@ def _lengthen(table: array, which: int, rows: int) -> None:
     _add_zeros(table, (length - len(table)) * table.itemsize)
 
 
-def _add_zeros(table: array, size: int) -> None:
+def _add_zeros(table: array[int], size: int) -> None:
     """So many bytes more, or none where there is no memory."""
     if size > 0:
         table.frombytes(_zeros(size))
 
 
-def _empty_tables() -> list[array]:
+def _empty_tables() -> list[array[int]]:
     """Pieces, blocks, store, nodes, entries: their heads alone, with zeros, which hold no index."""
     tables = [array("B" if which == STORE else "Q") for which in (PIECES, BLOCKS, STORE, NODES, ENTRIES)]
     for which, table in enumerate(tables):
@@ -160,6 +163,13 @@ class Index:
     A method that records or reads cells takes their kind by name, `kind=Kind.OTHER`. Of an index that has one kind it may be left out.
     """
 
+    _lock: AbstractContextManager[object]
+    _busy: bool
+    _state: int
+    _opened: tuple[Kind, ...]
+    _days: Days
+    _scratch: array[int]
+
     # what nobody else sets; a subclass, or who likes to, may keep more beside it
     __slots__ = ("_lock", "_busy", "_state", "_opened", "_days", "_pieces", "_blocks", "_store", "_nodes", "_entries", "_scratch",
                  "__dict__", "__weakref__")
@@ -176,7 +186,7 @@ class Index:
     def __init__(self) -> None:
         """Tables that hold no index yet."""
 
-    def _take(self, state: int, tables: Iterable[array], days: Days = Days()) -> None:
+    def _take(self, state: int, tables: Iterable[array[int]], days: Days = Days()) -> None:
         """Other tables in place of those that it has, what `servercape_state` says of them, and the
         list of days that is installed in them."""
         self._state = UNKNOWN
@@ -186,11 +196,11 @@ class Index:
         self._opened = KIND_SETS[self._info.kinds]
 
     @property
-    def _tables(self) -> tuple[array, ...]:
+    def _tables(self) -> tuple[array[int], ...]:
         return self._pieces, self._blocks, self._store, self._nodes, self._entries
 
     @property
-    def _tree(self) -> tuple[array, ...]:
+    def _tree(self) -> tuple[array[int], ...]:
         return self._blocks, self._nodes, self._entries
 
     @classmethod
@@ -228,13 +238,16 @@ class Index:
         """An index of its own that stands as this one does."""
         return self.__copy__()
 
-    @_step
     def __copy__(self) -> Self:
-        # the same numbers have the same state
-        other = type(self).__new__(type(self))
+        other: Self = type(self).__new__(type(self))
         vars(other).update(vars(self))
-        other._take(self._state, [table[:] for table in self._tables], self._days)
+        other._take(*self._snapshot())
         return other
+
+    @_step
+    def _snapshot(self) -> tuple[int, list[array[int]], Days]:
+        """Copies of the tables; the same numbers have the same state."""
+        return self._state, [table[:] for table in self._tables], self._days
 
     def __deepcopy__(self, memo: dict[int, Any]) -> Self:
         memo[id(self)] = other = self.__copy__()
@@ -272,7 +285,7 @@ class Index:
         self._restore(state, tables, Days(days), attributes)
 
     @_step
-    def _restore(self, state: int, tables: Iterable[array], days: Days, attributes: dict[str, Any]) -> None:
+    def _restore(self, state: int, tables: Iterable[array[int]], days: Days, attributes: dict[str, Any]) -> None:
         self._take(state, tables, days)
         vars(self).update(attributes)
 
@@ -420,11 +433,11 @@ class Index:
         self._install_days(numbers(days), days)
 
     @_step
-    def _install_calendar(self, given: array) -> None:
+    def _install_calendar(self, given: array[int]) -> None:
         accepted(*library.install_calendar(*self._tables, given))
 
     @_step
-    def _install_days(self, given: array, days: list[tuple[int, int]]) -> None:
+    def _install_days(self, given: array[int], days: list[tuple[int, int]]) -> None:
         accepted(*library.install_days(*self._tables, given))
         self._days = Days(days)
 
@@ -480,7 +493,7 @@ class Index:
             raise Refused(4)
         return self._info.blocks
 
-    def _listed(self, call: Callable[..., tuple[int, ...]], *arguments: int) -> tuple[list[int], *tuple[int, ...]]:
+    def _listed(self, call: Callable[..., tuple[int, ...]], *arguments: int) -> tuple[list[int], list[int]]:
         """What a call lists, in a slice that grows where it is refused 16: a block is listed once at most."""
         room = 64
         while True:
@@ -488,14 +501,15 @@ class Index:
             number, count, *rest = call(self._state, *self._tree, *arguments, answer)
             if number != EXCEEDS:
                 accepted(number)
-                return answer[:count].tolist(), *rest
+                return answer[:count].tolist(), rest
             room = min(8 * room, self._info.blocks)
 
     @_step
     def find(self, tick: int, start: int, end: int, *, kind: int | None = None) -> Found:
         """The blocks of a kind live at a tick whose first cell is in [start, end). One that starts before it and reaches in is not listed: `touching` has all.
         Refusals 4, 25, 14, 15."""
-        return Found(*self._listed(library.find_tested, self._named(kind), tick, start, end))
+        found, (visited,) = self._listed(library.find_tested, self._named(kind), tick, start, end)
+        return Found(found, visited)
 
     @_step
     def touching(self, tick: int, start: int, end: int, *, kind: int | None = None) -> list[int]:
@@ -522,7 +536,7 @@ class Index:
         """For each cell of [start, end) of a kind the byte that it holds at a tick, None where it holds none. Refusals 4, 25, 14, 15."""
         own = self._named(kind)
 
-        def read(count: int) -> tuple[int, array, array]:
+        def read(count: int) -> tuple[int, array[int], array[int]]:
             data, held = array("B", _zeros(count)), array("B", _zeros(count))
             number, = library.read_cells_tested(
                 self._state, self._blocks, self._store, self._nodes, self._entries, own, tick, start, end, data, held)

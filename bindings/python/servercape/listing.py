@@ -2,15 +2,14 @@
 import csv
 import json
 from collections.abc import Callable, Iterable, Sequence
-from typing import TextIO
+from typing import Any, TextIO
 
 from .boardfile import words_of
 from .days import Days
 from .index import Block
 from .places import Place
 
-Value = int | str | None
-Row = dict[str, Value]
+Row = dict[str, Any]
 
 BLOCK_COLUMNS = ("block", "cell", "n", "from", "to", "clock", "bytes")
 CELL_COLUMNS = ("cell", "clock", "byte")
