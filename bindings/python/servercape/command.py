@@ -496,7 +496,7 @@ COMMANDS = {
     "find": Command("list the blocks that are live at a tick and start in a window", "find midnight.index --tick 3 --from 0 --to 1440", find, READ, ABOUT_READ),
     "touching": Command("list the blocks that are live at a tick and hold a cell of a window, also those that set it free",
                         "touching midnight.index --tick 3 --platform 0 --from 'tuesday 00:00' --to 'tuesday 00:10'", touching, READ, ABOUT_READ),
-    "conflicts": Command("list the stays that occupy a window at a tick: is it free?",
+    "conflicts": Command("list the stays that occupy a window at a tick, and say by the status whether it is free",
                          "conflicts midnight.index --platform 0 --from 'tuesday 00:00' --to 'tuesday 00:10' --human", conflicts, READ, (OCCUPIED, *ABOUT_READ),
                          CONFLICT_STATUS),
     "next": Command("list the first block with a train that starts in a window, live at a tick",
