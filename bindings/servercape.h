@@ -169,19 +169,6 @@ uint64_t servercape_install_days(
     const uint64_t *entries, size_t entries_length,
     const uint64_t *days, size_t days_length);
 
-/* What stands in an index. */
-struct servercape_info {
-    uint64_t state;      /* 1 open, 2 closed */
-    uint64_t end_tick;
-    uint64_t last_tick;  /* of the last accepted record; 0 before */
-    uint64_t kinds;      /* bit k is set where kind k was opened */
-    uint64_t pieces;     /* rows in use */
-    uint64_t blocks;     /* rows in use */
-    uint64_t store;      /* bytes in use */
-    uint64_t nodes;      /* rows in use */
-    uint64_t entries;    /* rows in use */
-};
-
 /* The block of a number, from 0 in recorded order, whatever its kind, which is told. Its bytes are store[offset] to store[offset + length - 1]. It is live from
    tick `created` up to, and not including, `destroyed`.
    Refusals 2, 4, 15. */
