@@ -1,5 +1,6 @@
 // The exports of the library for Rust and C: each calls the function of `servercape` of its name and has its clauses. C callers link the archive that this crate makes.
 // Callers link by name and pass numbers and slices one by one: so there is an export for each name. `servercape_info` alone hands out a struct, of nine numbers.
+// tools/bindings writes the parameters from bindings/servercape.h; contracts and bodies are written by hand.
 
 #![tactic(auto)]
 
