@@ -65,7 +65,7 @@ def read_file(name: str) -> bytes:
     return sys.stdin.buffer.read() if name == "-" else Path(name).read_bytes()
 
 
-def write_file(name: str, data: bytes) -> None:
+def write_file(name: str, data: bytes | memoryview) -> None:
     """Writes a file whole or not at all; what is no plain file is written as it is."""
     path = Path(name).resolve()
     if name == "-":
@@ -201,13 +201,14 @@ def build(options: argparse.Namespace) -> int:
     if refused and not options.skip_refused:
         complain(f"{options.file}: {refused} of {len(bookings.operations)} bookings refused: nothing is written; --skip-refused writes the others")
         return REFUSED
+    del data, bookings  # they take as much memory as the board's tables
     progress.say("finishing")
     index.finish()
     if index.block_count == 0:
         complain(f"{options.file}: no booking is accepted: there is nothing to write")
         return REFUSED
     progress.say("writing")
-    write_file(options.output, index.write())
+    write_file(options.output, index.write_view())
     progress.say("")
     return REFUSED if refused else DONE
 
