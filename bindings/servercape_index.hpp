@@ -1,5 +1,6 @@
-// A board's history for C++17: an index that frees itself, over servercape_index.h. A call that is refused throws servercape::Refused, and one that finds no
-// memory std::bad_alloc; then the index is as it was.
+// A board's history for C++17: an index that frees itself, over servercape_index.h. A call that is
+// refused throws servercape::Refused, and one that finds no memory std::bad_alloc; then the index
+// is as it was.
 #ifndef SERVERCAPE_INDEX_HPP
 #define SERVERCAPE_INDEX_HPP
 
@@ -14,7 +15,8 @@
 #include <utility>
 #include <vector>
 
-namespace servercape {
+namespace servercape
+{
 
 using Numbers = std::vector<std::uint64_t>;
 using Bytes = std::vector<std::uint8_t>;
@@ -29,7 +31,8 @@ enum class Kind : std::uint8_t {
 };
 
 // A call was refused, and nothing has changed.
-class Refused : public std::runtime_error {
+class Refused : public std::runtime_error
+{
 public:
     explicit Refused(std::uint64_t number)
         : std::runtime_error("refused " + std::to_string(number)), number_(number)
@@ -51,9 +54,10 @@ inline void accepted(std::uint64_t refused)
         throw Refused(refused);
 }
 
-// The history of a board. A copy is an index of its own: to read a board that goes on, finish a copy of it. One that was moved from is not opened, and refuses all
-// calls 2.
-class Index {
+// The history of a board. A copy is an index of its own: to read a board that goes on, finish a
+// copy of it. One that was moved from is not opened, and refuses all calls 2.
+class Index
+{
 public:
     explicit Index(std::uint64_t end_tick, const std::vector<Kind> &kinds = {Kind::memory})
     {
@@ -63,7 +67,8 @@ public:
         accepted(servercape_index_open(&index_, end_tick, codes.data(), codes.size()));
     }
 
-    // A finished index from a file, with the position after it, where the next kind of the same board begins.
+    // A finished index from a file, with the position after it, where the next kind of the same
+    // board begins.
     static std::pair<Index, std::size_t> load(const Bytes &file, std::size_t at = 0)
     {
         Index loaded;
@@ -89,16 +94,24 @@ public:
     ~Index() { servercape_index_free(&index_); }
 
     // The lowest cell that was unknown or had another byte; none where nothing changed.
-    std::optional<std::uint64_t> record(Kind kind, std::uint64_t tick, std::uint64_t first, const Bytes &bytes)
+    std::optional<std::uint64_t> record(Kind kind, std::uint64_t tick, std::uint64_t first,
+                                        const Bytes &bytes)
     {
         std::uint64_t updated = 0, cell = 0;
-        accepted(servercape_index_record(&index_, code(kind), tick, first, bytes.data(), bytes.size(), &updated, &cell));
+        accepted(servercape_index_record(&index_, code(kind), tick, first, bytes.data(),
+                                         bytes.size(), &updated, &cell));
         return updated ? std::optional<std::uint64_t>(cell) : std::nullopt;
     }
 
-    void install_calendar(const Numbers &calendar) { accepted(servercape_index_install_calendar(&index_, calendar.data(), calendar.size())); }
+    void install_calendar(const Numbers &calendar)
+    {
+        accepted(servercape_index_install_calendar(&index_, calendar.data(), calendar.size()));
+    }
 
-    void install_days(const Numbers &days) { accepted(servercape_index_install_days(&index_, days.data(), days.size())); }
+    void install_days(const Numbers &days)
+    {
+        accepted(servercape_index_install_days(&index_, days.data(), days.size()));
+    }
 
     void finish() { accepted(servercape_index_finish(&index_)); }
 
@@ -114,7 +127,8 @@ public:
 
     struct servercape_info info() const
     {
-        struct servercape_info info {};
+        struct servercape_info info {
+        };
         accepted(servercape_index_info(&index_, &info));
         return info;
     }
@@ -128,7 +142,8 @@ public:
 
     struct servercape_block block(std::uint64_t number) const
     {
-        struct servercape_block block {};
+        struct servercape_block block {
+        };
         accepted(servercape_index_block(&index_, number, &block));
         return block;
     }
@@ -136,7 +151,8 @@ public:
     Numbers find(Kind kind, std::uint64_t tick, std::uint64_t start, std::uint64_t end) const
     {
         List list;
-        accepted(servercape_index_find(&index_, code(kind), tick, start, end, &list.found, nullptr));
+        accepted(
+            servercape_index_find(&index_, code(kind), tick, start, end, &list.found, nullptr));
         return list.numbers();
     }
 
@@ -162,16 +178,19 @@ public:
     }
 
     // For each cell of the window its byte, if a block holds it.
-    std::vector<std::optional<std::uint8_t>> cells(Kind kind, std::uint64_t tick, std::uint64_t start, std::uint64_t end) const
+    std::vector<std::optional<std::uint8_t>> cells(Kind kind, std::uint64_t tick,
+                                                   std::uint64_t start, std::uint64_t end) const
     {
         // into no cells first: a window that is refused takes no memory
-        const std::uint64_t refused = servercape_index_read_cells(&index_, code(kind), tick, start, end, nullptr, nullptr, 0);
+        const std::uint64_t refused =
+            servercape_index_read_cells(&index_, code(kind), tick, start, end, nullptr, nullptr, 0);
         if (refused != SERVERCAPE_INDEX_NO_ANSWER) {
             accepted(refused);
             return {};
         }
         Bytes bytes(static_cast<std::size_t>(end - start)), held(bytes.size());
-        accepted(servercape_index_read_cells(&index_, code(kind), tick, start, end, bytes.data(), held.data(), bytes.size()));
+        accepted(servercape_index_read_cells(&index_, code(kind), tick, start, end, bytes.data(),
+                                             held.data(), bytes.size()));
         std::vector<std::optional<std::uint8_t>> cells(bytes.size());
         for (std::size_t k = 0; k < bytes.size(); k++)
             if (held[k])

@@ -1,5 +1,5 @@
 /* A first board: two trains at one platform, and which of them stands there in the two minutes from
-   01:41 on. The index keeps its own tables; lent_tables.c does the same with tables of the caller. */
+   01:41 on. The index keeps its own tables; lent_tables.c does the same with the caller's. */
 #include "servercape_index.h"
 
 #include <inttypes.h>
@@ -28,7 +28,7 @@ int main(void)
     must(servercape_index_record(&board, SERVERCAPE_MEMORY, 1, 100, seven, 3, NULL, NULL));
     must(servercape_index_record(&board, SERVERCAPE_MEMORY, 3, 102, nine, 3, NULL, NULL));
 
-    /* the board goes on, and a clone that is finished is read: at tick 6, who holds cell 101 or 102? */
+    /* the board goes on; a clone that is finished is read: at tick 6, who holds cell 101 or 102? */
     must(servercape_index_clone(&now, &board));
     must(servercape_index_finish(&now));
     must(servercape_index_touching(&now, SERVERCAPE_MEMORY, 6, 101, 103, &found));

@@ -76,7 +76,9 @@ static void play_both(struct servercape_index *x, struct lent y, uint64_t end, i
 {
     uint8_t bytes[9];
     for (int k = 0; k < count; k++) {
-        uint8_t kind = (uint8_t)(below(20) == 0 ? 9 : below(2) ? SERVERCAPE_MEMORY : SERVERCAPE_OTHER);
+        uint8_t kind = (uint8_t)(below(20) == 0 ? 9
+                                 : below(2)     ? SERVERCAPE_MEMORY
+                                                : SERVERCAPE_OTHER);
         uint64_t tick = (uint64_t)k * (end / (uint64_t)count) + below(3);
         size_t length = (size_t)below(9);
         memset(bytes, (int)below(4), sizeof bytes);
@@ -106,7 +108,8 @@ static void same_blocks(const struct servercape_index *x, struct lent y)
     for (uint64_t n = 0;; n++) {
         struct servercape_block block = {0};
         uint64_t v[6], got = servercape_index_block(x, n, &block);
-        same("block", got, servercape_block(TABLES(y), n, &v[0], &v[1], &v[2], &v[3], &v[4], &v[5]));
+        same("block", got,
+             servercape_block(TABLES(y), n, &v[0], &v[1], &v[2], &v[3], &v[4], &v[5]));
         if (got)
             break;
         same("its kind", block.kind, v[0]);
@@ -120,8 +123,9 @@ static void same_blocks(const struct servercape_index *x, struct lent y)
 enum { LISTED = 8192, CELLS = 80 };
 
 /* Every read of a window by both. */
-static void same_window(const struct servercape_index *x, struct lent y, uint8_t kind, uint64_t tick,
-                        uint64_t start, uint64_t end, struct servercape_numbers *found)
+static void same_window(const struct servercape_index *x, struct lent y, uint8_t kind,
+                        uint64_t tick, uint64_t start, uint64_t end,
+                        struct servercape_numbers *found)
 {
     static uint64_t listed[LISTED];
     uint64_t a = 77, b = 77, c = 77, d = 77, got;
@@ -134,20 +138,24 @@ static void same_window(const struct servercape_index *x, struct lent y, uint8_t
         same("its blocks", (uint64_t)memcmp(found->numbers, listed, 8 * found->count), 0);
     }
     got = servercape_index_touching(x, kind, tick, start, end, found);
-    same("touching", got, servercape_touching(TABLES(y), kind, tick, start, end, listed, LISTED, &c));
+    same("touching", got,
+         servercape_touching(TABLES(y), kind, tick, start, end, listed, LISTED, &c));
     if (!got) {
         same("its count", found->count, c);
         same("its blocks", (uint64_t)memcmp(found->numbers, listed, 8 * found->count), 0);
     }
     a = b = c = d = 77;
-    same("next", servercape_index_next(x, kind, tick, start, &a, &b), servercape_next(TABLES(y), kind, tick, start, &c, &d));
+    same("next", servercape_index_next(x, kind, tick, start, &a, &b),
+         servercape_next(TABLES(y), kind, tick, start, &c, &d));
     same("its block", a << 32 | b, c << 32 | d);
-    same("last", servercape_index_last(x, kind, tick, end, &a, &b), servercape_last(TABLES(y), kind, tick, end, &c, &d));
+    same("last", servercape_index_last(x, kind, tick, end, &a, &b),
+         servercape_last(TABLES(y), kind, tick, end, &c, &d));
     same("its block", a << 32 | b, c << 32 | d);
     memset(bytes, 77, sizeof bytes);
     memset(marks, 77, sizeof marks);
-    same("cells", servercape_index_read_cells(x, kind, tick, start, end, bytes[0], marks[0], CELLS),
-         servercape_read_cells(TABLES(y), kind, tick, start, end, bytes[1], CELLS, marks[1], CELLS));
+    same(
+        "cells", servercape_index_read_cells(x, kind, tick, start, end, bytes[0], marks[0], CELLS),
+        servercape_read_cells(TABLES(y), kind, tick, start, end, bytes[1], CELLS, marks[1], CELLS));
     same("their bytes", (uint64_t)memcmp(bytes[0], bytes[1], CELLS), 0);
     same("their marks", (uint64_t)memcmp(marks[0], marks[1], CELLS), 0);
 }
@@ -159,7 +167,9 @@ static void same_reads(const struct servercape_index *x, struct lent y, uint64_t
     same_info(x, y);
     same_blocks(x, y);
     for (int k = 0; k < 40; k++) {
-        uint8_t kind = (uint8_t)(below(20) == 0 ? 9 : below(2) ? SERVERCAPE_MEMORY : SERVERCAPE_OTHER);
+        uint8_t kind = (uint8_t)(below(20) == 0 ? 9
+                                 : below(2)     ? SERVERCAPE_MEMORY
+                                                : SERVERCAPE_OTHER);
         uint64_t a = 77, b = 77, cell = below(UINT64_C(1) << 31);
         same_window(x, y, kind, below(10) ? below(end) : end, below(75), below(75), &found);
         same("clock", servercape_index_clock(x, cell, &a), servercape_clock(TABLES(y), cell, &b));
@@ -186,11 +196,15 @@ static void same_files(const struct servercape_index *x, struct lent y)
         true_state(&loaded);
         same_info(&loaded, other);
         same_blocks(&loaded, other);
-        same("just room for its blocks", loaded.blocks.room, servercape_length(SERVERCAPE_BLOCKS, loaded.blocks.numbers[2043]));
-        same("and its nodes", loaded.nodes.room, servercape_length(SERVERCAPE_NODES, loaded.nodes.numbers[5]));
-        same("and its entries", loaded.entries.room, servercape_length(SERVERCAPE_ENTRIES, loaded.entries.numbers[0]));
+        same("just room for its blocks", loaded.blocks.room,
+             servercape_length(SERVERCAPE_BLOCKS, loaded.blocks.numbers[2043]));
+        same("and its nodes", loaded.nodes.room,
+             servercape_length(SERVERCAPE_NODES, loaded.nodes.numbers[5]));
+        same("and its entries", loaded.entries.room,
+             servercape_length(SERVERCAPE_ENTRIES, loaded.entries.numbers[0]));
         same("write it again", servercape_index_write(&loaded, &again), 0);
-        same("the same bytes", again.count == next - at && memcmp(again.bytes, file.bytes + at, again.count) == 0, 1);
+        same("the same bytes",
+             again.count == next - at && memcmp(again.bytes, file.bytes + at, again.count) == 0, 1);
         servercape_index_free(&loaded);
         give_back(other);
         at = next;
@@ -202,8 +216,19 @@ static void same_files(const struct servercape_index *x, struct lent y)
 /* Boards of several end ticks, with hours and lists of days, read as clones while they go on. */
 static void beside_the_calls(void)
 {
-    static const uint64_t ends[] = {1, 2, 3, 7, 8, 1000, 1023, 1 << 20, UINT64_C(1) << 40, (UINT64_C(1) << 63) - 25, UINT64_C(1) << 63};
-    static const uint64_t hours[] = {1, 0, 60}, days[] = {0, 1380, 2, 1500}, wrong_days[] = {0, 1440};
+    static const uint64_t ends[] = {1,
+                                    2,
+                                    3,
+                                    7,
+                                    8,
+                                    1000,
+                                    1023,
+                                    1 << 20,
+                                    UINT64_C(1) << 40,
+                                    (UINT64_C(1) << 63) - 25,
+                                    UINT64_C(1) << 63};
+    static const uint64_t hours[] = {1, 0, 60}, days[] = {0, 1380, 2, 1500},
+                          wrong_days[] = {0, 1440};
     static const uint8_t free_minute[] = {0};
     for (size_t turn = 0; turn < 44; turn++) {
         uint64_t end = ends[turn % 11];
@@ -211,27 +236,50 @@ static void beside_the_calls(void)
         struct lent y;
         open_both(&x, &y, end);
         if (turn % 3 == 0) {
-            same("hours", servercape_index_install_calendar(&x, hours, 3) + servercape_install_calendar(TABLES(y), hours, 3), 0);
-            same("days", servercape_index_install_days(&x, days, 4) + servercape_install_days(TABLES(y), days, 4), 0);
+            same("hours",
+                 servercape_index_install_calendar(&x, hours, 3) +
+                     servercape_install_calendar(TABLES(y), hours, 3),
+                 0);
+            same("days",
+                 servercape_index_install_days(&x, days, 4) +
+                     servercape_install_days(TABLES(y), days, 4),
+                 0);
             same("no list of days", servercape_index_install_days(&x, wrong_days, 2), 28);
-            same("no list", servercape_index_install_days(&x, NULL, 0) + servercape_install_days(TABLES(y), days, 0), 0);
-            same("days again", servercape_index_install_days(&x, days, 4) + servercape_install_days(TABLES(y), days, 4), 0);
+            same("no list",
+                 servercape_index_install_days(&x, NULL, 0) +
+                     servercape_install_days(TABLES(y), days, 0),
+                 0);
+            same("days again",
+                 servercape_index_install_days(&x, days, 4) +
+                     servercape_install_days(TABLES(y), days, 4),
+                 0);
         }
         if (turn % 4 == 1)
-            same("no hours at all", servercape_index_install_calendar(&x, NULL, 0) + servercape_install_calendar(TABLES(y), days, 0), 0);
+            same("no hours at all",
+                 servercape_index_install_calendar(&x, NULL, 0) +
+                     servercape_install_calendar(TABLES(y), days, 0),
+                 0);
         play_both(&x, y, end, (int)(turn * 5));
         same_reads(&x, y, end); /* each is refused 4 */
         same_files(&x, y);
         same("clone", servercape_index_clone(&now, &x), 0);
         same("finish", servercape_index_finish(&now), servercape_finish(TABLES(y)));
         same("the other one is open", servercape_index_state(&x), SERVERCAPE_OPEN);
-        same("it goes on", servercape_index_record(&x, SERVERCAPE_MEMORY, end - 1, 5000, free_minute, 1, NULL, NULL), 0);
+        same("it goes on",
+             servercape_index_record(&x, SERVERCAPE_MEMORY, end - 1, 5000, free_minute, 1, NULL,
+                                     NULL),
+             0);
         same_reads(&now, y, end);
         same_files(&now, y);
-        same("just room for the entries", now.entries.room, servercape_length(SERVERCAPE_ENTRIES, now.entries.numbers[0]));
-        same("and not for twice the nodes", now.nodes.room <= servercape_length(SERVERCAPE_NODES, 2 * now.nodes.numbers[5]), 1);
+        same("just room for the entries", now.entries.room,
+             servercape_length(SERVERCAPE_ENTRIES, now.entries.numbers[0]));
+        same("and not for twice the nodes",
+             now.nodes.room <= servercape_length(SERVERCAPE_NODES, 2 * now.nodes.numbers[5]), 1);
         same("finished twice", servercape_index_finish(&now), 3);
-        same("a list of days of a finished one", servercape_index_install_days(&now, days, 4) + servercape_install_days(TABLES(y), days, 4), 0);
+        same("a list of days of a finished one",
+             servercape_index_install_days(&now, days, 4) +
+                 servercape_install_days(TABLES(y), days, 4),
+             0);
         same_reads(&now, y, end);
         servercape_index_free(&x);
         servercape_index_free(&now);
@@ -256,7 +304,8 @@ static void many_at_once(void)
     size_t at = 0;
     for (size_t k = 0; k < MANY; k++) {
         uint64_t far_back = k > 10 && k % 10 == 0 ? 2 : 0;
-        operations[k] = (struct servercape_operation){k - far_back, 1000 * below(40) + k % 7, bytes + k, 1 + (size_t)below(20)};
+        operations[k] = (struct servercape_operation){k - far_back, 1000 * below(40) + k % 7,
+                                                      bytes + k, 1 + (size_t)below(20)};
         queries[k] = (struct servercape_query){k, 0, k % 50 == 0 ? UINT64_MAX : 20000};
     }
     for (size_t k = 0; k < sizeof bytes; k++)
@@ -265,31 +314,45 @@ static void many_at_once(void)
     queries[8].start = 30000;
     operations[MANY - 1].bytes = bytes;
     operations[MANY - 1].length = sizeof bytes;
-    same("open", servercape_index_open(&one, MANY, both_kinds, 2) + servercape_index_open(&all, MANY, both_kinds, 2), 0);
-    same("the first refusal", servercape_index_record_all(&all, SERVERCAPE_MEMORY, operations, MANY, answers), 8);
+    same("open",
+         servercape_index_open(&one, MANY, both_kinds, 2) +
+             servercape_index_open(&all, MANY, both_kinds, 2),
+         0);
+    same("the first refusal",
+         servercape_index_record_all(&all, SERVERCAPE_MEMORY, operations, MANY, answers), 8);
     for (size_t k = 0; k < MANY; k++) {
         uint64_t updated = 0, cell = 0;
-        same("record", servercape_index_record(&one, SERVERCAPE_MEMORY, operations[k].tick, operations[k].first, operations[k].bytes, operations[k].length, &updated, &cell), answers[k].refused);
+        same("record",
+             servercape_index_record(&one, SERVERCAPE_MEMORY, operations[k].tick,
+                                     operations[k].first, operations[k].bytes, operations[k].length,
+                                     &updated, &cell),
+             answers[k].refused);
         same("updated", updated, answers[k].updated);
         same("its cell", cell, answers[k].cell);
     }
-    same("answers may be left out", servercape_index_record_all(&one, SERVERCAPE_MEMORY, operations + MANY - 1, 1, NULL), 0);
+    same("answers may be left out",
+         servercape_index_record_all(&one, SERVERCAPE_MEMORY, operations + MANY - 1, 1, NULL), 0);
     true_state(&one);
     true_state(&all);
     same("finish", servercape_index_finish(&one) + servercape_index_finish(&all), 0);
     true_state(&all);
-    same("the first refusal", servercape_index_find_all(&all, SERVERCAPE_MEMORY, queries, MANY, found, &list), 14);
+    same("the first refusal",
+         servercape_index_find_all(&all, SERVERCAPE_MEMORY, queries, MANY, found, &list), 14);
     for (size_t k = 0; k < MANY; k++) {
         uint64_t visited = 0;
         other.count = 0;
-        same("find", servercape_index_find(&one, SERVERCAPE_MEMORY, queries[k].tick, queries[k].start, queries[k].end, &other, &visited), found[k].refused);
+        same("find",
+             servercape_index_find(&one, SERVERCAPE_MEMORY, queries[k].tick, queries[k].start,
+                                   queries[k].end, &other, &visited),
+             found[k].refused);
         same("its count", other.count, found[k].count);
         same("its visits", visited, found[k].visited);
         same("its blocks", (uint64_t)memcmp(other.numbers, list.numbers + at, 8 * other.count), 0);
         at += other.count;
     }
     same("all of them", at, list.count);
-    same("a refused find leaves the list", servercape_index_find(&one, 9, 0, 0, 1, &list, NULL) == 25 && list.count == at, 1);
+    same("a refused find leaves the list",
+         servercape_index_find(&one, 9, 0, 0, 1, &list, NULL) == 25 && list.count == at, 1);
     servercape_numbers_free(&list);
     servercape_numbers_free(&other);
     servercape_index_free(&one);
@@ -309,12 +372,17 @@ static int session(struct servercape_bytes *file)
     uint64_t got, visited, next;
     int failed = 0;
     while ((got = servercape_index_open(&board, 100000, both_kinds, 2)) != 0)
-        same("no memory to open", got, SERVERCAPE_NO_MEMORY), same("nothing is left", servercape_index_record(&board, 1, 0, 0, NULL, 0, NULL, NULL), 2), failed++;
+        same("no memory to open", got, SERVERCAPE_NO_MEMORY),
+            same("nothing is left", servercape_index_record(&board, 1, 0, 0, NULL, 0, NULL, NULL),
+                 2),
+            failed++;
     for (uint64_t k = 0; k < 700; k++) {
         uint8_t bytes[30];
         memset(bytes, (int)(k % 5), sizeof bytes);
         servercape_index_info(&board, &before);
-        while ((got = servercape_index_record(&board, k % 2 ? SERVERCAPE_MEMORY : SERVERCAPE_OTHER, k, 17 * (k % 90), bytes, sizeof bytes, NULL, NULL)) != 0) {
+        while ((got = servercape_index_record(&board, k % 2 ? SERVERCAPE_MEMORY : SERVERCAPE_OTHER,
+                                              k, 17 * (k % 90), bytes, sizeof bytes, NULL, NULL)) !=
+               0) {
             same("no memory to record", got, SERVERCAPE_NO_MEMORY), failed++;
             servercape_index_info(&board, &after);
             same("it is as it was", (uint64_t)memcmp(&before, &after, sizeof before), 0);
@@ -322,18 +390,23 @@ static int session(struct servercape_bytes *file)
         }
     }
     while ((got = servercape_index_clone(&now, &board)) != 0)
-        same("no memory to clone", got, SERVERCAPE_NO_MEMORY), same("nothing is left", servercape_index_state(&now), 0), failed++;
+        same("no memory to clone", got, SERVERCAPE_NO_MEMORY),
+            same("nothing is left", servercape_index_state(&now), 0), failed++;
     while ((got = servercape_index_finish(&now)) != 0)
-        same("no memory to finish", got, SERVERCAPE_NO_MEMORY), true_state(&now), same("it is open", servercape_index_state(&now), SERVERCAPE_OPEN), failed++;
+        same("no memory to finish", got, SERVERCAPE_NO_MEMORY), true_state(&now),
+            same("it is open", servercape_index_state(&now), SERVERCAPE_OPEN), failed++;
     true_state(&now);
-    while ((got = servercape_index_touching(&now, SERVERCAPE_MEMORY, 699, 0, UINT64_MAX, &found)) != 0)
+    while ((got = servercape_index_touching(&now, SERVERCAPE_MEMORY, 699, 0, UINT64_MAX, &found)) !=
+           0)
         same("no memory to list", got, SERVERCAPE_NO_MEMORY), failed++;
-    while ((got = servercape_index_find(&now, SERVERCAPE_OTHER, 699, 0, UINT64_MAX, &found, &visited)) != 0)
+    while ((got = servercape_index_find(&now, SERVERCAPE_OTHER, 699, 0, UINT64_MAX, &found,
+                                        &visited)) != 0)
         same("no memory to find", got, SERVERCAPE_NO_MEMORY), failed++;
     while ((got = servercape_index_write(&now, file)) != 0)
         same("no memory to write", got, SERVERCAPE_NO_MEMORY), failed++;
     while ((got = servercape_index_load(&loaded, file->bytes, file->count, 0, &next)) != 0)
-        same("no memory to load", got, SERVERCAPE_NO_MEMORY), same("nothing is left", servercape_index_state(&loaded), 0), failed++;
+        same("no memory to load", got, SERVERCAPE_NO_MEMORY),
+            same("nothing is left", servercape_index_state(&loaded), 0), failed++;
     true_state(&loaded);
     servercape_numbers_free(&found);
     servercape_index_free(&board);
@@ -355,7 +428,8 @@ static void without_memory(void)
         asked = 0;
         refuse_at = n;
         same("one call found none", (uint64_t)session(&file), 1);
-        same("the same file", file.count == whole.count && memcmp(file.bytes, whole.bytes, file.count) == 0, 1);
+        same("the same file",
+             file.count == whole.count && memcmp(file.bytes, whole.bytes, file.count) == 0, 1);
     }
     refuse_at = 0;
     servercape_bytes_free(&file);
@@ -392,7 +466,8 @@ static void not_opened(void)
     same("no kind", servercape_index_open(&none, 8, NULL, 0), 1);
     same("no end tick", servercape_index_open(&none, 0, both_kinds, 2), 1);
     same("no file", servercape_index_load(&none, NULL, 0, 0, NULL), 17);
-    same("a position behind the file", servercape_index_load(&none, both_kinds, 2, UINT64_MAX, NULL), 17);
+    same("a position behind the file",
+         servercape_index_load(&none, both_kinds, 2, UINT64_MAX, NULL), 17);
     servercape_index_free(&none);
     servercape_index_free(&copy);
     servercape_numbers_free(&found);

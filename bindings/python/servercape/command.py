@@ -216,13 +216,14 @@ def build(options: argparse.Namespace) -> int:
     if refused and not options.skip_refused:
         complain(f"{options.file}: {refused} of {len(bookings.operations)} bookings refused: nothing is written; --skip-refused writes the others")
         return REFUSED
+    del data, bookings  # they take as much memory as the board's tables
     progress.say("finishing")
     index.finish()
     if index.block_count == 0:
         complain(f"{options.file}: no booking is accepted: there is nothing to write")
         return REFUSED
     progress.say("writing")
-    write_file(options.output, index.write())
+    write_file(options.output, index.write_view())
     progress.say("")
     return REFUSED if refused else DONE
 

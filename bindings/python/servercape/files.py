@@ -55,7 +55,7 @@ def check_target(name: str) -> None:
         raise PermissionError(errno.EACCES, "it is read-only", name)
 
 
-def write_file(name: str, data: bytes) -> None:
+def write_file(name: str, data: bytes | memoryview) -> None:
     """Writes a file whole or not at all: what stood there stays until the new file is on the disk. `-` is standard output; what is no plain file, as a pipe, is
     written as it is. An error names the file."""
     if name == "-":

@@ -549,16 +549,20 @@ class Index:
         accepted(number)
         return [byte if known else None for byte, known in zip(data, held)]
 
-    @_step
     def write(self) -> bytes:
         """The file of the index: of each kind that has blocks a part, by code, which is loaded by itself. An index without blocks gives no bytes. Refusal 4."""
+        return self.write_view().tobytes()
+
+    @_step
+    def write_view(self) -> memoryview:
+        """The same as a view, which takes half the memory and is written to a file as it is. Refusal 4."""
         # of each kind its code and a count; the fields of blocks, and their bytes; the fields of nodes with a byte before each, and one for each child that is not there
         info = self._info
         most = 10 * len(Kind) + 33 * info.blocks + info.store + 34 * info.nodes + 8 * info.entries
         out = array("B", _zeros(most if self._state == CLOSED else 0))
         number, written = library.write_tested(self._state, self._blocks, self._store, self._nodes, self._entries, out)
         accepted(number)
-        return memoryview(out)[:written].tobytes()
+        return memoryview(out)[:written].toreadonly()
 
     # ── days ──
 

@@ -1,24 +1,31 @@
-"""How many nodes and entries finish needs, counted from the lives of an open index's blocks and pieces.
+"""How many nodes and entries finish needs, counted from the lives of an open index's blocks and
+pieces.
 
-The inner nodes of the tree over [0, end) are a binary search tree of the ticks between 0 and end: a node's tick is its middle. The number of a tick is its way down, a
-bit for each level: 0 for left and 1 for right, then a 1 for the node itself, then zeros. So numbers stand in the order of ticks, and the highest bit in which
-two ways differ says how deep they part.
+The inner nodes of the tree over [0, end) are a binary search tree of the ticks between 0 and end: a
+node's tick is its middle. The number of a tick is its way down, a bit for each level: 0 for left
+and 1 for right, then a 1 for the node itself, then zeros. So numbers stand in the order of ticks,
+and the highest bit in which two ways differ says how deep they part.
 
-A block that lives from c to d is an entry of the nodes that hang to the right of the way down to c and to the left of the way down to d, below where these two
-part. So the entries of all blocks are a few sums over tables by tick, which Python adds up without a loop of its own.
+A block that lives from c to d is an entry of the nodes that hang to the right of the way down to c
+and to the left of the way down to d, below where these two part. So its entries come of three
+tables by tick: numbers, and how many bits there are in a number and in the one before it.
 """
 from array import array
-from collections.abc import Iterable, Iterator, Mapping, Sequence
-from itertools import repeat
-from operator import sub, xor
+from collections.abc import Sequence
+from itertools import pairwise
 from typing import NamedTuple
 
-# All ticks up to the last one are numbered together where they are at most so many times as many as are in use; else each by itself.
-SPARSE = 4
+# All ticks up to the last one are numbered together where they are at most so many times as many as
+# the lives; else each by itself.
+SPARSE = 2
+
+# A number for each tick, or for some.
+_ByTick = list[int] | dict[int, int]
 
 
 class Lives(NamedTuple):
-    """The ticks of one kind's blocks, and those at which its pieces were written, which live up to the end."""
+    """The ticks of one kind's blocks, and those at which its pieces were written, which live up
+    to the end."""
 
     created: Sequence[int]
     destroyed: Sequence[int]
@@ -34,59 +41,91 @@ class Need(NamedTuple):
 
 def need(lives: Lives, end: int) -> Need:
     """What finish needs for the tree of one kind."""
-    created, destroyed, written = lives if max(lives.destroyed, default=0) < end else _inside(lives, end)
+    if max(lives.destroyed, default=0) >= end:
+        lives = _inside(lives, end)
+    created, destroyed, written = lives
     if not created and not written:
         return Need(0, 0)
-    ticks = sorted({*created, *destroyed, *written} - {0})
-    by = _Ways(end, ticks)
-    no_life_at_0 = sum(created == destroyed == 0 for created, destroyed in zip(created, destroyed)) if 0 in destroyed else 0
-    entries = by.to_right(created) + by.to_left(destroyed) - by.above(created, destroyed) + by.to_right(written) + len(written) - no_life_at_0
-    # a node has halves where a tick is strictly inside it: the nodes on the ways down, of which those of two neighbours have their upper part in common
-    inner = by.to_right(ticks) + by.to_left(ticks) + 1 - by.above(ticks[:-1], ticks[1:]) if ticks else 0
-    return Need(1 + 2 * (inner + (by.levels if no_life_at_0 else 0)), entries)
+    last = max(max(destroyed, default=0), max(written, default=0))
+    if last <= SPARSE * (len(created) + len(written)):
+        ways = _Ways.up_to(last, end)
+        inner = last + ways.to_right(last)
+    else:
+        ticks = sorted({*created, *destroyed, *written} - {0})
+        ways = _Ways.to_each(ticks, end)
+        # a node has halves where a tick is strictly inside it: those on the ways down, of which
+        # those of two neighbours have the upper part in common
+        inner = sum(ways.to_right(tick) + ways.to_left(tick) + 1 for tick in ticks)
+        inner -= sum(ways.common(*pair) for pair in pairwise(ticks))
+    # blocks of no life at tick 0, which are no entries, make the nodes on the way to its leaf
+    none = destroyed.count(0)
+    entries = ways.entries(created, destroyed) - none
+    entries += sum(map(ways.to_right, written)) + len(written)
+    return Need(1 + 2 * (inner + (ways.levels if none else 0)), entries)
 
 
 def _inside(lives: Lives, end: int) -> Lives:
-    """The same with blocks that live up to the end among the pieces. No call leaves such blocks in an open index."""
+    """The same with blocks that live up to the end among the pieces. No call leaves such blocks
+    in an open index."""
     pairs = list(zip(lives.created, lives.destroyed))
     inside = [pair for pair in pairs if pair[1] < end]
     lasting = [min(created, end - 1) for created, destroyed in pairs if destroyed >= end]
-    return Lives([created for created, _ in inside], [destroyed for _, destroyed in inside], [*lives.written, *lasting])
+    created, destroyed = [pair[0] for pair in inside], [pair[1] for pair in inside]
+    return Lives(created, destroyed, [*lives.written, *lasting])
 
 
 class _Ways:
-    """The ways down to some ticks that ascend, and to tick 0, which is on the left of every node."""
+    """The ways down to some ticks, by tick, and to tick 0, which is on the left of every node."""
 
-    def __init__(self, end: int, ticks: Sequence[int]) -> None:
-        self.levels = max(1, (end - 1).bit_length())
-        dense = len(ticks) > 0 and ticks[-1] <= SPARSE * len(ticks)
-        numbers = _numbers(end, self.levels, ticks[-1], {}) if dense else array("Q", [_number(end, self.levels, tick) for tick in ticks])
-        before = array("Q", map(sub, numbers, repeat(1)))
+    def __init__(self, levels: int, tables: Sequence[_ByTick]) -> None:
+        self.levels = levels
+        self._number, self._before, self._ones, self._ones_before = tables
 
-        def by_tick(at_0: int, values: Iterable[int], code: str = "B") -> Sequence[int] | Mapping[int, int]:
-            whole = array(code, [at_0])
-            whole.extend(values)
-            return whole if dense else dict(zip([0, *ticks], whole))
+    @classmethod
+    def up_to(cls, last: int, end: int) -> "_Ways":
+        """Those to all ticks up to the last one."""
+        levels = _levels(end)
+        return cls(levels, _tables(levels, _numbers(end, levels, last, {})))
 
-        # the number of a tick and the one before it; the bits of both tell how often the way goes to the right, and to the left
-        self._number, self._before = by_tick(0, numbers, "Q"), by_tick(1 << self.levels, before, "Q")
-        self._right_turns, self._right_below = by_tick(1, map(int.bit_count, numbers)), by_tick(self.levels - 1, map(int.bit_count, before))
+    @classmethod
+    def to_each(cls, ticks: Sequence[int], end: int) -> "_Ways":
+        """Those to some ticks."""
+        levels = _levels(end)
+        tables = _tables(levels, [_number(end, levels, tick) for tick in ticks])
+        return cls(levels, [dict(zip([0, *ticks], table)) for table in tables])
 
-    def to_left(self, ticks: Sequence[int]) -> int:
-        """How many nodes hang to the left of the ways down to ticks."""
-        return sum(map(self._right_turns.__getitem__, ticks)) - len(ticks)
+    def to_left(self, tick: int) -> int:
+        """How many nodes hang to the left of a way."""
+        return self._ones[tick] - 1
 
-    def to_right(self, ticks: Sequence[int]) -> int:
-        """How many nodes hang to the right of the ways down to ticks."""
-        return (self.levels - 1) * len(ticks) - sum(map(self._right_below.__getitem__, ticks))
+    def to_right(self, tick: int) -> int:
+        """How many nodes hang to the right of it."""
+        return self.levels - 1 - self._ones_before[tick]
 
-    def above(self, first: Sequence[int], second: Sequence[int]) -> int:
-        """How many nodes there are above those where the ways of pairs part, or end; 1 less where one is to tick 0."""
-        return self.levels * len(first) - sum(self._parted(first, second))
+    def common(self, first: int, second: int) -> int:
+        """How many nodes two ways to ascending ticks have in common."""
+        return self.levels + 1 - (self._before[first] ^ self._number[second]).bit_length()
 
-    def _parted(self, first: Sequence[int], second: Sequence[int]) -> Iterator[int]:
-        """The levels from where the ways of each pair part down to the deepest one."""
-        return map(int.bit_length, map(xor, map(self._before.__getitem__, first), map(self._number.__getitem__, second)))
+    def entries(self, created: Sequence[int], destroyed: Sequence[int]) -> int:
+        """Of all blocks with such lives: what hangs to the right of one way and to the left of
+        the other, less what hangs above where they part."""
+        number, before = self._number, self._before
+        ones, ones_before = self._ones, self._ones_before
+        each = [(before[start] ^ number[end]).bit_length() + ones[end] - ones_before[start]
+                for start, end in zip(created, destroyed)]
+        return sum(each) - 2 * len(each)
+
+
+def _levels(end: int) -> int:
+    return max(1, (end - 1).bit_length())
+
+
+def _tables(levels: int, numbers: Sequence[int]) -> list[list[int]]:
+    """The number of tick 0 and of others, those before them, and the bits of both. The way to tick
+    0 parts from all others above the root."""
+    before = [number - 1 for number in numbers]
+    ones, ones_before = map(int.bit_count, numbers), map(int.bit_count, before)
+    return [[0, *numbers], [1 << levels, *before], [1, *ones], [levels - 1, *ones_before]]
 
 
 def _number(end: int, levels: int, tick: int) -> int:
@@ -102,8 +141,10 @@ def _number(end: int, levels: int, tick: int) -> int:
             low, number = middle, number | half
 
 
-def _numbers(width: int, levels: int, wanted: int, known: "dict[tuple[int, int, int], array[int]]") -> "array[int]":
-    """The numbers of the first so many ticks strictly inside a node of some width. A level of the tree has two widths at most, so most parts are known."""
+def _numbers(width: int, levels: int, wanted: int,
+             known: "dict[tuple[int, int, int], array[int]]") -> "array[int]":
+    """The numbers of the first so many ticks strictly inside a node of some width. A level of
+    the tree has two widths at most, so most parts are known."""
     wanted = min(wanted, width - 1)
     if wanted == 0:
         return array("Q")
@@ -113,6 +154,7 @@ def _numbers(width: int, levels: int, wanted: int, known: "dict[tuple[int, int, 
         numbers = _numbers(left, levels - 1, wanted, known)[:]
         if wanted >= left:
             numbers.append(half)
-            numbers.extend(map(half.__or__, _numbers(width - left, levels - 1, wanted - left, known)))
+            right = _numbers(width - left, levels - 1, wanted - left, known)
+            numbers.extend(map(half.__or__, right))
         known[key] = numbers
     return known[key]

@@ -392,6 +392,14 @@ class Values(unittest.TestCase):
         self.assertEqual(index.find(6, 100, 104), ([2, 3, 4], 3))
         self.assertEqual(repr(index), "<Index memory, end tick 8, 6 blocks, closed>")
 
+    def test_view_of_a_file(self):
+        """The bytes of `write`, which nobody can change, and which stay what they were."""
+        index = finished(LISTING)
+        view, file = index.write_view(), index.write()
+        self.assertEqual((bytes(view), view.readonly, view.nbytes), (file, True, len(file)))
+        index.install_days([(0, 1380)])
+        self.assertEqual((bytes(view), answer(Index.open(8).write_view)), (file, Refused(4)))
+
     def test_no_blocks(self):
         index = finished([])
         self.assertEqual((index.find(0, 0, 9), index.touching(0, 0, 9), index.write(), list(index.blocks())), (([], 0), [], b"", []))

@@ -1,5 +1,5 @@
-//! Each allocation refused once: the call says that there is no memory, the index is as it was, and the same call made again goes on. Alone in its file, since it has
-//! an allocator of its own.
+//! Each allocation refused once: the call says that there is no memory, the index is as it was, and
+//! the same call made again goes on. Alone in its file, since it has an allocator of its own.
 use servercape::{put_operation, GrowingIndex, Index, Kind, Refusal};
 use std::alloc::{GlobalAlloc, Layout, System};
 use std::cell::Cell;
@@ -22,15 +22,27 @@ fn refused() -> bool {
 // SAFETY: everything is the system's, or null.
 unsafe impl GlobalAlloc for Limited {
     unsafe fn alloc(&self, layout: Layout) -> *mut u8 {
-        if refused() { std::ptr::null_mut() } else { unsafe { System.alloc(layout) } }
+        if refused() {
+            std::ptr::null_mut()
+        } else {
+            unsafe { System.alloc(layout) }
+        }
     }
 
     unsafe fn alloc_zeroed(&self, layout: Layout) -> *mut u8 {
-        if refused() { std::ptr::null_mut() } else { unsafe { System.alloc_zeroed(layout) } }
+        if refused() {
+            std::ptr::null_mut()
+        } else {
+            unsafe { System.alloc_zeroed(layout) }
+        }
     }
 
     unsafe fn realloc(&self, start: *mut u8, layout: Layout, size: usize) -> *mut u8 {
-        if refused() { std::ptr::null_mut() } else { unsafe { System.realloc(start, layout, size) } }
+        if refused() {
+            std::ptr::null_mut()
+        } else {
+            unsafe { System.realloc(start, layout, size) }
+        }
     }
 
     unsafe fn dealloc(&self, start: *mut u8, layout: Layout) {
@@ -54,7 +66,9 @@ impl Limit {
         let answer = call();
         self.left = LEFT.replace(u64::MAX);
         match answer {
-            Err(refusal) if (9..=13).contains(&refusal.number()) || matches!(refusal.number(), 16 | 20) => {
+            Err(refusal)
+                if (9..=13).contains(&refusal.number()) || matches!(refusal.number(), 16 | 20) =>
+            {
                 self.told += 1;
                 self.left = u64::MAX;
                 call()
@@ -72,7 +86,12 @@ fn session(limit: &mut Limit) -> (Vec<u8>, Vec<u64>, Vec<u64>) {
         let before = (board.used(), board.last_tick());
         let answer = limit.call(|| {
             assert_eq!((board.used(), board.last_tick()), before, "as it was");
-            board.record(kinds[tick as usize % 2], tick, 17 * (tick % 90), &[tick as u8 % 5; 30])
+            board.record(
+                kinds[tick as usize % 2],
+                tick,
+                17 * (tick % 90),
+                &[tick as u8 % 5; 30],
+            )
         });
         assert!(answer.is_ok());
     }
@@ -80,11 +99,23 @@ fn session(limit: &mut Limit) -> (Vec<u8>, Vec<u64>, Vec<u64>) {
     for tick in 700..720 {
         put_operation(&mut list, tick, 5000 + tick, &[1, 2, 3]);
     }
-    assert!(limit.call(|| board.record_all(Kind::Memory, &list)).unwrap().answers.iter().all(Result::is_ok));
+    assert!(limit
+        .call(|| board.record_all(Kind::Memory, &list))
+        .unwrap()
+        .answers
+        .iter()
+        .all(Result::is_ok));
     let now: Index = limit.call(|| board.finished()).unwrap();
-    let found = limit.call(|| now.find(Kind::Memory, 719, 0..u64::MAX)).unwrap().numbers;
-    let touching = limit.call(|| now.touching(Kind::Other, 719, 0..u64::MAX)).unwrap();
-    let cells = limit.call(|| now.cells(Kind::Memory, 719, 0..9000)).unwrap();
+    let found = limit
+        .call(|| now.find(Kind::Memory, 719, 0..u64::MAX))
+        .unwrap()
+        .numbers;
+    let touching = limit
+        .call(|| now.touching(Kind::Other, 719, 0..u64::MAX))
+        .unwrap();
+    let cells = limit
+        .call(|| now.cells(Kind::Memory, 719, 0..9000))
+        .unwrap();
     assert_eq!(cells.len(), 9000);
     let file = limit.call(|| now.write()).unwrap();
     let (loaded, next) = limit.call(|| GrowingIndex::load(&file, 0)).unwrap();
@@ -99,7 +130,10 @@ fn session(limit: &mut Limit) -> (Vec<u8>, Vec<u64>, Vec<u64>) {
 
 #[test]
 fn each_allocation_refused_once() {
-    let mut whole = Limit { left: u64::MAX, told: 0 };
+    let mut whole = Limit {
+        left: u64::MAX,
+        told: 0,
+    };
     let want = session(&mut whole);
     let asked = u64::MAX - whole.left;
     assert!(asked > 30, "{asked}");
@@ -110,6 +144,7 @@ fn each_allocation_refused_once() {
         assert!(limit.told <= 1);
         told += limit.told;
     }
-    // where there is no memory to count what finish needs, or for a list in one piece, the call does without
+    // where there is no memory to count what finish needs, or for a list in one piece, the call
+    // does without
     assert!(told + 4 >= asked, "{told} of {asked}");
 }
