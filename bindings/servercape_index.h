@@ -307,21 +307,10 @@ static inline uint64_t servercape_index_state(const struct servercape_index *ind
 static inline uint64_t servercape_index_info(const struct servercape_index *index,
                                              struct servercape_info *info)
 {
-    /* docs/LAYOUT.md: the last eight numbers of the head of the blocks, the counts of the others */
-    const uint64_t *head;
     if (index->state == SERVERCAPE_NOT_WELL_FORMED)
         return SERVERCAPE_INDEX_NOT_OPENED;
-    head = index->blocks.numbers + servercape_length(SERVERCAPE_BLOCKS, 0) - 8;
-    info->state = index->state;
-    info->end_tick = head[1];
-    info->kinds = head[2];
-    info->blocks = head[3];
-    info->store = head[4];
-    info->last_tick = head[5];
-    info->pieces = index->pieces.numbers[1];
-    info->nodes = index->nodes.numbers[5];
-    info->entries = index->entries.numbers[0];
-    return 0;
+    return servercape_info_tested(index->state, index->pieces.numbers, index->pieces.room,
+                                  SERVERCAPE_INDEX_BLOCKS(index), SERVERCAPE_INDEX_TREE(index), info);
 }
 
 /* The clock label of a cell by the list of days: hours times 100 plus minutes. Refusal 2. */
