@@ -77,7 +77,7 @@ record Read (pieces blocks nodes entries : List ℕ) (s : Given) : Type 0 where
 
 module _ {pieces blocks store nodes entries : List ℕ} {l : Ledger} (e : Encodes (tables pieces blocks store nodes entries) l) where
   pieces_told : column pieces 0 pieces_count ≡ length l.now.pieces
-  pieces_told = sym e.linked.count ∙ sym (ap length e.pieces ∙ length_of_map (λ link. shown store (piece_at pieces link)) e.links)
+  pieces_told = sym e.pieces.linked.count ∙ sym (ap length e.pieces.shows ∙ length_of_map (λ link. shown store (piece_at pieces link)) e.pieces.links)
 
   kinds_told : block_column blocks 0 head_kinds ≡ mask_of l.opening.kinds
   kinds_told = mask_own (block_column blocks 0 head_kinds) e.mask ∙ ap mask_of (sym e.kinds)
