@@ -9,7 +9,7 @@ use core::{error::Error, fmt};
 pub enum Refusal {
     /// 1, open: the end tick is 0 or above 2^63, or there is no kind. (From C also: a kind is above 4.)
     Opening,
-    /// 2, any call: the tables hold no index, since a load into them was refused; or the scratch lent to record has fewer than eight numbers.
+    /// 2, every call but open and load: the tables hold no index, since a load into them was refused; or the scratch lent to record has fewer than eight numbers.
     NotWellFormed,
     /// 3, record, finish and install of a calendar: the index is finished or loaded, and takes no more.
     Closed,

@@ -29,7 +29,7 @@ use Rattle.history.proofs.DaysLaws.{days_last}
 use Rattle.history.proofs.FindSound.{find_sound}
 use Rattle.layout.specs.Tables.{Tables, lengths_of}
 use Rattle.layout.specs.Encodes.{Encodes}
-use Rattle.layout.specs.Formed.{WellFormed, WellFormedForFinish, Blank}
+use Rattle.layout.specs.Formed.{WellFormedForFinish, Blank}
 use Rattle.layout.specs.Relations.{opening_of, opened_tables, left_by, OpenedBy, RecordLeaves, RecordedBy, FinishLeaves, FinishedBy, InstallLeaves, InstalledBy, DaysLeave, DaysInstalledBy, ClockGivenBy, Fields, block_in, fields_at, BlockHanded}
 use Rattle.layout.proofs.Recording.{record_blank, record_open}
 use Rattle.layout.proofs.Installing.{installed_blank, install_open, days_blank, days_open}
