@@ -31,9 +31,12 @@ use Rattle.layout.specs.Relations.{opening_of}
 use Rattle.layout.proofs.Lengths.{heads_fit}
 use Rattle.layout.proofs.Opening.{open_accepted}
 use Rattle.demand.proofs.Runs.{finished_encodes}
+use Rattle.demand.proofs.Touched.{list_shows, touching_shows}
 use Rattle.cells.proofs.History.{cells_show_history}
 use Rattle.spacetime_file.specs.Law.{Slices, ClosedIn, Lives, Reloads, RoomFor, AsLong, LoadedAgain, SavedAndLoaded}
 use Rattle.spacetime_file.proofs.Closed.{KindIn, kind_in, trees_sound}
+use Rattle.spacetime_file.proofs.Numbering.{one-opened}
+use Rattle.spacetime_file.proofs.Touched.{list_shows_again}
 use Rattle.spacetime_file.proofs.Alike.{alike, cells_back}
 use Rattle.history.proofs.Cutting.{cells_in, block_cells, cells_append, block_cells_append, destroyed_cells, parts_cells}
 use Rattle.history.proofs.ByKind.{some-owned}
@@ -203,6 +206,10 @@ module _ (a : Opening) (e : open_answer a ≡ accepted tt) (ks : List Call) (don
   closed : ClosedIn t reached
   closed = record { encodes = stands; sound = (the_law a e ks).sound.sound; closed = done }
 
+  faithful : Faithful reached.opening.end reached.now.blocks (history [] (opened a) ks)
+  unfolding opened
+  faithful = let same : reached.opening.end ≡ a.end = ap (λ (x : Opening). x.end) (opening_kept ks (opened a)) in rw same ((every_list a e ks).faithful done)
+
   own : KindIn t reached kind
   own = kind_in slices closed kind some_block
 
@@ -213,6 +220,10 @@ module _ (a : Opening) (e : open_answer a ≡ accepted tt) (ks : List Call) (don
         shows = λ tick start stop bytes bytes' held held' answer before ordered cells room room' d.
             cells_show_history a e ks done t stands kind own.opens tick start stop bytes bytes' held held' answer before ordered cells room room'
             (cells_back own enc sound tick start stop cells d);
+        touched =
+            touching_shows (saved_ledger (lengths_of u) reached kind) (history [] (opened a) ks) u enc sound refl kind (one-opened kind)
+            (λ tick start stop before. list_shows_again own enc sound (history [] (opened a) ks) tick start stop
+            (list_shows reached (history [] (opened a) ks) closed.sound done faithful kind tick before start stop));
       }
 
   -- whatever follows of tables that stand for what was saved is true of those that are loaded
