@@ -24,7 +24,7 @@ int main(void)
     struct servercape_numbers found = {0};
 
     must(servercape_index_open(&board, 8, kinds, 1));
-    /* train 7 from 01:40 on, at tick 1; train 9 from 01:42 on, at tick 3 */
+    /* train 07 from 01:40 on, at tick 1; train 09 from 01:42 on, at tick 3 */
     must(servercape_index_record(&board, SERVERCAPE_MEMORY, 1, 100, seven, 3, NULL, NULL));
     must(servercape_index_record(&board, SERVERCAPE_MEMORY, 3, 102, nine, 3, NULL, NULL));
 
@@ -38,7 +38,7 @@ int main(void)
         uint64_t label;
         must(servercape_index_block(&now, found.numbers[k], &block));
         must(servercape_index_clock(&now, block.first, &label));
-        printf("%strain %d at %04" PRIu64 " for %" PRIu64 " min", k ? ", " : "", block.bytes[0],
+        printf("%strain %02x at %04" PRIu64 " for %" PRIu64 " min", k ? ", " : "", block.bytes[0],
                label, block.length);
     }
     printf("\n");

@@ -35,8 +35,8 @@ int main(void)
 
     uint64_t scratch[8] = {0}, updated, cell, numbers[32], count;
     must(servercape_open(TABLES, 8, (const uint8_t[]){SERVERCAPE_MEMORY}, 1));
-    must(servercape_record(TABLES, scratch, 8, SERVERCAPE_MEMORY, 1, 100, (const uint8_t[]){7, 7, 7}, 3, &updated, &cell)); /* train 7 from 01:40 on, at tick 1 */
-    must(servercape_record(TABLES, scratch, 8, SERVERCAPE_MEMORY, 3, 102, (const uint8_t[]){9, 9, 9}, 3, &updated, &cell)); /* train 9 from 01:42 on, at tick 3 */
+    must(servercape_record(TABLES, scratch, 8, SERVERCAPE_MEMORY, 1, 100, (const uint8_t[]){7, 7, 7}, 3, &updated, &cell)); /* train 07 from 01:40 on, at tick 1 */
+    must(servercape_record(TABLES, scratch, 8, SERVERCAPE_MEMORY, 3, 102, (const uint8_t[]){9, 9, 9}, 3, &updated, &cell)); /* train 09 from 01:42 on, at tick 3 */
     must(servercape_finish(TABLES));
     must(servercape_touching(TABLES, SERVERCAPE_MEMORY, 6, 101, 103, numbers, 32, &count)); /* at tick 6, who holds cell 101 or 102? */
 
@@ -44,7 +44,7 @@ int main(void)
         uint64_t kind, first, length, created, destroyed, offset, label;
         must(servercape_block(TABLES, numbers[k], &kind, &first, &length, &created, &destroyed, &offset));
         must(servercape_clock(TABLES, first, &label));
-        printf("%strain %d at %04" PRIu64 " for %" PRIu64 " min", k ? ", " : "", store[offset], label, length);
+        printf("%strain %02x at %04" PRIu64 " for %" PRIu64 " min", k ? ", " : "", store[offset], label, length);
     }
     printf("\n");
     free(pieces), free(blocks), free(nodes), free(entries);
