@@ -28,16 +28,19 @@ from stored_kinds import kinds_cases
 from stored_scratch import scratch_cases
 from stored_touching import touching_cases
 
-MARKED = os.path.join(os.path.dirname(os.path.abspath(__file__)), "marked.txt")
+HERE = os.path.dirname(os.path.abspath(__file__))
+MARKED = os.path.join(HERE, "marked.txt")
+sys.path.append(os.path.join(HERE, "..", "bindings", "python"))
 
-# Numbers in front of the first row of each table (Lent of crate history), and in a row.
-PIECE_HEAD, BLOCK_HEAD, NODE_HEAD, ENTRY_HEAD = 8, 2048, 8, 8
-ROW, ENTRY_ROW = 8, 2
+from servercape.library import library
+
+# The tables, as `servercape_length` counts them.
+PIECE_TABLE, BLOCK_TABLE, STORE_TABLE, NODE_TABLE, ENTRY_TABLE = range(5)
 
 # What the program has room for: rows of each table, bytes of store, numbers of a scratch, places of an answer, cells, bytes of a file, numbers of a calendar
 # or of a list of days. A kind is a byte.
 PIECES, BLOCKS, STORE, NODES, ENTRIES = 64, 256, 4103, 4096, 8195
-SCRATCH_MOST = ROW * PIECES + 7
+SCRATCH_MOST = 8 * PIECES + 7
 ANSWER, WINDOW, FILE = 64, 64, 16384
 INSTALLED_MOST = 1300
 
@@ -70,13 +73,14 @@ class Case:
     def __init__(self, part, place):
         self.part, self.slack, self.pieces, self.numbers = part, place % 8, 8 + place % 8, LEAST_SCRATCH
 
-    def table(self, head, width, rows, most):
+    def table(self, which, rows, most):
         """The length of a table; with -1 rows it cannot hold its head."""
         fits(int(rows), most)
-        return head + width * int(rows) + self.slack % width
+        (head,), (one,) = library.length(which, 0), library.length(which, 1)
+        return head + (one - head) * int(rows) + self.slack % (one - head)
 
     def lent(self, blocks, store, nodes, entries):
-        tables = [self.table(BLOCK_HEAD, ROW, blocks, BLOCKS), self.table(NODE_HEAD, ROW, nodes, NODES), self.table(ENTRY_HEAD, ENTRY_ROW, entries, ENTRIES)]
+        tables = [self.table(BLOCK_TABLE, blocks, BLOCKS), self.table(NODE_TABLE, nodes, NODES), self.table(ENTRY_TABLE, entries, ENTRIES)]
         return tables[:1] + [fits(int(store), STORE)] + tables[1:]
 
     def bytes(self, word):
@@ -106,7 +110,7 @@ class Case:
         return rows
 
     def open(self, words, answer):
-        self.pieces, self.numbers = self.table(PIECE_HEAD, ROW, words[2], PIECES), fits(int(words[3]), SCRATCH_MOST)
+        self.pieces, self.numbers = self.table(PIECE_TABLE, words[2], PIECES), fits(int(words[3]), SCRATCH_MOST)
         kinds = bytes(listed(words[1]))
         return OPEN, [int(words[0]), self.part.place(kinds), len(kinds)] + [0] * 5 + [self.pieces, self.numbers] + self.lent(*words[4:])
 

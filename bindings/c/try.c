@@ -203,7 +203,7 @@ static void write_and_load(struct lent x)
 
 /* ── boards of their own ── */
 
-/* A train from 23:52 to 00:05: find misses it after midnight. */
+/* A train from 23:52 to 00:06: find misses it after midnight. */
 static void midnight(struct lent x)
 {
     const uint8_t train[14] = {9, 9, 9, 9, 9, 9, 9, 9, 9, 9, 9, 9, 9, 9};

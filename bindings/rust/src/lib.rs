@@ -144,8 +144,9 @@
 //!
 //! # The library
 //!
-//! The build links `libservercape.a` and `libservercape_tested.a` from the folder that the environment variable `SERVERCAPE_LIB` names, or else from the
-//! repository's `target/staticlib`, where `tools/staticlib` writes them. Once written they need no Rattle.
+//! The build links `libservercape.a` and `libservercape_tested.a` from the folder that the environment
+//! variable `SERVERCAPE_LIB` names, or else from the repository's `dist/`. They need no Rattle; with
+//! `SERVERCAPE_FROM_SOURCE=1` the repository has them proved and built first.
 #![cfg_attr(not(any(feature = "std", test)), no_std)]
 #![warn(missing_docs)]
 
@@ -162,6 +163,7 @@ mod need;
 pub mod raw;
 mod reads;
 mod refusal;
+mod refusals;
 mod room;
 #[cfg(test)]
 mod same;

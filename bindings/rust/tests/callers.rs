@@ -163,7 +163,7 @@ fn a_refusal_is_an_error() {
     }
     assert_eq!(reads().unwrap_err().to_string(), "refused 15: there is no block of that number");
     #[cfg(feature = "std")]
-    assert_eq!(std::io::Error::from(Refusal::FileCut).to_string(), "refused 17: the file ends inside a field");
+    assert_eq!(std::io::Error::from(Refusal::FileCut).to_string(), "refused 17: the file ends inside a field, or the position is behind its end");
 }
 
 // ── windows and rooms that no memory is large enough for ──

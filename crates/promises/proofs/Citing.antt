@@ -17,6 +17,7 @@ contracts = record {
   near = record { free = λ κs a g. tt; says = λ κs a g x e h. h; whole = λ κs a g x e h. h };
   read_cells = record { free = λ κs a g. tt; says = λ κs a g x e h. h; whole = λ κs a g x e h. h };
   clock = record { free = λ κs a g. tt; says = λ κs a g x e h. h; whole = λ κs a g x e h. h };
+  info = record { free = λ κs a g. tt; says = λ κs a g x e h. h; whole = λ κs a g x e h. h };
   serialize_to = record { free = λ κs a g. tt; says = λ κs a g x e h. h; whole = λ κs a g x e h. h };
   deserialize = record { free = λ κs a g. tt; says = λ κs a g x e h. h; whole = λ κs a g x e h. h };
   record_all = record { free = λ κs a g. tt; says = λ κs a g x e h. h; whole = λ κs a g x e h. h };
@@ -26,6 +27,7 @@ contracts = record {
 
 pub exported : Exported
 exported = record {
+  version = record { free = λ κs a g. tt; says = λ κs a g x e h. h; whole = λ κs a g x e h. h };
   length_for_lem = record { free = λ κs a g. tt; says = λ κs a g x e h. h; whole = λ κs a g x e h. h };
   opening = record { free = λ κs a g. tt; says = λ κs a g x e h. h; whole = λ κs a g x e h. h };
   record_op = record { free = λ κs a g. tt; says = λ κs a g x e h. h; whole = λ κs a g x e h. h };
@@ -43,6 +45,7 @@ exported = record {
   write = record { free = λ κs a g. tt; says = λ κs a g x e h. h; whole = λ κs a g x e h. h };
   load = record { free = λ κs a g. tt; says = λ κs a g x e h. h; whole = λ κs a g x e h. h };
   clock = record { free = λ κs a g. tt; says = λ κs a g x e h. h; whole = λ κs a g x e h. h };
+  info = record { free = λ κs a g. tt; says = λ κs a g x e h. h; whole = λ κs a g x e h. h };
 }
 
 pub exported_tested : ExportedTested
@@ -57,4 +60,5 @@ exported_tested = record {
   read_cells = record { free = λ κs a g. tt; says = λ κs a g x e h. h; whole = λ κs a g x e h. h };
   write = record { free = λ κs a g. tt; says = λ κs a g x e h. h; whole = λ κs a g x e h. h };
   clock = record { free = λ κs a g. tt; says = λ κs a g x e h. h; whole = λ κs a g x e h. h };
+  info = record { free = λ κs a g. tt; says = λ κs a g x e h. h; whole = λ κs a g x e h. h };
 }

@@ -9,11 +9,13 @@ use Rattle.layout.specs.Relations.{OpenedBy, RecordedBy, FinishedBy, InstalledBy
 use Rattle.history.specs.Results.{done}
 use Rattle.layout.specs.Files.{WrittenBy, LoadedBy}
 use Rattle.lengths.specs.Lengths.{length_for}
+use Rattle.info.specs.Info.{InfoGivenBy}
 use Rattle.index_record.specs.Calls.{operation}
 use Rattle.cells.specs.Answers.{CellsReadBy}
 use Rattle.record_all.specs.Many.{RecordedAll}
 use Rattle.find_all.specs.Many.{FoundAll}
-use Rattle.servercape.specs.Numbers.{ByNumber, ToldAs, changes, changes_of, counts, near, fields}
+use Rattle.servercape.specs.Numbers.{ByNumber, ToldAs, changes, changes_of, counts, near, fields, summary}
+use Rattle.servercape.specs.contracts.servercape_version as version-contract
 use Rattle.servercape.specs.contracts.servercape_length as length-contract
 use Rattle.servercape.specs.contracts.changes.servercape_open as open-contract
 use Rattle.servercape.specs.contracts.changes.servercape_record as record-contract
@@ -31,6 +33,7 @@ use Rattle.servercape.specs.contracts.reads.servercape_read_cells as cells-contr
 use Rattle.servercape.specs.contracts.files.servercape_write as write-contract
 use Rattle.servercape.specs.contracts.files.servercape_load as load-contract
 use Rattle.servercape.specs.contracts.reads.servercape_clock as clock-contract
+use Rattle.servercape.specs.contracts.reads.servercape_info as info-contract
 use Rattle.promises.specs.Relations.{Says, held, held_open, held_record, held_install, held_load, behind}
 
 -- the fields of a block, behind six `&mut`
@@ -39,6 +42,7 @@ handed_out a = fields a.0.now a.1.0.now a.1.1.0.now a.1.1.1.0.now a.1.1.1.1.0.no
 
 -- arguments as in `Contracts`; `x` is the number
 pub record Exported : Type 0 where
+  pub version : Says version-contract.ended (version-contract.clauses w₀.𝓛 w₀.𝓜.mem w₀.𝓡.returns) (λ κs a g. r_top) (λ κs a g x e. r_last _) (λ κs a x e. x ≡ 2000)
   pub length_for_lem : Says length-contract.ended (length-contract.clauses w₀.𝓛 w₀.𝓜.mem w₀.𝓡.returns) (λ κs a g. r_top) (λ κs a g x e. r_last _) (λ κs a x e. x ≡ length_for a.0 a.1.0)
   pub opening : Says open-contract.ended (open-contract.clauses w₀.𝓛 w₀.𝓜.mem w₀.𝓡.returns) (λ κs a g. r_top) (λ κs a g x e. r_last _)
       (λ κs a x e. ByNumber (OpenedBy (behind a).0 (behind a).1.0.now (held_open a)
@@ -81,3 +85,5 @@ pub record Exported : Type 0 where
       (λ κs a x e. ByNumber (LoadedBy (behind a).0.now (behind a).1.0 (held_load a) (held_load e)) x (behind a).1.1.0.now (behind e).1.1.0.now)
   pub clock : Says clock-contract.ended (clock-contract.clauses w₀.𝓛 w₀.𝓜.mem w₀.𝓡.returns) (λ κs a g. r_top) (λ κs a g x e. r_last _)
       (λ κs a x e. ByNumber (ClockGivenBy (held a) (behind a).0) x (behind a).1.0.now (behind e).1.0.now)
+  pub info : Says info-contract.ended (info-contract.clauses w₀.𝓛 w₀.𝓜.mem w₀.𝓡.returns) (λ κs a g. r_top) (λ κs a g x e. r_last _)
+      (λ κs a x e. ByNumber (InfoGivenBy (held a)) x (summary (behind a).0.now) (summary (behind e).0.now))

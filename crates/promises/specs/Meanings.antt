@@ -1,5 +1,6 @@
 -- What an answer means tells the answer: no two answers of a call mean the same. Statements alone: the proof stands in proofs/Telling.
 use Rattle.std.specs.Prelude.{◌≡◌, ℕ}
+use Rattle.info.specs.Answers.{summary_given}
 use Rattle.index_record.specs.Calls.{recorded}
 use Rattle.index_read.specs.Answers.{counts_given, fields_given}
 use Rattle.history.specs.Results.{done}
@@ -18,6 +19,7 @@ pub record Meanings : Type 0 where
   -- a calendar and a list of days
   pub install : Injective (answer_by (λ (u : Unit {0}). done))
   pub clock : Injective (answer_by (λ (n : ℕ). n))
+  pub info : Injective (answer_by summary_given)
   pub block : Injective (answer_by fields_given)
   pub find : Injective (answer_by counts_given)
   pub touching : Injective (answer_by (λ (n : ℕ). n))

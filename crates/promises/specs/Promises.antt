@@ -2,8 +2,12 @@
 use Rattle.history.specs.Law.{ValueAt, LawOfChange, LawOfCalls, LawOfFind, LawOfTouching, LawOfNeighbours}
 use Rattle.history.specs.HoursLaw.{LawOfHours}
 use Rattle.history.specs.DaysLaw.{LawOfDays}
+use Rattle.history.specs.SumsLaw.{LawOfSums}
+use Rattle.history.specs.OccupationLaw.{LawOfOccupation}
+use Rattle.history.specs.ChargesLaw.{LawOfCharges}
 use Rattle.history.specs.Boards.{MarkedBoards}
 use Rattle.history.specs.Requested.{RequestedBoards}
+use Rattle.history.specs.ReportsBoards.{ReportsBoards}
 use Rattle.apart_laws.specs.Law.{TheoremH}
 use Rattle.tree_room.specs.Room.{LawOfRoom}
 use Rattle.layout.specs.Law.{OneLedger, TablesExist, ShallowTrees}
@@ -55,8 +59,12 @@ pub record OfHistory : Type 0 where
   pub law_of_neighbours : LawOfNeighbours
   pub law_of_hours : LawOfHours
   pub law_of_days : LawOfDays
+  pub law_of_sums : LawOfSums
+  pub law_of_occupation : LawOfOccupation
+  pub law_of_charges : LawOfCharges
   pub marked-boards : MarkedBoards
   pub requested_boards : RequestedBoards
+  pub report_boards : ReportsBoards
   pub theorem_h : TheoremH
   pub law_of_room : LawOfRoom
 

@@ -11,6 +11,8 @@ use Rattle.layout.specs.Tables.{Tables, tables, held as read_of}
 use Rattle.layout.specs.declared.Tables.{Tables as LentTables}
 use Rattle.layout.specs.Relations.{OpenedBy, RecordedBy, FinishedBy, InstalledBy, DaysInstalledBy, ClockGivenBy, FoundBy, TouchedBy, BlockGivenBy}
 use Rattle.layout.specs.Files.{WrittenBy, LoadedBy}
+use Rattle.info.specs.Info.{InfoGivenBy}
+use Rattle.info.specs.Answers.{summary_given}
 use Rattle.index_record.specs.Calls.{lent_operation, recorded}
 use Rattle.index_read.specs.Answers.{counts_given, fields_given}
 use Rattle.index.specs.Answers.{BytesGivenBy}
@@ -34,6 +36,7 @@ use Rattle.touching.specs.contracts.touching as touching-contract
 use Rattle.touching.specs.contracts.near as near-contract
 use Rattle.cells.specs.contracts.read_cells as cells-contract
 use Rattle.clock.specs.contracts.clock as clock-contract
+use Rattle.info.specs.contracts.info as info-contract
 use Rattle.spacetime_file.specs.contracts.serialize_to as write-contract
 use Rattle.spacetime_file.specs.contracts.deserialize as load-contract
 use Rattle.record_all.specs.contracts.record_all as all-contract
@@ -122,6 +125,8 @@ pub record Contracts : Type 0 where
       a.1.1.1.1.1.1.0.now e.1.1.1.1.1.1.0.now (answer_by (λ _. tt) x))
   pub clock : Says clock-contract.ended (clock-contract.clauses w₀.𝓛 w₀.𝓜.mem w₀.𝓡.returns) (λ κs a g. r_top) (λ κs a g x e. r_last _)
       (λ κs a x e. ClockGivenBy (held_read a) a.1.0 (answer_by (λ n. n) x))
+  pub info : Says info-contract.ended (info-contract.clauses w₀.𝓛 w₀.𝓜.mem w₀.𝓡.returns) (λ κs a g. r_top) (λ κs a g x e. r_last _)
+      (λ κs a x e. InfoGivenBy (held_read a) (answer_by summary_given x))
   pub serialize_to : Says write-contract.ended (write-contract.clauses w₀.𝓛 w₀.𝓜.mem w₀.𝓡.returns) (λ κs a g. r_top) (λ κs a g x e. r_last _)
       (λ κs a x e. WrittenBy (held_read a) a.1.0.now e.1.0.now (answer_by (λ n. n) x))
   pub deserialize : Says load-contract.ended (load-contract.clauses w₀.𝓛 w₀.𝓜.mem w₀.𝓡.returns) (λ κs a g. r_top) (λ κs a g x e. r_last _)

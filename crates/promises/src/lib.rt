@@ -74,8 +74,12 @@ pub fn of_history()
     history::law_of_neighbours();
     history::law_of_hours();
     history::law_of_days();
+    history::law_of_sums();
+    history::law_of_occupation();
+    history::law_of_charges();
     history::marked_boards();
     history::requested_boards();
+    history::report_boards();
     apart_laws::theorem_h();
     tree_room::law_of_room();
 }

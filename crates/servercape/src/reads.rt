@@ -1,9 +1,10 @@
-// The reads: block by number, find, touching, next, last, read cells and the clock.
+// The reads: block by number, find, touching, next, last, read cells, the clock and info.
 ghost use Rattle.layout.specs.Tables.{tables};
 ghost use Rattle.layout.specs.Relations.{ClockGivenBy, BlockGivenBy, FoundBy, TouchedBy, NextGivenBy, LastGivenBy};
 ghost use Rattle.cells.specs.Answers.{CellsReadBy};
 ghost use Rattle.find_all.specs.Many.{FoundAll};
-ghost use Rattle.servercape.specs.Numbers.{ByNumber, counts, near, fields};
+ghost use Rattle.info.specs.Info.{InfoGivenBy};
+ghost use Rattle.servercape.specs.Numbers.{ByNumber, counts, near, fields, summary};
 
 use crate::answers;
 use layout::Tables;
@@ -234,4 +235,27 @@ pub fn servercape_clock(
     };
     let shown = clock::clock(lent, cell);
     answers::number(shown, label)
+}
+
+// What stands in an index, open or closed.
+pub fn servercape_info(
+    pieces: &[u64],
+    blocks: &[u64],
+    store: &[u8],
+    nodes: &[u64],
+    entries: &[u64],
+    info: &mut answers::Info,
+) -> u64
+    ensures { ByNumber (InfoGivenBy
+        (tables pieces.now blocks.now store.now nodes.now entries.now)) result
+        (summary info.old) (summary info.new) }
+{
+    let lent = Tables {
+        pieces,
+        blocks,
+        store,
+        nodes,
+        entries,
+    };
+    answers::standing(info::info(lent), info)
 }

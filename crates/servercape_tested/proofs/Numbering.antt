@@ -17,16 +17,19 @@ use Rattle.index_read.specs.declared.Block.{Block}
 use Rattle.index_read.specs.declared.Found.{Found}
 use Rattle.std.specs.Prelude.{Option}
 use Rattle.touching_read.specs.Answers.{near_told}
+use Rattle.info.specs.Info.{Summary}
+use Rattle.info.specs.Answers.{summary_given}
+use Rattle.info.specs.declared.Summary.{Summary as Given}
 use Rattle.std.specs.Prelude.{Result}
 use Rattle.refusals.specs.declared.Refusal.{Refusal}
 use Rattle.refusals.specs.Numbers.{answer_by}
 use Rattle.index_tested.specs.Kept.{Kept}
 use Rattle.index_tested.specs.Tested.{RecordedTested, FoundTested, BlockTested}
 use Rattle.index_tested.proofs.Keeping.{test_keeps}
-use Rattle.reads_tested.specs.Tested.{TouchedTested, NextTested, LastTested, CellsTested, WrittenTested, ClockTested}
+use Rattle.reads_tested.specs.Tested.{TouchedTested, NextTested, LastTested, CellsTested, WrittenTested, ClockTested, InfoTested}
 use Rattle.servercape.specs.Numbers.{Handed, told_by, flagged, changes, near}
 use Rattle.servercape.proofs.Answering.{by_number, by_done, by_near, by_change}
-use Rattle.servercape_tested.specs.States.{StateTold, RecordedAs, FoundAs, BlockAs, TouchedAs, NextAs, LastAs, CellsAs, WrittenAs, ClockAs}
+use Rattle.servercape_tested.specs.States.{StateTold, RecordedAs, FoundAs, BlockAs, TouchedAs, NextAs, LastAs, CellsAs, WrittenAs, ClockAs, InfoAs}
 
 -- ── the state ──
 
@@ -87,3 +90,7 @@ module _ {n : ℕ} {s : State} (at : s ≡ state_numbered n) where
   pub clock_by : {b : List ℕ} {cell m before after : ℕ} {x : Result ℕ Refusal}
       → ClockTested s b cell (answer_by (λ i. i) x) → Handed (λ i. i) x m before after → ClockAs n b cell m before after
   clock_by {x = x} told h = record { done = λ p st no e k. by_number (λ i. i) x (told.done p st no e (into at k)) h }
+
+  pub info_by : {p b no e : List ℕ} {m : ℕ} {before after : Summary} {x : Result Given Refusal}
+      → InfoTested s p b no e (answer_by summary_given x) → Handed summary_given x m before after → InfoAs n p b no e m before after
+  info_by {x = x} told h = record { done = λ st k. by_number summary_given x (told.done st (into at k)) h }

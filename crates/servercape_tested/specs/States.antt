@@ -6,6 +6,7 @@ use Rattle.layout.specs.Tables.{Tables, tables}
 use Rattle.layout.specs.Relations.{RecordedBy, Counts, FoundBy, Fields, BlockGivenBy, TouchedBy, Near, NextGivenBy, LastGivenBy, ClockGivenBy}
 use Rattle.layout.specs.Files.{WrittenBy}
 use Rattle.cells.specs.Answers.{CellsReadBy}
+use Rattle.info.specs.Info.{Summary, InfoGivenBy}
 use Rattle.index_test.specs.States.{state_numbered}
 use Rattle.index_tested.specs.Kept.{Kept}
 use Rattle.servercape.specs.Numbers.{ByNumber, ToldAs, Changes, changes_of}
@@ -63,3 +64,8 @@ pub record WrittenAs (state : ℕ) (blocks store nodes entries out out' : List �
 pub record ClockAs (state : ℕ) (blocks : List ℕ) (cell r before after : ℕ) : Type 0 where
   pub done : (pieces store nodes entries : List ℕ) → Kept (state_numbered state) (tables pieces blocks store nodes entries)
       → ByNumber (ClockGivenBy (tables pieces blocks store nodes entries) cell) r before after
+
+-- `servercape_info_tested`
+pub record InfoAs (state : ℕ) (pieces blocks nodes entries : List ℕ) (r : ℕ) (before after : Summary) : Type 0 where
+  pub done : (store : List ℕ) → Kept (state_numbered state) (tables pieces blocks store nodes entries)
+      → ByNumber (InfoGivenBy (tables pieces blocks store nodes entries)) r before after

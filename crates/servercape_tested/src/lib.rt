@@ -11,8 +11,8 @@
 ghost use Rattle.std.specs.Prelude.{length};
 ghost use Rattle.layout.specs.Tables.{tables};
 ghost use Rattle.index_record.specs.Calls.{operation};
-ghost use Rattle.servercape.specs.Numbers.{changes, counts, near, fields};
-ghost use Rattle.servercape_tested.specs.States.{StateTold, RecordedAs, FoundAs, BlockAs, TouchedAs, NextAs, LastAs, CellsAs, WrittenAs, ClockAs};
+ghost use Rattle.servercape.specs.Numbers.{changes, counts, near, fields, summary};
+ghost use Rattle.servercape_tested.specs.States.{StateTold, RecordedAs, FoundAs, BlockAs, TouchedAs, NextAs, LastAs, CellsAs, WrittenAs, ClockAs, InfoAs};
 
 use index::Operation;
 use index_test::State;
@@ -290,4 +290,20 @@ pub fn servercape_clock_tested(state: u64, blocks: &[u64], cell: u64, label: &mu
 {
     let shown = reads_tested::clock_tested(State::from(state), blocks, cell);
     answers::number(shown, label)
+}
+
+// What stands in an index, open or closed.
+pub fn servercape_info_tested(
+    state: u64,
+    pieces: &[u64],
+    blocks: &[u64],
+    nodes: &[u64],
+    entries: &[u64],
+    info: &mut answers::Info,
+) -> u64
+    ensures { InfoAs state pieces.now blocks.now nodes.now entries.now result
+        (summary info.old) (summary info.new) }
+{
+    let told = reads_tested::info_tested(State::from(state), pieces, blocks, nodes, entries);
+    answers::standing(told, info)
 }
