@@ -14,6 +14,9 @@ use Rattle.index_record.specs.Calls.{recorded}
 use Rattle.index_read.specs.Answers.{counts_given, fields_given}
 use Rattle.index_read.specs.declared.Found.{Found}
 use Rattle.index_read.specs.declared.Block.{Block}
+use Rattle.history.specs.Occupation as history
+use Rattle.occupation.specs.declared.Report.{Report}
+use Rattle.occupation.specs.Windows.{report_given}
 use Rattle.refusals.specs.Numbers.{answer_by}
 use Rattle.refusals.proofs.Numbers.{result_back, result_same}
 use Rattle.std.specs.Prelude.{Option, Some, None}
@@ -65,6 +68,9 @@ near_same : (x : Option ℕ) → near_back (near_told x) ≡ x
 near_same (Some k) = refl
 near_same None = refl
 
+abbrev report_back : history.Report → Report
+report_back r = record { fraction = record { part = r.fraction.part; whole = r.fraction.whole }; tenths = r.tenths }
+
 -- ── all of them ──
 
 pub meanings : Meanings
@@ -80,6 +86,7 @@ meanings = record {
   touching = undone (answer_by (λ n. n)) (result_back (λ n. n)) (result_same (λ n. n) (λ n. n) (λ _. refl));
   neighbours = undone (answer_by near_told) (result_back near_back) (result_same near_told near_back near_same);
   read_cells = undone (answer_by (λ _. tt)) (result_back (λ _. tt)) (result_same (λ _. tt) (λ _. tt) (λ _. refl));
+  occupation = undone (answer_by report_given) (result_back report_back) (result_same report_given report_back (λ _. refl));
   serialize_to = undone (answer_by (λ n. n)) (result_back (λ n. n)) (result_same (λ n. n) (λ n. n) (λ _. refl));
   deserialize = undone (answer_by (λ n. n)) (result_back (λ n. n)) (result_same (λ n. n) (λ n. n) (λ _. refl));
 }

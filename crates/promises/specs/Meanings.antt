@@ -5,6 +5,7 @@ use Rattle.index_record.specs.Calls.{recorded}
 use Rattle.index_read.specs.Answers.{counts_given, fields_given}
 use Rattle.history.specs.Results.{done}
 use Rattle.refusals.specs.Numbers.{answer_by}
+use Rattle.occupation.specs.Windows.{report_given}
 use Rattle.touching_read.specs.Answers.{near_told}
 
 -- a meaning is injective
@@ -26,5 +27,6 @@ pub record Meanings : Type 0 where
   -- next and last
   pub neighbours : Injective (answer_by near_told)
   pub read_cells : Injective (answer_by (λ (u : Unit {0}). tt {0}))
+  pub occupation : Injective (answer_by report_given)
   pub serialize_to : Injective (answer_by (λ (n : ℕ). n))
   pub deserialize : Injective (answer_by (λ (n : ℕ). n))

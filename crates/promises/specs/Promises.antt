@@ -17,6 +17,7 @@ use Rattle.index_test.specs.Law.{TestDecides}
 use Rattle.demand.specs.Theorem.{Demand3}
 use Rattle.demand.specs.Cells.{CellsShown}
 use Rattle.demand.specs.Touching.{TouchingShown}
+use Rattle.reports_law.specs.Occupation.{OccupationShown}
 use Rattle.record_all.specs.Law.{WrittenOut}
 use Rattle.index_tested.specs.Law.{TestKeeps, FinishCloses}
 use Rattle.sessions.specs.Law.{Sessions}
@@ -36,6 +37,7 @@ pub record OfCalls : Type 0 where
   pub demand_3 : Demand3
   pub shows-history : CellsShown
   pub touching_shows-history : TouchingShown
+  pub occupation_shows_history : OccupationShown
   pub records_written_out : WrittenOut
   pub contracts_are_relations : Contracts
   pub answers-told : Meanings

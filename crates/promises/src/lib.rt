@@ -45,6 +45,7 @@ pub fn of_calls()
     demand::demand_3();
     demand::shows_history();
     demand::touching_shows_history();
+    reports_law::occupation_shows_history();
     record_all::records_written_out();
     contracts_are_relations();
     answers_told();

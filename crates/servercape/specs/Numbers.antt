@@ -5,6 +5,7 @@ use Rattle.refusals.specs.declared.Refusal.{Refusal}
 use Rattle.refusals.specs.Numbers.{number_of}
 use Rattle.history.specs.Results.{Result, done, read, update, number as counted}
 use Rattle.history.specs.Refusals.{Answer, accepted, refused}
+use Rattle.history.specs.Occupation.{Report}
 use Rattle.layout.specs.Reads.{values_of}
 use Rattle.layout.specs.Relations.{Counts, Near, Fields}
 use Rattle.info.specs.Info.{Summary}
@@ -86,3 +87,7 @@ summary i =
       nodes = i.nodes;
       entries = i.entries;
     }
+
+-- a fraction reduced fully, and tenths of a percent
+abbrev pub report : (occupied cells tenths : ℕ) → Report
+report occupied cells tenths = record { fraction = record { part = occupied; whole = cells }; tenths = tenths }

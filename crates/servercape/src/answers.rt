@@ -2,11 +2,13 @@
 ghost use Rattle.std.specs.Prelude.{◌≡◌};
 ghost use Rattle.index_read.specs.Answers.{counts_given, fields_given};
 ghost use Rattle.info.specs.Answers.{summary_given};
-ghost use Rattle.servercape.specs.Numbers.{Handed, told_by, flagged, counts, fields, summary};
+ghost use Rattle.servercape.specs.Numbers.{Handed, told_by, flagged, counts, fields, summary, report};
+ghost use Rattle.occupation.specs.Windows.{report_given};
 
 use index::{Block, Found};
 use info::Summary;
 use refusals::Refusal;
+use reports::Report;
 
 // A result that gives nothing.
 pub fn done(answer: Result<(), Refusal>) -> u64
@@ -120,6 +122,27 @@ pub fn standing(answer: Result<Summary, Refusal>, info: &mut Info) -> u64
                 nodes: told.nodes,
                 entries: told.entries,
             };
+            0
+        }
+        Err(refusal) => u64::from(refusal),
+    }
+}
+
+/// The occupation report: its fraction reduced, and tenths of a percent.
+pub fn report(
+    answer: Result<Report, Refusal>,
+    occupied: &mut u64,
+    cells: &mut u64,
+    tenths: &mut u64,
+) -> u64
+    ensures { Handed report_given answer result
+        (report occupied.old cells.old tenths.old) (report occupied.new cells.new tenths.new) }
+{
+    match answer {
+        Ok(reported) => {
+            *occupied = reported.fraction.part;
+            *cells = reported.fraction.whole;
+            *tenths = reported.tenths;
             0
         }
         Err(refusal) => u64::from(refusal),

@@ -11,11 +11,12 @@ ghost use Rattle.history.specs.Results.{done};
 ghost use Rattle.layout.specs.Files.{WrittenBy, LoadedBy};
 ghost use Rattle.index_record.specs.Calls.{operation};
 ghost use Rattle.cells.specs.Answers.{CellsReadBy};
+ghost use Rattle.occupation_read.specs.Answers.{OccupationReportedBy};
 ghost use Rattle.record_all.specs.Many.{RecordedAll};
 ghost use Rattle.find_all.specs.Many.{FoundAll};
 ghost use Rattle.lengths.specs.Lengths.{length_for};
 ghost use Rattle.info.specs.Info.{InfoGivenBy};
-ghost use Rattle.servercape.specs.Numbers.{ByNumber, ToldAs, changes, changes_of, counts, near, fields, summary};
+ghost use Rattle.servercape.specs.Numbers.{ByNumber, ToldAs, changes, changes_of, counts, near, fields, summary, report};
 
 use servercape::answers::Info;
 
@@ -322,6 +323,30 @@ pub extern "C" fn servercape_read_cells(
 {
     servercape::reads::servercape_read_cells(
         pieces, blocks, store, nodes, entries, kind, tick, start, end, bytes, held,
+    )
+}
+
+/// The occupation of some windows of a kind at a tick: occupied cells over all cells, reduced fully, and in tenths of a percent. Windows are pairs, start and end.
+#[unsafe(no_mangle)]
+pub extern "C" fn servercape_occupation(
+    pieces: &[u64],
+    blocks: &[u64],
+    store: &[u8],
+    nodes: &[u64],
+    entries: &[u64],
+    kind: u8,
+    tick: u64,
+    windows: &[u64],
+    occupied: &mut u64,
+    cells: &mut u64,
+    tenths: &mut u64,
+) -> u64
+    ensures { ByNumber (OccupationReportedBy
+        (tables pieces.now blocks.now store.now nodes.now entries.now) kind tick windows.now) result
+        (report occupied.old cells.old tenths.old) (report occupied.new cells.new tenths.new) }
+{
+    servercape::reads::servercape_occupation(
+        pieces, blocks, store, nodes, entries, kind, tick, windows, occupied, cells, tenths,
     )
 }
 

@@ -29,7 +29,11 @@ use Rattle.index_tested.proofs.Keeping.{test_keeps}
 use Rattle.reads_tested.specs.Tested.{TouchedTested, NextTested, LastTested, CellsTested, WrittenTested, ClockTested, InfoTested}
 use Rattle.servercape.specs.Numbers.{Handed, told_by, flagged, changes, near}
 use Rattle.servercape.proofs.Answering.{by_number, by_done, by_near, by_change}
-use Rattle.servercape_tested.specs.States.{StateTold, RecordedAs, FoundAs, BlockAs, TouchedAs, NextAs, LastAs, CellsAs, WrittenAs, ClockAs, InfoAs}
+use Rattle.servercape_tested.specs.States.{StateTold, RecordedAs, FoundAs, BlockAs, TouchedAs, NextAs, LastAs, CellsAs, WrittenAs, ClockAs, InfoAs, OccupationAs}
+use Rattle.history.specs.Occupation as history
+use Rattle.occupation.specs.declared.Report.{Report}
+use Rattle.occupation.specs.Windows.{report_given}
+use Rattle.reports_tested.specs.Tested.{OccupationTested}
 
 -- ── the state ──
 
@@ -82,6 +86,11 @@ module _ {n : ℕ} {s : State} (at : s ≡ state_numbered n) where
   pub cells_by : {b st no e : List ℕ} {kind tick start stop : ℕ} {bytes bytes' held held' : List ℕ} {m : ℕ} (x : Result Unit Refusal)
       → CellsTested s b st no e kind tick start stop bytes bytes' held held' (answer_by (λ _. tt) x) → m ≡ told_by x → CellsAs n b st no e kind tick start stop bytes bytes' held held' m
   cells_by x told h = record { done = λ p k. by_done x (told.done p (into at k)) h }
+
+  pub occupation_by : {b st no e : List ℕ} {kind tick : ℕ} {windows : List ℕ} {m : ℕ} {before after : history.Report} {x : Result Report Refusal}
+      → OccupationTested s b st no e kind tick windows (answer_by report_given x) → Handed report_given x m before after
+      → OccupationAs n b st no e kind tick windows m before after
+  occupation_by {x = x} told h = record { done = λ p k. by_number report_given x (told.done p (into at k)) h }
 
   pub write_by : {b st no e out out' : List ℕ} {m before after : ℕ} {x : Result ℕ Refusal}
       → WrittenTested s b st no e out out' (answer_by (λ i. i) x) → Handed (λ i. i) x m before after → WrittenAs n b st no e out out' m before after

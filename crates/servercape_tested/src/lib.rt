@@ -11,8 +11,8 @@
 ghost use Rattle.std.specs.Prelude.{length};
 ghost use Rattle.layout.specs.Tables.{tables};
 ghost use Rattle.index_record.specs.Calls.{operation};
-ghost use Rattle.servercape.specs.Numbers.{changes, counts, near, fields, summary};
-ghost use Rattle.servercape_tested.specs.States.{StateTold, RecordedAs, FoundAs, BlockAs, TouchedAs, NextAs, LastAs, CellsAs, WrittenAs, ClockAs, InfoAs};
+ghost use Rattle.servercape.specs.Numbers.{changes, counts, near, fields, summary, report};
+ghost use Rattle.servercape_tested.specs.States.{StateTold, RecordedAs, FoundAs, BlockAs, TouchedAs, NextAs, LastAs, CellsAs, WrittenAs, ClockAs, InfoAs, OccupationAs};
 
 use index::Operation;
 use index_test::State;
@@ -260,6 +260,39 @@ pub fn servercape_read_cells_tested(
         held,
     );
     answers::done(read)
+}
+
+/// The occupation of some windows of a kind at a tick: occupied cells over all cells, reduced fully, and in tenths of a percent.
+pub fn servercape_occupation_tested(
+    state: u64,
+    blocks: &[u64],
+    store: &[u8],
+    nodes: &[u64],
+    entries: &[u64],
+    kind: u8,
+    tick: u64,
+    windows: &[u64],
+    occupied: &mut u64,
+    cells: &mut u64,
+    tenths: &mut u64,
+) -> u64
+    ensures { OccupationAs state blocks.now store.now nodes.now entries.now kind tick windows.now result
+        (report occupied.old cells.old tenths.old) (report occupied.new cells.new tenths.new) }
+{
+    let closed = Closed {
+        blocks,
+        nodes,
+        entries,
+    };
+    let reported = reports_tested::occupation_tested(
+        State::from(state),
+        &closed,
+        store,
+        kind,
+        tick,
+        windows,
+    );
+    answers::report(reported, occupied, cells, tenths)
 }
 
 // Writes the file of a finished or loaded index from the start of `out` on: how many bytes.
