@@ -259,6 +259,24 @@ uint64_t servercape_last(
     uint8_t kind, uint64_t tick, uint64_t cell,
     uint64_t *found, uint64_t *number);
 
+/* How many cells of some windows of a kind are occupied at a tick: held, with a byte other than 0.
+   The windows are pairs of numbers, start and end; a last start without its end has the end 0. They
+   may be of several platforms and overlap: all are taken together, and a cell that several of them
+   have counts for each. `occupied` / `cells` is that fraction of all cells, reduced fully, and 0 / 1
+   where none is occupied. `tenths` of a percent are from 0 to 1,000: the nearest, and of two that
+   are as near the even one. It takes the time of the live blocks in the windows.
+   Refusals 2, 4, 25, 14, 15 of any window, 37: there is no cell in any window, or there are more
+   than 256 windows, or more than 2^32 cells in all of them together. */
+uint64_t servercape_occupation(
+    const uint64_t *pieces, size_t pieces_length,
+    const uint64_t *blocks, size_t blocks_length,
+    const uint8_t *store, size_t store_length,
+    const uint64_t *nodes, size_t nodes_length,
+    const uint64_t *entries, size_t entries_length,
+    uint8_t kind, uint64_t tick,
+    const uint64_t *windows, size_t windows_length,
+    uint64_t *occupied, uint64_t *cells, uint64_t *tenths);
+
 /* Writes the file of an index from the start of `out` on; `written` says how many bytes. Where several kinds have blocks, their trees stand one behind the other,
    by kind code, each with its own blocks, numbered from 0: each is a file that servercape_load takes.
    Refusals 2, 4, 16. */

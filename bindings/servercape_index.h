@@ -758,6 +758,31 @@ static inline uint64_t servercape_index_read_cells(const struct servercape_index
                                         length ? held : none + 1, length);
 }
 
+/* How many cells of some windows of a kind are occupied at a tick, of all of them together:
+   `occupied` / `cells`, reduced fully, and in tenths of a percent. The windows are pairs of numbers,
+   start and end. Refusals 2, 4, 25, 14, 15 of any window, 37. */
+static inline uint64_t servercape_index_occupation(const struct servercape_index *index,
+                                                   uint8_t kind, uint64_t tick,
+                                                   const uint64_t *windows, size_t windows_length,
+                                                   uint64_t *occupied, uint64_t *cells,
+                                                   uint64_t *tenths)
+{
+    const uint64_t none = 0;
+    uint64_t refused, part = 0, whole = 0, share = 0;
+    if (index->state == SERVERCAPE_NOT_WELL_FORMED)
+        return SERVERCAPE_INDEX_NOT_OPENED;
+    refused = servercape_occupation_tested(
+        index->state, SERVERCAPE_INDEX_BLOCKS(index), SERVERCAPE_INDEX_STORE(index),
+        SERVERCAPE_INDEX_TREE(index), kind, tick, windows_length ? windows : &none, windows_length,
+        &part, &whole, &share);
+    if (!refused) {
+        servercape_index_tell(occupied, part);
+        servercape_index_tell(cells, whole);
+        servercape_index_tell(tenths, share);
+    }
+    return refused;
+}
+
 /* ── files ── */
 
 /* The file of an index, in place of what `file` had: a part for each kind that has blocks, one

@@ -21,6 +21,14 @@ namespace servercape
 using Numbers = std::vector<std::uint64_t>;
 using Bytes = std::vector<std::uint8_t>;
 
+// The cells from the first up to, and not including, the second.
+using Window = std::pair<std::uint64_t, std::uint64_t>;
+
+// How much of some windows is occupied: a fraction that is reduced fully, and tenths of a percent.
+struct Occupation {
+    std::uint64_t occupied, cells, tenths;
+};
+
 // A kind of space. An index is opened with one or more, and a cell of one kind is none of another.
 enum class Kind : std::uint8_t {
     constant = SERVERCAPE_CONSTANT,
@@ -196,6 +204,19 @@ public:
             if (held[k])
                 cells[k] = bytes[k];
         return cells;
+    }
+
+    // All windows together: a cell that several of them have counts for each.
+    Occupation occupation(Kind kind, std::uint64_t tick, const std::vector<Window> &windows) const
+    {
+        Numbers numbers;
+        for (const Window &window : windows)
+            numbers.insert(numbers.end(), {window.first, window.second});
+        Occupation told{};
+        accepted(servercape_index_occupation(&index_, code(kind), tick, numbers.data(),
+                                             numbers.size(), &told.occupied, &told.cells,
+                                             &told.tenths));
+        return told;
     }
 
     Bytes write() const

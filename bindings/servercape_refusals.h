@@ -82,7 +82,10 @@ enum servercape_refusal {
     SERVERCAPE_REFUSED_WRONG_CALENDAR = 27,
     /* install of a list of days: the list of days is wrong: there are more than 64, they do not
        ascend, or one has another length than 1380 or 1500 minutes */
-    SERVERCAPE_REFUSED_WRONG_DAYS = 28
+    SERVERCAPE_REFUSED_WRONG_DAYS = 28,
+    /* occupation: the windows have no cell, or there are more than 256 windows, or more than 2^32
+       cells in all of them together */
+    SERVERCAPE_REFUSED_WRONG_WINDOWS = 37
 };
 
 /* The condition of a refusal in words, to be read behind its number. */
@@ -160,6 +163,10 @@ static inline const char *servercape_refusal_text(uint64_t number)
         return
             "the list of days is wrong: there are more than 64, they do not ascend, or one has "
             "another length than 1380 or 1500 minutes";
+    case SERVERCAPE_REFUSED_WRONG_WINDOWS:
+        return
+            "the windows have no cell, or there are more than 256 windows, or more than 2^32 "
+            "cells in all of them together";
     default:
         return "refused for a reason that this header does not know";
     }
@@ -235,6 +242,10 @@ static inline const char *servercape_refusal_advice(uint64_t number)
         return "correct the calendar; the one before still counts";
     case SERVERCAPE_REFUSED_WRONG_DAYS:
         return "correct the list of days; the one before still counts";
+    case SERVERCAPE_REFUSED_WRONG_WINDOWS:
+        return
+            "leave a report on no cell out; report on fewer windows at once, of which a whole "
+            "platform has 2^32 cells";
     default:
         return "take the header of the library that is linked";
     }

@@ -117,6 +117,17 @@ uint64_t servercape_last_tested(
     uint8_t kind, uint64_t tick, uint64_t cell,
     uint64_t *found, uint64_t *number);
 
+/* servercape_occupation. */
+uint64_t servercape_occupation_tested(
+    uint64_t state,
+    const uint64_t *blocks, size_t blocks_length,
+    const uint8_t *store, size_t store_length,
+    const uint64_t *nodes, size_t nodes_length,
+    const uint64_t *entries, size_t entries_length,
+    uint8_t kind, uint64_t tick,
+    const uint64_t *windows, size_t windows_length,
+    uint64_t *occupied, uint64_t *cells, uint64_t *tenths);
+
 /* servercape_write. */
 uint64_t servercape_write_tested(
     uint64_t state,

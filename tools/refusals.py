@@ -46,8 +46,8 @@ def advice(row: Refusal) -> str:
 def read_refusals(path: Path) -> list[Refusal]:
     rows = [Refusal(**row) for row in tomllib.loads(path.read_text("utf-8"))["refusal"]]
     numbers = [row.number for row in rows]
-    if numbers != sorted(numbers) or set(numbers) != set(range(1, numbers[-1] + 1)):
-        raise ValueError("refusals.toml: numbers ascend from 1, and none is left out")
+    if numbers != sorted(numbers) or numbers[0] != 1:
+        raise ValueError("refusals.toml: numbers ascend from 1")
     return rows
 
 
@@ -175,7 +175,8 @@ def rust_variant(row: Refusal) -> str:
 
 
 def refusals_rs(rows: list[Refusal]) -> str:
-    numbered = [several[0].name for several in by_number(rows).values()]
+    names = {number: several[0].name for number, several in by_number(rows).items()}
+    numbered = [names.get(number, f"Other({number})") for number in range(1, max(names) + 1)]
     table = "\n".join(wrapped("".join(f"Refusal::{name}, " for name in numbered), "    "))
     numbers = "".join(f"            Refusal::{row.name} => {row.number},\n" for row in rows)
     more = " | ".join(f"Refusal::{row.name}" for row in rows if row.no_room)
@@ -195,7 +196,7 @@ pub enum Refusal {{
     Other(u64),
 }}
 
-/// By number; where two share one, the first of them.
+/// By number; where two share one, the first of them, and `Other` where there is none.
 pub(crate) const NUMBERED: [Refusal; {len(numbered)}] = [
 {table}
 ];

@@ -2,7 +2,7 @@
 """Makes the stored list that the program `replay` plays: calls with their answers, as its standard input.
 
   stored.py make VECTORS FILE [ORACLE]   from the oracle's list, the boards of marked.txt and the own cases (stored_cases.py, _touching, _changes, _scratch,
-                                         _hours, _days, _kinds)
+                                         _hours, _days, _kinds, _occupation)
   stored.py show FILE [CASE]             the list, or one case of it, in words; cases count from 1
   stored.py spoil VECTORS FILE           the same cases, each up to a call whose answer is changed: replay must say that one of each differs
   stored.py --test                       tries itself: the model gives every answer of marked.txt, and rows are read as they were written
@@ -19,12 +19,13 @@ from board_oracle import compare
 from stored_cases import Dice, own_cases
 from stored_changes import change_cases
 from stored_rows import (
-    BLOCK, CALENDAR, CASE, CELLS, CLOCK, DAMAGED, DAYS, FIND, FINISH, KIND, LAST, LOAD, NEXT, OPEN, OWN, PART, RECORD, SCRATCH, TOUCHING, WRITE, Part, line, number,
-    read_number, row, rows_of
+    BLOCK, CALENDAR, CASE, CELLS, CLOCK, DAMAGED, DAYS, FIND, FINISH, KIND, LAST, LOAD, NEXT, OCCUPATION, OPEN, OWN, PART, RECORD, SCRATCH, TOUCHING, WRITE, Part, line,
+    number, read_number, row, rows_of
 )
 from stored_days import days_cases
 from stored_hours import hours_cases
 from stored_kinds import kinds_cases
+from stored_occupation import occupation_cases
 from stored_scratch import scratch_cases
 from stored_touching import touching_cases
 
@@ -37,12 +38,12 @@ from servercape.library import library
 # The tables, as `servercape_length` counts them.
 PIECE_TABLE, BLOCK_TABLE, STORE_TABLE, NODE_TABLE, ENTRY_TABLE = range(5)
 
-# What the program has room for: rows of each table, bytes of store, numbers of a scratch, places of an answer, cells, bytes of a file, numbers of a calendar
-# or of a list of days. A kind is a byte.
+# What the program has room for: rows of each table, bytes of store, numbers of a scratch, places of an answer, cells, bytes of a file, numbers of a calendar,
+# of a list of days or of windows. A kind is a byte.
 PIECES, BLOCKS, STORE, NODES, ENTRIES = 64, 256, 4103, 4096, 8195
 SCRATCH_MOST = 8 * PIECES + 7
 ANSWER, WINDOW, FILE = 64, 64, 16384
-INSTALLED_MOST = 1300
+NUMBERS = 1300
 
 
 # An index of which clock labels are asked alone.
@@ -122,18 +123,21 @@ class Case:
         start, length = self.bytes(words[2])
         return RECORD, [int(words[0]), int(words[1]), start, length] + ([1, int(answer[1])] if answer[:1] == ["update"] else [])
 
-    def installed(self, word):
+    def numbers_of(self, word):
         """Numbers in the pool, and how many they are."""
         numbers = listed(word)
-        fits(len(numbers), INSTALLED_MOST)
+        fits(len(numbers), NUMBERS)
         data = b"".join(map(number, numbers))
         return [self.part.place(data), len(data), len(numbers)]
 
     def calendar(self, words, answer):
-        return CALENDAR, self.installed(words[0])
+        return CALENDAR, self.numbers_of(words[0])
 
     def days(self, words, answer):
-        return DAYS, self.installed(words[0])
+        return DAYS, self.numbers_of(words[0])
+
+    def occupation(self, words, answer):
+        return OCCUPATION, [int(words[0])] + self.numbers_of(words[1]) + list(map(int, answer))
 
     def finish(self, words, answer):
         return FINISH, list(map(int, answer))
@@ -296,7 +300,7 @@ def tell(stored, vectors, whole):
 
 
 def own_lists():
-    return [(name, [list(map(str, call)) for call in calls]) for name, calls in own_cases() + touching_cases() + change_cases() + scratch_cases() + hours_cases() + days_cases() + kinds_cases()]
+    return [(name, [list(map(str, call)) for call in calls]) for name, calls in own_cases() + touching_cases() + change_cases() + scratch_cases() + hours_cases() + days_cases() + kinds_cases() + occupation_cases()]
 
 
 def put_out(vectors, own, out):
@@ -403,7 +407,7 @@ def test():
     lines = [line(*r) for start in range(0, len(stored.bytes()), PART) for r in rows_of(stored.bytes()[start:start + PART])]
     assert lines.count("own case") == len(marked) and len(lines) == len(marked) + sum(map(len, marked))
     said = {n for case in marked for _, answer in case for n in answer[1:] if answer[0] == "refused"}
-    assert said == {str(n) for n in range(1, 29)}, "marked.txt has the edge of each refusal"
+    assert said == set(map(str, (*range(1, 29), 37))), "marked.txt has the edge of each refusal"
     assert [run_of(word) for word in broken(Dice(1), ["17*5"])] != [(17, 5)]
     print("stored: ok")
 

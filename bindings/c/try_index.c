@@ -160,6 +160,30 @@ static void same_window(const struct servercape_index *x, struct lent y, uint8_t
     same("their marks", (uint64_t)memcmp(marks[0], marks[1], CELLS), 0);
 }
 
+/* Reports on none, one and several windows by both; values that are not wanted are left out. */
+static void same_reports(const struct servercape_index *x, struct lent y, uint8_t kind,
+                         uint64_t tick)
+{
+    uint64_t windows[2 * 257], told[3], other[3];
+    for (size_t k = 0; k < 257; k++) {
+        windows[2 * k] = below(75);
+        windows[2 * k + 1] = windows[2 * k] + below(75) - (below(400) ? 0 : 1);
+    }
+    for (size_t length = 0; length <= 514; length += 1 + below(40)) {
+        told[0] = told[1] = told[2] = other[0] = other[1] = other[2] = 77;
+        same("occupation",
+             servercape_index_occupation(x, kind, tick, length ? windows : NULL, length, &told[0],
+                                         &told[1], &told[2]),
+             servercape_occupation(TABLES(y), kind, tick, windows, length, &other[0], &other[1],
+                                   &other[2]));
+        same("its values", (uint64_t)memcmp(told, other, sizeof told), 0);
+    }
+    same("values that are left out",
+         servercape_index_occupation(x, kind, tick, windows, 2, NULL, NULL, NULL),
+         servercape_occupation(TABLES(y), kind, tick, windows, 2, &other[0], &other[1],
+                               &other[2]));
+}
+
 static void same_reads(const struct servercape_index *x, struct lent y, uint64_t end)
 {
     struct servercape_numbers found = {0};
@@ -171,7 +195,10 @@ static void same_reads(const struct servercape_index *x, struct lent y, uint64_t
                                  : below(2)     ? SERVERCAPE_MEMORY
                                                 : SERVERCAPE_OTHER);
         uint64_t a = 77, b = 77, cell = below(UINT64_C(1) << 31);
-        same_window(x, y, kind, below(10) ? below(end) : end, below(75), below(75), &found);
+        uint64_t tick = below(10) ? below(end) : end;
+        same_window(x, y, kind, tick, below(75), below(75), &found);
+        if (k % 10 == 0)
+            same_reports(x, y, kind, tick);
         same("clock", servercape_index_clock(x, cell, &a), servercape_clock(TABLES(y), cell, &b));
         same("its label", a, b);
     }
@@ -459,6 +486,7 @@ static void not_opened(void)
     same("next", servercape_index_next(&none, 1, 0, 0, NULL, NULL), 2);
     same("last", servercape_index_last(&none, 1, 0, 0, NULL, NULL), 2);
     same("cells", servercape_index_read_cells(&none, 1, 0, 0, 0, NULL, NULL, 0), 2);
+    same("occupation", servercape_index_occupation(&none, 1, 0, NULL, 0, NULL, NULL, NULL), 2);
     same("clock", servercape_index_clock(&none, 0, NULL), 2);
     same("write", servercape_index_write(&none, &file), 2);
     same("clone", servercape_index_clone(&copy, &none), 2);

@@ -56,6 +56,8 @@ void read(const Index &index)
     check("cells",
           cells.size() == 4 && cells[0] == 9 && cells[1] == 4 && cells[2] == 9 && !cells[3]);
     check("no cells", index.cells(Kind::memory, 6, 5, 5).empty());
+    const auto half = index.occupation(Kind::memory, 6, {{99, 103}, {103, 109}});
+    check("occupation", half.occupied == 1 && half.cells == 2 && half.tenths == 500);
     check("a block", index.block(3).first == 102 && index.block(3).length == 1 &&
                          index.block(3).bytes[0] == 9);
     check("a label", index.clock(102) == 142);
@@ -100,6 +102,9 @@ void refusals()
     index.finish();
     check("finished twice", refused([&] { index.finish(); }) == 3);
     check("a window turned round", refused([&] { index.cells(Kind::memory, 0, 2, 1); }) == 15);
+    check("a report on no window",
+          refused([&] { index.occupation(Kind::memory, 0, {}); }) == 37 &&
+              refused([&] { index.occupation(Kind::memory, 0, {{2, 1}}); }) == 15);
     check("a cut file", refused([] { Index::load(Bytes(3)); }) == 17);
     check("the file's end", refused([] { Index::load({}); }) == 17);
 }

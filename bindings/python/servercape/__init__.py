@@ -11,5 +11,6 @@ from .index import Block, Found, Index, Kind, Operation
 from .library import VERSION as __version__
 from .places import Place
 from .refusal import ADVICE, WORDS, Refused
+from .reports import Occupation
 
-__all__ = ["ADVICE", "Block", "Days", "Found", "Index", "Kind", "Operation", "Place", "Refused", "WORDS", "__version__"]
+__all__ = ["ADVICE", "Block", "Days", "Found", "Index", "Kind", "Occupation", "Operation", "Place", "Refused", "WORDS", "__version__"]

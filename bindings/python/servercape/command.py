@@ -20,8 +20,9 @@ from .index import Block, Index, Kind
 from .library import VERSION
 from .listing import Row, block_listing, cell_listing, same, show, stay_listing
 from .picture import picture
-from .places import MINUTES, Place
+from .places import MINUTES, MOST_CELL, Place, minutes_on
 from .refusal import ADVICE, CALLS, WORDS, Refused
+from .report_lines import Window, occupation_listing, occupied, windows_of
 from .stays import FREE, stays
 
 DONE, REFUSED, USAGE, BROKEN = range(4)
@@ -30,7 +31,6 @@ INTERRUPTED = 130  # as a shell tells it
 # What `conflicts` says of a window; what is refused has a status of its own there.
 CLEAR, TAKEN, NOT_ASKED = 0, 1, 4
 
-MOST_CELL = (1 << 64) - 1
 WINDOW_REFUSED = 15
 
 # How many bookings are recorded with one test of the tables, and how many cells are read at once; how many bytes make a list long.
@@ -43,7 +43,8 @@ WINDOW = """The window has the cells from --from up to, and not including, --to:
 of cells, or with --platform a day and a clock time, as 'monday 23:50', or
 'tuesday+1 00:10' for one week later; of a time that comes twice the first is
 meant. What is left out is the first cell, or the end."""
-AT_TICK = f"{WINDOW}\nWithout --tick the board is read at its last tick."
+TICK = "Without --tick the board is read at its last tick."
+AT_TICK = f"{WINDOW}\n{TICK}"
 OF_KIND = """A file of several kinds has a board for each, one behind the other; --kind chooses the
 first of its kind. Without it the board at --at is read."""
 KINDED = """A readable list may have several kinds: 'kind memory other' names them, and
@@ -61,6 +62,13 @@ AROUND = "A block without a train, which only sets minutes free, is passed over.
 CALENDAR = """it must be JSON, {"week": DAYS, "special": SPECIAL}: DAYS are seven lists of windows, Monday first, SPECIAL is a list of [DAY, WINDOWS], and a \
 window is [FROM, TO], in minutes of the day"""
 LIST = "it must be JSON, a list of [DAY, MINUTES], ascending by day"
+WINDOWS = """A window is FROM..TO: the cells from FROM up to, and not including, TO. With a
+platform in front FROM and TO are a day and a clock time, and what is left out is the
+platform's first minute, or its end: '2:monday 06:00..monday 22:00'. With the first
+and the last of some platforms it is a window on each: '1-4:monday 06:00..monday 22:00'.
+A cell in two windows counts twice. The most are 256 windows and 2^32 cells in all."""
+SHARE = """A cell is occupied where a train stands: a minute that was set free is not. Percents are
+rounded to one digit, and the fraction is exact."""
 
 
 def complain(words: str) -> None:
@@ -142,18 +150,13 @@ def window(options: argparse.Namespace) -> tuple[int, int]:
     days = read_days(options.days)
 
     def cell(text: str | None, otherwise: int) -> int:
-        if text is None:
-            return otherwise
-        if options.platform is None:
-            return int(number(text, 64, "the cell"))
-        if len(words := text.split()) != 2:
-            raise Fault(f"'{text}' is no time: with --platform, write a day and a clock time, as 'monday 23:50'")
-        return Place.at(options.platform, words[0], words[1], days).cell
+        return otherwise if text is None else int(number(text, 64, "the cell"))
 
-    first, behind = (0, MOST_CELL) if options.platform is None else (Place(options.platform, 0).cell, Place(options.platform, MINUTES).cell)
     parser: argparse.ArgumentParser = options.parser
     try:
-        return cell(options.start, first), min(cell(options.end, behind), MOST_CELL)
+        if options.platform is not None:
+            return minutes_on(options.platform, options.start, options.end, days)
+        return cell(options.start, 0), cell(options.end, MOST_CELL)
     except Fault as fault:
         parser.error(str(fault))
 
@@ -298,6 +301,23 @@ def cells(options: argparse.Namespace) -> int:
     return DONE
 
 
+def report_windows(options: argparse.Namespace) -> list[Window]:
+    """The windows of a report; what cannot be read is wrong usage."""
+    days = read_days(options.days)
+    parser: argparse.ArgumentParser = options.parser
+    try:
+        return [window for text in options.windows for window in windows_of(text, days)]
+    except Fault as fault:
+        parser.error(str(fault))
+
+
+def occupation(options: argparse.Namespace) -> int:
+    windows, index = report_windows(options), loaded(options).index
+    told = list(occupied(index, tick(options, index), windows, options.each_window))
+    show(told, occupation_listing(index.days, index.kind), options.form, sys.stdout)
+    return DONE
+
+
 INFO_COLUMNS = ("at", "size", "kind", "end", "blocks", "bytes", "nodes", "entries", "platforms")
 
 
@@ -356,7 +376,7 @@ def verify(options: argparse.Namespace) -> int:
 
 def explain(options: argparse.Namespace) -> int:
     if options.number is not None and options.number not in WORDS:
-        options.parser.error(f"there is no refusal {options.number}: they go from {min(WORDS)} to {max(WORDS)}")
+        options.parser.error(f"there is no refusal {options.number}: they go from {min(WORDS)} to {max(WORDS)}, and not all are in use")
     listed: list[Row] = [(each, *told) for each in WORDS if options.number in (None, each)
                          for told in zip(CALLS[each], WORDS[each], ADVICE[each])]
     form = "human" if options.form == "plain" else options.form
@@ -439,7 +459,12 @@ def add_window(parser: argparse.ArgumentParser) -> None:
 
 def add_tick(parser: argparse.ArgumentParser) -> None:
     parser.add_argument("--tick", type=natural, metavar="T", help="the tick to read the board at")
-    add_window(parser)
+
+
+def add_windows(parser: argparse.ArgumentParser) -> None:
+    parser.add_argument("--window", dest="windows", action="append", required=True, metavar="WINDOW",
+                        help="a window, or one on each of some platforms; several may be given")
+    parser.add_argument("--each-window", action="store_true", help="tell each window by itself too")
 
 
 def add_form(parser: argparse.ArgumentParser) -> None:
@@ -488,7 +513,7 @@ class Command(NamedTuple):
         return "\n\n".join([f"{self.words[0].upper()}{self.words[1:]}.", *self.notes])
 
 
-READ = (add_file, add_at, add_tick, add_days, add_form)
+READ = (add_file, add_at, add_tick, add_window, add_days, add_form)
 ABOUT_READ = (AT_TICK, NAMED, OF_KIND, LISTED)
 
 COMMANDS = {
@@ -508,6 +533,10 @@ COMMANDS = {
                     "last midnight.index --platform 1 --to 'tuesday 01:00' --human", partial(near, forward=False), READ, (AROUND, *ABOUT_READ)),
     "cells": Command("read each cell of a window at a tick", "cells midnight.index --platform 1 --from 'monday 23:50' --to 'tuesday 00:10' --human", cells, READ,
                      ABOUT_READ),
+    "occupation": Command("tell how much of some windows is occupied at a tick, as a fraction and in percent",
+                          "occupation midnight.index --window '0-1:monday 23:00..tuesday 01:00' --each-window --human", occupation,
+                          (add_file, add_at, add_tick, add_windows, add_days, add_form),
+                          (f"{WINDOWS}\n{TICK}", SHARE, OF_KIND, LISTED)),
     "info": Command("say what stands in a file", "info midnight.index --human", info, (add_file, add_form)),
     "verify": Command("test a file whole, with the loader's rules", "verify midnight.index", verify, (add_file, add_form)),
     "explain": Command("say what a refusal's number means, or all of them", "explain 8", explain, (add_number, add_form)),

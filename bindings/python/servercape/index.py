@@ -18,6 +18,7 @@ from .days import Days, numbers
 from .hours import Windows, calendar
 from .library import Info, library
 from .refusal import Refused, accepted
+from .reports import Occupation, window_numbers
 from .room import Lives, need
 
 # What `servercape_length` counts.
@@ -202,6 +203,11 @@ class Index:
     @property
     def _tree(self) -> tuple[array[int], ...]:
         return self._blocks, self._nodes, self._entries
+
+    @property
+    def _report(self) -> tuple[int | array[int], ...]:
+        """The state, and the tables that a report is lent."""
+        return self._state, self._blocks, self._store, self._nodes, self._entries
 
     @classmethod
     def open(cls, end_tick: int, kinds: int | Iterable[int] = Kind.MEMORY) -> Self:
@@ -548,6 +554,20 @@ class Index:
             number, data, held = read(end - start)
         accepted(number)
         return [byte if known else None for byte, known in zip(data, held)]
+
+    def occupation(self, tick: int, windows: Iterable[tuple[int, int]], *,
+                   kind: int | None = None) -> Occupation:
+        """How many cells of some windows of a kind, each [start, end), are occupied at a tick: held,
+        with a byte other than 0. All windows are taken together, and a cell that several of them
+        have counts for each. They may be of several platforms. Refusals 4, 25, 14, 15 of any
+        window, 37."""
+        return self._occupation(tick, window_numbers(windows), kind)
+
+    @_step
+    def _occupation(self, tick: int, windows: array[int], kind: int | None) -> Occupation:
+        number, *told = library.occupation_tested(*self._report, self._named(kind), tick, windows)
+        accepted(number)
+        return Occupation(*told)
 
     def write(self) -> bytes:
         """The file of the index: of each kind that has blocks a part, by code, which is loaded by itself. An index without blocks gives no bytes. Refusal 4."""

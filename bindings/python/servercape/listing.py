@@ -12,7 +12,7 @@ from .places import MINUTES, Place
 from .stays import TRAIN_NAMES, Stay, trains
 
 T = TypeVar("T")
-Value = int | str | None
+Value = int | float | str | None
 Row = tuple[Value, ...]
 
 # Programs that read JSON keep whole numbers up to here; larger ones, as ticks may be, are written as text.

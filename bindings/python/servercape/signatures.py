@@ -26,6 +26,7 @@ SIGNATURES = {
     "touching": "sssss" "knnnso",
     "next": "sssss" "knnoo",
     "last": "sssss" "knnoo",
+    "occupation": "sssss" "knsooo",
     "write": "sssss" "so",
     "load": "sssss" "bno",
     "clock": "sssss" "no",
@@ -38,6 +39,7 @@ SIGNATURES = {
     "touching_tested": "nsss" "knnnso",
     "next_tested": "nsss" "knnoo",
     "last_tested": "nsss" "knnoo",
+    "occupation_tested": "nssss" "knsooo",
     "write_tested": "nssss" "so",
     "clock_tested": "ns" "no",
 }

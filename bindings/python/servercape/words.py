@@ -33,6 +33,7 @@ CALLS: dict[int, tuple[str, ...]] = {
     26: ("record",),
     27: ("install of a calendar",),
     28: ("install of a list of days",),
+    37: ("occupation",),
 }
 
 # The condition.
@@ -83,6 +84,10 @@ WORDS: dict[int, tuple[str, ...]] = {
         "the list of days is wrong: there are more than 64, they do not ascend, or one has "
         "another length than 1380 or 1500 minutes",
     ),
+    37: (
+        "the windows have no cell, or there are more than 256 windows, or more than 2^32 cells in "
+        "all of them together",
+    ),
 }
 
 # What to do about it.
@@ -126,4 +131,8 @@ ADVICE: dict[int, tuple[str, ...]] = {
     ),
     27: ("correct the calendar; the one before still counts",),
     28: ("correct the list of days; the one before still counts",),
+    37: (
+        "leave a report on no cell out; report on fewer windows at once, of which a whole "
+        "platform has 2^32 cells",
+    ),
 }

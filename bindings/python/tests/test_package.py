@@ -357,7 +357,8 @@ class Refusals(unittest.TestCase):
             index.cells(1, 0, (1 << 64) - 1)
 
     def test_words(self):
-        self.assertEqual(list(WORDS), [*range(1, len(WORDS) + 1)])
+        self.assertEqual(list(WORDS), sorted(WORDS))
+        self.assertEqual(min(WORDS), 1)
         self.assertEqual(str(Refused(8)), "refused 8: the booking's tick is below the last accepted one")
         with self.assertRaisesRegex(Refused, "15: there is no block of that number"):
             finished(LISTING).block(6)

@@ -90,6 +90,19 @@
 //! # Ok::<(), servercape::Refusal>(())
 //! ```
 //!
+//! Line managers compare platforms by how much of some windows is occupied.
+//!
+//! ```
+//! use servercape::{Cell, GrowingIndex, Kind};
+//!
+//! let mut board = GrowingIndex::open(8, &[Kind::Memory])?;
+//! board.record(Kind::Memory, 1, Cell::new(2, 480).number(), &[7; 45])?; // from 08:00 to 08:45
+//! board.finish()?;
+//! let hour = board.occupation(Kind::Memory, 1, &[Cell::window(2, 480..540)])?;
+//! assert_eq!(hour.to_string(), "3/4 (75.0 %)");
+//! # Ok::<(), servercape::Refusal>(())
+//! ```
+//!
 //! # The archive
 //!
 //! It writes finished boards to files, and loads them again. Several may stand in one file, one behind the other.
@@ -164,6 +177,7 @@ pub mod raw;
 mod reads;
 mod refusal;
 mod refusals;
+mod reports;
 mod room;
 #[cfg(test)]
 mod same;
@@ -177,6 +191,7 @@ pub use index::{put_operation, Index, Opening, Played, Recorded, State};
 pub use kind::{Kind, NoSuchKind};
 pub use reads::{Block, Blocks, Found};
 pub use refusal::Refusal;
+pub use reports::Occupation;
 pub use room::Room;
 
 #[cfg(doctest)]

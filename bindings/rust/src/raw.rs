@@ -239,6 +239,20 @@ extern "C" {
         found: &mut u64, number: &mut u64,
     ) -> u64;
 
+    /// How many cells of some windows of a kind are occupied at a tick: held, with a byte other
+    /// than 0. Refusals 2, 4, 25, 14, 15 of any window, 37: there is no cell in any window, or
+    /// there are more than 256 windows, or more than 2^32 cells in all of them together.
+    pub fn servercape_occupation(
+        pieces: *const u64, pieces_length: usize,
+        blocks: *const u64, blocks_length: usize,
+        store: *const u8, store_length: usize,
+        nodes: *const u64, nodes_length: usize,
+        entries: *const u64, entries_length: usize,
+        kind: u8, tick: u64,
+        windows: *const u64, windows_length: usize,
+        occupied: &mut u64, cells: &mut u64, tenths: &mut u64,
+    ) -> u64;
+
     /// Writes the file of an index from the start of `out` on; `written` says how many bytes.
     /// Refusals 2, 4, 16.
     pub fn servercape_write(

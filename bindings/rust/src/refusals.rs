@@ -79,12 +79,15 @@ pub enum Refusal {
     /// 28, install of a list of days: the list of days is wrong: there are more than 64, they do
     /// not ascend, or one has another length than 1380 or 1500 minutes.
     WrongDays,
+    /// 37, occupation: the windows have no cell, or there are more than 256 windows, or more than
+    /// 2^32 cells in all of them together.
+    WrongWindows,
     /// A number that this crate has no name for: the library is newer.
     Other(u64),
 }
 
-/// By number; where two share one, the first of them.
-pub(crate) const NUMBERED: [Refusal; 28] = [
+/// By number; where two share one, the first of them, and `Other` where there is none.
+pub(crate) const NUMBERED: [Refusal; 37] = [
     Refusal::Opening, Refusal::NotWellFormed, Refusal::Closed, Refusal::StillOpen, Refusal::NoCells,
     Refusal::PastLastCell, Refusal::RecordAtEnd, Refusal::TickGoesBack, Refusal::NoRoomForPieces,
     Refusal::NoRoomForBlocks, Refusal::NoRoomForBytes, Refusal::NoRoomForNodes,
@@ -92,7 +95,9 @@ pub(crate) const NUMBERED: [Refusal; 28] = [
     Refusal::NoRoomForAnswer, Refusal::FileCut, Refusal::FileKind, Refusal::FilePresence,
     Refusal::NoRoomForFile, Refusal::FileTree, Refusal::FileBlock, Refusal::FileEntry,
     Refusal::FileOverlap, Refusal::KindNotOpened, Refusal::OutsideHours, Refusal::WrongCalendar,
-    Refusal::WrongDays,
+    Refusal::WrongDays, Refusal::Other(29), Refusal::Other(30), Refusal::Other(31),
+    Refusal::Other(32), Refusal::Other(33), Refusal::Other(34), Refusal::Other(35),
+    Refusal::Other(36), Refusal::WrongWindows,
 ];
 
 impl Refusal {
@@ -128,6 +133,7 @@ impl Refusal {
             Refusal::OutsideHours => 26,
             Refusal::WrongCalendar => 27,
             Refusal::WrongDays => 28,
+            Refusal::WrongWindows => 37,
             Refusal::Other(number) => number,
         }
     }
@@ -211,6 +217,10 @@ impl Refusal {
                 "the list of days is wrong: there are more than 64, they do not ascend, or one has \
                  another length than 1380 or 1500 minutes"
             }
+            Refusal::WrongWindows => {
+                "the windows have no cell, or there are more than 256 windows, or more than 2^32 \
+                 cells in all of them together"
+            }
             Refusal::Other(_) => "refused for a reason that this crate does not know",
         }
     }
@@ -259,6 +269,10 @@ impl Refusal {
             }
             Refusal::WrongCalendar => "correct the calendar; the one before still counts",
             Refusal::WrongDays => "correct the list of days; the one before still counts",
+            Refusal::WrongWindows => {
+                "leave a report on no cell out; report on fewer windows at once, of which a whole \
+                 platform has 2^32 cells"
+            }
             Refusal::Other(_) => "take the crate of the library that is linked",
         }
     }

@@ -270,6 +270,23 @@ fn same_cells(what: &str, index: &Index) {
     }
 }
 
+/// Of one window, and of several: those of the same tick and kind.
+fn same_occupation(what: &str, index: &Index) {
+    let all: Vec<_> = windows().collect();
+    for (k, &(kind, tick, ..)) in all.iter().enumerate() {
+        for count in [0, 1, 2, 9, 256, 257, 300] {
+            let several: Vec<_> = all.iter().cycle().skip(k).take(count).filter(|w| count < 3 || w.2 <= w.3 && w.3 - w.2 < 1 << 24).map(|w| w.2..w.3).collect();
+            let several: Vec<_> = if count > 255 { several.iter().cloned().cycle().take(count).collect() } else { several };
+            let numbers: Vec<u64> = several.iter().flat_map(|window| [window.start, window.end]).collect();
+            let [mut occupied, mut cells, mut tenths] = [7; 3];
+            let by = public!(raw::servercape_occupation, index, kind.code(), tick, numbers.as_ptr(), numbers.len(), &mut occupied, &mut cells, &mut tenths);
+            let report = index.occupation(kind, tick, &several);
+            assert_eq!(number(&report), by, "{what}: occupation at {tick} of {several:?}");
+            assert_eq!(report.map_or((7, 7, 7), |report| (report.occupied, report.cells, report.tenths)), (occupied, cells, tenths), "{what}: occupation at {tick} of {several:?}");
+        }
+    }
+}
+
 fn same_file(what: &str, index: &Index) {
     let length = index.write().map_or(9, |file| file.len());
     for room in [0, 1, length.saturating_sub(1), length, length + 7] {
@@ -315,6 +332,7 @@ fn reads() {
         [Kind::Memory, Kind::Other, Kind::Constant].into_iter().for_each(|kind| same_lists_of_finds(what, &index, kind));
         same_neighbours(what, &index);
         same_cells(what, &index);
+        same_occupation(what, &index);
         same_file(what, &index);
         same_labels(what, &index);
         same_tables(what, &index, &before);

@@ -106,6 +106,18 @@ extern "C" {
         found: &mut u64, number: &mut u64,
     ) -> u64;
 
+    /// [`servercape_occupation`](crate::raw::servercape_occupation()) after the test.
+    pub fn servercape_occupation_tested(
+        state: u64,
+        blocks: *const u64, blocks_length: usize,
+        store: *const u8, store_length: usize,
+        nodes: *const u64, nodes_length: usize,
+        entries: *const u64, entries_length: usize,
+        kind: u8, tick: u64,
+        windows: *const u64, windows_length: usize,
+        occupied: &mut u64, cells: &mut u64, tenths: &mut u64,
+    ) -> u64;
+
     /// [`servercape_write`](crate::raw::servercape_write()) after the test.
     pub fn servercape_write_tested(
         state: u64,

@@ -37,7 +37,7 @@ fn closed() -> Index {
 
 #[test]
 fn a_refusal_has_number_and_words() {
-    for number in 1..=28 {
+    for number in (1..=28).chain([37]) {
         let refusal = Refusal::of(number).unwrap();
         assert_eq!(refusal.number(), number);
         let words = refusal.to_string();
