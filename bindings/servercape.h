@@ -1,5 +1,8 @@
-/* The board's history, for C. Link target/staticlib/libservercape.a, which `tools/staticlib servercape` writes; or, once `bindings/install PREFIX` has put it
-   somewhere, what `pkg-config --cflags --libs servercape` says. docs/RULES.md has the rules, and every refusal.
+/* The board's history, for C. `bindings/install PREFIX` puts it where `pkg-config --cflags --libs servercape` finds it; or link dist/libservercape.a of the
+   repository. Of other libraries it asks for memset, memcpy and memmove of the C library alone. docs/RULES.md has the rules, and every refusal.
+
+   The two headers are the one source of the signatures: `tools/bindings` writes from them what the Rust crate and the Python package declare, and the
+   parameters of the proved exports.
 
    Every call is proved to give its answer for all slices of any length and content. It returns 0, or the number of the refusal; then nothing
    has changed, the values handed out included (but see servercape_load; servercape_record_all and servercape_find_all have an answer for each call).
@@ -19,18 +22,29 @@
 #include <stddef.h>
 #include <stdint.h>
 
+#include "servercape_refusals.h"
+
 #ifdef __cplusplus
 extern "C" {
 #endif
 
+/* The version of this header. */
+#define SERVERCAPE_VERSION "0.2.0"
+
+/* The same as a number: major * 1,000,000 + minor * 1,000 + patch. */
+#define SERVERCAPE_VERSION_NUMBER 2000
+
+/* The version of the library that is linked, as SERVERCAPE_VERSION_NUMBER. */
+uint64_t servercape_version(void);
+
 /* What `servercape_length` counts. */
 enum servercape_table {
-    SERVERCAPE_PIECES = 0,
-    SERVERCAPE_BLOCKS = 1,
-    SERVERCAPE_STORE = 2,
-    SERVERCAPE_NODES = 3,
-    SERVERCAPE_ENTRIES = 4,
-    SERVERCAPE_SCRATCH = 5
+    SERVERCAPE_PIECES = 0,  /* the piece table */
+    SERVERCAPE_BLOCKS = 1,  /* the block table */
+    SERVERCAPE_STORE = 2,   /* the store, in bytes */
+    SERVERCAPE_NODES = 3,   /* the node table */
+    SERVERCAPE_ENTRIES = 4, /* the entry table */
+    SERVERCAPE_SCRATCH = 5  /* the scratch of record: one row is enough, 8 numbers */
 };
 
 /* How many numbers (of the store: bytes) to lend for so many rows. 0 where that is no 64-bit number, and for any other table. Of the scratch one row is
@@ -44,11 +58,11 @@ uint64_t servercape_length(uint64_t table, uint64_t rows);
 /* The kinds. An index is opened with one or more of them. A cell of one kind is none of another: each call that records or reads cells names the kind, as one
    byte. Tables, block numbers and the last accepted tick are common to all kinds. */
 enum servercape_kind {
-    SERVERCAPE_CONSTANT = 0,
-    SERVERCAPE_MEMORY = 1,
-    SERVERCAPE_REGISTER = 2,
-    SERVERCAPE_UNIQUE = 3,
-    SERVERCAPE_OTHER = 4
+    SERVERCAPE_CONSTANT = 0, /* the kind constant */
+    SERVERCAPE_MEMORY = 1,   /* the kind memory, that of a board of platforms alone */
+    SERVERCAPE_REGISTER = 2, /* the kind register */
+    SERVERCAPE_UNIQUE = 3,   /* the kind unique */
+    SERVERCAPE_OTHER = 4     /* the kind other */
 };
 
 /* Opens an index: the end tick is from 1 to SERVERCAPE_MAX_END_TICK. `kinds` has a byte for each kind that is opened; order and repeats do not matter.
@@ -93,6 +107,29 @@ uint64_t servercape_record_all(
     const uint8_t *operations, size_t operations_length,
     uint64_t *answers, size_t answers_length,
     uint64_t *next);
+
+/* What stands in an index. */
+struct servercape_info {
+    uint64_t state;     /* 1 open, 2 closed */
+    uint64_t end_tick;  /* the end tick */
+    uint64_t last_tick; /* the tick of the last accepted record; 0 before, and of a loaded index */
+    uint64_t kinds;     /* bit k is set where kind k was opened */
+    uint64_t pieces;    /* rows in use of the piece table */
+    uint64_t blocks;    /* rows in use of the block table */
+    uint64_t store;     /* bytes in use of the store */
+    uint64_t nodes;     /* rows in use of the node table */
+    uint64_t entries;   /* rows in use of the entry table */
+};
+
+/* Says what stands in an index, open or closed.
+   Refusal 2. */
+uint64_t servercape_info(
+    const uint64_t *pieces, size_t pieces_length,
+    const uint64_t *blocks, size_t blocks_length,
+    const uint8_t *store, size_t store_length,
+    const uint64_t *nodes, size_t nodes_length,
+    const uint64_t *entries, size_t entries_length,
+    struct servercape_info *info);
 
 /* Finishes an index: its blocks can be read, and it takes no more operations. Each kind with blocks has a tree of its own, and all of them share the nodes and
    the entries.
@@ -221,6 +258,24 @@ uint64_t servercape_last(
     const uint64_t *entries, size_t entries_length,
     uint8_t kind, uint64_t tick, uint64_t cell,
     uint64_t *found, uint64_t *number);
+
+/* How many cells of some windows of a kind are occupied at a tick: held, with a byte other than 0.
+   The windows are pairs of numbers, start and end; a last start without its end has the end 0. They
+   may be of several platforms and overlap: all are taken together, and a cell that several of them
+   have counts for each. `occupied` / `cells` is that fraction of all cells, reduced fully, and 0 / 1
+   where none is occupied. `tenths` of a percent are from 0 to 1,000: the nearest, and of two that
+   are as near the even one. It takes the time of the live blocks in the windows.
+   Refusals 2, 4, 25, 14, 15 of any window, 37: there is no cell in any window, or there are more
+   than 256 windows, or more than 2^32 cells in all of them together. */
+uint64_t servercape_occupation(
+    const uint64_t *pieces, size_t pieces_length,
+    const uint64_t *blocks, size_t blocks_length,
+    const uint8_t *store, size_t store_length,
+    const uint64_t *nodes, size_t nodes_length,
+    const uint64_t *entries, size_t entries_length,
+    uint8_t kind, uint64_t tick,
+    const uint64_t *windows, size_t windows_length,
+    uint64_t *occupied, uint64_t *cells, uint64_t *tenths);
 
 /* Writes the file of an index from the start of `out` on; `written` says how many bytes. Where several kinds have blocks, their trees stand one behind the other,
    by kind code, each with its own blocks, numbered from 0: each is a file that servercape_load takes.

@@ -1,5 +1,4 @@
-/* The calls of servercape.h after one test, for C. Link target/staticlib/libservercape_tested.a beside libservercape.a: `tools/staticlib servercape_tested` and
-   `tools/staticlib servercape` write them.
+/* The calls of servercape.h after one test, for C. Link dist/libservercape_tested.a in front of libservercape.a, which it calls.
 
    Every call of servercape.h but open and load tests all rows of its tables, for refusal 2. The calls here do not: they take the state that the test found, as
    a number.
@@ -26,10 +25,11 @@
 extern "C" {
 #endif
 
+/* What the test says of tables. */
 enum servercape_states {
-    SERVERCAPE_NOT_WELL_FORMED = 0,
-    SERVERCAPE_OPEN = 1,
-    SERVERCAPE_CLOSED = 2
+    SERVERCAPE_NOT_WELL_FORMED = 0, /* they hold no index */
+    SERVERCAPE_OPEN = 1,            /* an open index: it takes bookings */
+    SERVERCAPE_CLOSED = 2           /* one that is finished or loaded: it is read */
 };
 
 /* Tests the tables: one of these states. */
@@ -50,6 +50,15 @@ uint64_t servercape_record_tested(
     uint8_t kind, uint64_t tick, uint64_t first,
     const uint8_t *bytes, size_t bytes_length,
     uint64_t *updated, uint64_t *cell);
+
+/* servercape_info. */
+uint64_t servercape_info_tested(
+    uint64_t state,
+    const uint64_t *pieces, size_t pieces_length,
+    const uint64_t *blocks, size_t blocks_length,
+    const uint64_t *nodes, size_t nodes_length,
+    const uint64_t *entries, size_t entries_length,
+    struct servercape_info *info);
 
 /* servercape_block. */
 uint64_t servercape_block_tested(
@@ -107,6 +116,17 @@ uint64_t servercape_last_tested(
     const uint64_t *entries, size_t entries_length,
     uint8_t kind, uint64_t tick, uint64_t cell,
     uint64_t *found, uint64_t *number);
+
+/* servercape_occupation. */
+uint64_t servercape_occupation_tested(
+    uint64_t state,
+    const uint64_t *blocks, size_t blocks_length,
+    const uint8_t *store, size_t store_length,
+    const uint64_t *nodes, size_t nodes_length,
+    const uint64_t *entries, size_t entries_length,
+    uint8_t kind, uint64_t tick,
+    const uint64_t *windows, size_t windows_length,
+    uint64_t *occupied, uint64_t *cells, uint64_t *tenths);
 
 /* servercape_write. */
 uint64_t servercape_write_tested(

@@ -8,8 +8,9 @@ for none.
 
 Of the requests: `touching KIND TICK START END ROOM`, whose answer is the count and the numbers, and `next KIND TICK CELL` and `last KIND TICK CELL`, with a
 number or `missing`; record answers `read`, or `update` with the lowest cell that was unknown or had another byte, and is refused 2 with a scratch of fewer
-than eight numbers; `calendar NUMBERS` and `days NUMBERS` install the calendar and the list of days of these numbers, and answer `installed`. A call that leaves
-out its KIND, as those of lists that are older than request 3, means the first kind of the index (`Model.named`).
+than eight numbers; `calendar NUMBERS` and `days NUMBERS` install the calendar and the list of days of these numbers, and answer `installed`; `occupation KIND TICK NUMBERS`
+reports on windows, pairs of a start and an end, and answers occupied cells and all cells, reduced, and tenths of a percent. A call that leaves out its KIND, as those of
+lists that are older than request 3, means the first kind of the index (`Model.named`).
 
 Two more are our own. `scratch NUMBERS` lends another scratch from there on. `damaged AT BY FROM TO HEX` loads a file into the tables of the load before, once
 for each place from FROM up to TO: cut at that place where BY is 0, else with the byte there raised by BY. Its answer is `NUMBER*MANY` for each run of files
@@ -19,6 +20,7 @@ import struct
 
 from days_model import Days
 from hours_model import Calendar
+from reports_model import cells_of, report, unreported, windows_of
 
 WORD = 1 << 64
 MOST_END = 1 << 63
@@ -256,10 +258,10 @@ def damaged_at(file, place, by):
 # ── the index ──
 
 # The calls whose last word is bytes, or numbers with commas.
-BYTES_LAST = ("record", "load", "damaged", "calendar", "days")
+BYTES_LAST = ("record", "load", "damaged", "calendar", "days", "occupation")
 
 # How many words a call has that names a kind: one less where it leaves it out.
-NAMES_KIND = {"record": 5, "find": 6, "cells": 7, "touching": 6, "next": 4, "last": 4}
+NAMES_KIND = {"record": 5, "find": 6, "cells": 7, "touching": 6, "next": 4, "last": 4, "occupation": 4}
 
 
 def listed(word):
@@ -471,6 +473,20 @@ class Model:
     def last(self, kind, tick, cell):
         self.refuse_tick(kind, tick)
         return (["missing"] + self.in_order(kind, tick, lambda block: block.end <= cell))[-1:]
+
+    def busy(self, kind, tick):
+        """The cells of a kind that hold a byte other than 0 at a tick."""
+        live = [block for block in self.blocks if block.kind == kind and block.live(tick)]
+        return [cell for block in live for cell, byte in enumerate(block.data, block.first) if byte]
+
+    def occupation(self, kind, tick, word):
+        """Cell by cell of those that hold something, as a window may have 2^32."""
+        windows = windows_of(listed(word))
+        self.refuse_tick(kind, tick)
+        refuse(15, any(start > end for start, end in windows))
+        refuse(37, unreported(windows))
+        busy = self.busy(kind, tick)
+        return report(sum(start <= cell < end for start, end in windows for cell in busy), cells_of(windows))
 
     def file(self):
         """The trees one after the other, by kind code."""

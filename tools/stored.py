@@ -2,7 +2,7 @@
 """Makes the stored list that the program `replay` plays: calls with their answers, as its standard input.
 
   stored.py make VECTORS FILE [ORACLE]   from the oracle's list, the boards of marked.txt and the own cases (stored_cases.py, _touching, _changes, _scratch,
-                                         _hours, _days, _kinds)
+                                         _hours, _days, _kinds, _occupation)
   stored.py show FILE [CASE]             the list, or one case of it, in words; cases count from 1
   stored.py spoil VECTORS FILE           the same cases, each up to a call whose answer is changed: replay must say that one of each differs
   stored.py --test                       tries itself: the model gives every answer of marked.txt, and rows are read as they were written
@@ -19,27 +19,31 @@ from board_oracle import compare
 from stored_cases import Dice, own_cases
 from stored_changes import change_cases
 from stored_rows import (
-    BLOCK, CALENDAR, CASE, CELLS, CLOCK, DAMAGED, DAYS, FIND, FINISH, KIND, LAST, LOAD, NEXT, OPEN, OWN, PART, RECORD, SCRATCH, TOUCHING, WRITE, Part, line, number,
-    read_number, row, rows_of
+    BLOCK, CALENDAR, CASE, CELLS, CLOCK, DAMAGED, DAYS, FIND, FINISH, KIND, LAST, LOAD, NEXT, OCCUPATION, OPEN, OWN, PART, RECORD, SCRATCH, TOUCHING, WRITE, Part, line,
+    number, read_number, row, rows_of
 )
 from stored_days import days_cases
 from stored_hours import hours_cases
 from stored_kinds import kinds_cases
+from stored_occupation import occupation_cases
 from stored_scratch import scratch_cases
 from stored_touching import touching_cases
 
-MARKED = os.path.join(os.path.dirname(os.path.abspath(__file__)), "marked.txt")
+HERE = os.path.dirname(os.path.abspath(__file__))
+MARKED = os.path.join(HERE, "marked.txt")
+sys.path.append(os.path.join(HERE, "..", "bindings", "python"))
 
-# Numbers in front of the first row of each table (Lent of crate history), and in a row.
-PIECE_HEAD, BLOCK_HEAD, NODE_HEAD, ENTRY_HEAD = 8, 2048, 8, 8
-ROW, ENTRY_ROW = 8, 2
+from servercape.library import library
 
-# What the program has room for: rows of each table, bytes of store, numbers of a scratch, places of an answer, cells, bytes of a file, numbers of a calendar
-# or of a list of days. A kind is a byte.
+# The tables, as `servercape_length` counts them.
+PIECE_TABLE, BLOCK_TABLE, STORE_TABLE, NODE_TABLE, ENTRY_TABLE = range(5)
+
+# What the program has room for: rows of each table, bytes of store, numbers of a scratch, places of an answer, cells, bytes of a file, numbers of a calendar,
+# of a list of days or of windows. A kind is a byte.
 PIECES, BLOCKS, STORE, NODES, ENTRIES = 64, 256, 4103, 4096, 8195
-SCRATCH_MOST = ROW * PIECES + 7
+SCRATCH_MOST = 8 * PIECES + 7
 ANSWER, WINDOW, FILE = 64, 64, 16384
-INSTALLED_MOST = 1300
+NUMBERS = 1300
 
 
 # An index of which clock labels are asked alone.
@@ -70,13 +74,14 @@ class Case:
     def __init__(self, part, place):
         self.part, self.slack, self.pieces, self.numbers = part, place % 8, 8 + place % 8, LEAST_SCRATCH
 
-    def table(self, head, width, rows, most):
+    def table(self, which, rows, most):
         """The length of a table; with -1 rows it cannot hold its head."""
         fits(int(rows), most)
-        return head + width * int(rows) + self.slack % width
+        (head,), (one,) = library.length(which, 0), library.length(which, 1)
+        return head + (one - head) * int(rows) + self.slack % (one - head)
 
     def lent(self, blocks, store, nodes, entries):
-        tables = [self.table(BLOCK_HEAD, ROW, blocks, BLOCKS), self.table(NODE_HEAD, ROW, nodes, NODES), self.table(ENTRY_HEAD, ENTRY_ROW, entries, ENTRIES)]
+        tables = [self.table(BLOCK_TABLE, blocks, BLOCKS), self.table(NODE_TABLE, nodes, NODES), self.table(ENTRY_TABLE, entries, ENTRIES)]
         return tables[:1] + [fits(int(store), STORE)] + tables[1:]
 
     def bytes(self, word):
@@ -106,7 +111,7 @@ class Case:
         return rows
 
     def open(self, words, answer):
-        self.pieces, self.numbers = self.table(PIECE_HEAD, ROW, words[2], PIECES), fits(int(words[3]), SCRATCH_MOST)
+        self.pieces, self.numbers = self.table(PIECE_TABLE, words[2], PIECES), fits(int(words[3]), SCRATCH_MOST)
         kinds = bytes(listed(words[1]))
         return OPEN, [int(words[0]), self.part.place(kinds), len(kinds)] + [0] * 5 + [self.pieces, self.numbers] + self.lent(*words[4:])
 
@@ -118,18 +123,21 @@ class Case:
         start, length = self.bytes(words[2])
         return RECORD, [int(words[0]), int(words[1]), start, length] + ([1, int(answer[1])] if answer[:1] == ["update"] else [])
 
-    def installed(self, word):
+    def numbers_of(self, word):
         """Numbers in the pool, and how many they are."""
         numbers = listed(word)
-        fits(len(numbers), INSTALLED_MOST)
+        fits(len(numbers), NUMBERS)
         data = b"".join(map(number, numbers))
         return [self.part.place(data), len(data), len(numbers)]
 
     def calendar(self, words, answer):
-        return CALENDAR, self.installed(words[0])
+        return CALENDAR, self.numbers_of(words[0])
 
     def days(self, words, answer):
-        return DAYS, self.installed(words[0])
+        return DAYS, self.numbers_of(words[0])
+
+    def occupation(self, words, answer):
+        return OCCUPATION, [int(words[0])] + self.numbers_of(words[1]) + list(map(int, answer))
 
     def finish(self, words, answer):
         return FINISH, list(map(int, answer))
@@ -292,7 +300,7 @@ def tell(stored, vectors, whole):
 
 
 def own_lists():
-    return [(name, [list(map(str, call)) for call in calls]) for name, calls in own_cases() + touching_cases() + change_cases() + scratch_cases() + hours_cases() + days_cases() + kinds_cases()]
+    return [(name, [list(map(str, call)) for call in calls]) for name, calls in own_cases() + touching_cases() + change_cases() + scratch_cases() + hours_cases() + days_cases() + kinds_cases() + occupation_cases()]
 
 
 def put_out(vectors, own, out):
@@ -399,7 +407,7 @@ def test():
     lines = [line(*r) for start in range(0, len(stored.bytes()), PART) for r in rows_of(stored.bytes()[start:start + PART])]
     assert lines.count("own case") == len(marked) and len(lines) == len(marked) + sum(map(len, marked))
     said = {n for case in marked for _, answer in case for n in answer[1:] if answer[0] == "refused"}
-    assert said == {str(n) for n in range(1, 29)}, "marked.txt has the edge of each refusal"
+    assert said == set(map(str, (*range(1, 29), 37))), "marked.txt has the edge of each refusal"
     assert [run_of(word) for word in broken(Dice(1), ["17*5"])] != [(17, 5)]
     print("stored: ok")
 

@@ -8,7 +8,7 @@ says where they start. A case stands in one part. A row `damaged` is a load for 
 
 Block numbers that a call lists are bytes in the pool, `length` of them. `touching` has its columns where `find` has them; in place of the nodes visited it has
 0. `next` and `last` have `found`, 1 or 0, and the number, 0 where it is missing. `record` has `updated`, 1 and the cell of an update, 0 and 0 of a read. The
-numbers of a calendar and of a list of days stand in the pool as numbers stand in a row, `count` of them. Of a refused call what must come is 0.
+numbers of a calendar, of a list of days and of windows stand in the pool as numbers stand in a row, `count` of them. Of a refused call what must come is 0.
 
 The kinds that `open` takes are bytes in the pool, `length` of them, as the call is lent them. Every call that names a kind has it in column KIND, behind its other
 columns. Of a load that is taken `kinds` is the mask of the one kind, bit k for kind k, as it stands in the block table.
@@ -17,7 +17,7 @@ from board_model import WORD, hexed
 
 PART = 65536
 
-CASE, OWN, OPEN, RECORD, FINISH, BLOCK, FIND, CELLS, WRITE, LOAD, CLOCK, SCRATCH, DAMAGED, TOUCHING, NEXT, LAST, CALENDAR, DAYS = range(1, 19)
+CASE, OWN, OPEN, RECORD, FINISH, BLOCK, FIND, CELLS, WRITE, LOAD, CLOCK, SCRATCH, DAMAGED, TOUCHING, NEXT, LAST, CALENDAR, DAYS, OCCUPATION = range(1, 20)
 
 # The column of the kind, in the row of a call that names one.
 KIND = 9
@@ -43,6 +43,7 @@ COLUMNS = {
     LAST: ["last", "tick", "cell", "found", "number", "", "", "", "kind"],
     CALENDAR: ["calendar", "@numbers", "length", "count"],
     DAYS: ["days", "@numbers", "length", "count"],
+    OCCUPATION: ["occupation", "tick", "@numbers", "length", "count", "occupied", "cells", "tenths", "kind"],
 }
 
 

@@ -1,10 +1,11 @@
 #!/usr/bin/env python3
 """Tests ./board and boardfile.py as they are called from a shell: what they print, where, and their status. And that README's examples are what it says."""
 import os
-import re
+import shutil
 import subprocess
 import sys
 import tempfile
+import time
 import unittest
 
 ROOT = os.path.dirname(os.path.dirname(os.path.abspath(__file__)))
@@ -98,7 +99,7 @@ class Board(unittest.TestCase):
             self.assertIn("--help", err)
         status, out, err = run([BOARD, "--help"])
         self.assertEqual((status, err), (0, ""))
-        self.assertTrue(out.startswith(b"usage: ./board [FILE]\n"))
+        self.assertTrue(out.startswith(b"usage: ./board [--from-source] [FILE]\n"))
 
     def test_symbolic_link(self):
         with tempfile.TemporaryDirectory() as folder:
@@ -152,10 +153,8 @@ class Boardfile(unittest.TestCase):
 
 class Copies(unittest.TestCase):
     def test_copies(self):
-        """The packages for Python and Rust carry these files themselves, since the check takes no links."""
-        for copy, of in (("bindings/python/servercape/boardfile.py", "tools/boardfile.py"), ("bindings/rust/NOTICE", "NOTICE")):
-            if os.path.exists(os.path.join(ROOT, copy)):
-                self.assertEqual(content(os.path.join(ROOT, copy)), content(os.path.join(ROOT, of)), copy)
+        """The package for Rust carries the notice itself, since the check takes no links."""
+        self.assertEqual(content(os.path.join(ROOT, "bindings/rust/NOTICE")), content(os.path.join(ROOT, "NOTICE")))
 
 
 class Readme(unittest.TestCase):
@@ -187,18 +186,50 @@ class Readme(unittest.TestCase):
         self.assertEqual(first[start : start + len(self.fenced("c"))], self.fenced("c"))
 
 
-class Words(unittest.TestCase):
-    @unittest.skipUnless(os.path.isdir(os.path.join(ROOT, "bindings", "python")), "bindings/python is not there")
-    def test_refusals(self):
-        """A refusal has the same words in Rust and in Python."""
-        sys.path.insert(0, os.path.join(ROOT, "bindings", "python", "servercape"))
-        from refusal import WORDS
+def without_rattle():
+    """The path without the folders that have the command of the Rattle toolchain."""
+    folders = os.environ["PATH"].split(os.pathsep)
+    return os.pathsep.join(folder for folder in folders if not os.path.exists(os.path.join(folder, "rt")))
 
-        rust = re.sub(r"\\\n +", "", content(os.path.join(ROOT, "bindings", "rust", "src", "refusal.rs")).decode())
-        self.assertEqual(sorted(WORDS), [*range(1, 29)])
-        for words in WORDS.values():
-            for meaning in words:
-                self.assertIn(f'"{meaning}"', rust)
+
+class FreshClone(unittest.TestCase):
+    """README's first commands, in a clone and without the Rattle toolchain."""
+
+    SECONDS = 20
+
+    def setUp(self):
+        self.room = tempfile.TemporaryDirectory()
+        self.addCleanup(self.room.cleanup)
+        self.clone = os.path.join(self.room.name, "clone")
+        run(["git", "clone", "--quiet", "--local", ROOT, self.clone])
+        if not os.path.exists(os.path.join(self.clone, "dist", "SHA256SUMS")):
+            # dist/ is committed last: until then it is that of the libraries under test
+            built = run([os.path.join(ROOT, "tools", "built")])[1].decode().strip()
+            shutil.copytree(built, os.path.join(self.clone, "dist"))
+        self.own = {"PATH": without_rattle(), "HOME": self.room.name}
+
+    def command(self, line):
+        began = time.monotonic()
+        done = run(["bash", "-c", line], cwd=self.clone, env=self.own)
+        self.assertLess(time.monotonic() - began, self.SECONDS, line)
+        return done
+
+    def test_first_commands(self):
+        lines = content(os.path.join(ROOT, "README.md")).decode().split("\n")
+        commands = [line[6:] for line in lines if line.startswith("    $ ")][:3]
+        for line in commands[:2]:
+            status, _, err = self.command(line)
+            self.assertEqual((status, err), (0, ""), line)
+        self.assertEqual(self.command(commands[1])[1], run([BOARD, example("listing.board")])[1])
+        # the third proves it all, for which it needs the toolchain
+        status, out, err = self.command(commands[2])
+        self.assertEqual((status, out), (4, b""), err)
+        self.assertIn("rt is not on the path", err)
+
+    def test_command_and_installation(self):
+        for line in ("./servercape --version", "./servercape build examples/evening.txt -o evening.index", "bindings/install ../prefix", "../prefix/bin/servercape info evening.index"):
+            status, _, err = self.command(line)
+            self.assertEqual((status, err), (0, ""), line)
 
 
 if __name__ == "__main__":

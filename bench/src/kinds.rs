@@ -9,10 +9,10 @@ use servercape::{GrowingIndex, Kind};
 type Booked = (Kind, Op);
 
 /// A board: what it is called, its operations, and its end tick.
-struct Board {
-    name: &'static str,
-    ops: Vec<Booked>,
-    end: u64,
+pub struct Board {
+    pub name: &'static str,
+    pub ops: Vec<Booked>,
+    pub end: u64,
 }
 
 fn copy(op: &Op, tick: u64, first: u64) -> Op {
@@ -42,7 +42,7 @@ impl Board {
     }
 
     /// Just as many rows as it needs.
-    fn rows(&self) -> Rows {
+    pub fn rows(&self) -> Rows {
         let mut index = GrowingIndex::open(self.end, &self.kinds()).expect("open");
         let mut pieces = 0;
         for (kind, op) in &self.ops {
@@ -55,7 +55,7 @@ impl Board {
     }
 
     /// All operations and the finish: how long one operation takes, and the finish.
-    fn played(&self, rows: Rows) -> (f64, f64, Tables) {
+    pub fn played(&self, rows: Rows) -> (f64, f64, Tables) {
         let mut tables = Tables::open_kinds(rows, self.end, &self.kinds());
         let all = || self.ops.iter().map(|(kind, op)| tables.record_kind(*kind, op.tick, op.first, &op.bytes)).fold(0, u64::wrapping_add);
         let (record, refused) = once(all);

@@ -21,6 +21,7 @@ mod port;
 mod ported;
 mod random;
 mod reads;
+mod reports;
 mod stays;
 mod stream;
 mod table;
@@ -48,6 +49,8 @@ fn main() {
     let given: Vec<u64> = arguments.iter().map(|a| a.parse().expect("a number of operations")).collect();
     let counts = if given.is_empty() { vec![1_000, 10_000, 100_000, 250_000, 1_000_000] } else { given };
     hours::print();
+    println!("\n## Reports");
+    reports::print_sparse();
     let (mut all, mut all_moves) = (vec![], vec![]);
     for &count in &counts {
         println!("\n## {count} operations");
@@ -61,6 +64,8 @@ fn main() {
         before.iter().for_each(|before| before.print(&moves));
         println!("\n### {count} operations, five kinds");
         sizes(count).iter().for_each(|&size| kinds::print(size, count));
+        println!("\n### {count} operations, reports");
+        sizes(count).iter().for_each(|&size| reports::print(size, count));
         all.extend(plain);
         all_moves.extend(moves);
     }

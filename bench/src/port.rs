@@ -258,6 +258,15 @@ impl Tables {
         assert_eq!(refusal, 0, "read cells");
     }
 
+    /// Occupied cells of some windows by all cells, reduced.
+    pub fn occupation_tested(&self, tick: u64, windows: &[u64]) -> (u64, u64) {
+        let [mut occupied, mut cells, mut tenths] = [0; 3];
+        let refusal = tested!(tested::servercape_occupation_tested, self, blocks store nodes entries;
+            KIND, tick, windows.as_ptr(), windows.len(), &mut occupied, &mut cells, &mut tenths);
+        assert_eq!(refusal, 0, "occupation");
+        (occupied, cells)
+    }
+
     pub fn write(&self, out: &mut [u8]) -> u64 {
         let mut written = 0;
         let refusal = reads!(raw::servercape_write, self, out.as_mut_ptr(), out.len(), &mut written);

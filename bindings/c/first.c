@@ -1,51 +1,49 @@
-/* A first board: two trains at one platform, and which of them stands there in the two minutes from 01:41 on. */
-#include "servercape.h"
+/* A first board: two trains at one platform, and which of them stands there in the two minutes from
+   01:41 on. The index keeps its own tables; lent_tables.c does the same with the caller's. */
+#include "servercape_index.h"
 
 #include <inttypes.h>
 #include <stdio.h>
-#include <stdlib.h>
 
-/* A table of so many rows. */
-static uint64_t *table(uint64_t which, uint64_t rows, size_t *length)
-{
-    *length = servercape_length(which, rows);
-    return calloc(*length, sizeof(uint64_t));
-}
-
-/* Ends with the number of a refusal. */
+/* Ends with what a call returned: a refusal's number, or that there is no memory. */
 static void must(uint64_t refused)
 {
-    if (refused != 0) {
+    if (refused == SERVERCAPE_NO_MEMORY)
+        printf("no memory\n");
+    else if (refused != 0)
         printf("refused %" PRIu64 "\n", refused);
+    if (refused != 0)
         exit(1);
-    }
 }
-
-#define TABLES pieces, pieces_length, blocks, blocks_length, store, sizeof store, nodes, nodes_length, entries, entries_length
 
 int main(void)
 {
-    size_t pieces_length, blocks_length, nodes_length, entries_length;
-    uint64_t *pieces = table(SERVERCAPE_PIECES, 16, &pieces_length), *blocks = table(SERVERCAPE_BLOCKS, 32, &blocks_length);
-    uint64_t *nodes = table(SERVERCAPE_NODES, 64, &nodes_length), *entries = table(SERVERCAPE_ENTRIES, 64, &entries_length);
-    uint8_t store[64];
-    if (!pieces || !blocks || !nodes || !entries)
-        return 3;
+    static const uint8_t kinds[] = {SERVERCAPE_MEMORY};
+    static const uint8_t seven[] = {7, 7, 7}, nine[] = {9, 9, 9};
+    struct servercape_index board, now;
+    struct servercape_numbers found = {0};
 
-    uint64_t scratch[8] = {0}, updated, cell, numbers[32], count;
-    must(servercape_open(TABLES, 8, (const uint8_t[]){SERVERCAPE_MEMORY}, 1));
-    must(servercape_record(TABLES, scratch, 8, SERVERCAPE_MEMORY, 1, 100, (const uint8_t[]){7, 7, 7}, 3, &updated, &cell)); /* train 7 from 01:40 on, at tick 1 */
-    must(servercape_record(TABLES, scratch, 8, SERVERCAPE_MEMORY, 3, 102, (const uint8_t[]){9, 9, 9}, 3, &updated, &cell)); /* train 9 from 01:42 on, at tick 3 */
-    must(servercape_finish(TABLES));
-    must(servercape_touching(TABLES, SERVERCAPE_MEMORY, 6, 101, 103, numbers, 32, &count)); /* at tick 6, who holds cell 101 or 102? */
+    must(servercape_index_open(&board, 8, kinds, 1));
+    /* train 07 from 01:40 on, at tick 1; train 09 from 01:42 on, at tick 3 */
+    must(servercape_index_record(&board, SERVERCAPE_MEMORY, 1, 100, seven, 3, NULL, NULL));
+    must(servercape_index_record(&board, SERVERCAPE_MEMORY, 3, 102, nine, 3, NULL, NULL));
 
-    for (uint64_t k = 0; k < count; k++) {
-        uint64_t kind, first, length, created, destroyed, offset, label;
-        must(servercape_block(TABLES, numbers[k], &kind, &first, &length, &created, &destroyed, &offset));
-        must(servercape_clock(TABLES, first, &label));
-        printf("%strain %d at %04" PRIu64 " for %" PRIu64 " min", k ? ", " : "", store[offset], label, length);
+    /* the board goes on; a clone that is finished is read: at tick 6, who holds cell 101 or 102? */
+    must(servercape_index_clone(&now, &board));
+    must(servercape_index_finish(&now));
+    must(servercape_index_touching(&now, SERVERCAPE_MEMORY, 6, 101, 103, &found));
+
+    for (size_t k = 0; k < found.count; k++) {
+        struct servercape_block block;
+        uint64_t label;
+        must(servercape_index_block(&now, found.numbers[k], &block));
+        must(servercape_index_clock(&now, block.first, &label));
+        printf("%strain %02x at %04" PRIu64 " for %" PRIu64 " min", k ? ", " : "", block.bytes[0],
+               label, block.length);
     }
     printf("\n");
-    free(pieces), free(blocks), free(nodes), free(entries);
+    servercape_numbers_free(&found);
+    servercape_index_free(&now);
+    servercape_index_free(&board);
     return 0;
 }

@@ -37,7 +37,7 @@ static inline void untouched(const char *what, const void *slice, size_t bytes)
     const uint8_t *p = slice;
     size_t touched = 0;
     for (size_t i = 0; i < GUARD; i++)
-        touched += (p[-(ptrdiff_t)i - 1] != GUARDED) + (p[bytes + i] != GUARDED);
+        touched += (size_t)(p[-(ptrdiff_t)i - 1] != GUARDED) + (size_t)(p[bytes + i] != GUARDED);
     same(what, touched, 0);
 }
 

@@ -157,6 +157,49 @@ static void read_all_cells(struct lent x)
     same("held too short", servercape_read_cells(TABLES(x), MEMORY, 6, 99, 106, bytes, 8, held, 6), 16);
 }
 
+/* ── reports ── */
+
+/* What the report of some windows at tick 6 must be: a number and the three values, which stand at 77 before the call. */
+static void occupation_of(const char *what, struct lent x, const uint64_t *windows, size_t length, uint64_t number, uint64_t occupied, uint64_t cells, uint64_t tenths)
+{
+    uint64_t told[3] = {77, 77, 77};
+    same(what, servercape_occupation(TABLES(x), MEMORY, 6, windows, length, &told[0], &told[1], &told[2]), number);
+    same("occupied cells", told[0], occupied);
+    same("of all cells", told[1], cells);
+    same("tenths of a percent", told[2], tenths);
+}
+
+static void no_occupation(const char *what, struct lent x, const uint64_t *windows, size_t length, uint64_t number)
+{
+    occupation_of(what, x, windows, length, number, 77, 77, 77);
+}
+
+/* The listing at tick 6: the cells 100 to 104 are occupied. */
+static void read_occupation(struct lent x)
+{
+    uint64_t many[514], told[3] = {77, 77, 77};
+    for (size_t k = 0; k < 257; k++)
+        many[2 * k] = 100, many[2 * k + 1] = 101;
+    occupation_of("five of eight", x, (const uint64_t[]){99, 107}, 2, 0, 5, 8, 625);
+    occupation_of("half a tenth goes down to the even one", x, (const uint64_t[]){98, 114}, 2, 0, 5, 16, 312);
+    occupation_of("or up", x, (const uint64_t[]){102, 118}, 2, 0, 3, 16, 188);
+    occupation_of("repeats count, and an empty window is none", x, (const uint64_t[]){100, 104, 7, 7, 103, 107}, 6, 0, 3, 4, 750);
+    occupation_of("none", x, (const uint64_t[]){0, 9}, 2, 0, 0, 1, 0);
+    occupation_of("all", x, (const uint64_t[]){100, 105}, 2, 0, 1, 1, 1000);
+    occupation_of("256 windows", x, many, 512, 0, 1, 1, 1000);
+    occupation_of("2^32 cells", x, (const uint64_t[]){0, UINT64_C(1) << 32}, 2, 0, 5, UINT64_C(1) << 32, 0);
+    no_occupation("no window", x, many, 0, 37);
+    no_occupation("no cell", x, (const uint64_t[]){5, 5, 9, 9}, 4, 37);
+    no_occupation("257 windows", x, many, 514, 37);
+    no_occupation("2^32 cells and one", x, (const uint64_t[]){0, UINT64_C(1) << 32, 0, 1}, 4, 37);
+    no_occupation("more than 2^64 cells", x, (const uint64_t[]){0, UINT64_MAX, 0, UINT64_MAX}, 4, 37);
+    no_occupation("a start without its end", x, many, 511, 15);
+    many[513] = 99;
+    no_occupation("the 257th is turned round", x, many, 514, 15);
+    same("past the end", servercape_occupation(TABLES(x), MEMORY, 8, many, 514, &told[0], &told[1], &told[2]), 14);
+    same("kept values", told[0] + told[1] + told[2], 3 * 77);
+}
+
 /* ── the file ── */
 
 /* How many bytes of a slice are not 0. */
@@ -189,6 +232,7 @@ static void write_and_load(struct lent x)
     read_touching(y);
     read_neighbours(y);
     read_all_cells(y);
+    read_occupation(y);
     same("write again", servercape_write(TABLES(y), again, sizeof again, &written), 0);
     same("the same bytes", memcmp(file + 3, again, written) == 0, 1);
 
@@ -203,7 +247,7 @@ static void write_and_load(struct lent x)
 
 /* ── boards of their own ── */
 
-/* A train from 23:52 to 00:05: find misses it after midnight. */
+/* A train from 23:52 to 00:06: find misses it after midnight. */
 static void midnight(struct lent x)
 {
     const uint8_t train[14] = {9, 9, 9, 9, 9, 9, 9, 9, 9, 9, 9, 9, 9, 9};
@@ -220,6 +264,15 @@ static void midnight(struct lent x)
     same("it has left", count, 0);
     neighbours(x, 5, 1440, missing, missing);
     neighbours(x, 5, 1446, missing, (const uint64_t[]){1, 0});
+}
+
+/* A held 0 is not occupied. */
+static void held_zero(struct lent x)
+{
+    same("open", servercape_open(TABLES(x), 8, ONLY(1)), 0);
+    record("a train, and a minute set free in it", x, 0, 100, (const uint8_t[]){7, 0, 7}, 3, update(100));
+    same("finish", servercape_finish(TABLES(x)), 0);
+    occupation_of("two of three", x, (const uint64_t[]){100, 103}, 2, 0, 2, 3, 667);
 }
 
 /* Two writes of one cell at one tick: the first is live never. */
@@ -549,6 +602,8 @@ static void read_kind(struct lent x, uint8_t kind, uint64_t count, const uint64_
     same("its list", listed == count && memcmp(answer, numbers, 8 * count) == 0, 1);
     same("cells", servercape_read_cells(TABLES(x), kind, 5, 0, 10, bytes, 10, shown, 10), 0);
     same("held", memcmp(shown, held, 10) == 0, 1);
+    same("occupation", servercape_occupation(TABLES(x), kind, 5, (const uint64_t[]){0, 10}, 2, &listed, &visited, &answer[2]), 0);
+    same("its tenths, one hundred a cell", answer[2], 100 * count);
     same("find all", servercape_find_all(TABLES(x), kind, (const uint64_t[]){5, 0, 10}, 3, answer, 3, &visited, 1), 1);
     same("as find, or no room", answer[0] == (count > 1 ? 16 : 0) && answer[1] == (count > 1 ? 0 : count), 1);
 }
@@ -556,16 +611,17 @@ static void read_kind(struct lent x, uint8_t kind, uint64_t count, const uint64_
 /* Every read of a kind that was not opened is refused 25, before 14 to 16; or with another number. */
 static void no_kind(struct lent x, uint8_t kind, uint64_t number)
 {
-    uint64_t a = 77, b = 77, answers[3] = {77, 77, 77};
+    uint64_t a = 77, b = 77, c = 77, answers[3] = {77, 77, 77};
     uint8_t byte = 77;
     same("find", servercape_find(TABLES(x), kind, 8, 1, 0, &a, 0, &a, &b), number);
     same("touching", servercape_touching(TABLES(x), kind, 8, 1, 0, &a, 0, &a), number);
     same("next", servercape_next(TABLES(x), kind, 8, 0, &a, &b), number);
     same("last", servercape_last(TABLES(x), kind, 8, 0, &a, &b), number);
     same("cells", servercape_read_cells(TABLES(x), kind, 8, 1, 0, &byte, 0, &byte, 0), number);
+    same("occupation", servercape_occupation(TABLES(x), kind, 8, (const uint64_t[]){1, 0}, 2, &a, &b, &c), number);
     same("find all", servercape_find_all(TABLES(x), kind, (const uint64_t[]){8, 1, 0}, 3, answers, 3, &a, 1), 1);
     same("its answer", answers[0] == number && answers[1] + answers[2] == 0, 1);
-    same("kept", a + b + byte, 3 * 77);
+    same("kept", a + b + c + byte, 4 * 77);
 }
 
 /* Opening takes a set; every other kind is refused 25; trees, block numbers and parts of the file go by kind code. */
@@ -664,11 +720,12 @@ static void refused(struct lent x)
     same("largest end tick", servercape_open(TABLES(x), SERVERCAPE_MAX_END_TICK, ONLY(4)), 0);
     same("above it", servercape_open(TABLES(x), SERVERCAPE_MAX_END_TICK + 1, ONLY(4)), 1);
     same("kind 5", servercape_open(TABLES(x), 8, ONLY(5)), 1);
-    uint64_t count = 77, visited = 77;
+    uint64_t count = 77, visited = 77, tenths = 77;
     same("not finished", servercape_find(TABLES(x), MEMORY, 0, 0, 1, x.scratch, x.scratch_length, &count, &visited), 4);
     same("touching, not finished", servercape_touching(TABLES(x), MEMORY, UINT64_MAX, 1, 0, x.scratch, 0, &count), 4);
     same("next, not finished", servercape_next(TABLES(x), MEMORY, UINT64_MAX, 0, &count, &visited), 4);
     same("last, not finished", servercape_last(TABLES(x), MEMORY, UINT64_MAX, 0, &count, &visited), 4);
+    same("occupation, not finished", servercape_occupation(TABLES(x), MEMORY, UINT64_MAX, x.scratch, 0, &count, &visited, &tenths), 4);
     /* the state stands in the head's last row */
     x.blocks[servercape_length(SERVERCAPE_BLOCKS, 0) - 8] = 9;
     same("not well formed", servercape_finish(TABLES(x)), 2);
@@ -676,7 +733,8 @@ static void refused(struct lent x)
     same("touching, not well formed", servercape_touching(TABLES(x), MEMORY, UINT64_MAX, 1, 0, x.scratch, 0, &count), 2);
     same("next, not well formed", servercape_next(TABLES(x), MEMORY, UINT64_MAX, 0, &count, &visited), 2);
     same("last, not well formed", servercape_last(TABLES(x), MEMORY, UINT64_MAX, 0, &count, &visited), 2);
-    same("kept values", count + visited, 2 * 77);
+    same("occupation, not well formed", servercape_occupation(TABLES(x), MEMORY, UINT64_MAX, x.scratch, 0, &count, &visited, &tenths), 2);
+    same("kept values", count + visited + tenths, 3 * 77);
 }
 
 int main(void)
@@ -694,8 +752,10 @@ int main(void)
     read_touching(x);
     read_neighbours(x);
     read_all_cells(x);
+    read_occupation(x);
     write_and_load(x);
     midnight(x);
+    held_zero(x);
     same_tick(x);
     changes(x);
     scratch();

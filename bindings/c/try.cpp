@@ -93,6 +93,11 @@ void read(Tables &x)
     same("cells", call(servercape_read_cells, x, memory, tick, std::uint64_t{102}, std::uint64_t{106}, shown.data(), shown.size(), held.data(), held.size()), 0);
     same("the last one is free", held == Bytes{1, 1, 1, 0}, 1);
     same("the trains", shown == Bytes{9, 4, 9, 0}, 1);
+    const Numbers windows = {102, 106}, no_cell = {5, 5};
+    std::uint64_t occupied = 77, cells = 77, tenths = 77;
+    same("occupation", call(servercape_occupation, x, memory, tick, windows.data(), windows.size(), &occupied, &cells, &tenths), 0);
+    same("three of four", occupied == 3 && cells == 4 && tenths == 750, 1);
+    same("no cell", call(servercape_occupation, x, memory, tick, no_cell.data(), no_cell.size(), &occupied, &cells, &tenths), 37);
 }
 
 } // namespace

@@ -71,6 +71,10 @@ static void same_reads(struct lent x, uint64_t state, struct asked q)
     same("cells", servercape_read_cells_tested(state, BLOCKS(x), STORE(x), TREE(x), q.kind, q.tick, q.start, q.end, a.bytes, cells, a.held, cells),
         servercape_read_cells(TABLES(x), q.kind, q.tick, q.start, q.end, b.bytes, cells, b.held, cells));
     same_answers("cells", a, b);
+    const uint64_t windows[] = {q.start, q.end, 100, 104, 101};
+    same("occupation", servercape_occupation_tested(state, BLOCKS(x), STORE(x), TREE(x), q.kind, q.tick, windows, q.room / 2 + 1, &v[3], &v[4], &v[5]),
+        servercape_occupation(TABLES(x), q.kind, q.tick, windows, q.room / 2 + 1, &w[3], &w[4], &w[5]));
+    same_answers("occupation", a, b);
     same("block", servercape_block_tested(state, BLOCKS(x), STORE(x), q.tick, &v[0], &v[1], &v[2], &v[3], &v[4], &v[5]),
         servercape_block(TABLES(x), q.tick, &w[0], &w[1], &w[2], &w[3], &w[4], &w[5]));
     same_answers("block", a, b);
@@ -315,6 +319,10 @@ static void every_call(struct lent x, uint64_t state, struct asked q)
     servercape_next_tested(state, BLOCKS(x), TREE(x), q.kind, q.tick, q.start, &v[0], &v[1]);
     servercape_last_tested(state, BLOCKS(x), TREE(x), q.kind, q.tick, q.end, &v[0], &v[1]);
     servercape_read_cells_tested(state, BLOCKS(x), STORE(x), TREE(x), q.kind, q.tick, q.start, q.end, a.bytes, CELLS, a.held, CELLS);
+    const uint64_t windows[] = {q.start, q.end, 0, UINT32_MAX, 100, 104, UINT64_MAX - 9, UINT64_MAX};
+    for (size_t k = 0; k <= 8; k++)
+        servercape_occupation_tested(state, BLOCKS(x), STORE(x), TREE(x), q.kind, q.tick, windows, k, &v[0], &v[1], &v[2]);
+    servercape_occupation_tested(state, BLOCKS(x), STORE(x), TREE(x), q.kind, q.tick, windows + 4, 4, &v[0], &v[1], &v[2]);
     for (uint64_t k = 0; k < 8; k++)
         if (servercape_block_tested(state, BLOCKS(x), STORE(x), k, &v[0], &v[1], &v[2], &v[3], &v[4], &v[5]) == 0)
             same("its bytes lie in the store", v[2] <= x.store_length && v[5] <= x.store_length - v[2], 1);

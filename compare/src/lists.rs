@@ -1,6 +1,7 @@
 //! Lists of operations, played by the proved calls, by the plain reading of the document and by the Rust, which is given each kind by itself.
 use crate::board::{Block, Board, Closed, Difference, Known, Op, KINDS, LEAST_SCRATCH};
 use crate::file;
+use crate::reports;
 use crate::rust::{Answer, Job, Query, Rust};
 use crate::tally::Tally;
 use servercape::{Index, Kind, Recorded, Refusal, Room};
@@ -197,6 +198,7 @@ fn read_kind(index: &Index, want: &Closed, kind: u64, query: Query, tally: &mut 
     touching(index, want, kind, query, tally, of);
     neighbours(index, want, kind, query, tally, of);
     cells(index, want, kind, query, tally, of);
+    reports::read(index, want, kind, query, tally, of);
 }
 
 /// Every read of a kind that was not opened, before 14 and 15.
@@ -208,9 +210,10 @@ fn not_opened(index: &Index, want: &Closed, (_, start, end): Query, tally: &mut 
         number(&index.touching(kind, late, window.clone())),
         number(&index.next(kind, late, start)),
         number(&index.last(kind, late, end)),
+        number(&index.occupation(kind, late, &[window.clone()])),
         number(&index.cells(kind, late, window)),
     ];
-    tally.same(|| format!("kind not opened, {kind} of {}", of()), &got, &[25; 5]);
+    tally.same(|| format!("kind not opened, {kind} of {}", of()), &got, &[25; 6]);
     got.into_iter().for_each(|got| tally.refused(got));
 }
 

@@ -13,6 +13,7 @@ mod files;
 mod hours;
 mod lists;
 mod random;
+mod reports;
 mod rust;
 mod tally;
 mod tree;
@@ -36,11 +37,13 @@ struct Extent {
     kinds: u64,
     /// Lists with calendars and lists of days.
     hours: u64,
+    /// Boards with reports on windows.
+    reports: u64,
     /// Copies of good files, most of them damaged.
     files: usize,
 }
 
-const SHORT: Extent = Extent { worlds: &[World { end: 2, cells: 3, letters: 2, most: 2 }], tight: 1, random: 3_000, kinds: 2_000, hours: 300, files: 4_000 };
+const SHORT: Extent = Extent { worlds: &[World { end: 2, cells: 3, letters: 2, most: 2 }], tight: 1, random: 3_000, kinds: 2_000, hours: 300, reports: 300, files: 4_000 };
 
 const FULL: Extent = Extent {
     worlds: &[World { end: 3, cells: 3, letters: 2, most: 3 }, World { end: 4, cells: 4, letters: 2, most: 2 }],
@@ -48,6 +51,7 @@ const FULL: Extent = Extent {
     random: 120_000,
     kinds: 100_000,
     hours: 10_000,
+    reports: 10_000,
     files: 100_000,
 };
 
@@ -133,6 +137,8 @@ fn main() -> ExitCode {
     }
     println!("Lists with calendars and days: {} lists", extent.hours);
     hours::compare(&mut Random::new(seed ^ 0x40EA5), extent.hours, &mut tally);
+    println!("Boards with reports on windows: {} boards", extent.reports);
+    reports::compare(&mut Random::new(seed ^ 0x5E9), extent.reports, &mut tally);
     let mut random = Random::new(seed ^ 0xF11E);
     println!("Copies of {} good files, as they are or damaged: {} files", good.len(), extent.files);
     for start in (0..extent.files).step_by(BATCH) {

@@ -11,8 +11,8 @@ pub struct Tally {
 }
 
 /// The answers of a list, by the first words of what is said of them: a difference can be put into each.
-const ANSWERS: [&str; 23] = [
-    "install", "hours", "days", "clock", "day of", "record", "short scratch", "closed index", "change", "finish", "blocks", "find", "visited", "touching", "next block", "last block", "cells", "file",
+const ANSWERS: [&str; 24] = [
+    "install", "hours", "days", "clock", "day of", "record", "short scratch", "closed index", "change", "finish", "blocks", "find", "visited", "touching", "next block", "last block", "cells", "occupation", "file",
     "opened kinds", "kind not opened", "part of", "loaded kind", MIXED,
 ];
 

@@ -8,7 +8,9 @@
 """
 from .days import Days
 from .index import Block, Found, Index, Kind, Operation
+from .library import VERSION as __version__
 from .places import Place
-from .refusal import WORDS, Refused
+from .refusal import ADVICE, WORDS, Refused
+from .reports import Occupation
 
-__all__ = ["Block", "Days", "Found", "Index", "Kind", "Operation", "Place", "Refused", "WORDS"]
+__all__ = ["ADVICE", "Block", "Days", "Found", "Index", "Kind", "Occupation", "Operation", "Place", "Refused", "WORDS", "__version__"]

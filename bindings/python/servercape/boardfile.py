@@ -25,9 +25,11 @@ byte order mark in front is passed over.
 The input has 8 bytes of end tick, 1 of kind, then for each booking the mark B7 4F, 8 bytes of tick, 8 of first cell, 2 of length, and the bytes; numbers
 are little-endian. Board reads the first 65,536 bytes: a longer input is refused here.
 """
-import os
 import random
 import sys
+from collections.abc import Callable
+from pathlib import Path
+from typing import Any, TypedDict, TypeVar
 
 MARK = b"\xb7\x4f"
 FRONT = 20  # bytes of a record before its own bytes: mark, tick, first cell, length
@@ -39,6 +41,19 @@ KINDS = ["constant", "memory", "register", "unique", "other"]
 DAYS = ["monday", "tuesday", "wednesday", "thursday", "friday", "saturday", "sunday"]
 
 
+# Tick, first cell and bytes.
+Booking = tuple[int, int, bytes]
+Given = TypeVar("Given")
+
+
+class Board(TypedDict, total=False):
+    """A list of bookings, with its end tick and kind once they are known."""
+
+    end: int
+    kind: int
+    bookings: list[Booking]
+
+
 class Fault(Exception):
     """What is wrong with a file; the caller adds its name."""
 
@@ -46,7 +61,7 @@ class Fault(Exception):
 # ── from text ──
 
 
-def number(word, bits, what):
+def number(word: str, bits: int, what: str) -> int:
     """A decimal number that fits so many bits."""
     if not (word.isascii() and word.isdigit()):
         raise Fault(f"{what} must be a number, not '{word}'")
@@ -56,11 +71,11 @@ def number(word, bits, what):
     return int(digits)
 
 
-def kind_of(word):
+def kind_of(word: str) -> int:
     return KINDS.index(word.lower()) if word.lower() in KINDS else number(word, 8, "the kind")
 
 
-def minute_of(day, time):
+def minute_of(day: str, time: str) -> int:
     """The minute of a day, as `monday` or `tuesday+1`, and a clock time, as `01:42`."""
     name, plus, weeks = day.partition("+")
     if name.lower() not in DAYS:
@@ -78,7 +93,7 @@ def minute_of(day, time):
     return whole
 
 
-def bytes_of(words):
+def bytes_of(words: list[str]) -> bytes:
     """The bytes that words stand for: pairs of hexadecimal digits, `09*3` for three times 09."""
     out = bytearray()
     for word in words:
@@ -96,7 +111,7 @@ def bytes_of(words):
     return bytes(out)
 
 
-def booking(words):
+def booking(words: list[str]) -> Booking:
     """Tick, first cell and bytes of `at TICK cell CELL bytes ..` or `at TICK platform P DAY TIME bytes ..`."""
     form = "write: at TICK cell CELL bytes .. or: at TICK platform P DAY HH:MM bytes .."
     if len(words) >= 5 and words[2] == "cell" and words[4] == "bytes":
@@ -109,14 +124,17 @@ def booking(words):
     return number(words[1], 64, "the tick"), cell, bytes_of(rest)
 
 
-def statement(board, words):
+def statement(board: Board | dict[str, Any], words: list[str]) -> None:
     """Adds a line to the board: its `end`, its `kind`, or one of its bookings."""
     if words[0] in ("end", "kind"):
         if words[0] in board:
             raise Fault(f"there is more than one {words[0]}")
         if len(words) != 2:
             raise Fault(f"write: {words[0]} and its value")
-        board[words[0]] = number(words[1], 64, "the end tick") if words[0] == "end" else kind_of(words[1])
+        if words[0] == "end":
+            board["end"] = number(words[1], 64, "the end tick")
+        else:
+            board["kind"] = kind_of(words[1])
     elif words[0] == "at":
         if "end" not in board or "kind" not in board:
             raise Fault("end and kind stand before the first booking")
@@ -125,7 +143,7 @@ def statement(board, words):
         raise Fault(f"'{words[0]}' is no statement: it is end, kind or at")
 
 
-def decoded(data):
+def decoded(data: bytes) -> str:
     """A file's bytes as text."""
     try:
         return data.decode("utf-8-sig")
@@ -136,8 +154,8 @@ def decoded(data):
         raise Fault(f"line {line}: byte {data[at]:02x} is no UTF-8 text; a board's input is turned into text by show") from None
 
 
-def read_text(text):
-    board = {"bookings": []}
+def read_text(text: str) -> Board:
+    board = Board(bookings=[])
     for at, line in enumerate(text.split("\n"), 1):
         words = line.partition("#")[0].split()
         try:
@@ -154,7 +172,7 @@ def read_text(text):
 # ── to and from input ──
 
 
-def write_input(board):
+def write_input(board: Board) -> bytes:
     parts = [board["end"].to_bytes(8, "little"), board["kind"].to_bytes(1, "little")]
     for tick, cell, data in board["bookings"]:
         parts += [MARK, tick.to_bytes(8, "little"), cell.to_bytes(8, "little"), len(data).to_bytes(2, "little"), data]
@@ -164,13 +182,16 @@ def write_input(board):
     return whole
 
 
-def read_input(data):
+def read_input(data: bytes) -> Board:
     if len(data) < START:
         raise Fault(f"record 0 is cut: there are {len(data)} bytes, and end tick and kind take {START}")
     if len(data) > MOST_INPUT:
         raise Fault(f"the input has {len(data)} bytes, and board reads the first {MOST_INPUT}")
-    little = lambda start, width: int.from_bytes(data[start : start + width], "little")
-    board, at = {"end": little(0, 8), "kind": little(8, 1), "bookings": []}, START
+
+    def little(start: int, width: int) -> int:
+        return int.from_bytes(data[start : start + width], "little")
+
+    board, at = Board(end=little(0, 8), kind=little(8, 1), bookings=[]), START
     while at < len(data):
         k = len(board["bookings"]) + 1
         if not MARK.startswith(data[at : at + 2]):
@@ -187,9 +208,10 @@ def read_input(data):
 # ── to text ──
 
 
-def words_of(data):
+def words_of(data: bytes) -> list[str]:
     """Bytes as text: equal ones that follow one another as `09*3`, where that is shorter."""
-    words, at = [], 0
+    words: list[str] = []
+    at = 0
     while at < len(data):
         end = at
         while end < len(data) and data[end] == data[at]:
@@ -199,7 +221,7 @@ def words_of(data):
     return words
 
 
-def write_text(board):
+def write_text(board: Board) -> str:
     kind = board["kind"]
     lines = [f"end {board['end']}", f"kind {KINDS[kind] if kind < len(KINDS) else kind}"]
     for tick, cell, data in board["bookings"]:
@@ -259,25 +281,31 @@ WRONG_INPUTS = [
 ]
 
 
-def expect_fault(run, given, words):
+def expect_fault(run: Callable[[Given], object], given: Given, words: str) -> None:
     try:
         run(given)
     except Fault as fault:
         assert words in str(fault), f"'{fault}' should say '{words}'"
     else:
-        raise AssertionError(f"not refused: {given[:60]!r}")
+        raise AssertionError(f"not refused: {repr(given)[:60]}")
 
 
-def random_board(dice):
+def random_board(dice: random.Random) -> Board:
     """A board with small and large numbers, and with bookings of no cells."""
-    any_number = lambda bits: dice.choice([0, 1, dice.randrange(2000), dice.randrange(1 << bits), (1 << bits) - 1])
-    data = lambda: bytes(dice.choice([7, 9, dice.randrange(256)]) for _ in range(dice.randrange(30)))
-    bookings = [(any_number(64), any_number(64), data()) for _ in range(dice.randrange(40))]
-    return {"end": any_number(64), "kind": dice.randrange(256), "bookings": bookings}
+
+    def any_number() -> int:
+        return dice.choice([0, 1, dice.randrange(2000), dice.randrange(1 << 64), (1 << 64) - 1])
+
+    def data() -> bytes:
+        return bytes(dice.choice([7, 9, dice.randrange(256)]) for _ in range(dice.randrange(30)))
+
+    bookings = [(any_number(), any_number(), data()) for _ in range(dice.randrange(40))]
+    return Board(end=any_number(), kind=dice.randrange(256), bookings=bookings)
 
 
-def test():
-    listing = {"end": 8, "kind": 1, "bookings": [(1, 100, b"\7\7\7"), (3, 102, b"\t\t\t"), (5, 100, b"\7\7"), (6, 103, b"\4")]}
+def test() -> None:
+    bookings = [(1, 100, b"\7\7\7"), (3, 102, b"\t\t\t"), (5, 100, b"\7\7"), (6, 103, b"\4")]
+    listing = Board(end=8, kind=1, bookings=bookings)
     assert read_text(LISTING) == listing
     assert write_input(listing)[:31] == bytes.fromhex("0800000000000000 01 b74f 0100000000000000 6400000000000000 0300 0707")
     assert number(5000 * "0" + "7", 8, "a number") == 7
@@ -294,39 +322,43 @@ def test():
         expect_fault(read_input, data, words)
     assert decoded(b"\xef\xbb\xbf# Z\xc3\xbcrich\r\n") == "# Zürich\r\n"
     assert read_text(decoded(b"\xef\xbb\xbf" + LISTING.replace("\n", "\r\n").encode())) == listing
-    examples = os.path.join(os.path.dirname(os.path.abspath(__file__)), "..", "examples")
-    for name in ("listing", "midnight"):
-        with open(os.path.join(examples, name + ".txt"), encoding="utf-8") as text, open(os.path.join(examples, name + ".board"), "rb") as made:
-            assert write_input(read_text(text.read())) == made.read(), f"examples/{name}.board is not what {name}.txt makes"
-    with open(os.path.join(examples, "bad.board"), "rb") as made:
-        expect_fault(read_input, made.read(), "record 2, at byte 32: its mark is b7 4e")
+    test_examples(Path(__file__).resolve().parents[3] / "examples")
     print("boardfile: ok")
+
+
+def test_examples(examples: Path) -> None:
+    for name in ("listing", "midnight"):
+        made = write_input(read_text((examples / f"{name}.txt").read_text("utf-8")))
+        wanted = (examples / f"{name}.board").read_bytes()
+        assert made == wanted, f"examples/{name}.board is not what {name}.txt makes"
+    bad = (examples / "bad.board").read_bytes()
+    expect_fault(read_input, bad, "record 2, at byte 32: its mark is b7 4e")
 
 
 # ── the command ──
 
 
-def load(name):
+def load(name: str) -> bytes:
     with open(0 if name == "-" else name, "rb", closefd=name != "-") as file:
         return file.read()
 
 
-def store(name, data):
+def store(name: str, data: bytes) -> None:
     with open(1 if name == "-" else name, "wb", closefd=name != "-") as file:
         file.write(data)
 
 
-def fail(status, words):
+def fail(status: int, words: str) -> int:
     print(f"boardfile: {words}", file=sys.stderr)
     return status
 
 
-def main(arguments):
+def main(arguments: list[str]) -> int:
     """Does what the arguments ask; the status."""
     name, to = "", "-"
     try:
         if "--help" in arguments or "-h" in arguments:
-            store("-", __doc__.encode())
+            store("-", (__doc__ or "").encode())
         elif arguments == ["--test"]:
             test()
         elif len(arguments) not in (2, 3) or arguments[0] not in ("make", "show"):

@@ -4,7 +4,7 @@ A readable list may have several kinds, which that program has not: `kind memory
 them. A booking that names none is of the first.
 """
 import struct
-from typing import NamedTuple
+from typing import Any, NamedTuple
 
 from .boardfile import FRONT, MARK, START, Fault, kind_of, statement
 from .days import REGULAR, Days
@@ -12,6 +12,7 @@ from .index import Operation
 from .places import Place
 
 BOM = b"\xef\xbb\xbf"
+WIDE_BOMS = (b"\xff\xfe", b"\xfe\xff")
 FIELDS = struct.Struct("<2sQQH")
 
 
@@ -32,8 +33,18 @@ class Bookings(NamedTuple):
 def read_bookings(data: bytes, days: Days = REGULAR) -> Bookings:
     """Reads either form. What is binary has a zero in its end tick or kind, or a mark behind them; no text has. Days and clock times of a text go by a list of days.
     Raises `Fault`."""
-    binary = b"\0" in data[:START] or data[START:START + len(MARK)] == MARK
-    return read_binary(data) if binary else read_text(data, days)
+    marked = data[START:START + len(MARK)] == MARK
+    if not marked and is_wide(data):
+        raise Fault("this is text in UTF-16: save the list as UTF-8")
+    return read_binary(data) if marked or b"\0" in data[:START] else read_text(data, days)
+
+
+def is_wide(data: bytes) -> bool:
+    """Whether bytes are text in UTF-16: by the mark in front, or by a zero beside each of the first characters. A binary list without bookings has nine bytes."""
+    front = data[:START - 1]
+    pairs = (front[0::2], front[1::2])
+    zero_beside = len(front) == START - 1 and any(not any(zeros) and text.isascii() and all(text) for text, zeros in (pairs, pairs[::-1]))
+    return len(data) != START and (data.startswith(WIDE_BOMS) or zero_beside)
 
 
 def moved(booking: tuple[int, int, bytes], days: Days) -> tuple[int, int, bytes]:
@@ -55,7 +66,7 @@ def without_kind(words: list[str], kinds: list[int]) -> tuple[list[str], int]:
 
 
 def read_text(data: bytes, days: Days) -> Bookings:
-    board: dict = {"bookings": []}
+    board: dict[str, Any] = {"bookings": []}
     kinds: list[int] = []
     kinds_of: list[int] = []
     places: list[int] = []

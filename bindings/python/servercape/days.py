@@ -89,7 +89,7 @@ class Days:
 REGULAR = Days()
 
 
-def numbers(listed: Iterable[tuple[int, int]]) -> array:
+def numbers(listed: Iterable[tuple[int, int]]) -> "array[int]":
     """The pairs one behind the other."""
     try:
         return array("Q", [number for day, minutes in listed for number in (day, minutes)])

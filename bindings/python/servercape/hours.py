@@ -9,7 +9,7 @@ Windows = Iterable[tuple[int, int]]
 WEEK, MOST_WINDOWS, MOST_SPECIAL = 7, 8, 64
 
 
-def calendar(week: Iterable[Windows], special: Iterable[tuple[int, Windows]]) -> array:
+def calendar(week: Iterable[Windows], special: Iterable[tuple[int, Windows]]) -> "array[int]":
     """The hours of each weekday; a count; of each special day its number and hours."""
     days, special = list(week), list(special)
     if len(days) != WEEK:

@@ -1,59 +1,68 @@
 """The shared library of the proved calls: where it is, and its calls with Python's types."""
+from __future__ import annotations
+
 import os
-from array import array
 from collections.abc import Callable
-from ctypes import CDLL, POINTER, addressof, byref, c_char_p, c_size_t, c_uint8, c_uint64, c_void_p
+from ctypes import CDLL, addressof, c_char_p, c_size_t, c_uint8, c_uint64, c_void_p
 from pathlib import Path
+from typing import Any
+
+from .signatures import SIGNATURES, VERSION, Info
+
+__all__ = ["Info", "Library", "VERSION", "find_library", "library"]
 
 NAME = "libservercape.so"
 
-# What a call takes, in order: s a table or another slice of ours, b bytes that it only reads, n a number, k a kind, o a value that it hands out.
-# bindings/servercape.h and servercape_tested.h have the names.
-SIGNATURES = {
-    "length": "nn",
-    "open": "sssss" "nb",
-    "record_all": "ssssss" "kbso",
-    "finish": "sssss",
-    "install_calendar": "sssss" "s",
-    "install_days": "sssss" "s",
-    "load": "sssss" "bno",
-    "state": "sssss",
-    "record_tested": "nssss" "knnboo",
-    "block_tested": "nss" "noooooo",
-    "find_tested": "nsss" "knnnsoo",
-    "touching_tested": "nsss" "knnnso",
-    "next_tested": "nsss" "knnoo",
-    "last_tested": "nsss" "knnoo",
-    "read_cells_tested": "nssss" "knnnss",
-    "write_tested": "nssss" "so",
-    "clock_tested": "ns" "no",
+# The types of a letter of a signature. What is handed out stands in a row of numbers behind the
+# other arguments, and is passed by address.
+TYPES: dict[str, list[type]] = {
+    "s": [c_void_p, c_size_t],
+    "b": [c_char_p, c_size_t],
+    "n": [c_uint64],
+    "k": [c_uint8],
+    "o": [c_void_p],
+    "i": [c_void_p],
 }
-TYPES = {"s": [c_void_p, c_size_t], "b": [c_char_p, c_size_t], "n": [c_uint64], "k": [c_uint8], "o": [POINTER(c_uint64)]}
 MOST = {"n": (1 << 64) - 1, "k": 255}
+WIDTHS = {"o": 1, "i": len(Info._fields)}
 
 # A slice without elements has an address too.
 _nowhere = c_uint64()
 
 
-def find_library() -> Path:
-    """The library: in the folder that SERVERCAPE_LIB names, in the package as installed, or in a checkout's target."""
+def folders() -> list[Path]:
+    """Where the library is looked for: in the folder that SERVERCAPE_LIB names, or else in the
+    package as installed, and in what a checkout has built or brings along."""
     here = Path(__file__).resolve().parent
     named = os.environ.get("SERVERCAPE_LIB")
-    folders = [Path(named)] if named else [here, *(folder / "target" / "python" for folder in here.parents[2:3])]
-    for folder in folders:
+    if named:
+        return [Path(named)]
+    if not (here.parent / "pyproject.toml").exists():
+        return [here]
+    checkout = here.parents[2]
+    from_source = os.environ.get("SERVERCAPE_FROM_SOURCE") == "1"
+    return [checkout / "target" / "dist" if from_source else checkout / "dist"]
+
+
+def find_library() -> Path:
+    """The library in the first of these folders that has it."""
+    for folder in folders():
         if (folder / NAME).exists():
             return folder / NAME
-    raise ImportError(f"{NAME} is not in {' or '.join(map(str, folders))}: bindings/python/make-library writes it")
+    raise ImportError(f"{NAME} is not in {' or '.join(map(str, folders()))}")
 
 
 def _call(library: CDLL, name: str, signature: str) -> Callable[..., tuple[int, ...]]:
-    """A call as a function of numbers, bytes and arrays, which gives its result and then the values that it hands out."""
+    """A call as a function of numbers, bytes and arrays, which gives its result and then the values
+    that it hands out."""
     function = getattr(library, f"servercape_{name}")
     function.restype = c_uint64
     function.argtypes = [part for letter in signature for part in TYPES[letter]]
-    values_out = signature.count("o")
+    widths = [WIDTHS[letter] for letter in signature if letter in WIDTHS]
+    places = [8 * sum(widths[:number]) for number in range(len(widths))]
+    row = c_uint64 * sum(widths)
 
-    def call(*arguments: int | bytes | array) -> tuple[int, ...]:
+    def call(*arguments: Any) -> tuple[int, ...]:
         flat: list[object] = []
         for letter, argument in zip(signature, arguments):
             if letter in MOST:
@@ -65,8 +74,10 @@ def _call(library: CDLL, name: str, signature: str) -> Callable[..., tuple[int, 
             else:
                 address, length = argument.buffer_info()
                 flat += (address or addressof(_nowhere), length)
-        values = [c_uint64() for _ in range(values_out)]
-        return function(*flat, *map(byref, values)), *(value.value for value in values)
+        values = row()
+        start = addressof(values)
+        flat += [start + place for place in places]
+        return function(*flat), *values
 
     return call
 

@@ -1,62 +1,167 @@
 """Rows as plain lines, as a spreadsheet's, as JSON, or in words."""
 import csv
 import json
-from collections.abc import Callable, Iterable, Sequence
-from typing import TextIO
+from collections.abc import Callable, Iterable
+from functools import lru_cache
+from typing import Generic, NamedTuple, TextIO, TypeVar
 
-from .boardfile import words_of
+from .boardfile import KINDS
 from .days import Days
-from .index import Block
-from .places import Place
+from .index import Block, Kind
+from .places import MINUTES, Place
+from .stays import TRAIN_NAMES, Stay, trains
 
-Value = int | str | None
-Row = dict[str, Value]
+T = TypeVar("T")
+Value = int | float | str | None
+Row = tuple[Value, ...]
 
-BLOCK_COLUMNS = ("block", "cell", "n", "from", "to", "clock", "bytes")
-CELL_COLUMNS = ("cell", "clock", "byte")
+# Programs that read JSON keep whole numbers up to here; larger ones, as ticks may be, are written as text.
+MOST_WHOLE = 1 << 53
 
-
-def block_row(number: int, block: Block, label: int) -> Row:
-    return dict(zip(BLOCK_COLUMNS, (
-        number, block.first, len(block.bytes), block.created, block.destroyed, f"{label:04}", block.bytes.hex())))
-
-
-def cell_row(cell: int, byte: int | None, label: int) -> Row:
-    return dict(zip(CELL_COLUMNS, (cell, f"{label:04}", None if byte is None else f"{byte:02x}")))
+# How many clock times are kept while rows are written.
+KEPT = 1 << 16
 
 
-def trains(data: bytes) -> str:
-    """Bytes as train codes: one name where all are equal."""
-    words = words_of(data)
-    name = words[0].partition("*")[0]
-    return f"trains {' '.join(words)}" if len(words) > 1 else "free" if name == "00" else f"train {name}"
+class Listing(NamedTuple, Generic[T]):
+    """How things of one sort are listed: the columns of plain lines and of spreadsheets and JSON, the row that a thing has in each, and its words. Where no value
+    can need a spreadsheet's quotes, rows are written as they are, which takes half the time."""
+
+    plain_columns: tuple[str, ...]
+    plain: Callable[[T], Row]
+    columns: tuple[str, ...]
+    row: Callable[[T], Row]
+    words: Callable[[T], str]
+    unquoted: bool = False
 
 
-def block_words(row: Row, days: Days) -> str:
-    first, last = Place.of(row["cell"]), Place.of(row["cell"] + row["n"] - 1)
-    return (f"block {row['block']}: {trains(bytes.fromhex(row['bytes']))} at platform {first.platform} from {first.time_by(days)} to {last.time_by(days)}, "
-            f"{row['n']} min, live from tick {row['from']} up to {row['to']}")
-
-
-def cell_words(row: Row, days: Days) -> str:
-    place = Place.of(row["cell"])
-    return f"platform {place.platform} {place.time_by(days)}: {'no booking' if row['byte'] is None else trains(bytes.fromhex(row['byte']))}"
-
-
-def show(rows: Iterable[Row], columns: Sequence[str], form: str, words: Callable[[Row], str], out: TextIO) -> None:
-    """Prints rows in a form: plain, human, csv or json."""
+def show(things: Iterable[T], listing: Listing[T], form: str, out: TextIO) -> None:
+    """Prints things in a form: plain, human, csv or json."""
     if form == "json":
-        separator = "["
-        for row in rows:
-            out.write(f"{separator}\n {json.dumps(row)}")
-            separator = ","
-        out.write("[]\n" if separator == "[" else "\n]\n")
+        show_json(map(listing.row, things), listing.columns, out)
+    elif form == "csv" and listing.unquoted:
+        show_lines(map(listing.row, things), listing.columns, ",", out)
     elif form == "csv":
-        writer = csv.DictWriter(out, columns, lineterminator="\n")
-        writer.writeheader()
-        writer.writerows(rows)
+        writer = csv.writer(out, lineterminator="\n")
+        writer.writerow(listing.columns)
+        writer.writerows(map(listing.row, things))
     elif form == "human":
-        out.writelines(f"{words(row)}\n" for row in rows)
+        out.writelines(f"{listing.words(thing)}\n" for thing in things)
     else:
-        out.write(" ".join(columns) + "\n")
-        out.writelines(" ".join("-" if value is None else str(value) for value in row.values()) + "\n" for row in rows)
+        show_lines(map(listing.plain, things), listing.plain_columns, " ", out)
+
+
+def show_lines(rows: Iterable[Row], columns: tuple[str, ...], separator: str, out: TextIO) -> None:
+    line = separator.join(["%s"] * len(columns)) + "\n"
+    out.write(line % columns)
+    out.writelines(map(line.__mod__, rows))
+
+
+def show_json(rows: Iterable[Row], columns: tuple[str, ...], out: TextIO) -> None:
+    separator = "["
+    for row in rows:
+        out.write(f"{separator}\n {json.dumps({name: json_value(value) for name, value in zip(columns, row)})}")
+        separator = ","
+    out.write("[]\n" if separator == "[" else "\n]\n")
+
+
+def json_value(value: Value) -> Value:
+    return str(value) if isinstance(value, int) and value > MOST_WHOLE else value
+
+
+# ── words and times ──
+
+
+def times(days: Days) -> Callable[[int], tuple[str, str]]:
+    """Day and clock time of a minute, as `("tuesday+1", "01:42")`."""
+
+    @lru_cache(KEPT)
+    def time(minute: int) -> tuple[str, str]:
+        day, _, clock = days.time(minute).partition(" ")
+        return day, clock
+
+    return time
+
+
+def labels(days: Days) -> Callable[[int], str]:
+    """Clock label of a cell, four digits, as the call gives it."""
+    time = times(days)
+    return lambda cell: time(cell % MINUTES)[1].replace(":", "")
+
+
+def stretch(first: int, end: int, days: Days) -> str:
+    """Cells in words, half open: the second time is the first minute that is no longer meant."""
+    start, last = Place.of(first), Place.of(end - 1)
+    other = "" if last.platform == start.platform else f"platform {last.platform} "
+    return f"platform {start.platform} from {days.time(start.minute)} to {other}{days.time(last.minute + 1)}, {end - first} min"
+
+
+# ── what is listed ──
+
+
+def block_listing(days: Days) -> Listing[tuple[int, Block]]:
+    """Blocks with their numbers. The plain lines are those of the program `board`, with the number in front and the train behind."""
+    time, label = times(days), labels(days)
+
+    def plain(numbered: tuple[int, Block]) -> Row:
+        number, (_, first, created, destroyed, data) = numbered
+        return number, first, len(data), created, destroyed, label(first), data.hex(), trains(data)
+
+    def row(numbered: tuple[int, Block]) -> Row:
+        number, (kind, first, created, destroyed, data) = numbered
+        platform, minute = divmod(first, MINUTES)
+        day, clock = time(minute)
+        return number, platform, minute, day, clock, len(data), KINDS[kind], trains(data), created, destroyed
+
+    def words(numbered: tuple[int, Block]) -> str:
+        number, block = numbered
+        name = trains(block.bytes)
+        who = name if name == "free" else f"trains {name}" if " " in name else f"train {name}"
+        return f"block {number}: {who} at {stretch(block.first, block.end, days)}, live from tick {block.created} up to {block.destroyed}"
+
+    return Listing(("block", "cell", "n", "from", "to", "clock", "bytes", "train"), plain,
+                   ("block", "platform", "minute", "day", "clock", "length", "kind", "train", "created", "destroyed"), row, words, unquoted=True)
+
+
+def stay_listing(days: Days) -> Listing[Stay]:
+    time, label = times(days), labels(days)
+
+    def plain(stay: Stay) -> Row:
+        return stay.first, stay.end - stay.first, stay.created, stay.destroyed, label(stay.first), TRAIN_NAMES[stay.train]
+
+    def row(stay: Stay) -> Row:
+        platform, minute = divmod(stay.first, MINUTES)
+        day, clock = time(minute)
+        return platform, minute, day, clock, stay.end - stay.first, KINDS[stay.kind], TRAIN_NAMES[stay.train], stay.created, stay.destroyed
+
+    def words(stay: Stay) -> str:
+        return f"train {TRAIN_NAMES[stay.train]} at {stretch(stay.first, stay.end, days)}, booked at tick {stay.created}, stands so up to {stay.destroyed}"
+
+    return Listing(("cell", "n", "from", "to", "clock", "train"), plain,
+                   ("platform", "minute", "day", "clock", "length", "kind", "train", "created", "destroyed"), row, words, unquoted=True)
+
+
+def cell_listing(days: Days, kind: Kind) -> Listing[tuple[int, int | None]]:
+    """Cells with the byte that each holds, None where it holds none."""
+    time, label = times(days), labels(days)
+
+    def plain(held: tuple[int, int | None]) -> Row:
+        cell, byte = held
+        return cell, label(cell), "-" if byte is None else f"{byte:02x}"
+
+    def row(held: tuple[int, int | None]) -> Row:
+        cell, byte = held
+        platform, minute = divmod(cell, MINUTES)
+        return platform, minute, *time(minute), KINDS[kind], None if byte is None else TRAIN_NAMES[byte]
+
+    def words(held: tuple[int, int | None]) -> str:
+        cell, byte = held
+        place = Place.of(cell)
+        what = "no booking" if byte is None else "free" if byte == 0 else f"train {TRAIN_NAMES[byte]}"
+        return f"platform {place.platform} {place.time_by(days)}: {what}"
+
+    return Listing(("cell", "clock", "byte"), plain, ("platform", "minute", "day", "clock", "kind", "train"), row, words)
+
+
+def same(columns: tuple[str, ...], row: Callable[[T], Row], words: Callable[[T], str]) -> Listing[T]:
+    """Things whose plain lines have the columns of a spreadsheet."""
+    return Listing(columns, row, columns, row, words)

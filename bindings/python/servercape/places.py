@@ -5,6 +5,7 @@ from .boardfile import DAY, Fault, minute_of
 from .days import REGULAR, Days
 
 MINUTES = 1 << 32
+MOST_CELL = (1 << 64) - 1
 
 
 class Place(NamedTuple):
@@ -41,3 +42,18 @@ class Place(NamedTuple):
     def time_by(self, days: Days) -> str:
         """The same by a list of days."""
         return days.time(self.minute)
+
+
+def minutes_on(platform: int, start: str | None, end: str | None, days: Days) -> tuple[int, int]:
+    """The cells of a platform from a day and clock time up to another; what is left out is its
+    first minute, or its end."""
+
+    def cell(text: str | None, minute: int) -> int:
+        if text is None:
+            return Place(platform, minute).cell
+        if len(words := text.split()) != 2:
+            raise Fault(f"'{text}' is no time: of a platform, write a day and a clock time, "
+                        "as 'monday 23:50'")
+        return Place.at(platform, words[0], words[1], days).cell
+
+    return cell(start, 0), min(cell(end, MINUTES), MOST_CELL)

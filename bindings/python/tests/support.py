@@ -1,4 +1,4 @@
-"""What the tests share: where things are, with the library built and the package and the tools to be imported.
+"""What the tests share: where things are, with the library found and the package and the tools to be imported.
 
     python3 -m unittest discover -s bindings/python/tests
 """
@@ -13,5 +13,6 @@ ROOT = PACKAGE.parents[1]
 EXAMPLES = ROOT / "examples"
 
 if "SERVERCAPE_LIB" not in os.environ:
-    subprocess.run([PACKAGE / "make-library"], check=True)
+    built = subprocess.run([ROOT / "tools/built"], stdout=subprocess.PIPE, text=True, check=True)
+    os.environ["SERVERCAPE_LIB"] = built.stdout.strip()
 sys.path[:0] = [str(PACKAGE), str(ROOT / "tools")]

@@ -4,20 +4,26 @@ import io
 import json
 import os
 import pty
+import shutil
 import stat
 import subprocess
 import tempfile
 import unittest
 from pathlib import Path
+from unittest import mock
 
 from support import EXAMPLES, PACKAGE, ROOT
 
-import boardfile
+from servercape import boardfile
 import many
 from servercape import WORDS, Index
+from servercape.command import COMMANDS
+from servercape.files import file_blocks, write_file
 
 COMMAND = str(ROOT / "servercape")
-DONE, REFUSED, USAGE, BROKEN = range(4)
+DONE, REFUSED, USAGE, BROKEN, NOT_ASKED = range(5)
+CLEAR, TAKEN = range(2)
+NOBODY = 65534
 
 
 def run(*words, given=b"", cwd=None, **more):
@@ -97,9 +103,9 @@ class Build(Command):
         self.assertEqual(run("build", EXAMPLES / "night.txt", "--days", days, "-o", made), (DONE, "", ""))
         lines = [line.split(", live")[0] for line in run("blocks", made, "--days", days, "--human")[1].splitlines()]
         self.assertEqual(lines, [
-            "block 0: train 07 at platform 2 from sunday+12 01:50 to sunday+12 03:09, 20 min",
-            "block 1: train 08 at platform 2 from sunday+42 02:50 to sunday+42 03:09, 80 min",
-            "block 2: train 09 at platform 3 from monday+43 00:10 to monday+43 00:19, 10 min",
+            "block 0: train 07 at platform 2 from sunday+12 01:50 to sunday+12 03:10, 20 min",
+            "block 1: train 08 at platform 2 from sunday+42 02:50 to sunday+42 03:10, 80 min",
+            "block 2: train 09 at platform 3 from monday+43 00:10 to monday+43 00:20, 10 min",
         ])
         labels = lambda *more: [line.split()[5] for line in run("blocks", made, *more)[1].splitlines()[1:]]
         self.assertEqual((labels("--days", days), labels()), (["0150", "0250", "0010"], ["0150", "0150", "0010"]))
@@ -128,7 +134,7 @@ class Build(Command):
         made = self.folder / "made"
         rows = json.loads(run("info", made, "--json")[1])
         self.assertEqual([(row["kind"], row["blocks"]) for row in rows], [("memory", 4), ("other", 1)])
-        cells = lambda *more: [row["byte"] for row in json.loads(run("cells", made, "--tick", 4, "--from", 5, "--to", 8, "--json", *more)[1])]
+        cells = lambda *more: [row["train"] for row in json.loads(run("cells", made, "--tick", 4, "--from", 5, "--to", 8, "--json", *more)[1])]
         self.assertEqual((cells(), cells("--kind", "memory"), cells("--kind", "OTHER"), cells("--at", rows[1]["at"])), (["08", "09", "08"], ["08", "09", "08"], ["07"] * 3, ["07"] * 3))
         self.assertEqual(run("verify", made)[0], DONE)
         status, output, errors = run("blocks", made, "--kind", "unique")
@@ -137,8 +143,8 @@ class Build(Command):
         self.assertIn("line 2: the kind must be a number, not 'crews'", self.build("end 8\nkind memory crews\n")[2])
         self.assertEqual(run("build", EXAMPLES / "crews.txt", "-o", made), (DONE, "", ""))
         crews = [line.split(", live")[0] for line in run("blocks", made, "--kind", "other", "--human")[1].splitlines()]
-        self.assertEqual(crews, ["block 0: train 31 at platform 2 from tuesday 00:10 to tuesday 00:19, 10 min", "block 1: train 31 at platform 2 from monday 23:40 to tuesday 00:09, 30 min",
-                                 "block 2: train 32 at platform 2 from tuesday 00:10 to tuesday 00:39, 30 min"])
+        self.assertEqual(crews, ["block 0: train 31 at platform 2 from tuesday 00:10 to tuesday 00:20, 10 min", "block 1: train 31 at platform 2 from monday 23:40 to tuesday 00:10, 30 min",
+                                 "block 2: train 32 at platform 2 from tuesday 00:10 to tuesday 00:40, 30 min"])
         # as many bookings as one call takes, of two kinds by turns
         lines = "".join(f"at {tick} kind {('memory', 'other')[tick % 2]} cell {tick % 97} bytes {tick % 250:02x}\n" for tick in range(3000))
         self.assertEqual(self.build(f"end 3000\nkind memory other\n{lines}"), (DONE, "", ""))
@@ -158,7 +164,9 @@ class Build(Command):
             self.assertIn(f"-: the days {days}: {words}", errors)
         self.assertEqual(self.build("end 8\nkind memory\n", "--days", self.folder / "none")[0], BROKEN)
         self.assertIn("refused 28", run("days", "2024-01-01", 2024, 2056)[2])
-        self.assertEqual(run("days", "2024-01-01", 2024, 2023)[1], "[\n]\n")
+        status, output, errors = run("days", "2024-01-01", 2025, 2024)
+        self.assertEqual((status, output), (USAGE, ""))
+        self.assertIn("the years go from 2025 to 2024", errors)
 
     def test_records_of_a_binary_list(self):
         bookings = [(3, 1, b"\7"), (2, 1, b"\7")]
@@ -221,6 +229,83 @@ class Build(Command):
         self.assertEqual(run("build", EXAMPLES / "listing.txt", "-o", "/dev/full")[0], BROKEN)
         self.assertTrue(stat.S_ISCHR(os.stat("/dev/full").st_mode))
 
+        # the file that could not be written is named, and what stood there stays
+        done = subprocess.run(["bash", "-c", f"ulimit -f 0; trap '' XFSZ; exec {COMMAND} build {EXAMPLES}/listing.txt -o {self.listing}"], capture_output=True)
+        self.assertEqual((done.returncode, done.stderr), (BROKEN, f"servercape: {self.listing}: File too large\n".encode()))
+        self.assertEqual(Index.load(self.listing.read_bytes())[1], 651)
+        self.assertEqual(sorted(os.listdir(self.folder)), ["listing.index", "midnight.index"])
+        self.assertEqual(run("build", EXAMPLES / "listing.txt", "-o", "/dev/full"), (BROKEN, "", "servercape: /dev/full: No space left on device\n"))
+
+    def test_closed_streams(self):
+        """As a shell closes them: no traceback, and what needs no stream is done."""
+        self.examples()
+        given = lambda words: subprocess.run(["bash", "-c", f"{COMMAND} {words}"], capture_output=True)
+        for words, status, errors in ((f"blocks {self.listing} >&-", BROKEN, b"servercape: standard output: Bad file descriptor\n"),
+                                      (f"picture {self.listing} >&-", BROKEN, b"servercape: standard output: Bad file descriptor\n"),
+                                      ("--help >&-", BROKEN, b"servercape: standard output: Bad file descriptor\n"),
+                                      ("build - -o x <&-", BROKEN, b"servercape: standard input: Bad file descriptor\n"),
+                                      (f"build {EXAMPLES}/listing.txt -o {self.folder}/made >&-", DONE, b""),
+                                      (f"build {EXAMPLES}/listing.txt -o {self.folder}/made <&- >&-", DONE, b"")):
+            done = given(words)
+            self.assertEqual((done.returncode, done.stdout, done.stderr), (status, b"", errors), words)
+        self.assertEqual((self.folder / "made").read_bytes(), self.listing.read_bytes())
+        done = subprocess.run(["bash", "-c", f"PYTHONPATH={PACKAGE} python3 -m servercape explain 99 2>&-"], capture_output=True)
+        self.assertEqual((done.returncode, done.stdout), (USAGE, b""))
+
+    def test_mode_of_the_old_file_is_kept(self):
+        made = self.folder / "made"
+        text = "end 8\nkind memory\nat 1 cell 2 bytes 07\n"
+        old = os.umask(0o027)
+        self.addCleanup(os.umask, old)
+        self.assertEqual(self.build(text)[0], DONE)
+        self.assertEqual(stat.S_IMODE(made.stat().st_mode), 0o640)
+        for mode in (0o600, 0o664, 0o200):
+            made.chmod(mode)
+            self.assertEqual(self.build(text), (DONE, "", ""))
+            self.assertEqual(stat.S_IMODE(made.stat().st_mode), mode)
+
+    def test_read_only_file_is_not_replaced(self):
+        made = self.folder / "made"
+        made.write_bytes(b"kept")
+        made.chmod(0o444)
+        self.assertEqual(self.build("end 8\nkind memory\nat 1 cell 2 bytes 07\n"), (BROKEN, "", f"servercape: {made}: it is read-only\n"))
+        self.assertEqual((made.read_bytes(), os.listdir(self.folder)), (b"kept", ["made"]))
+
+    def test_link_is_kept(self):
+        link = self.folder / "made"
+        link.symlink_to("real")
+        for _ in range(2):
+            self.assertEqual(self.build("end 8\nkind memory\nat 1 cell 2 bytes 07\n"), (DONE, "", ""))
+            self.assertTrue(link.is_symlink())
+        self.assertTrue((self.folder / "real").is_file())
+
+    def test_what_another_left_does_no_harm(self):
+        """Neither a part of a file nor a lock of another user, or of another run, is in the way."""
+        (self.folder / "made.part").mkdir()
+        self.assertEqual(self.build("end 8\nkind memory\nat 1 cell 2 bytes 07\n"), (DONE, "", ""))
+        self.assertEqual(sorted(os.listdir(self.folder)), ["made", "made.part"])
+        runs = [subprocess.Popen([COMMAND, "build", str(EXAMPLES / "listing.txt"), "-o", str(self.folder / "made")]) for _ in range(6)]
+        self.assertEqual([each.wait() for each in runs], [DONE] * 6)
+        self.assertEqual(Index.load((self.folder / "made").read_bytes())[1], 651)
+        self.assertEqual(sorted(os.listdir(self.folder)), ["made", "made.part"])
+
+    def test_file_is_on_the_disk_before_it_takes_the_name(self):
+        calls = []
+        watched = lambda name: mock.patch.object(os, name, side_effect=lambda *words, real=getattr(os, name): (calls.append(name), real(*words))[1])
+        with watched("fsync"), watched("replace"), mock.patch.object(Path, "replace", lambda path, to: os.replace(path, to)):
+            write_file(str(self.folder / "made"), b"x")
+        self.assertEqual(calls, ["fsync", "replace", "fsync"])
+
+    def test_wide_text(self):
+        """A list that an editor saved as UTF-16."""
+        text = "end 8\nkind memory\nat 1 cell 2 bytes 07\n"
+        for wide in ("utf-16", "utf-16-le", "utf-16-be"):
+            self.assertEqual(self.build(text.encode(wide)), (REFUSED, "", "servercape: -: this is text in UTF-16: save the list as UTF-8\n"))
+        # an end tick may look like the mark in front
+        for end in (0xFEFF, 0xFFFE, 0x0A00640065006E00):
+            self.assertEqual(self.build(boardfile.write_input({"end": end, "kind": 1, "bookings": [(1, 2, b"\7")]})), (DONE, "", ""), end)
+        self.assertIn("no booking is accepted", self.build(boardfile.write_input({"end": 0xFEFF, "kind": 1, "bookings": []}))[2])
+
     def test_reader_that_goes(self):
         self.examples()
         done = subprocess.run(f"{COMMAND} cells {self.listing} --to 300000 | head -1", shell=True, capture_output=True)
@@ -232,9 +317,9 @@ class Reads(Command):
         super().setUp()
         self.examples()
 
-    def rows(self, *words):
-        status, output, errors = run(*words, "--json")
-        self.assertEqual((status, errors), (DONE, ""))
+    def rows(self, *words, status=DONE):
+        found, output, errors = run(*words, "--json")
+        self.assertEqual((found, errors), (status, ""))
         return json.loads(output)
 
     def numbers(self, *words):
@@ -243,16 +328,42 @@ class Reads(Command):
     def test_blocks_are_those_of_the_program(self):
         """The lines of the README, which the program `board` prints."""
         lines = ["102 1 1 3 0142 07", "103 1 3 6 0143 09", "100 2 1 8 0140 0707", "102 1 3 8 0142 09", "103 1 6 8 0143 04", "104 1 3 8 0144 09"]
-        listed = "block cell n from to clock bytes\n" + "".join(f"{number} {line}\n" for number, line in enumerate(lines))
+        listed = "block cell n from to clock bytes train\n" + "".join(f"{number} {line} {line[-2:]}\n" for number, line in enumerate(lines))
         self.assertEqual(run("blocks", self.listing), (DONE, listed, ""))
 
     def test_forms(self):
-        rows = self.rows("blocks", self.midnight)
-        listed = list(csv.DictReader(io.StringIO(run("blocks", self.midnight, "--csv")[1])))
-        self.assertEqual([{key: str(value) for key, value in row.items()} for row in rows], listed)
-        self.assertIn("block 2: train 07 at platform 0 from monday 23:52 to monday 23:59, 8 min, live from tick 1 up to 16\n",
+        window = ("--platform", 0, "--from", "monday 23:50", "--to", "tuesday 00:10")
+        for words in (("blocks", self.midnight), ("find", self.midnight), ("touching", self.midnight, "--tick", 9), ("conflicts", self.midnight), ("next", self.midnight),
+                      ("last", self.midnight), ("cells", self.midnight, *window), ("info", self.midnight), ("verify", self.midnight), ("explain",)):
+            _, text, errors = run(*words, "--json")
+            rows = json.loads(text)
+            self.assertEqual((errors, bool(rows)), ("", True), words)
+            listed = list(csv.DictReader(io.StringIO(run(*words, "--csv")[1])))
+            self.assertEqual([{key: "" if value is None else str(value) for key, value in row.items()} for row in rows], listed, words)
+            # explain says on a second line what to do
+            lines = 2 if words == ("explain",) else 1
+            self.assertEqual(len(run(*words, "--human")[1].splitlines()), lines * len(rows), words)
+        self.assertEqual(self.rows("blocks", self.midnight)[2], {"block": 2, "platform": 0, "minute": 1432, "day": "monday", "clock": "23:52", "length": 8,
+                                                                  "kind": "memory", "train": "07", "created": 1, "destroyed": 16})
+        self.assertIn("block 2: train 07 at platform 0 from monday 23:52 to tuesday 00:00, 8 min, live from tick 1 up to 16\n",
                       run("blocks", self.midnight, "--human")[1])
         self.assertEqual(run("find", self.midnight, "--to", 0, "--json")[1], "[]\n")
+
+    def test_all_blocks_are_those_of_the_calls(self):
+        """`blocks` reads them out of the file at once."""
+        data = self.midnight.read_bytes() + self.listing.read_bytes()
+        for at in (0, len(self.midnight.read_bytes())):
+            index = Index.load(data, at)[0]
+            self.assertEqual(list(file_blocks(data, at)), list(index.blocks()))
+
+    def test_numbers_that_json_programs_round(self):
+        """Above 2^53 they are text; a cell is a platform and a minute."""
+        late = 1 << 60
+        self.assertEqual(self.build(f"end {1 << 63}\nkind memory\nat {late} platform 4294967295 monday 00:05 bytes 07\n"), (DONE, "", ""))
+        row, = self.rows("blocks", self.folder / "made")
+        self.assertEqual((row["platform"], row["minute"], row["created"], row["destroyed"]), (4294967295, 5, str(late), str(1 << 63)))
+        self.assertEqual(self.rows("info", self.folder / "made")[0]["end"], str(1 << 63))
+        self.assertEqual(self.rows("conflicts", self.folder / "made", status=TAKEN)[0]["destroyed"], str(1 << 63))
 
     def test_find_and_touching(self):
         self.assertEqual(self.numbers("find", self.listing, "--tick", 6, "--from", 100, "--to", 104), [2, 3, 4])
@@ -263,13 +374,79 @@ class Reads(Command):
         self.assertEqual(self.numbers("find", self.midnight, "--platform", 2), [5])
         self.assertEqual(sorted(self.numbers("touching", self.midnight)), [2, 3, 4, 5])
 
+    def test_touching_says_free(self):
+        window = ("--platform", 0, "--from", "tuesday 00:00", "--to", "tuesday 00:06")
+        self.assertEqual(run("touching", self.midnight, *window)[1].splitlines()[1:], ["3 1440 6 9 16 0000 000000000000 free"])
+        self.assertEqual(run("touching", self.midnight, *window, "--human")[1],
+                         "block 3: free at platform 0 from tuesday 00:00 to tuesday 00:06, 6 min, live from tick 9 up to 16\n")
+        self.assertEqual([row["train"] for row in self.rows("touching", self.midnight, *window)], ["free"])
+        self.assertEqual(self.build("end 8\nkind memory\nat 1 cell 5 bytes 00*2 51*3 07\n")[0], DONE)
+        self.assertEqual([row["train"] for row in self.rows("touching", self.folder / "made")], ["free*2 51*3 07"])
+
+    def test_conflicts(self):
+        """The trains that stand in a window, and a status that says whether there are any."""
+        made = self.folder / "made"
+        self.assertEqual(run("build", EXAMPLES / "evening.txt", "-o", made)[0], DONE)
+        ask = lambda start, end, *more: run("conflicts", made, "--platform", 5, "--from", start, "--to", end, *more)
+        # from 22:45 on platform 5 was booked 00*10 51*40, and from 23:50 it was set free
+        self.assertEqual(ask("monday 22:40", "monday 22:55"), (CLEAR, "cell n from to clock train\n", ""))
+        self.assertEqual(ask("monday 22:40", "monday 22:55", "--human"), (CLEAR, "free at tick 19\n", ""))
+        self.assertEqual(ask("monday 23:50", "tuesday 00:20", "--json"), (CLEAR, "[]\n", ""))
+        self.assertEqual(ask("monday 22:00", "monday 23:00", "--human"),
+                         (TAKEN, "train 51 at platform 5 from monday 22:55 to monday 23:00, 5 min, booked at tick 14, stands so up to 20\n", ""))
+        self.assertEqual(ask("monday 23:35", "monday 23:50")[0], CLEAR)
+        self.assertEqual(ask("monday 23:34", "monday 23:35", "--csv"), (TAKEN, "platform,minute,day,clock,length,kind,train,created,destroyed\n"
+                                                                          "5,1414,monday,23:34,1,memory,51,14,20\n", ""))
+        self.assertEqual(ask("monday 23:50", "tuesday 00:20", "--tick", 17)[0], TAKEN)
+
+    def test_conflicts_are_joined(self):
+        """A later edit cuts a block and not the stay of an earlier tick."""
+        self.assertEqual(self.build("end 8\nkind memory\nat 1 cell 100 bytes 07*14\nat 1 cell 200 bytes 07 08\nat 3 cell 104 bytes 09*2\nat 4 cell 201 bytes 08\n")[0], DONE)
+        taken = lambda *words: [(row["minute"], row["length"], row["train"], row["created"], row["destroyed"])
+                                for row in self.rows("conflicts", self.folder / "made", *words, status=TAKEN)]
+        self.assertEqual(taken("--tick", 1, "--to", 200), [(100, 14, "07", 1, 3)])
+        self.assertEqual(taken("--tick", 2, "--from", 102, "--to", 110), [(102, 8, "07", 1, 3)])
+        self.assertEqual(taken("--tick", 3, "--to", 200), [(100, 4, "07", 1, 8), (104, 2, "09", 3, 8), (106, 8, "07", 1, 8)])
+        self.assertEqual(taken("--from", 200), [(200, 1, "07", 1, 8), (201, 1, "08", 1, 8)])
+
+    def test_conflicts_that_cannot_be_asked(self):
+        """Neither free nor taken: a script must not take one for the other."""
+        broken = self.folder / "broken"
+        broken.write_bytes(self.listing.read_bytes()[:-1])
+        for words, status in (((broken,), NOT_ASKED), ((self.listing, "--tick", 8), NOT_ASKED), ((self.listing, "--from", 2, "--to", 1), NOT_ASKED),
+                              ((self.listing, "--kind", "other"), NOT_ASKED), ((self.folder / "none",), BROKEN), ((self.listing, "--from", "x"), USAGE)):
+            found, output, errors = run("conflicts", *words)
+            self.assertEqual((found, output), (status, ""), words)
+            self.assertNotIn("Traceback", errors)
+
+    def test_next_and_last(self):
+        """The trains around a place; what only sets minutes free is passed over."""
+        made = self.folder / "made"
+        self.assertEqual(run("build", EXAMPLES / "evening.txt", "-o", made)[0], DONE)
+
+        def found(call, platform, *words):
+            return [(row["train"], row["platform"], row["clock"]) for row in self.rows(call, made, "--platform", platform, *words)]
+
+        # on platform 1 train 13 was taken back from 23:05 on
+        self.assertEqual(found("next", 1, "--from", "monday 22:00"), [("12", 1, "22:15")])
+        self.assertEqual(found("next", 1, "--from", "monday 22:16"), [("14", 1, "00:10")])
+        self.assertEqual(found("next", 1, "--from", "monday 22:16", "--tick", 11), [("13", 1, "23:05")])
+        self.assertEqual(found("next", 1, "--from", "monday 22:16", "--to", "tuesday 00:10"), [])
+        self.assertEqual(found("next", 1, "--from", "tuesday 00:11"), [])
+        self.assertEqual(found("last", 1, "--to", "tuesday 00:10"), [("12", 1, "22:15")])
+        self.assertEqual(found("last", 1, "--to", "monday 22:35"), [("12", 1, "22:15")])
+        self.assertEqual(found("last", 1, "--to", "monday 22:34"), [("11", 1, "21:40")])
+        self.assertEqual(found("last", 2, "--to", "monday 21:40"), [])
+        self.assertEqual(found("last", 1, "--from", "monday 22:16", "--to", "tuesday 00:10"), [])
+        self.assertEqual(run("next", made, "--from", 2, "--to", 1)[0], REFUSED)
+
     def test_last_platform(self):
         self.assertEqual(self.build("end 2\nkind memory\nat 1 platform 4294967295 monday 00:05 bytes 07\n"), (DONE, "", ""))
         self.assertEqual(self.numbers("touching", self.folder / "made", "--platform", 4294967295), [0])
 
     def test_cells(self):
         rows = self.rows("cells", self.midnight, "--platform", 0, "--from", "monday 23:51", "--to", "tuesday 00:01")
-        self.assertEqual([row["byte"] for row in rows], [None, *["07"] * 8, "00"])
+        self.assertEqual([row["train"] for row in rows], [None, *["07"] * 8, "free"])
         self.assertEqual(run("cells", self.midnight, "--from", 1431, "--to", 1433)[1], "cell clock byte\n1431 2351 -\n1432 2352 07\n")
         self.assertEqual(run("cells", self.midnight, "--from", 1439, "--to", 1441, "--human")[1],
                          "platform 0 monday 23:59: train 07\nplatform 0 tuesday 00:00: free\n")
@@ -303,17 +480,19 @@ class Reads(Command):
             self.assertIn(f"refused {number}: {WORDS[number][0]}", errors)
 
     def test_explain(self):
-        self.assertEqual(run("explain", 8), (DONE, "8: the booking's tick is below the last accepted one\n", ""))
-        self.assertEqual(run("explain", 26)[1], "26: the booking has a byte other than 0 in a minute at which the station is closed\n")
-        self.assertEqual(len(run("explain")[1].splitlines()), 29)
+        self.assertEqual(run("explain", 8), (DONE, "8, record: the booking's tick is below the last accepted one\n    give edits in order; several may have the same tick\n", ""))
+        self.assertEqual(run("explain", 26)[1], "26, record: the booking has a byte other than 0 in a minute at which the station is closed\n"
+                         "    book within the hours, or install other hours first: those that were installed last count\n")
+        self.assertEqual(len(run("explain")[1].splitlines()), 2 * sum(map(len, WORDS.values())))
 
 
 class Usage(Command):
     def test_wrong(self):
-        for words in ((), ("check",), ("explain", 0), ("explain", 29), ("build", "x"), ("find", "x", "--kind", "crews"), ("cells", "x", "--to", 5, "--kind", 1), ("find", "x", "--tick", "-1"), ("find", "x", "--tick", 1 << 64),
+        for words in ((), ("check",), ("explain", 0), ("explain", max(WORDS) + 1), ("build", "x"), ("find", "x", "--kind", "crews"), ("cells", "x", "--to", 5, "--kind", 1), ("find", "x", "--tick", "-1"), ("find", "x", "--tick", 1 << 64),
                       ("find", "x", "--from", "monday 23:50"), ("find", "x", "--platform", 1, "--from", "someday 00:00"), ("cells", "x"),
                       ("find", "x", "--platform", 1 << 32), ("find", "x", "--platform", 1, "--to", 7), ("blocks", "x", "--csv", "--json"), ("blocks", "x", "y"),
-                      ("days",), ("days", "2024-01-02", 2024, 2025), ("days", "2024-01", 2024, 2025), ("days", "2024-01-01", 0, 2025), ("days", "2024-01-01", 2024)):
+                      ("conflicts", "x", "--from", "monday"), ("next", "x", "--tick", "x"),
+                      ("days",), ("days", "2024-01-01", 2025, 2024), ("days", "2024-01-02", 2024, 2025), ("days", "2024-01", 2024, 2025), ("days", "2024-01-01", 0, 2025), ("days", "2024-01-01", 2024)):
             status, output, errors = run(*words)
             self.assertEqual((status, output), (USAGE, ""), words)
             self.assertIn("usage: servercape", errors)
@@ -321,8 +500,8 @@ class Usage(Command):
     def test_help(self):
         status, output, _ = run("--help")
         self.assertEqual(status, DONE)
-        for name in ("build", "blocks", "find", "touching", "cells", "info", "verify", "explain", "days", "picture"):
-            self.assertIn(f"    {name} ", output)
+        for name in COMMANDS:
+            self.assertRegex(output, rf"(?m)^    {name}\b")
             status, text, _ = run(name, "--help")
             self.assertEqual(status, DONE)
             example = next(line for line in text.splitlines() if line.startswith("Example: servercape "))
@@ -330,17 +509,38 @@ class Usage(Command):
 
     def test_examples_of_help_run(self):
         (self.folder / "examples").symlink_to(EXAMPLES)
-        for name in ("build", "blocks", "find", "touching", "cells", "info", "verify", "explain", "days", "picture"):
+        for name in COMMANDS:
             text = run(name, "--help")[1]
             example = next(line for line in text.splitlines() if line.startswith("Example: ")).removeprefix("Example: servercape")
             done = subprocess.run(COMMAND + example, shell=True, cwd=self.folder, capture_output=True)
             self.assertEqual((done.returncode, done.stderr), (DONE, b""), example)
+            self.assertEqual(bool(done.stdout), name != "build" and ">" not in example, example)
 
     def test_through_a_link_and_from_elsewhere(self):
         link = self.folder / "link"
         link.symlink_to(COMMAND)
         done = subprocess.run([link, "explain", "3"], cwd="/", capture_output=True, check=True)
-        self.assertEqual(done.stdout, b"3: the index is finished or loaded, and takes no more bookings\n")
+        self.assertEqual(done.stdout.splitlines()[0], b"3, record, finish, install of a calendar: the index is finished or loaded, and takes no more bookings")
+
+
+class Lock(Command):
+    @unittest.skipUnless(os.geteuid() == 0, "only root can be another user")
+    def test_lock_of_another_user(self):
+        """A lock that may be neither written nor read keeps nobody from libraries that are there."""
+        self.folder.chmod(0o755)
+        tools, built = self.folder / "tools", self.folder / "target" / "dist"
+        for folder in (tools, built):
+            folder.mkdir(parents=True)
+        for name in ("built", "dist"):
+            shutil.copy(ROOT / "tools" / name, tools)
+        (self.folder / "crates.txt").write_text("servercape_c staticlib:\nservercape_tested_c staticlib:\nboard:\n")
+        os.utime(self.folder / "crates.txt", (0, 0))
+        (built / "SOURCES").touch()
+        lock = self.folder / "target" / "dist.lock"
+        lock.touch(0o600)
+        environment = {name: value for name, value in os.environ.items() if name != "SERVERCAPE_LIB"} | {"SERVERCAPE_FROM_SOURCE": "1"}
+        done = subprocess.run([tools / "built"], capture_output=True, cwd="/", user=NOBODY, env=environment)
+        self.assertEqual((done.returncode, done.stdout, done.stderr), (DONE, f"{built}\n".encode(), b""))
 
 
 class Installed(Command):

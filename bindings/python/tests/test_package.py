@@ -2,7 +2,6 @@
 import inspect
 import pickle
 import random
-import re
 import typing
 import unittest
 from datetime import date
@@ -13,7 +12,7 @@ import board_model
 import servercape
 from servercape.hours import calendar
 from servercape.library import library
-from servercape import WORDS, Block, Days, Index, Kind, Operation, Place, Refused
+from servercape import ADVICE, WORDS, Block, Days, Index, Kind, Operation, Place, Refused
 from servercape.boardfile import Fault
 
 LISTING = [Operation(1, 100, b"\7\7\7"), Operation(3, 102, b"\t\t\t"), Operation(5, 100, b"\7\7"), Operation(6, 103, b"\4")]
@@ -358,7 +357,8 @@ class Refusals(unittest.TestCase):
             index.cells(1, 0, (1 << 64) - 1)
 
     def test_words(self):
-        self.assertEqual(list(WORDS), [*range(1, 29)])
+        self.assertEqual(list(WORDS), sorted(WORDS))
+        self.assertEqual(min(WORDS), 1)
         self.assertEqual(str(Refused(8)), "refused 8: the booking's tick is below the last accepted one")
         with self.assertRaisesRegex(Refused, "15: there is no block of that number"):
             finished(LISTING).block(6)
@@ -366,9 +366,13 @@ class Refusals(unittest.TestCase):
             finished(LISTING).find(0, 2, 1)
         self.assertEqual(pickle.loads(pickle.dumps(Refused(8))), Refused(8))
 
-    def test_words_are_those_of_rust(self):
-        source = re.sub(r"\\\n\s*", "", (ROOT / "bindings/rust/src/refusal.rs").read_text("utf-8"))
-        self.assertEqual([words for several in WORDS.values() for words in several if f'"{words}"' not in source], [])
+    def test_advice(self):
+        self.assertEqual(Refused(8).advice, "give edits in order; several may have the same tick")
+        self.assertEqual(Refused(15, 1).advice, "count from 0, up to the number of blocks less one")
+        self.assertEqual([(number, len(words)) for number, words in WORDS.items()], [(number, len(advice)) for number, advice in ADVICE.items()])
+
+    def test_a_number_that_is_not_known(self):
+        self.assertEqual(str(Refused(99)), "refused 99: a reason that this package does not know")
 
     def test_what_no_call_takes(self):
         index = finished(LISTING)
@@ -388,6 +392,14 @@ class Values(unittest.TestCase):
         self.assertEqual((index.closed, index.block_count, index.node_count, index.entry_count), (True, 6, 10, 12))
         self.assertEqual(index.find(6, 100, 104), ([2, 3, 4], 3))
         self.assertEqual(repr(index), "<Index memory, end tick 8, 6 blocks, closed>")
+
+    def test_view_of_a_file(self):
+        """The bytes of `write`, which nobody can change, and which stay what they were."""
+        index = finished(LISTING)
+        view, file = index.write_view(), index.write()
+        self.assertEqual((bytes(view), view.readonly, view.nbytes), (file, True, len(file)))
+        index.install_days([(0, 1380)])
+        self.assertEqual((bytes(view), answer(Index.open(8).write_view)), (file, Refused(4)))
 
     def test_no_blocks(self):
         index = finished([])

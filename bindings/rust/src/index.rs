@@ -1,5 +1,5 @@
 //! An index and its tables: opening, recording, finishing, files.
-use crate::{days, head::Head, raw, room, tested, Calendar, Days, Kind, Label, Refusal, Room};
+use crate::{days, raw, room, tested, Calendar, Days, Kind, Label, Refusal, Room};
 use alloc::vec::Vec;
 use core::fmt;
 
@@ -104,6 +104,8 @@ pub struct Index {
     pub(crate) room: Room,
     /// What `servercape_state` says of the tables. Every method that changes them keeps it true.
     pub(crate) state: u64,
+    /// The list of days that is installed: the one that was accepted last since the index was opened or loaded.
+    pub(crate) days: Days,
 }
 
 /// The scratch that record is lent, whatever the room: it asks for eight numbers, and writes nothing there.
@@ -147,6 +149,7 @@ impl Index {
             entries: table(raw::SERVERCAPE_ENTRIES, room.entries).ok_or(Refusal::NoRoomForEntries)?,
             room,
             state: tested::SERVERCAPE_NOT_WELL_FORMED,
+            days: Days::regular(),
         })
     }
 
@@ -162,6 +165,7 @@ impl Index {
             call!(servercape_open, self, as_mut_ptr as_mut_ptr as_ptr as_mut_ptr as_mut_ptr, end_tick, kinds.as_ptr().cast(), kinds.len())
         })?;
         self.state = tested::SERVERCAPE_OPEN;
+        self.days = Days::regular();
         Ok(())
     }
 
@@ -176,44 +180,19 @@ impl Index {
         }
     }
 
-    fn head(&self) -> Head<'_> {
-        Head::of(self)
-    }
-
-    /// The end tick: every booking and every read is below it. 0 of an empty one.
-    pub fn end_tick(&self) -> u64 {
-        self.head().end_tick()
-    }
-
-    /// The kinds that it was opened with, by code; of a loaded one its kind alone, of an empty one none.
-    pub fn kinds(&self) -> impl Iterator<Item = Kind> {
-        let holds_index = self.state != tested::SERVERCAPE_NOT_WELL_FORMED;
-        self.head().kinds().filter(move |_| holds_index)
-    }
-
-    /// How many blocks there are by now. Finish adds one for each piece.
-    pub fn block_count(&self) -> u64 {
-        self.used().blocks
-    }
-
-    /// How many rows of its tables are in use, and how many bytes of its store.
-    pub fn used(&self) -> Room {
-        self.head().used()
-    }
-
-    /// The tick of the last accepted booking; 0 before any, and of a loaded index.
-    pub fn last_tick(&self) -> u64 {
-        self.head().last_tick()
-    }
-
     /// How large its tables are.
     pub fn room(&self) -> Room {
         self.room
     }
 
+    /// The list of days that is installed; none of an empty index.
+    pub fn days(&self) -> Days {
+        self.days
+    }
+
     /// The day that a cell falls on, from 0, which is a Monday, by the list of days that is installed.
     pub fn day(&self, cell: u64) -> u64 {
-        self.days().day(cell)
+        self.days.day(cell)
     }
 
     /// The clock time of a cell by the list of days that is installed. Refusal 2 of an empty one.
@@ -291,7 +270,9 @@ impl Index {
         // accepted or refused, the state stays as it was
         Refusal::unless_zero(unsafe {
             call!(servercape_install_days, self, as_ptr as_mut_ptr as_ptr as_ptr as_ptr, numbers.as_ptr(), 2 * count)
-        })
+        })?;
+        self.days = Days::new(list)?;
+        Ok(())
     }
 
     /// Finishes the index: it can be read from now on, and takes no more bookings. Refusals 3, 12, 13.
@@ -325,10 +306,10 @@ impl Index {
         let number = unsafe {
             call!(servercape_load, self, as_mut_ptr as_mut_ptr as_mut_ptr as_mut_ptr as_mut_ptr, file.as_ptr(), file.len(), at as u64, &mut next)
         };
-        self.state = match number {
-            0 => tested::SERVERCAPE_CLOSED,
-            1..=20 => self.state,
-            _ => tested::SERVERCAPE_NOT_WELL_FORMED,
+        (self.state, self.days) = match number {
+            0 => (tested::SERVERCAPE_CLOSED, Days::regular()),
+            1..=20 => (self.state, self.days),
+            _ => (tested::SERVERCAPE_NOT_WELL_FORMED, Days::regular()),
         };
         Refusal::unless_zero(number)?;
         Ok(next as usize)
@@ -345,7 +326,7 @@ impl Index {
         let Room { blocks, bytes, nodes, entries, .. } = self.used();
         // of each kind: its code and a count; a block's fields and bytes; a node's fields, its entries, and a byte for each child that is not there; blocks of no life
         // are left out
-        let most = (9 + 1) * self.trees() + 33 * blocks + bytes + (33 + 1) * nodes + 8 * entries;
+        let most = (9 + 1) * self.kinds().count() as u64 + 33 * blocks + bytes + (33 + 1) * nodes + 8 * entries;
         let mut out = usize::try_from(most).ok().and_then(room::zeros).ok_or(Refusal::NoRoomForAnswer)?;
         let written = self.write_into(&mut out)?;
         out.truncate(written);

@@ -90,6 +90,19 @@
 //! # Ok::<(), servercape::Refusal>(())
 //! ```
 //!
+//! Line managers compare platforms by how much of some windows is occupied.
+//!
+//! ```
+//! use servercape::{Cell, GrowingIndex, Kind};
+//!
+//! let mut board = GrowingIndex::open(8, &[Kind::Memory])?;
+//! board.record(Kind::Memory, 1, Cell::new(2, 480).number(), &[7; 45])?; // from 08:00 to 08:45
+//! board.finish()?;
+//! let hour = board.occupation(Kind::Memory, 1, &[Cell::window(2, 480..540)])?;
+//! assert_eq!(hour.to_string(), "3/4 (75.0 %)");
+//! # Ok::<(), servercape::Refusal>(())
+//! ```
+//!
 //! # The archive
 //!
 //! It writes finished boards to files, and loads them again. Several may stand in one file, one behind the other.
@@ -144,8 +157,9 @@
 //!
 //! # The library
 //!
-//! The build links `libservercape.a` and `libservercape_tested.a` from the folder that the environment variable `SERVERCAPE_LIB` names, or else from the
-//! repository's `target/staticlib`, where `tools/staticlib` writes them. Once written they need no Rattle.
+//! The build links `libservercape.a` and `libservercape_tested.a` from the folder that the environment
+//! variable `SERVERCAPE_LIB` names, or else from the repository's `dist/`. They need no Rattle; with
+//! `SERVERCAPE_FROM_SOURCE=1` the repository has them proved and built first.
 #![cfg_attr(not(any(feature = "std", test)), no_std)]
 #![warn(missing_docs)]
 
@@ -162,6 +176,8 @@ mod need;
 pub mod raw;
 mod reads;
 mod refusal;
+mod refusals;
+mod reports;
 mod room;
 #[cfg(test)]
 mod same;
@@ -175,6 +191,7 @@ pub use index::{put_operation, Index, Opening, Played, Recorded, State};
 pub use kind::{Kind, NoSuchKind};
 pub use reads::{Block, Blocks, Found};
 pub use refusal::Refusal;
+pub use reports::Occupation;
 pub use room::Room;
 
 #[cfg(doctest)]

@@ -1,6 +1,6 @@
 //! Every method answers as the public call of its name, which tests the tables: the same number, the same values, the same slices and tables. Tried on
 //! indices that were opened, finished, loaded and refused.
-use crate::{put_operation, raw, tested, Calendar, Days, Index, Kind, Played, Recorded, Refusal, Room};
+use crate::{put_operation, raw, tested, Calendar, Days, Index, Kind, Played, Recorded, Refusal, Room, State};
 
 /// A public call that writes to none of the tables.
 macro_rules! public {
@@ -32,6 +32,21 @@ fn same_tables(what: &str, one: &Index, other: &Index) {
     let same = one.pieces == other.pieces && one.blocks == other.blocks && one.store == other.store && one.nodes == other.nodes && one.entries == other.entries;
     assert!(same, "{what}: the same tables");
     assert_eq!(one.state, state(one), "{what}: the state");
+    same_info(what, one);
+    let days = one.days();
+    let labels = [0, 119, 120, 179, 180, 1379, 1380, 1439, 1440, 2820, 4320, 100_000].map(|cell| (one.clock(cell), days.label(cell)));
+    assert!(labels.iter().all(|(shown, by_list)| shown.map_or(true, |shown| shown == *by_list)), "{what}: the list of days that is remembered");
+}
+
+/// What the index tells of itself is what the public call says, which is refused of an empty one.
+fn same_info(what: &str, index: &Index) {
+    let mut info = raw::servercape_info::default();
+    let by = public!(raw::servercape_info, index, &mut info);
+    assert_eq!(by, if index.state() == State::Empty { 2 } else { 0 }, "{what}: info");
+    let used = index.used();
+    assert_eq!((info.pieces, info.blocks, info.store, info.nodes, info.entries), (used.pieces, used.blocks, used.bytes, used.nodes, used.entries), "{what}: used");
+    assert_eq!((info.state, info.end_tick, info.last_tick, info.blocks), (index.state, index.end_tick(), index.last_tick(), index.block_count()), "{what}: info");
+    assert_eq!(info.kinds, index.kinds().map(|kind| 1 << kind.code()).sum(), "{what}: its kinds");
 }
 
 // ── indices ──
@@ -255,6 +270,23 @@ fn same_cells(what: &str, index: &Index) {
     }
 }
 
+/// Of one window, and of several: those of the same tick and kind.
+fn same_occupation(what: &str, index: &Index) {
+    let all: Vec<_> = windows().collect();
+    for (k, &(kind, tick, ..)) in all.iter().enumerate() {
+        for count in [0, 1, 2, 9, 256, 257, 300] {
+            let several: Vec<_> = all.iter().cycle().skip(k).take(count).filter(|w| count < 3 || w.2 <= w.3 && w.3 - w.2 < 1 << 24).map(|w| w.2..w.3).collect();
+            let several: Vec<_> = if count > 255 { several.iter().cloned().cycle().take(count).collect() } else { several };
+            let numbers: Vec<u64> = several.iter().flat_map(|window| [window.start, window.end]).collect();
+            let [mut occupied, mut cells, mut tenths] = [7; 3];
+            let by = public!(raw::servercape_occupation, index, kind.code(), tick, numbers.as_ptr(), numbers.len(), &mut occupied, &mut cells, &mut tenths);
+            let report = index.occupation(kind, tick, &several);
+            assert_eq!(number(&report), by, "{what}: occupation at {tick} of {several:?}");
+            assert_eq!(report.map_or((7, 7, 7), |report| (report.occupied, report.cells, report.tenths)), (occupied, cells, tenths), "{what}: occupation at {tick} of {several:?}");
+        }
+    }
+}
+
 fn same_file(what: &str, index: &Index) {
     let length = index.write().map_or(9, |file| file.len());
     for room in [0, 1, length.saturating_sub(1), length, length + 7] {
@@ -293,12 +325,14 @@ fn same_labels(what: &str, index: &Index) {
 fn reads() {
     for (what, index) in indices() {
         assert_eq!(index.state, state(&index), "{what}: the state");
+        same_info(what, &index);
         let before = index.clone();
         same_blocks(what, &index);
         same_lists(what, &index);
         [Kind::Memory, Kind::Other, Kind::Constant].into_iter().for_each(|kind| same_lists_of_finds(what, &index, kind));
         same_neighbours(what, &index);
         same_cells(what, &index);
+        same_occupation(what, &index);
         same_file(what, &index);
         same_labels(what, &index);
         same_tables(what, &index, &before);

@@ -37,7 +37,7 @@ fn closed() -> Index {
 
 #[test]
 fn a_refusal_has_number_and_words() {
-    for number in 1..=28 {
+    for number in (1..=28).chain([37]) {
         let refusal = Refusal::of(number).unwrap();
         assert_eq!(refusal.number(), number);
         let words = refusal.to_string();
@@ -163,7 +163,7 @@ fn a_refusal_is_an_error() {
     }
     assert_eq!(reads().unwrap_err().to_string(), "refused 15: there is no block of that number");
     #[cfg(feature = "std")]
-    assert_eq!(std::io::Error::from(Refusal::FileCut).to_string(), "refused 17: the file ends inside a field");
+    assert_eq!(std::io::Error::from(Refusal::FileCut).to_string(), "refused 17: the file ends inside a field, or the position is behind its end");
 }
 
 // ── windows and rooms that no memory is large enough for ──

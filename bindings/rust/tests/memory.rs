@@ -69,6 +69,8 @@ fn as_much_as_the_answer() {
     refused(14, || index.touching(Kind::Memory, 1000, window.clone()));
     refused(15, || index.cells(Kind::Memory, 0, u64::MAX..0));
     refused(15, || index.block(600));
+    refused(37, || index.occupation(Kind::Memory, 0, &[]));
+    assert_eq!(asked(|| index.occupation(Kind::Memory, 599, &[0..6000]).map(|report| report.tenths)), (0, Ok(500)));
 
     for (tick, count) in [(0, 1), (50, 51), (200, 201), (599, 600)] {
         let (bytes, found) = asked(|| index.find(Kind::Memory, tick, window.clone()).unwrap().numbers.len());

@@ -9,6 +9,8 @@ ghost use Rattle.std.specs.Prelude.{◌≡◌, [], ◌∷◌, ◌+◌, ◌≤◌
 ghost use Rattle.std.proofs.lemmas.List.Edits.{sets};
 ghost use Rattle.call_lists.specs.Operations.{ItemRead};
 
+use fields::Reader;
+
 // An operation of the list, its bytes from `start` up to `next`.
 #[derive(Clone, Copy)]
 pub struct Item {
@@ -22,18 +24,17 @@ pub struct Item {
 pub fn operation_at(list: &[u8], at: usize) -> Option<Item>
     ensures { ItemRead list.now at result }
 {
-    let (tick, first_at) = fields::number_at(list, at)?;
-    let (first, length_at) = fields::number_at(list, first_at)?;
-    let (length, start) = fields::number_at(list, length_at)?;
-    let size = length as usize;
-    if list.len() - start < size {
-        return None;
-    }
+    let mut reader = Reader { file: list, at };
+    let tick = reader.number()?;
+    let first = reader.number()?;
+    let length = reader.number()?;
+    let start = reader.at;
+    reader.bytes(length)?;
     Some(Item {
         tick,
         first,
         start,
-        next: start + size,
+        next: reader.at,
     })
 }
 

@@ -1,8 +1,8 @@
 -- Read cells shows the history: by the law of every list of calls the live blocks show what `value_at` says. Assumes nothing.
-use mathlib.Core.Path.{◌≡◌, refl, sym, ap, ◌∙◌, subst}
-use mathlib.Core.Bool.{true, false≢true}
+use mathlib.Core.Path.{◌≡◌, refl, sym, ap, ◌∙◌}
+use mathlib.Core.Bool.{true}
 use mathlib.Core.Option.{Option, none, some}
-use mathlib.Core.List.{List, [], map, append-nil, Option-to_list}
+use mathlib.Core.List.{List, [], map, Option-to_list}
 use Prim.Native.Nat.{ℕ, ◌-◌, ◌^◌, ◌<◌, min}
 use native.Mathlib.Omega.{arith}
 use lib.ListN.{length, get_or}
@@ -10,57 +10,38 @@ use lib.Seq.{sets}
 use Rattle.lists.specs.Lists.{count_from}
 use Rattle.lists.proofs.Maps.{map_all}
 use Rattle.lists.proofs.Counting.{all_count_from}
-use Rattle.history.specs.Words.{Operation, Block, cell_place}
-use Rattle.history.specs.Tree.{Tree}
-use Rattle.history.specs.Ledger.{Ledger, opened, finished, is_some, settled}
+use Rattle.history.specs.Words.{Operation, cell_place}
+use Rattle.history.specs.Ledger.{Ledger, opened, finished}
 use Rattle.history.specs.Reads.{seen, Cells, cells_by}
 use Rattle.history.specs.Refusals.{Answer}
 use Rattle.history.specs.Calls.{after_all, history, value_at}
 use Rattle.history.specs.Law.{LedgerLaw}
-use Rattle.history.specs.Sound.{SoundTrees}
 use Rattle.history.proofs.EveryList.{every_list}
 use Rattle.layout.specs.Reads.{values_of, filled_by}
 use Rattle.layout.proofs.ReadLaws.{opens_kind_lem}
-use Rattle.cells.specs.Law.{byte_of, mark_of, CellsShowHistory}
+use Rattle.history.specs.Sums.{byte_of}
+use Rattle.history.proofs.Sums.{first_of_value, seen-value}
+use Rattle.cells.specs.Law.{mark_of, CellsShowHistory}
 use Rattle.cells_read.proofs.Reading.{cells_given}
 
--- a finished index has no pieces, so that its blocks are all that is live
-all_settled : (l : Ledger) → finished l ≡ true → SoundTrees l l.trees → settled l.opening.end l.now ≡ l.now.blocks
-unfolding settled
-all_settled l done s = go l.trees done s
-  where
-    go : (x : Option (List Tree)) → is_some x ≡ true → SoundTrees l x → settled l.opening.end l.now ≡ l.now.blocks
-    go none q b = absurd (false≢true q)
-    go (some trees) q b = rw b.no_pieces (append-nil l.now.blocks)
-
--- one byte or none, as a byte and a mark
-byte_of_lem : (x : Option ℕ) → get_or (Option-to_list x) 0 0 ≡ byte_of x
-unfolding Option-to_list
-byte_of_lem none = refl
-byte_of_lem (some b) = refl
-
+-- one byte or none, as a mark
 mark_of_lem : (x : Option ℕ) → min 1 (length (Option-to_list x)) ≡ mark_of x
 unfolding Option-to_list
 mark_of_lem none = refl
 mark_of_lem (some b) = refl
 
 module _ (l : Ledger) (h : List Operation) (law : LedgerLaw l h) (done : finished l ≡ true) (kind tick start stop : ℕ) (before : tick < l.opening.end) (cells : stop < 2 ^ 64) where
-  shows_value : (c : ℕ) → c < 2 ^ 64 → seen tick (cell_place kind c) l.now.blocks ≡ Option-to_list (value_at h kind tick c)
-  shows_value c low =
-      subst (λ (bs : List Block). seen tick (cell_place kind c) bs ≡ Option-to_list (value_at h kind tick c)) (all_settled l done law.sound.sound.closed)
-      (law.cells kind tick c before low)
-
   bytes_value : (cells_by l kind tick start stop).bytes ≡ map (λ c. byte_of (value_at h kind tick c)) (count_from start (stop - start))
   unfolding cells_by
   bytes_value =
       map_all (λ c. get_or (seen tick (cell_place kind c) l.now.blocks) 0 0) (λ c. byte_of (value_at h kind tick c))
-      (all_count_from start (stop - start) (λ c from below. rw (shows_value c (omega arith)) (byte_of_lem (value_at h kind tick c))))
+      (all_count_from start (stop - start) (λ c from below. rw (seen-value l h law done kind tick c before (omega arith)) (first_of_value (value_at h kind tick c))))
 
   held_value : (cells_by l kind tick start stop).held ≡ map (λ c. mark_of (value_at h kind tick c)) (count_from start (stop - start))
   unfolding cells_by
   held_value =
       map_all (λ c. min 1 (length (seen tick (cell_place kind c) l.now.blocks))) (λ c. mark_of (value_at h kind tick c))
-      (all_count_from start (stop - start) (λ c from below. rw (shows_value c (omega arith)) (mark_of_lem (value_at h kind tick c))))
+      (all_count_from start (stop - start) (λ c from below. rw (seen-value l h law done kind tick c before (omega arith)) (mark_of_lem (value_at h kind tick c))))
 
 pub cells_show_history : CellsShowHistory
 cells_show_history a taken ks done t enc kind opens tick start stop bytes bytes' held held' answer before room cells rb rh read =

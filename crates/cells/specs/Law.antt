@@ -6,15 +6,12 @@ use Rattle.lists.specs.Lists.{count_from}
 use Rattle.history.specs.Ledger.{Opening, opened, opens_kind, finished}
 use Rattle.history.specs.Refusals.{Answer, accepted, open_answer}
 use Rattle.history.specs.Calls.{Call, after_all, history, value_at}
+use Rattle.history.specs.Sums.{byte_of}
 use Rattle.layout.specs.Tables.{Tables}
 use Rattle.layout.specs.Encodes.{Encodes}
 use Rattle.cells.specs.Answers.{CellsReadBy}
 
--- the byte of a cell by its value, and whether it is held: 0 and 0 where it has none
-abbrev pub byte_of : Option ℕ → ℕ
-byte_of none = 0
-byte_of (some b) = b
-
+-- whether a cell is held, by its value
 abbrev pub mark_of : Option ℕ → ℕ
 mark_of none = 0
 mark_of (some b) = 1

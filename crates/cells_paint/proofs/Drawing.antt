@@ -14,8 +14,9 @@ use Rattle.lists.proofs.Lists.{all_append, mem_left, mem_right}
 use Rattle.lists.proofs.Numbers.{lt_or_le}
 use Rattle.lists.proofs.Stores.{get_d_sets_in, get_d_sets_out}
 use Rattle.block_table.specs.Blocks.{Room, first_cell_at, offset_at}
-use Rattle.cells_paint.specs.declared.Extent.{Extent}
-use Rattle.cells_paint.specs.Painting.{Covers, Drawn, left, drawn, Slices, ExtentOf, Painted}
+use Rattle.live_rows.specs.declared.Extent.{Extent}
+use Rattle.live_rows.specs.Extents.{ExtentOf}
+use Rattle.cells_paint.specs.Painting.{Covers, Drawn, left, drawn, Slices, Painted}
 
 -- ── blocks one after the other ──
 

@@ -1,11 +1,10 @@
--- The way down, and all together: the returns of `later`, `paint_way` and `show`. Assumes nothing.
+-- The way down, and all together: the returns of `paint_way` and `show`. Assumes nothing.
 use Rattle.std.specs.Prelude.{Option, Some, None}
-use mathlib.Core.Path.{◌≡◌, refl, sym, ap, subst}
+use mathlib.Core.Path.{◌≡◌, sym, subst}
 use mathlib.Core.Logic.{inl, inr}
 use mathlib.Core.Bool.{Bool, true}
 use mathlib.Core.List.{List, [], ◌∷◌}
-use Prim.Native.Nat.{ℕ, ◌-◌, ◌≤◌, ◌<◌}
-use native.Mathlib.Omega.{arith}
+use Prim.Native.Nat.{ℕ}
 use lib.ListN.{get_or, replicate, length-replicate, get_or-replicate}
 use Rattle.std.proofs.lemmas.List.{get_or_past}
 use Rattle.lists.specs.Tests.{Decides}
@@ -14,53 +13,21 @@ use Rattle.history.specs.Tree.{Tree, hole, node}
 use Rattle.history.specs.Find.{path, window}
 use Rattle.history.proofs.FindOrder.{window-append}
 use Rattle.tables.specs.Columns.{block_column, head_end}
-use Rattle.segment_table.specs.Closed.{TreeAt, block_in, first_cell_in}
+use Rattle.segment_table.specs.Closed.{TreeAt, first_cell_in}
 use Rattle.segment_walk.specs.declared.walk.Node.{Node}
 use Rattle.segment_walk.specs.declared.rows.Rows.{Rows}
 use Rattle.segment_walk.specs.Walking.{Stands, root_at, Absent, half_at}
-use Rattle.segment_walk.specs.Rowing.{table_rows, rows_at, key_at, blocks_in, Lower, InWindow}
+use Rattle.segment_walk.specs.Rowing.{rows_at, blocks_in, Lower, InWindow}
 use Rattle.segment_walk.proofs.Halving.{Present, absent_hole, Down, down}
-use Rattle.segment_walk.proofs.Rowing.{rows_inside, run_of}
+use Rattle.segment_walk.proofs.Rowing.{run_of}
 use Rattle.segment_walk.proofs.Windows.{in_window}
-use Rattle.segment_near.specs.declared.Side.TheVariants.{Before}
 use Rattle.segment_near.specs.declared.Neighbour.{Neighbour}
-use Rattle.segment_near.specs.Neighbours.{Nearer}
-use Rattle.segment_near.proofs.Neighbouring.{own_is_before, own_none_before, nearer_below, nearer_own, nearer_before_below, nearer_before_own, nearest_none, nearest_both, nearest_live}
-use Rattle.cells_paint.specs.Painting.{Painted, RowsPainted, Later, WayPainted, one_of, Shown}
+use Rattle.segment_near.proofs.Neighbouring.{nearest_none, nearest_both, nearest_live}
+use Rattle.live_rows.specs.Extents.{Later, one_of}
+use Rattle.cells_paint.specs.Painting.{Painted, RowsPainted, WayPainted, Shown}
 use Rattle.cells_paint.proofs.Drawing.{painted_none, painted_append}
 
--- ── the returns of `later` ──
-
-alone : (best : Option Neighbour) → Nearer Before best None best
-alone None = nearer_below refl
-alone (Some b) = nearer_own refl refl
-
-module _ {entries : List ℕ} {rows : Rows} {row : ℕ} {best : Option Neighbour} where
-  pub later_none : row ≤ rows.from → Later entries rows row best best
-  later_none h = record { of_place = λ place l. (None, own_none_before l refl h, alone best) }
-
-  module _ {own : Neighbour} (h : rows.from < row) (o : own ≡ record { number = block_in entries (row - 1); first = key_at entries (row - 1) }) where
-    pub later_first : best ≡ None → Later entries rows row best (Some own)
-    later_first e = record { of_place = λ place l. (Some own, own_is_before l refl h (ap (λ (n : Neighbour). Some n) o), nearer_below e) }
-
-    module _ {block : Neighbour} (e : best ≡ Some block) where
-      pub later_own : block.first < own.first → Later entries rows row best (Some own)
-      later_own q = record { of_place = λ place l. (Some own, own_is_before l refl h (ap (λ (n : Neighbour). Some n) o), nearer_before_below e refl refl q) }
-
-      pub later_best : own.first ≤ block.first → Later entries rows row best (Some block)
-      later_best q = record { of_place = λ place l. (Some own, own_is_before l refl h (ap (λ (n : Neighbour). Some n) o), nearer_before_own e refl refl q) }
-
-pub ruleset latest = (later_none, later_first, later_own, later_best)
-
--- ── what `paint_way` owes, and its returns ──
-
--- a node's rows stand in the table, and so does the place where those of the window begin
-module _ (nodes entries : List ℕ) (link : ℕ) {rows : Rows} (e : rows ≡ rows_at nodes entries link) where
-  pub rows_in_table : rows.to ≤ table_rows entries
-  rows_in_table = rw e (rows_inside nodes entries link).1
-
-  pub row_in_table : {start row : ℕ} → Lower entries rows start row → row ≤ table_rows entries
-  row_in_table low = let inside : rows.from ≤ rows.to = rw e (rows_inside nodes entries link).0 in omega (arith, low.inside inside, rows_in_table)
+-- ── the returns of `paint_way` ──
 
 module _ {blocks nodes entries store : List ℕ} {n : Node} {tick start stop : ℕ} {best : Option Neighbour} {bytes held : List ℕ} where
   pub way_none : {t : Bool} → Decides t (Absent n) → t ≡ true → WayPainted blocks nodes entries store n tick start stop best best bytes bytes held held

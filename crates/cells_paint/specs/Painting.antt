@@ -1,5 +1,5 @@
 -- What blocks leave in the slices of a window. Definitions alone.
-use Rattle.std.specs.Prelude.{◌≡◌, Option, Some, None, List, [], ◌∷◌, ◌++◌, ℕ, suc, ◌+◌, ◌-◌, ◌≤◌, ◌<◌, length, get_or}
+use Rattle.std.specs.Prelude.{◌≡◌, Option, List, ℕ, suc, ◌+◌, ◌-◌, ◌≤◌, ◌<◌, length, get_or}
 use Rattle.lists.specs.Lists.{All, Mem}
 use Rattle.history.specs.Tree.{Tree}
 use Rattle.history.specs.Find.{path, window}
@@ -12,8 +12,8 @@ use Rattle.segment_walk.specs.Walking.{Stands, Rooted}
 use Rattle.segment_walk.specs.Rowing.{blocks_in, Lower}
 use Rattle.segment_near.specs.declared.Side.TheVariants.{Before}
 use Rattle.segment_near.specs.declared.Neighbour.{Neighbour}
-use Rattle.segment_near.specs.Neighbours.{OwnNeighbour, Nearer, NearestBelow, NearestLive}
-use Rattle.cells_paint.specs.declared.Extent.{Extent}
+use Rattle.segment_near.specs.Neighbours.{NearestBelow, NearestLive}
+use Rattle.live_rows.specs.Extents.{reaching}
 
 -- ── a cell ──
 
@@ -48,37 +48,17 @@ pub record Painted (blocks store ks : List ℕ) (start stop : ℕ) (bytes bytes'
 
 -- ── what the functions give ──
 
--- the row of block k
-pub record ExtentOf (blocks : List ℕ) (k : ℕ) (r : Extent) : Type 0 where
-  pub room : Room blocks (suc k)
-  pub first : r.first ≡ first_cell_at blocks (suc k)
-  pub length : r.length ≡ length_at blocks (suc k)
-  pub offset : r.offset ≡ offset_at blocks (suc k)
-
 -- the blocks of the rows up to the first that starts at the stop or behind it
 pub record RowsPainted (entries blocks store : List ℕ) (rows : Rows) (start stop : ℕ) (bytes bytes' held held' : List ℕ) : Type 0 where
   pub past : ℕ
   pub ends : Lower entries rows stop past
   pub painted : Painted blocks store (blocks_in entries (record { from = rows.from; to = past })) start stop bytes bytes' held held'
 
--- of `best` and the last of the rows that start before a place the one nearer to it; `row` is the first that does not
-pub record Later (entries : List ℕ) (rows : Rows) (row : ℕ) (best r : Option Neighbour) : Type 0 where
-  pub of_place : (place : ℕ) → Lower entries rows place row → (own : Option Neighbour) × OwnNeighbour entries rows Before place own × Nearer Before best own r
-
 -- from a node on the way down to the tick
 pub record WayPainted (blocks nodes entries store : List ℕ) (n : Node) (tick start stop : ℕ) (best r : Option Neighbour) (bytes bytes' held held' : List ℕ) : Type 0 where
   pub near : NearestBelow nodes entries n tick Before start best r
   pub painted : (kind : ℕ) (tree : Tree) → Stands blocks nodes entries kind n tree
       → Painted blocks store (window (first_cell_in blocks) start stop (path tick n.min n.max tree)) start stop bytes bytes' held held'
-
--- the number of a block, if there is one
-abbrev pub one_of : Option Neighbour → List ℕ
-one_of None = []
-one_of (Some b) = b.number ∷ []
-
--- the blocks of a list that start in the window, and the one before it
-abbrev pub reaching : (blocks : List ℕ) (start stop : ℕ) (list : List ℕ) (before : Option Neighbour) → List ℕ
-reaching blocks start stop list before = window (first_cell_in blocks) start stop list ++ one_of before
 
 -- in free cells: the blocks that are live at the tick and start in the window, and the last of those that start before it
 pub record Shown (blocks nodes entries store : List ℕ) (kind tick start stop : ℕ) (bytes held : List ℕ) : Type 0 where

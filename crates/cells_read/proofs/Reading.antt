@@ -15,8 +15,9 @@ use Rattle.tables.specs.Masks.{opens, Opens}
 use Rattle.tables.specs.Columns.{block_column, head_kinds, head_end}
 use Rattle.layout.specs.Tables.{Tables, tables, head_at}
 use Rattle.layout.specs.Encodes.{Encodes}
-use Rattle.layout.proofs.ReadLaws.{mask_opens, opens_kind_lem, window_25, window_14, window_15, window_rest, closed_refuses}
+use Rattle.layout.proofs.ReadLaws.{mask_opens, window_25, window_14, window_15, window_rest, closed_refuses}
 use Rattle.live_blocks.specs.Live.{ClosedAt}
+use Rattle.live_blocks.proofs.Living.{closed_at}
 use Rattle.cells_paint.specs.Painting.{Slices, Shown}
 use Rattle.cells_read.proofs.Showing.{cells_shown}
 use Rattle.cells_read.specs.Answers.{CellsHanded, ReadClosed}
@@ -75,14 +76,7 @@ module _ {blocks store nodes entries : List ℕ} {kind tick start stop mask : �
     read_filled {many} {xs = xs} {ys} h b small size room room' long long' shown = record {
       read = λ pieces. record {
         closed = λ l enc s done.
-            let at : ClosedAt blocks store nodes entries kind tick l = record {
-              pieces = pieces;
-              encodes = enc;
-              sound = s;
-              done = done;
-              opened = opens_kind_lem enc kind ∙ mask_opens m is q;
-              before_end = omega (arith, enc.end);
-            } in
+            let at : ClosedAt blocks store nodes entries kind tick l = closed_at kind enc s done (mask_opens m is q) (omega arith) in
             let w : Slices start stop xs ys = record { bytes_long = omega (arith, length-take many bytes); held_long = omega (arith, length-take many held) } in
             rw (cells_given enc done kind tick start stop (length bytes) (length held) (mask_opens m is q) (omega arith) b (omega arith) (omega arith), cells_shown at small w shown)
             (record {

@@ -28,7 +28,8 @@ use Rattle.segment_near.specs.Neighbours.{Neighbours}
 use Rattle.live_blocks.specs.Live.{ClosedAt}
 use Rattle.live_blocks.proofs.Seeing.{live-number, free_cell, held_by, meet_same, some_cell}
 use Rattle.live_blocks.proofs.Living.{Row, Living, living}
-use Rattle.cells_paint.specs.Painting.{Covers, byte_of, Drawn, left, drawn, Slices, one_of, reaching, Shown}
+use Rattle.live_rows.specs.Extents.{one_of, reaching}
+use Rattle.cells_paint.specs.Painting.{Covers, byte_of, Drawn, left, drawn, Slices, Shown}
 
 -- ── the window of a list ──
 

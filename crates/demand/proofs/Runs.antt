@@ -29,7 +29,7 @@ use Rattle.history.proofs.DaysLaws.{days_last}
 use Rattle.history.proofs.FindSound.{find_sound}
 use Rattle.layout.specs.Tables.{Tables, lengths_of}
 use Rattle.layout.specs.Encodes.{Encodes}
-use Rattle.layout.specs.Formed.{WellFormed, WellFormedForFinish, Blank}
+use Rattle.layout.specs.Formed.{WellFormedForFinish, Blank}
 use Rattle.layout.specs.Relations.{opening_of, opened_tables, left_by, OpenedBy, RecordLeaves, RecordedBy, FinishLeaves, FinishedBy, InstallLeaves, InstalledBy, DaysLeave, DaysInstalledBy, ClockGivenBy, Fields, block_in, fields_at, BlockHanded}
 use Rattle.layout.proofs.Recording.{record_blank, record_open}
 use Rattle.layout.proofs.Installing.{installed_blank, install_open, days_blank, days_open}
@@ -38,6 +38,8 @@ use Rattle.kind_mask.specs.Masks.{Taken}
 use Rattle.layout.proofs.ReadLaws.{opens_kind_lem, clock_there, block_there, block_15, window_25, window_rest, into_gives, into_refuses}
 use Rattle.layout.proofs.Opening.{open_accepted, get_d_zeros, opened_encodes, opened-lengths, opened_blank}
 use Rattle.layout.proofs.Depths.{shallow_trees}
+use Rattle.info.specs.Info.{Summary, summary_of, InfoGivenBy}
+use Rattle.info.proofs.Telling.{info_there}
 use Rattle.demand.specs.Theorem.{CallDone, Run, run_nil, run_cons, Finished, Balance, Demand3}
 
 -- ── tables too short ──
@@ -220,15 +222,25 @@ clock_shows t l h s cell answer d =
 clock_short : (t : Tables) (cell : ℕ) (answer : Answer ℕ) → ClockGivenBy t cell answer → too_short (lengths_of t) ≡ true → answer ≡ refused 2
 clock_short t cell answer d e = (d.read.unformed (λ w. true≢false (sym e ∙ w.encodes.heads))).answered
 
+-- ── info ──
+
+-- of tables that stand for a ledger: what stands in it
+info_shows : (t : Tables) (l : Ledger) (h : List Operation) → Standing t l h → (answer : Answer Summary) → InfoGivenBy t answer → answer ≡ accepted (summary_of l)
+info_shows t l h s answer d = (d.read.formed l s.encodes s.law.sound.sound).answered ∙ ap (values_of (λ (x : Summary). x)) (info_there s.encodes)
+
+-- of tables too short: 2
+info_short : (t : Tables) (answer : Answer Summary) → InfoGivenBy t answer → too_short (lengths_of t) ≡ true → answer ≡ refused 2
+info_short t answer d e = (d.read.unformed (λ w. true≢false (sym e ∙ w.encodes.heads))).answered
+
 -- ── the tree of pieces ──
 
 stands_balanced : (t : Tables) (l : Ledger) → Encodes t l → Balance l t
 stands_balanced t l e = record {
-  tree = e.linked.tree;
-  stands = e.linked.shape;
-  of_pieces = ap length e.linked.is ∙ sym (ap length e.pieces ∙ length-map e.links (λ link. shown t.store (piece_at t.pieces link)));
-  balanced = e.linked.balanced;
-  short_ways = (shallow_trees t l e e.linked.tree e.linked.shape).pieces_4096;
+  tree = e.pieces.linked.tree;
+  stands = e.pieces.linked.shape;
+  of_pieces = ap length e.pieces.linked.is ∙ sym (ap length e.pieces.shows ∙ length-map e.pieces.links (λ link. shown t.store (piece_at t.pieces link)));
+  balanced = e.pieces.linked.balanced;
+  short_ways = (shallow_trees t l e e.pieces.linked.tree e.pieces.linked.shape).pieces_4096;
 }
 
 -- a table of zeros has no pieces, even where it cannot hold its head
@@ -290,10 +302,11 @@ module _ (end : ℕ) (kinds : List ℕ) (some_tick : 1 ≤ end) (end_most : end 
         let same : t' ≡ opened_tables end kinds t = short_same table r ∙ left in
         zeros_balanced (after_all (opened fed) ks) t' (ap (λ (l : Ledger). l.now.pieces) (short e).1 ∙ opened_pieces fed) (λ i. rw same (get_d_zeros (length t.pieces) i))
 
-    short_clock : too_short (lengths_of t) ≡ true → (cell : ℕ) (answer : Answer ℕ) → ClockGivenBy t' cell answer → answer ≡ refused 2
-    short_clock e cell answer c =
+    -- and stay too short
+    short_still : too_short (lengths_of t) ≡ true → too_short (lengths_of t') ≡ true
+    short_still e =
         let table : too_short (lengths_of t₀) ≡ true = ap too_short (ap lengths_of left ∙ sym (opened-lengths end kinds t)) ∙ e in
-        clock_short t' cell answer c (ap (λ (x : Tables). too_short (lengths_of x)) (short_same table r) ∙ table)
+        ap (λ (x : Tables). too_short (lengths_of x)) (short_same table r) ∙ table
 
     days_are : (after_all (opened fed) ks).days ≡ last_days [] (opened fed) ks
     unfolding opened
@@ -315,7 +328,9 @@ demand end kinds a b c t t₀ opening d =
         answered = λ ks given t' r. (short end kinds a b c t t₀ opening d r e).0;
         balance = λ ks given t' r. short_balanced end kinds a b c t t₀ opening d r e;
         clock = λ ks given t' r cell answer x fits. absurd (true≢false (sym e ∙ fits));
-        no_clock = λ ks given t' r cell answer x _. short_clock end kinds a b c t t₀ opening d r e cell answer x;
+        no_clock = λ ks given t' r cell answer x _. clock_short t' cell answer x (short_still end kinds a b c t t₀ opening d r e);
+        info = λ ks given t' r answer x fits. absurd (true≢false (sym e ∙ fits));
+        no_info = λ ks given t' r answer x _. info_short t' answer x (short_still end kinds a b c t t₀ opening d r e);
         done = λ ks given t' r done. absurd (short_open end kinds a b c t t₀ opening d r e done);
       }
       | inr fits ↦ (
@@ -329,6 +344,9 @@ demand end kinds a b c t t₀ opening d =
                 clock_shows t' (after_all (opened begun) ks) (history [] (opened begun) ks) (runs (opened begun) [] s r).1 cell answer x
                 ∙ ap (λ (days : List Day). accepted (clock_label days cell)) (days_are end kinds a b c t t₀ opening d r);
             no_clock = λ ks given t' r cell answer x e. absurd (true≢false (sym e ∙ fits));
+            info = λ ks given t' r answer x _.
+                info_shows t' (after_all (opened begun) ks) (history [] (opened begun) ks) (runs (opened begun) [] s r).1 answer x;
+            no_info = λ ks given t' r answer x e. absurd (true≢false (sym e ∙ fits));
             done = λ ks given t' r e.
                 finished_reads (after_all (opened begun) ks) (history [] (opened begun) ks) t' (runs (opened begun) [] s r).1 e
                 (subst (λ (n : ℕ). Faithful n (after_all (opened begun) ks).now.blocks (history [] (opened begun) ks)) (sym (same_end end kinds a b c t t₀ opening d ks)) ((every_list begun (taken end kinds a b c t t₀ opening d) ks).faithful e));

@@ -2,7 +2,7 @@
 use mathlib.Core.Path.{◌≡◌, refl, sym, ap, ◌∙◌, subst}
 use mathlib.Core.Logic.{inl, inr}
 use mathlib.Core.Bool.{true}
-use mathlib.Core.List.{List}
+use mathlib.Core.List.{List, []}
 use Prim.Native.Nat.{ℕ, ◌≤◌, ◌<◌}
 use native.Mathlib.Omega.{arith}
 use lib.ListN.{length}
@@ -12,9 +12,10 @@ use Rattle.lists.proofs.Numbers.{lt_or_le, and_left, and_right, and_both}
 use Rattle.lists.proofs.Lists.{all_mem, pairs_at, mem_at, mem_right, mem_place}
 use Rattle.history.specs.Words.{Operation, Block, HasCell, HoldsCell, line_of, cell_place, of_kind, live, live_of}
 use Rattle.history.specs.Tree.{no_block}
-use Rattle.history.specs.Ledger.{Ledger, opens_kind, finished}
+use Rattle.history.specs.Ledger.{Ledger, opened, opens_kind, finished}
 use Rattle.history.specs.Reads.{block_by, touches, touching_by, next_by, last_by}
 use Rattle.history.specs.Refusals.{accepted, refused, touching_answer}
+use Rattle.history.specs.Calls.{after_all, history}
 use Rattle.history.specs.Law.{LastCall, Faithful}
 use Rattle.history.specs.Sound.{Sound, SoundStretch}
 use Rattle.history.proofs.Within.{within_in, within_true}
@@ -65,7 +66,7 @@ module _ (l : Ledger) (h : List Operation) (sound : Sound l) (done : finished l 
       live_cell l.now.store (block_by l k) (all_mem sound.board.blocks (listed_block k m)).stretch kind t cell
       (and_left (live_of kind t (block_by l k)) (touches s n (block_by l k)) (live_holds l sound done kind t (touches s n) k m)) has
 
-  list_shows : ListShows l h kind t s n
+  pub list_shows : ListShows l h kind t s n
   list_shows = record {
     listed = λ cell byte from below e.
         let call = value_law.some_then h kind t cell byte e in
@@ -105,15 +106,16 @@ module _ (l : Ledger) (t : Tables) (e : Encodes t l) (done : finished l ≡ true
       window_rest e done _ _ kind tick start stop (sym (opens_kind_lem e kind) ∙ opens) (omega (arith, e.end)) ordered
       ∙ rw (lt-ltb room (length (touching_by l kind tick start stop)) h)
 
-shows : (l : Ledger) (h : List Operation) (t : Tables) → Encodes t l → Sound l → finished l ≡ true → Faithful l.opening.end l.now.blocks h → (kind : ℕ)
-    → opens_kind l kind ≡ true → TouchingShows l h t kind
-shows l h t e s done faithful kind opens = record {
+-- tables that stand for a closed index whose lists show a history
+pub touching_shows : (l : Ledger) (h : List Operation) (t : Tables) → Encodes t l → Sound l → finished l ≡ true → (kind : ℕ) → opens_kind l kind ≡ true
+    → ((tick start stop : ℕ) → tick < l.opening.end → ListShows l h kind tick start stop) → TouchingShows l h t kind
+touching_shows l h t e s done kind opens shows = record {
   touched = λ tick start stop out out' answer before ordered d room.
       into_gives (d.read.formed l e s) (touching_fits l t e done kind opens tick start stop (length out) before ordered room);
   no_room = λ tick start stop out out' answer before ordered d room.
       into_refuses (d.read.formed l e s) (touching_full l t e done kind opens tick start stop (length out) before ordered room);
   touching = λ tick start stop before. touching_law l s done kind opens tick start stop before;
-  shows = λ tick start stop before. list_shows l h s done faithful kind tick before start stop;
+  shows = shows;
   next = λ tick cell answer before d.
       (d.read.formed l e s).answered
       ∙ ap (values_of near_of) (neighbour_rest e done (next_by l kind tick cell) kind tick (sym (opens_kind_lem e kind) ∙ opens) (omega (arith, e.end)));
@@ -126,6 +128,9 @@ shows l h t e s done faithful kind opens = record {
 pub touching_shown : TouchingShown
 touching_shown end kinds some_tick end_most given-kinds t t₀ t' opening d ks given r done kind opens =
     let fed = opening_of end kinds t in
-    shows _ _ t' (finished_encodes end kinds some_tick end_most given-kinds t t₀ opening d r done)
-    (every_list fed (open_accepted fed some_tick end_most given-kinds.some_kind given-kinds.known) ks).law.sound.sound done
-    ((demand end kinds some_tick end_most given-kinds t t₀ opening d).done ks given t' r done).cells kind opens
+    let l = after_all (opened fed) ks in
+    let h = history [] (opened fed) ks in
+    let sound = (every_list fed (open_accepted fed some_tick end_most given-kinds.some_kind given-kinds.known) ks).law.sound.sound in
+    let faithful = ((demand end kinds some_tick end_most given-kinds t t₀ opening d).done ks given t' r done).cells in
+    touching_shows l h t' (finished_encodes end kinds some_tick end_most given-kinds t t₀ opening d r done) sound done kind opens
+    (λ tick start stop before. list_shows l h sound done faithful kind tick before start stop)

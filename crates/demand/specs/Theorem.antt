@@ -14,6 +14,7 @@ use Rattle.merge_set.specs.Tree.{Tree, rows, height, Balanced}
 use Rattle.merge_set.specs.Table.{Shape}
 use Rattle.kind_mask.specs.Masks.{Taken}
 use Rattle.layout.specs.Tables.{Tables, lengths_of}
+use Rattle.info.specs.Info.{Summary, summary_of, InfoGivenBy}
 use Rattle.layout.specs.Relations.{opening_of, OpenedBy, RecordedBy, FinishedBy, InstalledBy, DaysInstalledBy, ClockGivenBy, Counts, FoundBy, Fields, block_in, BlockGivenBy}
 
 -- ── lists of calls ──
@@ -82,6 +83,11 @@ pub record Demand (end : ℕ) (kinds : List ℕ) (t t₀ : Tables) (opening : An
   pub clock : (ks : List Call) (given : List (Answer Result)) (t' : Tables) → Run t₀ ks given t' → (cell : ℕ) (answer : Answer ℕ) → ClockGivenBy t' cell answer
       → too_short (lengths_of t) ≡ false → answer ≡ accepted (clock_label (last_days [] (opened (opening_of end kinds t)) ks) cell)
   pub no_clock : (ks : List Call) (given : List (Answer Result)) (t' : Tables) → Run t₀ ks given t' → (cell : ℕ) (answer : Answer ℕ) → ClockGivenBy t' cell answer
+      → too_short (lengths_of t) ≡ true → answer ≡ refused 2
+  -- and so does info what stands in the index by the ledger, open or closed; tables too short give 2;
+  pub info : (ks : List Call) (given : List (Answer Result)) (t' : Tables) → Run t₀ ks given t' → (answer : Answer Summary) → InfoGivenBy t' answer
+      → too_short (lengths_of t) ≡ false → answer ≡ accepted (summary_of (after_all (opened (opening_of end kinds t)) ks))
+  pub no_info : (ks : List Call) (given : List (Answer Result)) (t' : Tables) → Run t₀ ks given t' → (answer : Answer Summary) → InfoGivenBy t' answer
       → too_short (lengths_of t) ≡ true → answer ≡ refused 2
   -- after an accepted finish, and after every list of days that is installed then, all the above.
   pub done : (ks : List Call) (given : List (Answer Result)) (t' : Tables) → Run t₀ ks given t' → finished (after_all (opened (opening_of end kinds t)) ks) ≡ true

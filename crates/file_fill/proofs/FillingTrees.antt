@@ -16,7 +16,8 @@ use Rattle.history.specs.File.{Nodes, absent, present, got, fault, onward, read_
 use Rattle.history.proofs.FileYields.{got_value, got_next, fault_got}
 use Rattle.history.proofs.TreeCounts.{entry_count_in}
 use Rattle.file_scan.specs.Rows.{row_head, head_absent, head_present, read_head}
-use Rattle.file_scan.proofs.Readers.{onward_got, Passes, numbers_at, many_got}
+use Rattle.fields.proofs.Reading.{Passes}
+use Rattle.file_scan.proofs.Readers.{onward_got, numbers_at, many_got}
 use Rattle.file_scan.proofs.RowReads.{head_passes}
 use Rattle.file_scan.proofs.RowBytes.{head_entries}
 use Rattle.file_scan.proofs.Forest.{root_parts}

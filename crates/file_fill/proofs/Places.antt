@@ -17,10 +17,9 @@ use Rattle.tables.proofs.Past.{read_past}
 use Rattle.std.specs.Prelude.{Some, None, Result, Ok, Err}
 use Rattle.std.specs.Result.{result_ok}
 use Rattle.refusals.specs.declared.Refusal.{Refusal}
-use Rattle.refusals.specs.Numbers.{answer_by}
 use Rattle.file_scan.specs.declared.rows.NodeRow.{NodeRow}
 use Rattle.file_scan.specs.declared.rows.NodeRow.TheVariants as node
-use Rattle.file_scan.specs.Rows.{row_head, Head, head_absent, head_present, node_row}
+use Rattle.file_scan.specs.Rows.{row_head, answer_of, Head, head_absent, head_present, node_row}
 use Rattle.file_scan.proofs.RowSays.{row_present, row_absent, row_fault}
 use Rattle.file_fill.specs.declared.nodes.Half.TheVariants as half
 use Rattle.file_fill.specs.Fill.{is_place, right_start, half_of, root_end, first_cell_of}
@@ -66,65 +65,65 @@ module _ (lo hi : ℕ) where
 
 -- ── the returns of `half_at` and `root_end` ──
 
-module _ (lo hi at : ℕ) (o : Read Head) where
-  pub half_fault : (r : Result NodeRow Refusal) → None ≡ result_ok r → answer_by (λ x. x) r ≡ node_row at o → None ≡ half_of lo hi at o
+module _ (lo hi at : ℕ) (o : Read Head) (next : ℕ) where
+  pub half_fault : (r : Result NodeRow Refusal) → None ≡ result_ok r → answer_of (λ (x : NodeRow). x) r next ≡ node_row at o → None ≡ half_of lo hi at o
   unfolding half_of
   half_fault (Ok x) t e = absurd (cc)
   half_fault (Err f) t e = rw (row_fault at o e) refl
 
-  pub half_absent : (r : Result NodeRow Refusal) {n : ℕ} → Some (node.Absent n) ≡ result_ok r → answer_by (λ x. x) r ≡ node_row at o
-      → Some (half.Absent n) ≡ half_of lo hi at o
+  pub half_absent : (r : Result NodeRow Refusal) → Some node.Absent ≡ result_ok r → answer_of (λ (x : NodeRow). x) r next ≡ node_row at o
+      → Some (half.Absent next) ≡ half_of lo hi at o
   unfolding half_of
-  half_absent (Ok x) {n} t e =
-      let same : x ≡ node.Absent n = cc in
+  half_absent (Ok x) t e =
+      let same : x ≡ node.Absent = cc in
       rw (row_absent at o (rw same at e)) refl
   half_absent (Err f) t e = absurd (cc)
 
-  module _ {a b c d q n : ℕ} where
-    pub half_wrong : (r : Result NodeRow Refusal) → Some (node.Present a b c d q n) ≡ result_ok r → answer_by (λ x. x) r ≡ node_row at o
+  module _ {a b c d q : ℕ} where
+    pub half_wrong : (r : Result NodeRow Refusal) → Some (node.Present a b c d q) ≡ result_ok r → answer_of (λ (x : NodeRow). x) r next ≡ node_row at o
         → false ≡ is_place lo hi a b c → None ≡ half_of lo hi at o
     unfolding half_of
     half_wrong (Ok x) t e place =
-        let same : x ≡ node.Present a b c d q n = cc in
+        let same : x ≡ node.Present a b c d q = cc in
         row_present at o (rw same at e) λ es g z w. rw (g, ← place) refl
     half_wrong (Err f) t e place = absurd (cc)
 
-    pub half_present : (r : Result NodeRow Refusal) → Some (node.Present a b c d q n) ≡ result_ok r → answer_by (λ x. x) r ≡ node_row at o
-        → true ≡ is_place lo hi a b c → Some (half.Present d q n) ≡ half_of lo hi at o
+    pub half_present : (r : Result NodeRow Refusal) → Some (node.Present a b c d q) ≡ result_ok r → answer_of (λ (x : NodeRow). x) r next ≡ node_row at o
+        → true ≡ is_place lo hi a b c → Some (half.Present d q next) ≡ half_of lo hi at o
     unfolding half_of
     half_present (Ok x) t e place =
-        let same : x ≡ node.Present a b c d q n = cc in
+        let same : x ≡ node.Present a b c d q = cc in
         row_present at o (rw same at e) λ es g z w. rw (g, ← place, z, w) refl
     half_present (Err f) t e place = absurd (cc)
 
-module _ (at : ℕ) (o : Read Head) where
-  pub end_fault : (r : Result NodeRow Refusal) → None ≡ result_ok r → answer_by (λ x. x) r ≡ node_row at o → None ≡ root_end o
+module _ (at : ℕ) (o : Read Head) (next : ℕ) where
+  pub end_fault : (r : Result NodeRow Refusal) → None ≡ result_ok r → answer_of (λ (x : NodeRow). x) r next ≡ node_row at o → None ≡ root_end o
   unfolding root_end
   end_fault (Ok x) t e = absurd (cc)
   end_fault (Err f) t e = rw (row_fault at o e) refl
 
-  pub end_absent : (r : Result NodeRow Refusal) {n : ℕ} → Some (node.Absent n) ≡ result_ok r → answer_by (λ x. x) r ≡ node_row at o → None ≡ root_end o
+  pub end_absent : (r : Result NodeRow Refusal) → Some node.Absent ≡ result_ok r → answer_of (λ (x : NodeRow). x) r next ≡ node_row at o → None ≡ root_end o
   unfolding root_end
-  end_absent (Ok x) {n} t e =
-      let same : x ≡ node.Absent n = cc in
+  end_absent (Ok x) t e =
+      let same : x ≡ node.Absent = cc in
       rw (row_absent at o (rw same at e)) refl
   end_absent (Err f) t e = absurd (cc)
 
-  module _ {a b c d q n : ℕ} where
-    pub end_out_of_range : (r : Result NodeRow Refusal) → Some (node.Present a b c d q n) ≡ result_ok r → answer_by (λ x. x) r ≡ node_row at o
+  module _ {a b c d q : ℕ} where
+    pub end_out_of_range : (r : Result NodeRow Refusal) → Some (node.Present a b c d q) ≡ result_ok r → answer_of (λ (x : NodeRow). x) r next ≡ node_row at o
         → ((b ≡ 0) ⊎ ((b ≡ 0 → ⊥) × (2 ^ 63 < b))) → None ≡ root_end o
     unfolding root_end
     end_out_of_range (Ok x) t e h =
-        let same : x ≡ node.Present a b c d q n = cc in
+        let same : x ≡ node.Present a b c d q = cc in
         row_present at o (rw same at e) λ es g z w.
         ⊎_elim (λ p. rw (g, le-ltb 0 b (omega arith)) refl) (λ p. rw (g, lt-leb b (2 ^ 63) p.1, and-false (ltb 0 b)) refl) h
     end_out_of_range (Err f) t e h = absurd (cc)
 
-    pub end_there : (r : Result NodeRow Refusal) → Some (node.Present a b c d q n) ≡ result_ok r → answer_by (λ x. x) r ≡ node_row at o → (b ≡ 0 → ⊥) → b ≤ 2 ^ 63
+    pub end_there : (r : Result NodeRow Refusal) → Some (node.Present a b c d q) ≡ result_ok r → answer_of (λ (x : NodeRow). x) r next ≡ node_row at o → (b ≡ 0 → ⊥) → b ≤ 2 ^ 63
         → Some b ≡ root_end o
     unfolding root_end
     end_there (Ok x) t e p h =
-        let same : x ≡ node.Present a b c d q n = cc in
+        let same : x ≡ node.Present a b c d q = cc in
         row_present at o (rw same at e) λ es g z w. rw (g, lt-ltb 0 b (omega arith), le-leb b (2 ^ 63) h) refl
     end_there (Err f) t e p h = absurd (cc)
 

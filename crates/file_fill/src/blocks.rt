@@ -2,6 +2,7 @@
 ghost use Rattle.file_fill.specs.Fill.{FilledBlocks};
 
 use crate::rows::put_row;
+use fields::Reader;
 use file_scan::rows;
 use file_scan::rows::BlockRow;
 use tables::block;
@@ -17,26 +18,24 @@ pub fn fill_blocks(
 )
     ensures { FilledBlocks file.now kind count at blocks.old store.old blocks.new store.new }
 {
+    let mut reader = Reader { file, at };
     let mut used: u64 = 0;
-    let mut place = at;
     for rows in 0..count {
         let Ok(
             BlockRow {
                 first,
-                length,
                 created,
                 destroyed,
                 bytes,
-                next,
             },
-        ) = rows::block_at(file, kind, place)
+        ) = rows::block(&mut reader, kind)
         else {
             return;
         };
+        let length = bytes.len() as u64;
         let row = [first, length, created, destroyed, used, kind, 0, 0];
         put_row(blocks, block::BASE, rows + 1, row);
-        tables::copy_in(store, used as usize, &file[bytes..next]);
+        tables::copy_in(store, used as usize, bytes);
         used += length;
-        place = next;
     }
 }

@@ -9,6 +9,7 @@ ghost use Rattle.layout.specs.Rows.{node_head_numbers};
 ghost use Rattle.file_fill.specs.Fill.{first_cell_of, is_place, right_start, half_of, root_end, FilledEntries, FilledTree, FilledNodes};
 
 use crate::rows::put_row;
+use fields::Reader;
 use file_scan::rows;
 use file_scan::rows::NodeRow;
 use tables::{ROW, block, entry, node};
@@ -80,15 +81,17 @@ fn right_start(min: u64, max: u64) -> u64
 fn half_at(file: &[u8], at: usize, min: u64, max: u64) -> Option<Half>
     ensures { result ≡ half_of min max at (read_head file.now at) }
 {
-    match rows::node_at(file, at).ok()? {
-        NodeRow::Absent { next } => Some(Half::Absent { next }),
+    let mut reader = Reader { file, at };
+    let row = rows::node(&mut reader).ok()?;
+    let next = reader.at;
+    match row {
+        NodeRow::Absent => Some(Half::Absent { next }),
         NodeRow::Present {
             min: low,
             max: high,
             middle,
             count,
             entries,
-            next,
         } => {
             if !is_place(min, max, low, high, middle) {
                 return None;
@@ -124,8 +127,9 @@ fn put_entry(entries: &mut [u64], row: u64, number: u64, cell: u64)
 fn root_end(file: &[u8], at: usize) -> Option<u64>
     ensures { result ≡ root_end (read_head file.now at) }
 {
-    match rows::node_at(file, at).ok()? {
-        NodeRow::Absent { .. } => None,
+    let mut reader = Reader { file, at };
+    match rows::node(&mut reader).ok()? {
+        NodeRow::Absent => None,
         NodeRow::Present { max, .. } => {
             if max == 0 || block::MAX_END_TICK < max {
                 return None;
@@ -153,9 +157,12 @@ impl Source<'_> {
         requires { first ≤ at }
         ensures { FilledEntries self.now.blocks.now self.now.file.now at first count entries.old entries.new }
     {
-        let mut place = at;
+        let mut reader = Reader {
+            file: self.file,
+            at,
+        };
         for more in 0..count {
-            let Some((number, next)) = fields::number_at(self.file, place) else {
+            let Some(number) = reader.number() else {
                 return;
             };
             put_entry(
@@ -164,7 +171,6 @@ impl Source<'_> {
                 number,
                 first_cell(self.blocks, number),
             );
-            place = next;
         }
     }
 

@@ -41,7 +41,7 @@ use Rattle.layout.specs.Encodes.{closed_state, Encodes}
 use Rattle.layout.specs.Relations.{zeros}
 use Rattle.layout.specs.Files.{headed, loaded_head, loaded_rows, LoadedTables}
 use Rattle.layout.proofs.Lengths.{lent_same, fit_heads}
-use Rattle.layout.proofs.Opening.{get_d_zeros, no_links}
+use Rattle.layout.proofs.Opening.{get_d_zeros, no_pieces_in}
 use Rattle.history.specs.Refusals.{Answer}
 use Rattle.file_load.specs.Load.{Ready, Judged, judgement}
 use Rattle.file_load.proofs.OneKind.{ReadAs, read_lined}
@@ -342,10 +342,7 @@ module _ {f : File} {kind n used e : ℕ} {blocks store nodes entries b₁ b₂ 
         count = count_is ∙ F.count;
         blocks = rw count_is (sym blocks_are);
         blocks_stored = rw (used_same, count_is) stored;
-        links = [];
-        linked = no_links (headed t').pieces pieces_long (get_d_zeros (max piece_head (length (zeros pieces))));
-        pieces = refl;
-        pieces_stored = all_nil;
+        pieces = no_pieces_in (max piece_head (length (zeros pieces))) (omega arith) store' _;
         trees = subst (λ (k : ℕ). Closed (lent b₂ nodes' entries') (end_of f.nodes) (trees_with k T)) F.own_kind (closed entries_headed);
         calendar = calendar-none b₂ (front_zero front_calendar (omega arith));
         days = days_none b₂ (front_zero front_days (omega arith));

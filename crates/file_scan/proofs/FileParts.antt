@@ -10,7 +10,8 @@ use Rattle.history.specs.File.{File, Read, got, fault, ◌>>=◌, give, number, 
 use Rattle.history.proofs.FileYields.{got_value, got_next}
 use Rattle.history.specs.Refusals.{accepted, refused}
 use Rattle.file_scan.specs.Counts.{Scanned, bytes_in, nodes_at, scan_of}
-use Rattle.file_scan.proofs.Readers.{onward_got, refuse_got, number_passes}
+use Rattle.fields.proofs.Reading.{number_passes}
+use Rattle.file_scan.proofs.Readers.{onward_got, refuse_got}
 use Rattle.file_scan.proofs.Scanning.{blocks_end, counts_of}
 
 -- ── the parts ──

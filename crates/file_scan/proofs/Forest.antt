@@ -11,7 +11,8 @@ use Rattle.history.specs.File.{Nodes, absent, present, Read, got, fault, onward,
 use Rattle.history.proofs.FileYields.{got_next, fault_got}
 use Rattle.fields.proofs.Reading.{number_end}
 use Rattle.file_scan.specs.Rows.{Head, head_absent, head_present, read_present, read_head}
-use Rattle.file_scan.proofs.Readers.{onward_through, onward_same, onward_gives, onward_got, Passes}
+use Rattle.fields.proofs.Reading.{Passes}
+use Rattle.file_scan.proofs.Readers.{onward_through, onward_same, onward_gives, onward_got}
 use Rattle.file_scan.proofs.RowReads.{head_size, head_passes}
 
 -- ── a node, and then its children ──

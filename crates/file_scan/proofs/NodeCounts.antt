@@ -1,6 +1,6 @@
 -- Nodes counted one after the other, with the subtrees that are still to come: one step for each turn of `nodes::pass` and for each of its returns.
 -- Assumes nothing.
-use mathlib.Core.Path.{◌≡◌, refl, sym, ◌∙◌, ap₂}
+use mathlib.Core.Path.{◌≡◌, refl, sym, ◌∙◌, ap, ap₂}
 use mathlib.Core.List.{List, [], ◌∷◌, map}
 use Prim.Native.Nat.{ℕ, suc, ◌+◌, ◌*◌, ◌-◌, ◌≤◌, ◌<◌}
 use native.Mathlib.Omega.{arith}
@@ -10,9 +10,14 @@ use Rattle.lists.proofs.Numbers.{suc_of}
 use Rattle.history.specs.Tree.{node_count, entry_count}
 use Rattle.history.specs.File.{Nodes, absent, present, Read, got, fault, onward, ◌>>=◌, give, many, read_root, tree_from}
 use Rattle.file_scan.specs.declared.nodes.Nodes.{Nodes as Trees}
-use Rattle.history.specs.Refusals.{Answer, accepted, refused}
+use Rattle.std.specs.Prelude.{Ok, Err}
+use Rattle.refusals.specs.declared.Refusal.{Refusal}
+use Rattle.fields.specs.Fields.{Moves}
+use Rattle.fields.specs.declared.Reader.{Reader}
+use Rattle.fields.proofs.Moving.{same_bytes}
+use Rattle.file_scan.specs.declared.rows.NodeRow.{NodeRow}
 use Rattle.file_scan.specs.declared.rows.NodeRow.TheVariants as node
-use Rattle.file_scan.specs.Rows.{row_head, head_absent, head_present, read_head, node_row}
+use Rattle.file_scan.specs.Rows.{row_head, answer_of, head_absent, head_present, read_head, read_node}
 use Rattle.file_scan.specs.Counts.{nodes_from}
 use Rattle.file_scan.proofs.RowReads.{head_passes}
 use Rattle.file_scan.proofs.RowSays.{row_present, row_absent, row_fault}
@@ -26,13 +31,13 @@ nodes_in ts = sum_of (map (λ t. node_count (tree_from t)) ts)
 abbrev entries_in : List Nodes → ℕ
 entries_in ts = sum_of (map (λ t. entry_count (tree_from t)) ts)
 
-abbrev passed : (nodes entries next : ℕ) → Answer Trees
-passed nodes entries next = accepted (record { nodes = nodes; entries = entries; next = next })
+abbrev passed : (nodes entries next : ℕ) → Read Trees
+passed nodes entries next = got (record { nodes = nodes; entries = entries }) next
 
 -- so many nodes and entries were counted before these trees
-unfoldable pub forest_from : (nodes entries : ℕ) → Read (List Nodes) → Answer Trees
+unfoldable pub forest_from : (nodes entries : ℕ) → Read (List Nodes) → Read Trees
 forest_from nodes entries (got ts next) = passed (nodes + nodes_in ts) (entries + entries_in ts) next
-forest_from nodes entries (fault i) = refused i
+forest_from nodes entries (fault i) = fault i
 
 passed_same : {n n' e e' : ℕ} (next : ℕ) → n ≡ n' → e ≡ e' → passed n e next ≡ passed n' e' next
 passed_same next p q = ap₂ (λ (x y : ℕ). passed x y next) p q
@@ -92,61 +97,80 @@ module _ (file : List ℕ) (at nodes entries awaited : ℕ) where
   forest_present {a} {b} {c} {n} {es} e =
       rw (root_parts file at, e) (cons_left nodes entries a b c es (read_root file n) (read_root file) (many read_root awaited file))
 
-  forest_fault : {i : ℕ} → read_head file at ≡ fault i → forest_from nodes entries (many read_root (suc awaited) file at) ≡ refused i
+  forest_fault : {i : ℕ} → read_head file at ≡ fault i → forest_from nodes entries (many read_root (suc awaited) file at) ≡ fault i
   unfolding many ◌>>=◌ onward give forest_from
   forest_fault e = rw (root_parts file at, e) refl
 
 -- ── the loop ──
 
 -- the trees that are awaited, with what is counted so far, say the same as the whole tree; each node and each entry has bytes of its own
-pub record Awaits (file : List ℕ) (whole : Answer Trees) (awaited nodes entries place : ℕ) : Type 0 where
-  pub same : forest_from nodes entries (many read_root awaited file place) ≡ whole
-  pub bound : row_head * nodes + 8 * entries ≤ place
+pub record Awaits (start : Reader) (awaited nodes entries : ℕ) (reader : Reader) : Type 0 where
+  pub same_file : reader.file ≡ start.file
+  pub same : forest_from nodes entries (many read_root awaited reader.file.now reader.at) ≡ nodes_from (read_root start.file.now start.at)
+  pub bound : row_head * nodes + 8 * entries ≤ reader.at
   pub few : awaited ≤ nodes + 1
 
 -- the root is awaited, and nothing is counted yet
-pub pass_start : (file : List ℕ) (place : ℕ) → Awaits file (nodes_from (read_root file place)) 1 0 0 place
-pass_start file place = record { same = forest_one file place; bound = omega arith; few = omega arith }
+pub pass_start : (start : Reader) → Awaits start 1 0 0 start
+pass_start start = record { same_file = refl; same = forest_one start.file.now start.at; bound = omega arith; few = omega arith }
 
-module _ {file : List ℕ} {whole : Answer Trees} {awaited nodes entries place : ℕ} (s : Awaits file whole awaited nodes entries place) where
-  module _ {a b c d q n : ℕ} (e : accepted (node.Present a b c d q n) ≡ node_row place (read_head file place)) where
+module _ {start : Reader} {awaited nodes entries : ℕ} {reader : Reader} (s : Awaits start awaited nodes entries reader) where
+  module _ {a b c d q : ℕ} {after : Reader} (m : Moves read_node (answer_of (λ (row : NodeRow). row) (Ok (node.Present a b c d q))) reader after) where
     -- what is counted with this node, and the position behind it
-    pub present_room : (row_head * (nodes + 1) + 8 * (entries + d) ≤ n) × (place < n) × (n ≤ length file)
+    pub present_room : (row_head * (nodes + 1) + 8 * (entries + d) ≤ after.at) × (reader.at < after.at) × (after.at ≤ length after.file.now) × (length after.file.now ≡ length reader.file.now)
     present_room =
-        row_present place (read_head file place) e λ es g z w.
-        let p = head_passes file place g in
-        (omega (arith, s.bound), omega arith, omega arith)
+        row_present reader.at (read_head reader.file.now reader.at) m.is λ es g z w.
+        let p = head_passes reader.file.now reader.at g in
+        (omega (arith, s.bound, p.place), omega (arith, p.place), rw (same_bytes m) p.inside, ap length (same_bytes m))
 
     -- one node more, and its two subtrees are awaited
-    pub pass_present : 0 < awaited → Awaits file whole (awaited + 1) (nodes + 1) (entries + d) n
+    pub pass_present : 0 < awaited → Awaits start (awaited + 1) (nodes + 1) (entries + d) after
     pass_present h =
-        row_present place (read_head file place) e λ es g z w.
+        row_present reader.at (read_head reader.file.now reader.at) m.is λ es g z w.
         let k : suc (suc (awaited - 1)) ≡ awaited + 1 = omega arith in
-        let turn = rw (k, ← (suc_of awaited (λ w. omega arith)), z) at (forest_present file place nodes entries (awaited - 1) g) in
-        record { same = sym turn ∙ s.same; bound = present_room.0; few = omega (arith, s.few) }
+        let turn = rw (k, ← (suc_of awaited (λ w. omega arith)), z) at (forest_present reader.file.now reader.at nodes entries (awaited - 1) g) in
+        record {
+          same_file = m.same_file ∙ s.same_file;
+          same = ap (λ (file : List ℕ). forest_from (nodes + 1) (entries + d) (many read_root (awaited + 1) file after.at)) (same_bytes m) ∙ sym turn ∙ s.same;
+          bound = present_room.0;
+          few = omega (arith, s.few);
+        }
 
-  module _ {n : ℕ} (e : accepted (node.Absent n) ≡ node_row place (read_head file place)) where
+  module _ {after : Reader} (m : Moves read_node (answer_of (λ (row : NodeRow). row) (Ok node.Absent)) reader after) where
     -- the position behind an absent child
-    pub absent_room : (place < n) × (n ≤ length file)
+    pub absent_room : (reader.at < after.at) × (after.at ≤ length after.file.now) × (length after.file.now ≡ length reader.file.now)
     absent_room =
-        let p = head_passes file place (row_absent place (read_head file place) e) in
-        (omega arith, omega arith)
+        let p = head_passes reader.file.now reader.at (row_absent reader.at (read_head reader.file.now reader.at) m.is) in
+        (omega (arith, p.place), rw (same_bytes m) p.inside, ap length (same_bytes m))
 
-    pub pass_absent : 0 < awaited → Awaits file whole (awaited - 1) nodes entries n
+    pub pass_absent : 0 < awaited → Awaits start (awaited - 1) nodes entries after
     pass_absent h =
-        let g = row_absent place (read_head file place) e in
-        let turn = rw (← (suc_of awaited (λ w. omega arith))) at (forest_absent file place nodes entries (awaited - 1) g) in
-        record { same = sym turn ∙ s.same; bound = omega (arith, s.bound, absent_room.0); few = omega (arith, s.few) }
+        let g = row_absent reader.at (read_head reader.file.now reader.at) m.is in
+        let turn = rw (← (suc_of awaited (λ w. omega arith))) at (forest_absent reader.file.now reader.at nodes entries (awaited - 1) g) in
+        record {
+          same_file = m.same_file ∙ s.same_file;
+          same = ap (λ (file : List ℕ). forest_from nodes entries (many read_root (awaited - 1) file after.at)) (same_bytes m) ∙ sym turn ∙ s.same;
+          bound = omega (arith, s.bound, absent_room.0);
+          few = omega (arith, s.few);
+        }
 
-  pub pass_fault : {i : ℕ} → refused i ≡ node_row place (read_head file place) → 0 < awaited → refused i ≡ whole
-  pass_fault e h =
-      sym (rw (← (suc_of awaited (λ w. omega arith))) at (forest_fault file place nodes entries (awaited - 1) (row_fault place (read_head file place) e)))
-      ∙ s.same
+  pub pass_fault : {after : Reader} (i : Refusal) → Moves read_node (answer_of (λ (row : NodeRow). row) (Err i)) reader after → 0 < awaited
+      → Moves (λ file at. nodes_from (read_root file at)) (answer_of (λ (n : Trees). n) (Err i)) start after
+  pass_fault i m h =
+      record {
+        same_file = m.same_file ∙ s.same_file;
+        is =
+            sym
+            (rw (← (suc_of awaited (λ w. omega arith))) at
+            (forest_fault reader.file.now reader.at nodes entries (awaited - 1) (row_fault reader.at (read_head reader.file.now reader.at) m.is)))
+            ∙ s.same;
+      }
 
-  pub pass_done : awaited ≤ 0 → passed nodes entries place ≡ whole
+  pub pass_done : awaited ≤ 0
+      → Moves (λ file at. nodes_from (read_root file at)) (answer_of (λ (n : Trees). n) (Ok (record { nodes = nodes; entries = entries }))) start reader
   unfolding many give forest_from sum_of
   pass_done h =
       let z : awaited ≡ 0 = omega arith in
       let n : nodes + 0 ≡ nodes = omega arith in
       let m : entries + 0 ≡ entries = omega arith in
-      rw (z, n, m) at s.same
+      record { same_file = s.same_file; is = rw (z, n, m) at s.same }

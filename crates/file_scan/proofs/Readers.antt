@@ -5,13 +5,11 @@ use mathlib.Core.Bool.{Bool, true, false}
 use mathlib.Core.List.{List, [], ◌∷◌}
 use Prim.Native.Nat.{ℕ, zero, suc, ◌+◌, ◌*◌, ◌≤◌, ◌<◌}
 use native.Mathlib.Omega.{arith}
-use lib.ListN.{length, take, drop, length-drop}
-use lib.Seq.{length-take-le}
-use borrow.Author.Tests.{le-leb, lt-leb}
+use lib.ListN.{length, take, drop}
 use Rattle.lists.proofs.Numbers.{le_or_lt}
-use Rattle.history.specs.File.{number_of, Read, got, fault, onward, ◌>>=◌, give, refuse◌unless◌, field, number, many}
+use Rattle.history.specs.File.{number_of, Read, got, fault, onward, ◌>>=◌, give, refuse◌unless◌, number, many}
 use Rattle.history.proofs.FileYields.{got_value, got_next, fault_got}
-use Rattle.fields.proofs.Reading.{number_got, number_end}
+use Rattle.fields.proofs.Reading.{number_got, number_end, Passes, number_passes}
 use Rattle.file_scan.specs.Rows.{Numbers, read_four}
 
 -- ── one after the other ──
@@ -50,44 +48,7 @@ unfolding refuse◌unless◌ onward
 refuse_got i true file at k e f = f refl e
 refuse_got i false file at k e f = absurd (fault_got e)
 
--- ── where a field ends ──
-
--- from one position to the next, inside the file
-pub record Passes (file : List ℕ) (at size next : ℕ) : Type 0 where
-  pub place : next ≡ at + size
-  pub inside : next ≤ length file
-
-module _ (file : List ℕ) (at : ℕ) where
-  -- a number, or a field, that was read is as wide as it should be
-  pub number_passes : (width : ℕ) {v n : ℕ} → number width file at ≡ got v n → Passes file at width n
-  number_passes width {v} {n} e =
-      ⊎_elim
-      (λ h.
-      let p : n ≡ at + width = got_next (sym e ∙ number_got file at width h) in
-      record { place = p; inside = omega arith })
-      (λ h. absurd (fault_got (sym (number_end file at width h) ∙ e)))
-      (le_or_lt (at + width) (length file))
-
-  pub field_got : (width : ℕ) → at + width ≤ length file → field width file at ≡ got (take width (drop at file)) (at + width)
-  unfolding field
-  field_got width h = rw (le-leb (at + width) (length file) h) refl
-
-  pub field_end : (width : ℕ) → length file < at + width → field width file at ≡ fault 17
-  unfolding field
-  field_end width h = rw (lt-leb (at + width) (length file) h) refl
-
-  pub taken-length : (width : ℕ) → at + width ≤ length file → length (take width (drop at file)) ≡ width
-  taken-length width h = length-take-le width (drop at file) (rw (length-drop at file) (omega arith))
-
-  pub field_passes : (width : ℕ) {bytes : List ℕ} {n : ℕ} → field width file at ≡ got bytes n → Passes file at width n × (length bytes ≡ width)
-  field_passes width {bytes} {n} e =
-      ⊎_elim
-      (λ h.
-      let p : n ≡ at + width = got_next (sym e ∙ field_got width h) in
-      let b : bytes ≡ take width (drop at file) = got_value (sym e ∙ field_got width h) in
-      (record { place = p; inside = omega arith }, ap length b ∙ taken-length width h))
-      (λ h. absurd (fault_got (sym (field_end width h) ∙ e)))
-      (le_or_lt (at + width) (length file))
+-- ── four numbers ──
 
 pub four_passes : (file : List ℕ) (at : ℕ) {q : Numbers} {n : ℕ} → read_four file at ≡ got q n → Passes file at 32 n
 unfolding read_four ◌>>=◌ give

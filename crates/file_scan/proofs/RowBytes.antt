@@ -1,39 +1,19 @@
--- Where the bytes of a block and the entries of a node stand that were read: what the second pass copies. Assumes nothing.
-use mathlib.Core.Path.{◌≡◌, refl, sym, ◌∙◌}
+-- Where the entries of a node stand that was read: what the second pass copies. Assumes nothing.
+use mathlib.Core.Path.{◌≡◌, sym, ◌∙◌}
 use mathlib.Core.Logic.{⊎_elim}
 use mathlib.Core.Bool.{Bool, true, false, cond}
 use mathlib.Core.List.{List}
-use Prim.Native.Nat.{ℕ, zero, suc, ◌+◌, ◌*◌, ◌≤◌, ◌<◌}
+use Prim.Native.Nat.{ℕ, ◌+◌, ◌*◌, ◌≤◌}
 use native.Mathlib.Omega.{arith}
-use lib.ListN.{length, get_or, take, drop}
+use lib.ListN.{length}
 use lib.Dec.{eqb}
-use borrow.Author.Tests.{eqb-true}
 use Rattle.lists.proofs.Numbers.{le_or_lt}
-use Rattle.history.specs.Words.{Block, size}
-use Rattle.history.specs.File.{number_of, got, ◌>>=◌, give, number, many, read_block}
+use Rattle.history.specs.File.{got, ◌>>=◌, give, number, many}
 use Rattle.history.proofs.FileYields.{got_value, fault_got}
 use Rattle.file_scan.specs.Rows.{row_head, head_absent, head_present, read_present, read_head}
-use Rattle.file_scan.proofs.Readers.{onward_got, refuse_got, Passes, number_passes, four_passes, field_got, field_passes, numbers_at, many_got, many_end, many_passes}
-use Rattle.file_scan.proofs.RowReads.{block_parts, present_parts}
-
--- ── a block ──
-
-pub record BlockBytes (kind : ℕ) (file : List ℕ) (at : ℕ) (b : Block) : Type 0 where
-  pub own : b.kind ≡ kind
-  pub bytes : b.stretch.bytes ≡ take (size b.stretch) (drop (at + row_head) file)
-
-pub block_bytes_lem : (kind : ℕ) (file : List ℕ) (at : ℕ) {b : Block} {n : ℕ} → read_block kind file at ≡ got b n → BlockBytes kind file at b
-block_bytes_lem kind file at {b} {n} e =
-    onward_got _ _ (sym (block_parts kind file at) ∙ e) λ own p e₁ r₁.
-    refuse_got 18 _ _ _ _ r₁ λ t r₂.
-    onward_got _ _ r₂ λ q p₂ e₂ r₃.
-    onward_got _ _ r₃ λ bytes p₃ e₃ r₄.
-    let s₁ = number_passes file at 1 e₁ in
-    let s₂ = four_passes file p e₂ in
-    let (s₃, l) = field_passes file p₂ q.b e₃ in
-    let place : p₂ ≡ at + row_head = omega arith in
-    let taken : bytes ≡ take q.b (drop p₂ file) = got_value (sym e₃ ∙ field_got file p₂ q.b (omega arith)) in
-    rw (← (got_value r₄)) (record { own = eqb-true own kind t; bytes = rw (l, ← place) taken })
+use Rattle.fields.proofs.Reading.{Passes, number_passes}
+use Rattle.file_scan.proofs.Readers.{onward_got, refuse_got, four_passes, numbers_at, many_got, many_end, many_passes}
+use Rattle.file_scan.proofs.RowReads.{present_parts}
 
 -- ── a node ──
 

@@ -1,62 +1,87 @@
--- Rows of the file: one step for each return of `four_from`, `block_at` and `node_at`, and where a row ends. Assumes nothing.
-use mathlib.Core.Path.{◌≡◌, refl, sym, ◌∙◌, ap}
+-- Rows of the file: one step for each return of `four`, `block` and `node`, and where a row ends. Assumes nothing.
+use mathlib.Core.Path.{◌≡◌, refl, sym, ◌∙◌, ap, ap₂, subst}
 use mathlib.Core.Bool.{Bool, true, false, cond}
 use mathlib.Core.List.{List}
-use Prim.Native.Nat.{ℕ, ◌+◌, ◌*◌, ◌-◌, ◌/◌, ◌≤◌, ◌<◌}
+use Prim.Native.Nat.{ℕ, ◌+◌, ◌-◌, ◌*◌, ◌≤◌, ◌<◌, ◌^◌, min}
 use native.Mathlib.Omega.{arith}
 use lib.ListN.{length}
 use lib.Dec.{eqb}
 use borrow.Author.Tests.{eq-eqb, ne_eqb, le-leb, lt-leb}
-use Rattle.history.specs.Words.{Block, a_block, size, cell_of, cell_place}
-use Rattle.history.specs.File.{Read, got, fault, onward, ◌>>=◌, give, refuse◌unless◌, field, number, many, read_block}
+use Rattle.history.specs.Words.{Block, a_block, size}
+use Rattle.history.specs.File.{Read, got, fault, Reader, onward, ◌>>=◌, ◌>>◌, give, refuse◌unless◌, field, number, many, read_block}
 use Rattle.history.proofs.FileYields.{got_value, got_next}
-use Rattle.fields.specs.Fields.{read_of}
-use Rattle.std.specs.Prelude.{Option, Some, None, Err, ok_or}
-use Rattle.file_scan.specs.declared.rows.BlockRow.{BlockRow}
-use Rattle.history.specs.Refusals.{accepted, refused}
+use Rattle.fields.specs.Fields.{Moves, read_of}
+use Rattle.fields.specs.declared.Reader.{Reader as Cursor}
+use Rattle.fields.proofs.Moving.{goes_on, ends, same_bytes}
+use Rattle.std.specs.Prelude.{Option, Some, None, Ok, Err, ok_or}
+use Rattle.std.specs.Borrow.{Bor}
 use Rattle.refusals.specs.declared.Refusal.{Refusal}
-use Rattle.refusals.specs.declared.Refusal.TheVariants.{FileEnds}
-use Rattle.refusals.specs.Numbers.{number_of}
+use Rattle.refusals.specs.declared.Refusal.TheVariants.{FileEnds, FileKind, FilePresence}
+use Rattle.file_scan.specs.declared.rows.NodeRow.{NodeRow}
 use Rattle.file_scan.specs.declared.rows.NodeRow.TheVariants as node
-use Rattle.file_scan.specs.Rows.{Numbers, read_four, four_of, row_head, block_row, Head, head_absent, head_present, read_present, read_head, node_row}
-use Rattle.file_scan.proofs.Readers.{onward_through, onward_same, onward_gives, onward_got, refuse_got, Passes, number_passes, four_passes}
-use Rattle.file_scan.proofs.Readers.{field_got, field_end, field_passes, taken-length, numbers_at-length, many_got, many_end, many_passes}
+use Rattle.file_scan.specs.Rows.{Numbers, read_four, four_of, row_head, answer_of, block_of, Head, head_absent, head_present, read_present, read_head, node_row, read_node}
+use Rattle.fields.proofs.Reading.{Passes, number_passes}
+use Rattle.file_scan.proofs.Readers.{onward_through, onward_same, onward_gives, onward_got, refuse_got, four_passes}
+use Rattle.fields.proofs.Reading.{field_passes, field_short}
+use Rattle.file_scan.proofs.Readers.{numbers_at, numbers_at-length, many_got, many_end, many_passes}
 
--- ── the returns of `four_at` ──
+-- ── one step after another ──
+
+-- a test that is passed, or is not
+module _ {A : Type 0} {t : Bool} where
+  pub passes : (n : ℕ) (reading : Reader A) {file : List ℕ} {at : ℕ} {y : Read A} → t ≡ true → y ≡ reading file at → y ≡ ((refuse n unless t) >> reading) file at
+  unfolding ◌>>=◌ onward refuse◌unless◌
+  passes n reading e h = rw e h
+
+  pub stops : {n : ℕ} (reading : Reader A) (file : List ℕ) (at : ℕ) → t ≡ false → fault n ≡ ((refuse n unless t) >> reading) file at
+  unfolding ◌>>=◌ onward refuse◌unless◌
+  stops reading file at e = rw e refl
+
+module _ {A B : Type 0} {reading : Reader A} (of : B → A) {before after : Cursor} where
+  -- a value that is given, or none, which is refused where the file ends
+  pub given : (o : Option B) {x : B} → Moves reading (read_of of o) before after → o ≡ Some x → Moves reading (λ at. got (of x) at) before after
+  given o m e = subst (λ (o : Option B). Moves reading (read_of of o) before after) e m
+
+  pub none : (o : Option B) {f : Refusal} → Moves reading (read_of of o) before after → Err f ≡ ok_or o FileEnds → Moves reading (λ at. fault 17) before after × (f ≡ FileEnds)
+  none None m e = (m, cc)
+  none (Some x) m e = absurd (cc)
+
+-- ── the returns of `four` ──
 
 -- each field begins where the one before it ends
-module _ (file : List ℕ) (at : ℕ) where
-  pub four_first : fault 17 ≡ number 8 file at → fault 17 ≡ read_four file at
-  unfolding read_four ◌>>=◌ onward give
-  four_first e = rw (← e) refl
+module _ {r₀ r₁ : Cursor} where
+  pub four_first : Moves (number 8) (read_of (λ (n : ℕ). n) None) r₀ r₁ → Moves read_four (read_of four_of None) r₀ r₁
+  unfolding read_four
+  four_first m₁ = record { same_file = m₁.same_file; is = ends m₁ _ refl }
 
-  module _ {a p : ℕ} (e : got a p ≡ number 8 file at) where
-    pub four_second : fault 17 ≡ number 8 file p → fault 17 ≡ read_four file at
-    unfolding read_four ◌>>=◌ onward give
-    four_second e₂ = rw (← e, ← e₂) refl
+  module _ {a : ℕ} (m₁ : Moves (number 8) (read_of (λ n. n) (Some a)) r₀ r₁) {r₂ : Cursor} where
+    pub four_second : Moves (number 8) (read_of (λ (n : ℕ). n) None) r₁ r₂ → Moves read_four (read_of four_of None) r₀ r₂
+    unfolding read_four
+    four_second m₂ = record { same_file = m₂.same_file ∙ m₁.same_file; is = goes_on m₁ _ refl (ends m₂ _ refl) }
 
-    module _ {b q : ℕ} (e₂ : got b q ≡ number 8 file p) where
-      pub four_third : fault 17 ≡ number 8 file q → fault 17 ≡ read_four file at
-      unfolding read_four ◌>>=◌ onward give
-      four_third e₃ = rw (← e, ← e₂, ← e₃) refl
+    module _ {b : ℕ} (m₂ : Moves (number 8) (read_of (λ n. n) (Some b)) r₁ r₂) {r₃ : Cursor} where
+      pub four_third : Moves (number 8) (read_of (λ (n : ℕ). n) None) r₂ r₃ → Moves read_four (read_of four_of None) r₀ r₃
+      unfolding read_four
+      four_third m₃ = record { same_file = m₃.same_file ∙ m₂.same_file ∙ m₁.same_file; is = goes_on m₁ _ refl (goes_on m₂ _ refl (ends m₃ _ refl)) }
 
-      module _ {c r : ℕ} (e₃ : got c r ≡ number 8 file q) where
-        pub four_fourth : fault 17 ≡ number 8 file r → fault 17 ≡ read_four file at
-        unfolding read_four ◌>>=◌ onward give
-        four_fourth e₄ = rw (← e, ← e₂, ← e₃, ← e₄) refl
+      module _ {c : ℕ} (m₃ : Moves (number 8) (read_of (λ n. n) (Some c)) r₂ r₃) {r₄ : Cursor} where
+        pub four_fourth : Moves (number 8) (read_of (λ (n : ℕ). n) None) r₃ r₄ → Moves read_four (read_of four_of None) r₀ r₄
+        unfolding read_four
+        four_fourth m₄ =
+            record {
+              same_file = m₄.same_file ∙ m₃.same_file ∙ m₂.same_file ∙ m₁.same_file;
+              is = goes_on m₁ _ refl (goes_on m₂ _ refl (goes_on m₃ _ refl (ends m₄ _ refl)));
+            }
 
-        pub four_all : {d n : ℕ} → got d n ≡ number 8 file r → got (record { a = a; b = b; c = c; d = d }) n ≡ read_four file at
-        unfolding read_four ◌>>=◌ onward give
-        four_all e₄ = rw (← e, ← e₂, ← e₃, ← e₄) refl
+        pub four_all : {d : ℕ} → Moves (number 8) (read_of (λ n. n) (Some d)) r₃ r₄ → Moves read_four (read_of four_of (Some (a, b, c, d))) r₀ r₄
+        unfolding read_four give
+        four_all m₄ =
+            record {
+              same_file = m₄.same_file ∙ m₃.same_file ∙ m₂.same_file ∙ m₁.same_file;
+              is = goes_on m₁ _ refl (goes_on m₂ _ refl (goes_on m₃ _ refl (goes_on m₄ _ refl refl)));
+            }
 
 pub ruleset numbering = (four_first, four_second, four_third, four_fourth, four_all)
-
--- ── a field that is refused where it ends ──
-
-module _ {A : Type 0} {f : Refusal} where
-  pub ends_is : (o : Option A) → Err f ≡ ok_or o FileEnds → (o ≡ None) × (f ≡ FileEnds)
-  ends_is None e = (refl, cc)
-  ends_is (Some x) e = absurd (cc)
 
 -- ── a block ──
 
@@ -94,47 +119,58 @@ block_passes kind file at {b} {n} e =
     let z : size b.stretch ≡ length bytes = ap (λ (x : Block). size x.stretch) (sym (got_value r₄)) in
     record { place = omega arith; inside = omega arith }
 
--- ── the returns of `block_at` ──
+-- ── the returns of `block` ──
 
-abbrev pub block_of : (first length created destroyed bytes next : ℕ) → BlockRow
-block_of first length created destroyed bytes next =
-    record { first = first; length = length; created = created; destroyed = destroyed; bytes = bytes; next = next }
+-- the same, reading by reading
+abbrev block_reading : (kind : ℕ) → Reader Block
+block_reading kind =
+    number 1 >>= λ own. (refuse 18 unless (eqb own kind)) >> (read_four >>= λ q. field q.b >>= λ bytes. give (a_block own q.a bytes q.c q.d))
 
--- o is what the read of the kind byte has answered, f that of the four numbers
-module _ (kind : ℕ) (file : List ℕ) (at : ℕ) where
-  pub block_ends : (o : Option (ℕ × ℕ)) {f : Refusal} → Err f ≡ ok_or o FileEnds → read_of o ≡ number 1 file at → refused (number_of f) ≡ block_row at (read_block kind file at)
-  unfolding onward block_row
-  block_ends o t e =
-      let (z, k) = ends_is o t in
-      rw (k, block_parts kind file at, ← e, z) refl
+by_readings : (kind : ℕ) (file : List ℕ) (at : ℕ) {y : Read Block} → y ≡ block_reading kind file at → y ≡ read_block kind file at
+unfolding ◌>>=◌ give
+by_readings kind file at e = e ∙ sym (block_parts kind file at)
 
-  module _ {o : Option (ℕ × ℕ)} {own p : ℕ} (t : o ≡ Some (own, p)) (e : read_of o ≡ number 1 file at) where
-    pub block_kind : (own ≡ kind → ⊥) → refused 18 ≡ block_row at (read_block kind file at)
-    unfolding onward refuse◌unless◌ block_row
-    block_kind h = rw (block_parts kind file at, ← e, t, ne_eqb own kind h) refl
+-- o is what the read of the kind byte has answered, f that of the four numbers, b that of the bytes
+module _ (kind : ℕ) {r₀ r₁ : Cursor} (o : Option ℕ) (m₁ : Moves (number 1) (read_of (λ n. n) o) r₀ r₁) where
+  pub block_ends : {i : Refusal} → Err i ≡ ok_or o FileEnds → Moves (read_block kind) (answer_of (block_of kind) (Err i)) r₀ r₁
+  block_ends e =
+      let (m, k) = none _ o m₁ e in
+      record { same_file = m₁.same_file; is = rw k (by_readings kind _ _ (ends m _ refl)) }
 
-    module _ (same : own ≡ kind) where
-      pub block_four_ends : (f : Option (ℕ × ℕ × ℕ × ℕ × ℕ)) {i : Refusal} → Err i ≡ ok_or f FileEnds → four_of f ≡ read_four file p → refused (number_of i) ≡ block_row at (read_block kind file at)
-      unfolding onward refuse◌unless◌ block_row
-      block_four_ends f u g =
-          let (z, k) = ends_is f u in
-          rw (k, block_parts kind file at, ← e, t, eq-eqb own kind same, ← g, z) refl
+  module _ {own : ℕ} (e₁ : o ≡ Some own) where
+    pub block_kind : (own ≡ kind → ⊥) → Moves (read_block kind) (answer_of (block_of kind) (Err FileKind)) r₀ r₁
+    block_kind h = record { same_file = m₁.same_file; is = by_readings kind _ _ (goes_on (given _ o m₁ e₁) _ refl (stops _ _ _ (ne_eqb own kind h))) }
 
-      module _ {f : Option (ℕ × ℕ × ℕ × ℕ × ℕ)} {a b c d q left : ℕ} (u : f ≡ Some (a, b, c, d, q)) (g : four_of f ≡ read_four file p) (l : left ≡ length file - q) where
-        pub block_short : left < b → refused 17 ≡ block_row at (read_block kind file at)
-        unfolding onward refuse◌unless◌ block_row
-        block_short h = rw (block_parts kind file at, ← e, t, eq-eqb own kind same, ← g, u, field_end file q b (omega arith)) refl
+    module _ (same : own ≡ kind) {r₂ : Cursor} (f : Option (ℕ × ℕ × ℕ × ℕ)) (m₂ : Moves read_four (read_of four_of f) r₁ r₂) where
+      pub block_four_ends : {i : Refusal} → Err i ≡ ok_or f FileEnds → Moves (read_block kind) (answer_of (block_of kind) (Err i)) r₀ r₂
+      block_four_ends e =
+          let (m, k) = none _ f m₂ e in
+          record {
+            same_file = m₂.same_file ∙ m₁.same_file;
+            is = rw k (by_readings kind _ _ (goes_on (given _ o m₁ e₁) _ refl (passes _ _ (eq-eqb own kind same) (ends m _ refl))));
+          }
 
-        pub block_all : b ≤ left → accepted (block_of a b c d q (q + b)) ≡ block_row at (read_block kind file at)
-        unfolding onward refuse◌unless◌ block_row
-        block_all h =
-            let s₁ = number_passes file at 1 (sym e ∙ ap read_of t) in
-            let s₂ = four_passes file p (sym g ∙ ap four_of u) in
-            let room : q + b ≤ length file = omega arith in
-            let place : at + row_head ≡ q = omega arith in
-            let cell : a ≡ cell_of own (cell_place own a) = omega arith in
-            rw (block_parts kind file at, ← e, t, eq-eqb own kind same, ← g, u, field_got file q b room, place, taken-length file q b room)
-            (ap (λ (first : ℕ). accepted (block_of first b c d q (q + b))) cell)
+      module _ {a l c d : ℕ} (e₂ : f ≡ Some (a, l, c, d)) {r₃ : Cursor} (b : Option (Bor (List ℕ))) (m₃ : Moves (field l) (read_of (λ bytes. bytes.now) b) r₂ r₃) where
+        pub block_short : {i : Refusal} → Err i ≡ ok_or b FileEnds → Moves (read_block kind) (answer_of (block_of kind) (Err i)) r₀ r₃
+        block_short e =
+            let (m, k) = none _ b m₃ e in
+            record {
+              same_file = m₃.same_file ∙ m₂.same_file ∙ m₁.same_file;
+              is =
+                  rw k (by_readings kind _ _ (goes_on (given _ o m₁ e₁) _ refl (passes _ _ (eq-eqb own kind same) (goes_on (given _ f m₂ e₂) _ refl (ends m _ refl)))));
+            }
+
+        pub block_all : {bytes : Bor (List ℕ)} → b ≡ Some bytes
+            → Moves (read_block kind) (answer_of (block_of kind) (Ok (record { first = a; created = c; destroyed = d; bytes = bytes }))) r₀ r₃
+        unfolding give
+        block_all {bytes} e =
+            record {
+              same_file = m₃.same_file ∙ m₂.same_file ∙ m₁.same_file;
+              is =
+                  ap (λ (k : ℕ). got (a_block k a bytes.now c d) r₃.at) (sym same)
+                  ∙ by_readings kind _ _
+                  (goes_on (given _ o m₁ e₁) _ refl (passes _ _ (eq-eqb own kind same) (goes_on (given _ f m₂ e₂) _ refl (goes_on (given _ b m₃ e) _ refl refl))));
+            }
 
 -- ── a node ──
 
@@ -174,44 +210,96 @@ head_passes file at {h} {n} e =
         let (s₃, l) = many_passes file p₂ q.d s₂.inside e₃ in
         rw (← (got_value r₃), ← (got_next r₃)) (record { place = omega arith; inside = omega arith })
 
--- ── the returns of `node_at` ──
+-- ── the returns of `node` ──
 
--- o is what the read of the presence byte has answered, f that of the four numbers
-module _ (file : List ℕ) (at : ℕ) where
-  pub node_ends : (o : Option (ℕ × ℕ)) {f : Refusal} → Err f ≡ ok_or o FileEnds → read_of o ≡ number 1 file at → refused (number_of f) ≡ node_row at (read_head file at)
-  unfolding read_head ◌>>=◌ onward node_row
-  node_ends o t e =
-      let (z, k) = ends_is o t in
-      rw (k, ← e, z) refl
+-- a row that comes of a head that was read
+row_of : (y : Read Head) (file : List ℕ) (at : ℕ) → y ≡ read_head file at → node_row at y ≡ read_node file at
+row_of y file at e = ap (node_row at) e
 
-  module _ {o : Option (ℕ × ℕ)} {presence p : ℕ} (t : o ≡ Some (presence, p)) (e : read_of o ≡ number 1 file at) where
-    pub node_presence : 1 < presence → refused 19 ≡ node_row at (read_head file at)
-    unfolding read_head ◌>>=◌ onward refuse◌unless◌ node_row
-    node_presence h = rw (← e, t, lt-leb presence 1 h) refl
+-- a node that is present, reading by reading
+abbrev present_reading : Reader Head
+present_reading = read_four >>= λ q. many (number 8) q.d >>= λ es. give (head_present q.a q.b q.c es)
 
-    pub node_absent : presence ≡ 0 → accepted (node.Absent p) ≡ node_row at (read_head file at)
-    unfolding read_head ◌>>=◌ onward refuse◌unless◌ give node_row
-    node_absent h = rw (← e, t, h) refl
+present_readings : (file : List ℕ) (at : ℕ) → present_reading file at ≡ read_present file at
+unfolding ◌>>=◌ give
+present_readings file at = sym (present_parts file at)
 
-    module _ (low : presence ≤ 1) (some : presence ≡ 0 → ⊥) where
-      pub node_four_ends : (f : Option (ℕ × ℕ × ℕ × ℕ × ℕ)) {i : Refusal} → Err i ≡ ok_or f FileEnds → four_of f ≡ read_four file p → refused (number_of i) ≡ node_row at (read_head file at)
-      unfolding read_head ◌>>=◌ onward refuse◌unless◌ node_row
-      node_four_ends f u g =
-          let (z, k) = ends_is f u in
-          rw (k, ← e, t, le-leb presence 1 low, ne_eqb presence 0 some, present_parts file p, ← g, z) refl
+-- the way to its four numbers
+chosen_present : {presence : ℕ} {y : Read Head} → (presence ≡ 0 → ⊥) → (file : List ℕ) (at : ℕ) → y ≡ present_reading file at
+    → y ≡ cond (eqb presence 0) (give head_absent) read_present file at
+chosen_present {presence} some file at e = rw (ne_eqb presence 0 some) (e ∙ present_readings file at)
 
-      module _ {f : Option (ℕ × ℕ × ℕ × ℕ × ℕ)} {a b c d q left : ℕ} (u : f ≡ Some (a, b, c, d, q)) (g : four_of f ≡ read_four file p) (l : left ≡ length file - q) where
-        pub node_short : left / 8 < d → refused 17 ≡ node_row at (read_head file at)
-        unfolding read_head ◌>>=◌ onward refuse◌unless◌ node_row
-        node_short h =
-            let s₂ = four_passes file p (sym g ∙ ap four_of u) in
-            rw (← e, t, le-leb presence 1 low, ne_eqb presence 0 some, present_parts file p, ← g, u, many_end file q d s₂.inside (omega arith)) refl
+-- o is what the read of the presence byte has answered, f that of the four numbers, b that of the entries' bytes
+module _ {r₀ r₁ : Cursor} (o : Option ℕ) (m₁ : Moves (number 1) (read_of (λ n. n) o) r₀ r₁) where
+  pub node_ends : {i : Refusal} → Err i ≡ ok_or o FileEnds → Moves read_node (answer_of (λ (row : NodeRow). row) (Err i)) r₀ r₁
+  unfolding read_head node_row
+  node_ends e =
+      let (m, k) = none _ o m₁ e in
+      record { same_file = m₁.same_file; is = rw k (row_of (fault 17) _ _ (ends m _ refl)) }
 
-        pub node_all : d ≤ left / 8 → accepted (node.Present a b c d q (q + 8 * d)) ≡ node_row at (read_head file at)
-        unfolding read_head ◌>>=◌ onward refuse◌unless◌ node_row
-        node_all h =
-            let s₁ = number_passes file at 1 (sym e ∙ ap read_of t) in
-            let s₂ = four_passes file p (sym g ∙ ap four_of u) in
-            let room : q + 8 * d ≤ length file = omega arith in
-            let place : at + row_head ≡ q = omega arith in
-            rw (← e, t, le-leb presence 1 low, ne_eqb presence 0 some, present_parts file p, ← g, u, many_got file q d room, place, numbers_at-length file q d) refl
+  module _ {presence : ℕ} (e₁ : o ≡ Some presence) where
+    pub node_presence : 1 < presence → Moves read_node (answer_of (λ (row : NodeRow). row) (Err FilePresence)) r₀ r₁
+    unfolding read_head node_row
+    node_presence h = record { same_file = m₁.same_file; is = row_of (fault 19) _ _ (goes_on (given _ o m₁ e₁) _ refl (stops _ _ _ (lt-leb presence 1 h))) }
+
+    pub node_absent : presence ≡ 0 → Moves read_node (answer_of (λ (row : NodeRow). row) (Ok node.Absent)) r₀ r₁
+    unfolding read_head node_row give
+    node_absent h =
+        record {
+          same_file = m₁.same_file;
+          is =
+              row_of (got head_absent r₁.at) _ _
+              (goes_on (given _ o m₁ e₁) _ refl
+              (passes _ _ (le-leb presence 1 (omega arith)) (ap (λ (t : Bool). cond t (give head_absent) read_present r₁.file.now r₁.at) (sym (eq-eqb presence 0 h)))));
+        }
+
+    module _ (low : presence ≤ 1) (some : presence ≡ 0 → ⊥) {r₂ : Cursor} (f : Option (ℕ × ℕ × ℕ × ℕ)) (m₂ : Moves read_four (read_of four_of f) r₁ r₂) where
+      pub node_four_ends : {i : Refusal} → Err i ≡ ok_or f FileEnds → Moves read_node (answer_of (λ (row : NodeRow). row) (Err i)) r₀ r₂
+      unfolding read_head node_row
+      node_four_ends e =
+          let (m, k) = none _ f m₂ e in
+          record {
+            same_file = m₂.same_file ∙ m₁.same_file;
+            is = rw k (row_of (fault 17) _ _ (goes_on (given _ o m₁ e₁) _ refl (passes _ _ (le-leb presence 1 low) (chosen_present some _ _ (ends m _ refl)))));
+          }
+
+      module _ {a b c d : ℕ} (e₂ : f ≡ Some (a, b, c, d)) where
+        -- the four numbers are inside, and the entries follow
+        entries_from : (r₂.at ≤ length r₂.file.now) × (r₂.at ≡ r₀.at + row_head)
+        entries_from =
+            let m = given _ f m₂ e₂ in
+            let s₁ = number_passes r₀.file.now r₀.at 1 (sym (given _ o m₁ e₁).is) in
+            let s₂ = four_passes r₁.file.now r₁.at (sym m.is) in
+            (rw (same_bytes m) s₂.inside, omega (arith, s₁.place, s₂.place))
+
+        counted : (y : Read Head) → y ≡ (many (number 8) d >>= λ es. give (head_present a b c es)) r₂.file.now r₂.at → node_row r₀.at y ≡ read_node r₀.file.now r₀.at
+        unfolding read_head
+        counted y e = row_of y _ _ (goes_on (given _ o m₁ e₁) _ refl (passes _ _ (le-leb presence 1 low) (chosen_present some _ _ (goes_on (given _ f m₂ e₂) _ refl e))))
+
+        module _ {size : ℕ} (fits : size ≡ min (d * 8) (2 ^ 64 - 1)) {r₃ : Cursor} (p : Option (Bor (List ℕ))) (m₃ : Moves (field size) (read_of (λ bytes. bytes.now) p) r₂ r₃) where
+          -- more entries than there are bytes
+          pub node_short : {i : Refusal} → Err i ≡ ok_or p FileEnds → Moves read_node (answer_of (λ (row : NodeRow). row) (Err i)) r₀ r₃
+          unfolding node_row ◌>>=◌ onward
+          node_short e =
+              let (m, k) = none _ p m₃ e in
+              let short : length r₂.file.now < r₂.at + 8 * d = omega (arith, fits, field_short r₂.file.now r₂.at size (sym m.is)) in
+              record {
+                same_file = m₃.same_file ∙ m₂.same_file ∙ m₁.same_file;
+                is = rw k (counted (fault 17) (rw (many_end r₂.file.now r₂.at d entries_from.0 short) refl));
+              }
+
+          pub node_all : {bytes : Bor (List ℕ)} → p ≡ Some bytes → r₃.at < 2 ^ 64 → Moves read_node (answer_of (λ (row : NodeRow). row) (Ok (node.Present a b c d r₂.at))) r₀ r₃
+          unfolding node_row ◌>>=◌ onward give
+          node_all e within =
+              let (s, l) = field_passes r₂.file.now r₂.at size (sym (given _ p m₃ e).is) in
+              let whole : size ≡ 8 * d = omega (arith, fits, s.place, within, entries_from.1) in
+              let room : r₂.at + 8 * d ≤ length r₂.file.now = omega (arith, s.inside, s.place, whole) in
+              let next : r₃.at ≡ r₂.at + 8 * d = omega (arith, s.place, whole) in
+              let row : node.Present a b c d r₂.at ≡ node.Present a b c (length (numbers_at r₂.file.now r₂.at d)) (r₀.at + row_head) =
+              ap₂ (λ (count entries : ℕ). node.Present a b c count entries) (sym (numbers_at-length r₂.file.now r₂.at d)) entries_from.1 in
+              record {
+                same_file = m₃.same_file ∙ m₂.same_file ∙ m₁.same_file;
+                is =
+                    ap₂ (λ (x : NodeRow) (n : ℕ). got x n) row next
+                    ∙ counted (got (head_present a b c (numbers_at r₂.file.now r₂.at d)) (r₂.at + 8 * d)) (rw (many_got r₂.file.now r₂.at d room) refl);
+              }

@@ -6,7 +6,6 @@ use Rattle.history.specs.Refusals.{Answer, accepted, refused}
 use Rattle.history.specs.Tree.{node_count, entry_count}
 use Rattle.history.specs.File.{Read, got, fault, File, Nodes, tree_from}
 use Rattle.tables.specs.Kinds.{code_of}
-use Rattle.file_scan.specs.declared.blocks.Blocks.{Blocks}
 use Rattle.file_scan.specs.declared.nodes.Nodes.{Nodes as Trees}
 use Rattle.file_scan.specs.declared.Counts.{Counts}
 use Rattle.file_scan.specs.Rows.{row_head}
@@ -16,13 +15,13 @@ abbrev pub bytes_in : List Block → ℕ
 bytes_in bs = sum_of (map (λ b. size b.stretch) bs)
 
 -- so many bytes were counted before these blocks
-unfoldable pub blocks_from : (bytes : ℕ) → Read (List Block) → Answer Blocks
-blocks_from bytes (got bs next) = accepted (record { bytes = bytes + bytes_in bs; next = next })
-blocks_from bytes (fault n) = refused n
+unfoldable pub blocks_from : (bytes : ℕ) → Read (List Block) → Read ℕ
+blocks_from bytes (got bs next) = got (bytes + bytes_in bs) next
+blocks_from bytes (fault n) = fault n
 
-unfoldable pub nodes_from : Read Nodes → Answer Trees
-nodes_from (got t next) = accepted (record { nodes = node_count (tree_from t); entries = entry_count (tree_from t); next = next })
-nodes_from (fault n) = refused n
+unfoldable pub nodes_from : Read Nodes → Read Trees
+nodes_from (got t next) = got (record { nodes = node_count (tree_from t); entries = entry_count (tree_from t) }) next
+nodes_from (fault n) = fault n
 
 -- the nodes begin behind kind, block count and blocks
 abbrev pub nodes_at : (at : ℕ) → List Block → ℕ

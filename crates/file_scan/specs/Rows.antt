@@ -1,8 +1,9 @@
 -- A row of the file: what its reader in `history` gives, without the bytes of a block and without the children of a node. Definitions alone.
-use Rattle.std.specs.Prelude.{cond, Option, Some, None, List, ℕ, ◌+◌, ◌*◌, length, leb, eqb}
-use Rattle.history.specs.Words.{Block, size, first_cell}
-use Rattle.history.specs.Refusals.{Answer, accepted, refused}
+use Rattle.std.specs.Prelude.{cond, Result, Ok, Err, List, ℕ, ◌+◌, ◌*◌, length, leb, eqb}
+use Rattle.history.specs.Words.{Block, a_block}
 use Rattle.history.specs.File.{Read, got, fault, Reader, ◌>>=◌, ◌>>◌, give, refuse◌unless◌, number, many}
+use Rattle.refusals.specs.declared.Refusal.{Refusal}
+use Rattle.refusals.specs.Numbers.{number_of}
 use Rattle.file_scan.specs.declared.rows.BlockRow.{BlockRow}
 use Rattle.file_scan.specs.declared.rows.NodeRow.{NodeRow}
 use Rattle.file_scan.specs.declared.rows.NodeRow.TheVariants as node
@@ -23,29 +24,24 @@ read_four = do
   d ← number 8
   give (record { a = a; b = b; c = c; d = d })
 
--- what stands there, with the position behind it; 17 where the bytes end
-abbrev pub four_of : Option (ℕ × ℕ × ℕ × ℕ × ℕ) → Read Numbers
-four_of (Some (a, b, c, d, next)) = got (record { a = a; b = b; c = c; d = d }) next
-four_of None = fault 17
+abbrev pub four_of : ℕ × ℕ × ℕ × ℕ → Numbers
+four_of (a, b, c, d) = record { a = a; b = b; c = c; d = d }
 
 -- the bytes of a row before a block's bytes or a node's entries
 abbrev pub row_head : ℕ
 row_head = 1 + 4 * 8
 
+-- ── a read that may be refused ──
+
+-- what a value means, with the position behind it; or the number of the refusal
+abbrev pub answer_of : {A B : Type 0} → (B → A) → Result B Refusal → (at : ℕ) → Read A
+answer_of of (Ok value) at = got (of value) at
+answer_of of (Err refusal) at = fault (number_of refusal)
+
 -- ── a block ──
 
-unfoldable pub block_row : (at : ℕ) → Read Block → Answer BlockRow
-block_row at (got b next) =
-    accepted
-    (record {
-      first = first_cell b;
-      length = size b.stretch;
-      created = b.created;
-      destroyed = b.destroyed;
-      bytes = at + row_head;
-      next = next;
-    })
-block_row at (fault n) = refused n
+abbrev pub block_of : (kind : ℕ) → BlockRow → Block
+block_of kind row = a_block kind row.first row.bytes.now row.created row.destroyed
 
 -- ── a node ──
 
@@ -70,7 +66,11 @@ read_head = do
   refuse 19 unless (leb presence 1)
   cond (eqb presence 0) (give head_absent) read_present
 
-unfoldable pub node_row : (at : ℕ) → Read Head → Answer NodeRow
-node_row at (got head_absent next) = accepted (node.Absent next)
-node_row at (got (head_present min max middle es) next) = accepted (node.Present min max middle (length es) (at + row_head) next)
-node_row at (fault n) = refused n
+-- its entries stand behind its numbers
+unfoldable pub node_row : (at : ℕ) → Read Head → Read NodeRow
+node_row at (got head_absent next) = got node.Absent next
+node_row at (got (head_present min max middle es) next) = got (node.Present min max middle (length es) (at + row_head)) next
+node_row at (fault n) = fault n
+
+abbrev pub read_node : Reader NodeRow
+read_node file at = node_row at (read_head file at)

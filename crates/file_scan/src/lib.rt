@@ -14,6 +14,7 @@ ghost use Rattle.history.specs.File.{read_file};
 ghost use Rattle.refusals.specs.Numbers.{answer_by};
 ghost use Rattle.file_scan.specs.Counts.{scanned, scan_of};
 
+use fields::Reader;
 use refusals::Refusal;
 use tables::kind::Kind;
 
@@ -38,21 +39,24 @@ pub struct Counts {
 pub fn scan(file: &[u8], at: usize) -> Result<Counts, Refusal>
     ensures { answer_by scanned result ≡ scan_of at (read_file file.now at) }
 {
-    let (code, count_at) = fields::byte_at(file, at).ok_or(Refusal::FileEnds)?;
+    let mut reader = Reader { file, at };
+    let code = reader.byte().ok_or(Refusal::FileEnds)?;
     let Ok(kind) = Kind::try_from(code) else {
         return Err(Refusal::FileKind);
     };
-    let (count, blocks_at) = fields::number_at(file, count_at).ok_or(Refusal::FileEnds)?;
-    let blocks = blocks::pass(file, code, count, blocks_at)?;
-    let nodes = nodes::pass(file, blocks.next)?;
+    let count = reader.number().ok_or(Refusal::FileEnds)?;
+    let blocks_at = reader.at;
+    let bytes = blocks::pass(&mut reader, code, count)?;
+    let nodes_at = reader.at;
+    let nodes = nodes::pass(&mut reader)?;
     Ok(Counts {
         kind,
         blocks: count,
-        bytes: blocks.bytes,
+        bytes,
         nodes: nodes.nodes,
         entries: nodes.entries,
         blocks_at,
-        nodes_at: blocks.next,
-        next: nodes.next,
+        nodes_at,
+        next: reader.at,
     })
 }

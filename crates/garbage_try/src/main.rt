@@ -1,6 +1,7 @@
-// Lends tables of any contents and many lengths to the public calls: each refuses them with 2 and leaves them as they were. Opening takes them all, and what
-// is opened is refused 2 where a table cannot hold its head, 9 where it has no row, and takes a call else. Prints one line: how many answers were compared,
-// how many of them differ, and how many calls were refused.
+// Lends tables of any contents and many lengths to the public calls of `index` and to the reports: each
+// refuses them with 2 and leaves them as they were. Opening takes them all, and what is opened is refused 2
+// where a table cannot hold its head, 9 where it has no row, and takes a call else. Prints one line: how
+// many answers were compared, how many of them differ, and how many calls were refused.
 
 #![tactic(auto)]
 
@@ -135,6 +136,15 @@ fn try_find(tally: &mut Tally, t: &Tables<'_>) {
     tally.compare_answer(told, NO_INDEX);
 }
 
+fn try_occupation(tally: &mut Tally, t: &Tables<'_>) {
+    let windows = [0, 9];
+    let told = match reports::occupation(t.lent(), KIND, 0, &windows) {
+        Ok(_) => None,
+        Err(refusal) => Some(u64::from(refusal)),
+    };
+    tally.compare_answer(told, NO_INDEX);
+}
+
 // ── what is tried ──
 
 fn all_stay(t: &Tables<'_>, garbage: Garbage) -> bool {
@@ -150,6 +160,7 @@ fn try_refused(tally: &mut Tally, t: &mut Tables<'_>, garbage: Garbage) {
     try_finish(tally, t);
     try_block(tally, t);
     try_find(tally, t);
+    try_occupation(tally, t);
     tally.compare(all_stay(t, garbage));
 }
 

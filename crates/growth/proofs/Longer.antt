@@ -66,10 +66,12 @@ module _ (more : Lent) (t : Tables) (l : Ledger) (e : Encodes t l) where
         count = same head_count ∙ e.count;
         blocks = rw (same head_count) (e.blocks ∙ sym (blocks_kept blocks_longer t.store _ _ _ e.blocks_stored store_kept));
         blocks_stored = rw (same head_count, same head_used) (stored_kept blocks_longer e.blocks_stored);
-        links = e.links;
-        linked = links_kept pieces_longer e.linked;
-        pieces = e.pieces ∙ sym (pieces_kept pieces_longer t.store _ _ store_kept e.pieces_stored);
-        pieces_stored = rw (same head_used) (inside_kept pieces_longer _ e.pieces_stored);
+        pieces = record {
+          links = e.pieces.links;
+          linked = links_kept pieces_longer e.pieces.linked;
+          shows = e.pieces.shows ∙ sym (pieces_kept pieces_longer t.store _ _ store_kept e.pieces.stored);
+          stored = rw (same head_used) (inside_kept pieces_longer _ e.pieces.stored);
+        };
         trees = trees_kept l.trees e.trees;
         calendar = calendar_kept t.blocks (longer more t).blocks l.calendar (λ i _ _. blocks_longer.same i) e.calendar;
         days =

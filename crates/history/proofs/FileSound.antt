@@ -258,20 +258,21 @@ module _ (n : Lent) (l : Ledger) (trees : List Tree) (closed : l.trees ≡ some 
       )
       refl
 
-  -- read cells gives the same
+  -- a cell shows what it showed
+  pub saved_seen : SoundBoard l → (t c : ℕ) → c < 2 ^ 64 → seen t (cell_place kind c) (saved_ledger n l kind).now.blocks ≡ seen t (cell_place kind c) l.now.blocks
+  saved_seen board t c below =
+      rw tree_in_lem
+      (ap (seen t (cell_place kind c)) (sym (written_only kind l.opening.end l.now.blocks (tree_at trees kind) w))
+      ∙ written-seen kind l.opening.end (only_kind kind l.now.blocks) (tree_at trees kind) w t (cell_place kind c)
+      ∙ only_seen l.opening.kinds l.opening.end l.now.store kind board.blocks t c below)
+
+  -- so read cells gives the same
   pub saved_cells : SoundBoard l → (t start stop : ℕ) → stop ≤ 2 ^ 64 → cells_by (saved_ledger n l kind) kind t start stop ≡ cells_by l kind t start stop
   unfolding cells_by
   saved_cells board t s m most =
       ap₂ (λ (x y : List ℕ). record { bytes = x; held = y })
-      (map_all _ _ (all_map (λ c p. ap (λ (xs : List ℕ). get_or xs 0 0) (same c (omega arith))) (count_from_below s (m - s))))
-      (map_all _ _ (all_map (λ c p. ap (λ (xs : List ℕ). min 1 (length xs)) (same c (omega arith))) (count_from_below s (m - s))))
-    where
-      same : (c : ℕ) → c < 2 ^ 64 → seen t (cell_place kind c) (written_blocks l.now.blocks (tree_in l kind)) ≡ seen t (cell_place kind c) l.now.blocks
-      same c below =
-          rw tree_in_lem
-          (ap (seen t (cell_place kind c)) (sym (written_only kind l.opening.end l.now.blocks (tree_at trees kind) w))
-          ∙ written-seen kind l.opening.end (only_kind kind l.now.blocks) (tree_at trees kind) w t (cell_place kind c)
-          ∙ only_seen l.opening.kinds l.opening.end l.now.store kind board.blocks t c below)
+      (map_all _ _ (all_map (λ c p. ap (λ (xs : List ℕ). get_or xs 0 0) (saved_seen board t c (omega arith))) (count_from_below s (m - s))))
+      (map_all _ _ (all_map (λ c p. ap (λ (xs : List ℕ). min 1 (length xs)) (saved_seen board t c (omega arith))) (count_from_below s (m - s))))
 
 -- ── the file as a whole ──
 

@@ -16,6 +16,7 @@ pub mod Passing
 pub mod Steps
 pub mod RulesLaws
 pub mod EveryList
+pub mod Reaching
 pub mod Boards
 pub mod TreeInserting
 pub mod TreeAdding
@@ -62,3 +63,8 @@ pub mod DaysLate
 pub mod HoursLaws
 pub mod Installing
 pub mod DaysLaws
+pub mod Sums
+pub mod OccupationLaws
+pub mod ChargesLaws
+pub mod BlockSums
+pub mod ReportsBoards

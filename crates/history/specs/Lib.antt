@@ -20,3 +20,10 @@ pub mod Boards
 pub mod HoursBoards
 pub mod DaysBoards
 pub mod Requested
+pub mod Sums
+pub mod Occupation
+pub mod OccupationLaw
+pub mod Charges
+pub mod ChargesLaw
+pub mod SumsLaw
+pub mod ReportsBoards

@@ -13,6 +13,7 @@
 //   specs/Printed    the input and the output of the program `board`
 //   specs/Law        what is proved of all this
 //   specs/Boards     the boards to try, with what must come of them; Requested, HoursBoards, DaysBoards: those of document 02
+//   specs/Sums       sums over the cells of a window; Occupation, Charges: the reports on a closed index; each with its Law; ReportsBoards: their boards
 //
 //   proofs/ByKind                      places, sets of kinds, the blocks as one kind sees them: one proof for every kind
 //   proofs/Clip, Parts, Split, Seen, Cells, Storing, Apart, Reading, Value   pieces and cells
@@ -22,14 +23,20 @@
 //   proofs/File*, OneTree              the file, there and back
 //   proofs/HoursLaws, Installing       station hours, and the calls that go by them
 //   proofs/Days*                       lists of days, and the call that installs one
+//   proofs/Sums, BlockSums             sums over windows, cell by cell and block by block
+//   proofs/ChargesLaws, OccupationLaws charges; counts, fractions, tenths
 
 #![tactic(auto)]
 
 ghost use Rattle.history.specs.Law.{ValueAt, LawOfChange, LawOfCalls, LawOfFind, LawOfTouching, LawOfNeighbours};
 ghost use Rattle.history.specs.HoursLaw.{LawOfHours};
 ghost use Rattle.history.specs.DaysLaw.{LawOfDays};
+ghost use Rattle.history.specs.ChargesLaw.{LawOfCharges};
+ghost use Rattle.history.specs.SumsLaw.{LawOfSums};
+ghost use Rattle.history.specs.OccupationLaw.{LawOfOccupation};
 ghost use Rattle.history.specs.Boards.{MarkedBoards};
 ghost use Rattle.history.specs.Requested.{RequestedBoards};
+ghost use Rattle.history.specs.ReportsBoards.{ReportsBoards};
 
 // The value of a cell, in the mission's words.
 pub fn value_at()
@@ -71,6 +78,21 @@ pub fn law_of_days()
     ensures { LawOfDays }
 {}
 
+/// What the busy cells of a window have together is a sum over the live blocks.
+pub fn law_of_sums()
+    ensures { LawOfSums }
+{}
+
+/// Platform charges: which cells are charged and at which hour, sums of adjoining windows, rounding, bounds, 35 and 36.
+pub fn law_of_charges()
+    ensures { LawOfCharges }
+{}
+
+/// The occupation report: which cells are occupied, a fraction reduced fully, the nearest tenth of a percent, 37 fault by fault.
+pub fn law_of_occupation()
+    ensures { LawOfOccupation }
+{}
+
 // The boards to try come out as they must.
 pub fn marked_boards()
     ensures { MarkedBoards }
@@ -79,4 +101,9 @@ pub fn marked_boards()
 // And so do those of document 02.
 pub fn requested_boards()
     ensures { RequestedBoards }
+{}
+
+/// And so do those of the reports.
+pub fn report_boards()
+    ensures { ReportsBoards }
 {}

@@ -39,12 +39,12 @@ unfolding blocks_of block_of_row
 row_lives store b n = sym (map-map owned_of (block_of_row store b) (count_from 1 n))
 
 module _ {t : Tables} {l : Ledger} (s : StandsOpen t l) where
-  piece-lives : map (piece_life t.pieces l.opening.end) s.encodes.links ≡ map owned_of (map (block_of l.opening.end) l.now.pieces)
+  piece-lives : map (piece_life t.pieces l.opening.end) s.encodes.pieces.links ≡ map owned_of (map (block_of l.opening.end) l.now.pieces)
   piece-lives =
       let q : map owned_of (map (block_of l.opening.end) l.now.pieces) ≡ map (λ p. owned_of (block_of l.opening.end p)) l.now.pieces
       = map-map owned_of (block_of l.opening.end) l.now.pieces in
-      sym (q ∙ ap (map (λ p. owned_of (block_of l.opening.end p))) s.encodes.pieces
-      ∙ map-map (λ p. owned_of (block_of l.opening.end p)) (λ link. shown t.store (piece_at t.pieces link)) s.encodes.links)
+      sym (q ∙ ap (map (λ p. owned_of (block_of l.opening.end p))) s.encodes.pieces.shows
+      ∙ map-map (λ p. owned_of (block_of l.opening.end p)) (λ link. shown t.store (piece_at t.pieces link)) s.encodes.pieces.links)
 
   -- all blocks are of kinds that there are
   pub all_known : All (λ (b : Block). b.kind < nodes_count) (l.now.blocks ++ map (block_of l.opening.end) l.now.pieces)
@@ -55,7 +55,7 @@ module _ {t : Tables} {l : Ledger} (s : StandsOpen t l) where
 
   pub countable : Blank t → length t.pieces < 2 ^ 64 → length t.blocks < 2 ^ 64
       → Countable (rows_to_count t.blocks (length l.now.blocks) t.pieces (length l.now.pieces) l.opening.end) t.nodes l.now.blocks
-      (map (block_of l.opening.end) l.now.pieces) s.encodes.links
+      (map (block_of l.opening.end) l.now.pieces) s.encodes.pieces.links
   countable blank few_pieces few_blocks = record {
     zeros = blank.nodes;
     some = omega (arith, s.sound.board.some_tick);
@@ -65,9 +65,9 @@ module _ {t : Tables} {l : Ledger} (s : StandsOpen t l) where
     blocks_are = row_lives t.store t.blocks (length l.now.blocks) ∙ ap (map owned_of) (sym (are_blocks s));
     pieces_are = piece-lives;
     all_pieces =
-        counts_once (length l.now.pieces) s.encodes.links s.encodes.linked.once
-        (λ k m. ((linked_valid (linked s few_pieces) m).some, rw (← piece-count s) (s.encodes.linked.within k m)))
-        (s.encodes.linked.count ∙ piece-count s);
+        counts_once (length l.now.pieces) s.encodes.pieces.links s.encodes.pieces.linked.once
+        (λ k m. ((linked_valid (linked s few_pieces) m).some, rw (← piece-count s) (s.encodes.pieces.linked.within k m)))
+        (s.encodes.pieces.linked.count ∙ piece-count s);
   }
 
 -- what is counted is all blocks

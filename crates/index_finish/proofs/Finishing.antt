@@ -153,7 +153,7 @@ module _ {pieces blocks nodes entries b nodes₁ entries₁ : List ℕ} {n e : �
           let m_is : m ≡ length l.now.pieces = em ∙ piece-count s in
           let c : CountedTrees (rows_to_count blocks (length l.now.blocks) pieces (length l.now.pieces) l.opening.end) nodes entries nodes' r
           = rw (← n_is s, ← m_is, ← e_is s, ← t.blocks_same, ← t.nodes_same, ← t.entries_same) tree in
-          rw (counted_all l) at (c.done l.now.blocks (map (block_of l.opening.end) l.now.pieces) s.encodes.links
+          rw (counted_all l) at (c.done l.now.blocks (map (block_of l.opening.end) l.now.pieces) s.encodes.pieces.links
           (countable s (still_blank s) few_pieces few_blocks))
 
     prepare_full : (x : Refusal) → r ≡ Err x → Prepared pieces blocks nodes entries b nodes' entries₁ (refused (number_of x))

@@ -42,12 +42,12 @@ module _ {t : Tables} {l : Ledger} (s : StandsOpen t l) (few : length t.pieces <
   abbrev m : ℕ
   m = column t.pieces 0 pieces_count
 
-  is_linked : Linked t.pieces s.encodes.links
+  is_linked : Linked t.pieces s.encodes.pieces.links
   is_linked = linked s few
 
-  piece_sound : (k : ℕ) → Mem k s.encodes.links → SoundPiece l.opening.kinds l.now (shown t.store (piece_at t.pieces k))
+  piece_sound : (k : ℕ) → Mem k s.encodes.pieces.links → SoundPiece l.opening.kinds l.now (shown t.store (piece_at t.pieces k))
   piece_sound k h =
-      all_mem (all_un_map (piece_at t.pieces) s.encodes.links
+      all_mem (all_un_map (piece_at t.pieces) s.encodes.pieces.links
       (all_un_map (shown t.store) (piece_rows s) (subst (All (SoundPiece l.opening.kinds l.now)) (are_pieces s) s.sound.board.pieces))) h
 
   pub rows_sound : Sound t.pieces t.blocks n m l.opening.end
@@ -56,20 +56,20 @@ module _ {t : Tables} {l : Ledger} (s : StandsOpen t l) (few : length t.pieces <
     by_end = by_end s;
     written = λ k p q. omega (arith, (piece_sound k (linked_dense is_linked k p q)).written_by_last, s.sound.board.last_below_end);
     parted = λ i j p q r.
-        follow_parted t.pieces 0 s.encodes.links is_linked.order i j (linked_dense is_linked i p (omega arith)) (linked_dense is_linked j (omega arith) r)
+        follow_parted t.pieces 0 s.encodes.pieces.links is_linked.order i j (linked_dense is_linked i p (omega arith)) (linked_dense is_linked j (omega arith) r)
         (λ e. omega arith);
   }
 
   none_shared : RowsApart t.pieces t.blocks n m → NoneShared t.blocks n (piece_rows s)
   none_shared a = record {
     blocks_apart = a.blocks_apart;
-    pieces_apart = record { clear = λ link p q. all_of_map (piece_at t.pieces) (all_of_mem s.encodes.links (λ k h. clear link p q k h)) };
+    pieces_apart = record { clear = λ link p q. all_of_map (piece_at t.pieces) (all_of_mem s.encodes.pieces.links (λ k h. clear link p q k h)) };
   }
     where
-      some : (k : ℕ) → Mem k s.encodes.links → Filled (piece_at t.pieces k)
-      some k h = all_mem (all_un_map (piece_at t.pieces) s.encodes.links (follow_filled 0 (piece_rows s) is_linked.order)) h
+      some : (k : ℕ) → Mem k s.encodes.pieces.links → Filled (piece_at t.pieces k)
+      some k h = all_mem (all_un_map (piece_at t.pieces) s.encodes.pieces.links (follow_filled 0 (piece_rows s) is_linked.order)) h
 
-      clear : (link : ℕ) → 0 < link → link ≤ n → (k : ℕ) → Mem k s.encodes.links → Crosses t.blocks link (piece_at t.pieces k) → ⊥
+      clear : (link : ℕ) → 0 < link → link ≤ n → (k : ℕ) → Mem k s.encodes.pieces.links → Crosses t.blocks link (piece_at t.pieces k) → ⊥
       clear link p q k h c =
           a.pieces_apart link k p q (linked_valid is_linked h).some (is_linked.dense.within k h) c.lives c.meets.early
           (max (place_at t.blocks link) (piece_at t.pieces k).first)

@@ -7,7 +7,7 @@ use native.Mathlib.Omega.{arith}
 use lib.ListN.{length, get_or, set, take, replicate, length-set, length-replicate}
 use lib.Seq.{get_or-set_same, get_or-set_other}
 use Rattle.layout.proofs.ExistsPieces.{no_piece}
-use Rattle.lists.specs.Lists.{All, all_nil}
+use Rattle.lists.specs.Lists.{All}
 use Rattle.lists.proofs.Lists.{all_at, all_of_map}
 use Rattle.lists.proofs.Maps.{length_of_map, get_d_of_map}
 use Rattle.lists.proofs.Numbers.{le_or_lt}
@@ -39,7 +39,7 @@ use Rattle.layout.specs.Encodes.{Encodes, closed_state}
 use Rattle.layout.specs.Relations.{AppendedRows, SameBytes}
 use Rattle.layout.proofs.Lengths.{lent_same}
 use Rattle.layout.proofs.Unique.{links_one}
-use Rattle.layout.proofs.Opening.{get_d_zeros, no_links}
+use Rattle.layout.proofs.Opening.{no_pieces_in}
 use Rattle.index_finish.specs.Finish.{StandsOpen, all_blocks, whole_trees, Accepted, Finished, SettledTables}
 use Rattle.index_finish.proofs.Standing.{heads, room, piece_rows, are_pieces, pieces_whole, rep}
 use Rattle.index_finish.proofs.Agreeing.{settled_row, all_blocks_lem}
@@ -180,16 +180,16 @@ module _ {pieces was store blank entries nodes : List ℕ} {l : Ledger} (a : Acc
   head_used_lem = head_kept head_used (omega arith) (λ z. omega arith) (λ z. omega arith)
 
   all_stored : Stored (head_at t head_used) g (n + length rs)
-  all_stored = grown_stored e rs was fits (head_at t head_used) s.encodes.blocks_stored (all_of_map (piece_at pieces) s.encodes.pieces_stored)
+  all_stored = grown_stored e rs was fits (head_at t head_used) s.encodes.blocks_stored (all_of_map (piece_at pieces) s.encodes.pieces.stored)
 
   same_bytes : (links : List ℕ) → Links pieces links → SameBytes pieces links g (length l.now.blocks)
   same_bytes links is = record {
     offset = λ i h.
-        let one : links ≡ s.encodes.links = links_one pieces links s.encodes.links is s.encodes.linked in
-        let k : i < length s.encodes.links = rw (← one) h in
+        let one : links ≡ s.encodes.pieces.links = links_one pieces links s.encodes.pieces.links is s.encodes.pieces.linked in
+        let k : i < length s.encodes.pieces.links = rw (← one) h in
         rw (← count_is, one)
-        (grown-column e rs was fits i block_offset (rw (length_of_map (piece_at pieces) s.encodes.links) k) (omega arith)
-        ∙ ap (λ (p : PieceRow). p.offset) (get_d_of_map (piece_at pieces) s.encodes.links i 0 no_piece k));
+        (grown-column e rs was fits i block_offset (rw (length_of_map (piece_at pieces) s.encodes.pieces.links) k) (omega arith)
+        ∙ ap (λ (p : PieceRow). p.offset) (get_d_of_map (piece_at pieces) s.encodes.pieces.links i 0 no_piece k));
   }
 
   -- a column that is not used of a new row
@@ -244,10 +244,7 @@ module _ {pieces was store blank entries nodes : List ℕ} {l : Ledger} (a : Acc
       count = head_count_lem ∙ sym all_many;
       blocks = blocks_are ∙ ap (blocks_of store g) (sym head_count_lem);
       blocks_stored = rw (head_used_lem, head_count_lem) all_stored;
-      links = [];
-      linked = no_links (replicate (length pieces) 0) (omega (arith, length-replicate {A = ℕ} (length pieces) 0, (heads s).pieces)) (get_d_zeros (length pieces));
-      pieces = refl;
-      pieces_stored = all_nil;
+      pieces = no_pieces_in (length pieces) (heads s).pieces store _;
       trees = trees;
       calendar = calendar_kept was g l.calendar (λ i lo hi. appended-rows.head i (omega arith) (λ z. omega arith) (λ z. omega arith)) s.encodes.calendar;
       days =

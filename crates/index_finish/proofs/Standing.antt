@@ -97,7 +97,7 @@ module _ {t : Tables} {l : Ledger} (s : StandsOpen t l) where
 
   -- the rows of the pieces, in order
   abbrev pub piece_rows : List PieceRow
-  piece_rows = map (piece_at t.pieces) e.links
+  piece_rows = map (piece_at t.pieces) e.pieces.links
 
   pub are_pieces : l.now.pieces ≡ map (shown t.store) piece_rows
   are_pieces = pieces_shown t l e
@@ -113,11 +113,11 @@ module _ {t : Tables} {l : Ledger} (s : StandsOpen t l) where
   pub pieces_whole : All whole.Filled piece_rows
   pieces_whole = all_of_map (piece_at t.pieces) (pieces_filled t l e b s.few)
 
-  pub linked : length t.pieces < 2 ^ 64 → Linked t.pieces e.links
+  pub linked : length t.pieces < 2 ^ 64 → Linked t.pieces e.pieces.links
   linked few = pieces_linked t l e b few s.few
 
   pub rep : length t.pieces < 2 ^ 64 → Rep t.pieces piece_rows
   rep few = pieces_rep t l e b few s.few
 
   pub piece-count : column t.pieces 0 pieces_count ≡ length l.now.pieces
-  piece-count = sym e.linked.count ∙ sym (length-map e.links (λ link. shown t.store (piece_at t.pieces link))) ∙ ap length (sym e.pieces)
+  piece-count = sym e.pieces.linked.count ∙ sym (length-map e.pieces.links (λ link. shown t.store (piece_at t.pieces link))) ∙ ap length (sym e.pieces.shows)

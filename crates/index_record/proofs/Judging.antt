@@ -144,7 +144,7 @@ told : (t : Tables) (l : Ledger) (o : Operation) (r : Report) → Encodes t l �
     → Sized o.first (length o.bytes) → Surveyed t.pieces t.store o.kind o.first o.bytes r → Told l o r
 unfolding stretch_of update_by
 told t l o r e s few fits sized v =
-    let ps : List PieceRow = map (piece_at t.pieces) e.links in
+    let ps : List PieceRow = map (piece_at t.pieces) e.pieces.links in
     let stored : All (Stored t.store) ps = all_of_map (piece_at t.pieces) (all_map (λ link h. record { has = h }) (pieces_inside t l e s.board)) in
     let counts : Counts t.store ps (cell_place o.kind o.first) o.bytes r = v.says ps (pieces_rep t l e s.board few fits) stored sized.some sized.near in
     let now : l.now.pieces ≡ map (shown t.store) ps = pieces_shown t l e in

@@ -73,10 +73,7 @@ module _ (t : Tables) (l : Ledger) (o : Operation) (e : Encodes t l) (still : fi
         count = count ∙ e.count;
         blocks = rw count (e.blocks ∙ sym (blocks_kept t.store (same_rows (head_at t head_count))));
         blocks_stored = rw (count, used) (stored_kept (same_rows (head_at t head_count)) e.blocks_stored);
-        links = e.links;
-        linked = e.linked;
-        pieces = e.pieces;
-        pieces_stored = rw used e.pieces_stored;
+        pieces = rw used e.pieces;
         trees = subst (λ (x : Option (List segment.Tree)). TreesIn (read_tables o.tick t) (with_now (read_by l.now o) l) x) (sym (still_none l.trees still))
             (unordered_kept (same_rows (length l.now.blocks)) (other (row_width * 0 + (block_base + block_next)) (λ z. omega arith)) (open_unordered t l e still));
         calendar = calendar_kept t.blocks (set t.blocks (head_place head_last) o.tick) l.calendar (λ i lo hi. other i (λ z. omega arith)) e.calendar;

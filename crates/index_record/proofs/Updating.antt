@@ -159,7 +159,7 @@ module _ (t : Tables) (l : Ledger) (o : Operation) (scratch : ℕ) (e : Encodes 
   store' = sets t.store used o.bytes
 
   abbrev ps : List PieceRow
-  ps = map (piece_at t.pieces) e.links
+  ps = map (piece_at t.pieces) e.pieces.links
 
   abbrev gone : List PieceRow
   gone = rows_inside row.first (row_end row) ps
@@ -180,7 +180,7 @@ module _ (t : Tables) (l : Ledger) (o : Operation) (scratch : ℕ) (e : Encodes 
 
   -- the pieces before it, in the store after it
   stored_before : All (Within used) ps
-  stored_before = all_of_map (piece_at t.pieces) e.pieces_stored
+  stored_before = all_of_map (piece_at t.pieces) e.pieces.stored
 
   stored_after : All (Stored store') ps
   stored_after = all_map (λ p h. record { has = omega (arith, length-sets t.store used o.bytes, bytes_fit) }) stored_before
@@ -311,10 +311,12 @@ module _ (t : Tables) (l : Ledger) (o : Operation) (scratch : ℕ) (e : Encodes 
           blocks = rw count_left blocks_same;
           blocks_stored = rw (count_left, used_after)
               (left_stored o.tick (used + size) gone t.blocks there.blocks blocks_fit used (omega arith) e.blocks_stored (inside_stored used stored_before row.first (row_end row)));
-          links = rep.links;
-          linked = rep.linked.dense;
-          pieces = pieces_after ∙ ap (map (shown store')) (sym linked) ∙ map-map (shown store') (piece_at pieces') rep.links;
-          pieces_stored = rw used_after (all_un_map (piece_at pieces') rep.links inside);
+          pieces = record {
+            links = rep.links;
+            linked = rep.linked.dense;
+            shows = pieces_after ∙ ap (map (shown store')) (sym linked) ∙ map-map (shown store') (piece_at pieces') rep.links;
+            stored = rw used_after (all_un_map (piece_at pieces') rep.links inside);
+          };
           trees = subst (λ (x : Option (List segment.Tree)). TreesIn t' l' x) (sym (still_none l.trees still))
               (rw count-after (left_unordered o.tick (used + size) gone t.blocks there.blocks blocks_fit (rw e.count (open_unordered t l e still))));
           calendar =
@@ -357,7 +359,7 @@ module _ {p b s bytes : List ℕ} {kind tick first used : ℕ} (eu : used ≡ bl
         let o : Operation = operation kind tick first bytes in
         let t : Tables = tables p b s nodes entries in
         let rec' : AppliedUpdate p p₁ b b₁ (new_row (operation kind tick first bytes) (block_column b 0 head_used)) = rw eu at rec in
-        let is : b₃ ≡ left_blocks tick (block_column b 0 head_used + length bytes) (rows_inside (cell_place kind first) (cell_place kind first + length bytes) (map (piece_at p) e.links)) b
+        let is : b₃ ≡ left_blocks tick (block_column b 0 head_used + length bytes) (rows_inside (cell_place kind first) (cell_place kind first + length bytes) (map (piece_at p) e.pieces.links)) b
         = e₃ ∙ ap (λ (m : List ℕ). set m (head_place head_last) tick) (e₂ ∙ ap₂ (λ (m : List ℕ) (n : ℕ). set m (head_place head_used) (n + length bytes)) (blocks_left t l o scratch e sound took update few fewer fits p₁ b₁ rec') eu) in
         let store : s₁ ≡ sets s (block_column b 0 head_used) bytes = es ∙ ap (λ (n : ℕ). sets s n bytes) eu in
         rw (is, store) (update_encodes t l o scratch e sound took update few fewer fits p₁ b₁ rec', update_tables t l o scratch e sound took update few fewer fits p₁ b₁ rec');

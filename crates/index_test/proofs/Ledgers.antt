@@ -119,10 +119,12 @@ module _ (t : Tables) (b : BoardFormed t) where
     count = sym (blocks_length t.store t.blocks (head_at t head_count));
     blocks = refl;
     blocks_stored = record { inside = λ link p q. (b.rows.rows link p q).stored };
-    links = b.pieces.rep.links;
-    linked = b.pieces.rep.linked.dense;
-    pieces = refl;
-    pieces_stored = all_map (λ link x. x.inside) links_allowed;
+    pieces = record {
+      links = b.pieces.rep.links;
+      linked = b.pieces.rep.linked.dense;
+      shows = refl;
+      stored = all_map (λ link x. x.inside) links_allowed;
+    };
     trees = in-trees;
     calendar = formed_held t.blocks b.calendar;
     days = formed_days t.blocks b.days;
@@ -173,7 +175,7 @@ board_formed t l e s few fits =
         kinds_most = omega (arith, e.mask);
         last_below_end = omega (arith, s.last_below_end, e.end, e.last);
         used_fits = used;
-        rows_fit = omega (arith, e.count, e.linked.count, pieces_length, rw lent at s.blocks_fit);
+        rows_fit = omega (arith, e.count, e.pieces.linked.count, pieces_length, rw lent at s.blocks_fit);
       };
       calendar = held_formed t.blocks l.calendar e.calendar s.calendar-taken;
       days = days_formed t.blocks l.days e.days s.days_taken_lem;
@@ -181,8 +183,8 @@ board_formed t l e s few fits =
       pieces = pieces_formed t l e s few fits;
     }
   where
-    pieces_length : length l.now.pieces ≡ length e.links
-    pieces_length = ap length e.pieces ∙ length_of_map (λ link. shown t.store (piece_at t.pieces link)) e.links
+    pieces_length : length l.now.pieces ≡ length e.pieces.links
+    pieces_length = ap length e.pieces.shows ∙ length_of_map (λ link. shown t.store (piece_at t.pieces link)) e.pieces.links
 
     row : (link : ℕ) → 0 < link → link ≤ head_at t head_count → RowSound t.blocks (bounds_of t) link
     row zero p q = absurd (omega arith)

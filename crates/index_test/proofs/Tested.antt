@@ -136,7 +136,7 @@ module _ (t : Tables) (l : Ledger) (trees : List Tree) (e : Encodes t l) (s : So
   same_blocks = e.blocks
 
   no_more : column t.pieces 0 pieces_count ≡ 0
-  no_more = sym e.linked.count ∙ no_links e.links (λ link. shown t.store (piece_at t.pieces link)) (sym c.no_pieces ∙ e.pieces)
+  no_more = sym e.pieces.linked.count ∙ no_links e.pieces.links (λ link. shown t.store (piece_at t.pieces link)) (sym c.no_pieces ∙ e.pieces.shows)
 
   closed_in : ClosedTrees (tree_tables t) (head_at t head_end) l.now.blocks
   closed_in = record {

@@ -10,8 +10,8 @@
 // How a read of a closed index is written, as find, read cells and write are:
 //   1. `history` says what the ledger gives and the refusals, made of `read_refusals` or `tick_refusals`: `xAnswer : Ledger → .. → Answer A`.
 //   2. An inner call `x_closed` answers without a test of the tables; its contract is `ClosedBy` (layout, `Reads`) at `xAnswer`, whatever else is
-//      lent, and what is handed out: `HandedInto` for values and one slice, a record of its own for more. Its refusals are steps by `closed-refuses`
-//      and the laws of `ReadLaws` (`window-14`, `window-15`, `window-rest`).
+//      lent, and what is handed out: `HandedInto` for values and one slice, a record of its own for more. Its refusals are steps by `closed_refuses`
+//      and the laws of `ReadLaws` (`window_14`, `window_15`, `window_rest`).
 //   3. The relation of the public call is a record of one field, `read : ReadBy t (λ l. xAnswer l ..) (HandedInto ..)`.
 //   4. The public call is lent `layout::Tables`, asks `test(lent).closed()?` and hands on the inner call. Its two returns are `read_not_closed` and
 //      `closed_read` (proofs/Told).

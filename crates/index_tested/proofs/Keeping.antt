@@ -103,10 +103,10 @@ pub formed_fits : {t : Tables} → WellFormed t → CountsFit t.pieces t.blocks
 formed_fits {t} w =
     let e = w.encodes in
     let board = w.sound.board in
-    let many : length w.ledger.now.pieces ≡ length e.links = ap length e.pieces ∙ length_of_map (λ link. shown t.store (piece_at t.pieces link)) e.links in
+    let many : length w.ledger.now.pieces ≡ length e.pieces.links = ap length e.pieces.shows ∙ length_of_map (λ link. shown t.store (piece_at t.pieces link)) e.pieces.links in
     let pieces : length w.ledger.now.pieces ≤ (length t.pieces - piece_head) / row_width = rw e.lengths at board.pieces_fit in
     let blocks : length w.ledger.now.blocks + length w.ledger.now.pieces ≤ (length t.blocks - block_head) / row_width = rw e.lengths at board.blocks_fit in
-    record { blocks_fit = record { rows = omega (arith, blocks, e.count) }; pieces_fit = omega (arith, pieces, many, e.linked.count) }
+    record { blocks_fit = record { rows = omega (arith, blocks, e.count) }; pieces_fit = omega (arith, pieces, many, e.pieces.linked.count) }
 
 pub blocks_counted : {blocks : List ℕ} {count rows : ℕ} → count ≡ block_column blocks 0 head_count → rows ≡ (length blocks - block_head) / row_width
     → Decides (leb count rows) (BlocksFit blocks)

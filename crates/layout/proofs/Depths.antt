@@ -15,18 +15,18 @@ use Rattle.layout.specs.Law.{ShallowTrees}
 use Rattle.piece_table.proofs.Testing.{shape_one}
 
 module _ (t : Tables) (l : Ledger) (e : Encodes t l) (tree : Tree) (stands : Shape t.pieces (column t.pieces 0 pieces_root) tree) where
-  same : e.linked.tree ≡ tree
-  same = shape_one t.pieces (column t.pieces 0 pieces_root) e.linked.tree tree e.linked.shape stands
+  same : e.pieces.linked.tree ≡ tree
+  same = shape_one t.pieces (column t.pieces 0 pieces_root) e.pieces.linked.tree tree e.pieces.linked.shape stands
 
   balanced : Balanced tree
-  balanced = subst Balanced same e.linked.balanced
+  balanced = subst Balanced same e.pieces.linked.balanced
 
   -- it has a link for each piece
-  links : length (rows tree) ≡ length e.links
-  links = ap (λ (T : Tree). length (rows T)) (sym same) ∙ ap length e.linked.is
+  links : length (rows tree) ≡ length e.pieces.links
+  links = ap (λ (T : Tree). length (rows T)) (sym same) ∙ ap length e.pieces.linked.is
 
-  pieces : length l.now.pieces ≡ length e.links
-  pieces = ap length e.pieces ∙ length-map e.links (λ link. shown t.store (piece_at t.pieces link))
+  pieces : length l.now.pieces ≡ length e.pieces.links
+  pieces = ap length e.pieces.shows ∙ length-map e.pieces.links (λ link. shown t.store (piece_at t.pieces link))
 
 pub shallow_trees : ShallowTrees
 shallow_trees t l e tree stands =
@@ -34,5 +34,5 @@ shallow_trees t l e tree stands =
     let b = balanced t l e tree stands in
     record {
       pieces_4096 = λ few. height_4096 tree b (omega (arith, pieces t l e tree stands));
-      any_table = λ few. height_92 tree b (omega (arith, e.linked.count, e.linked.room));
+      any_table = λ few. height_92 tree b (omega (arith, e.pieces.linked.count, e.pieces.linked.room));
     }

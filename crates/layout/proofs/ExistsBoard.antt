@@ -202,11 +202,12 @@ module _ (l : Ledger) (s : SoundBoard l) where
             blocks_stored =
                 rw (used_is, count_is)
                 (blocks_inside l.opening.lent.blocks (head_of l w) block_rows_of.rows block_room (length l.now.store) block_rows_of.inside);
-            links = count_from 1 (length piece_rows_of.rows);
-            linked = piece_links l.opening.lent.pieces piece_rows_of.rows piece_room;
-            pieces = sym (pieces_shown l.opening.lent.pieces piece_rows_of.rows piece_room piece_rows_of.lines (l.now.store ++ unused l) ∙ piece_rows_of.shows);
-            pieces_stored =
-                rw used_is (pieces_inside l.opening.lent.pieces piece_rows_of.rows piece_room piece_rows_of.lines (length l.now.store) piece_rows_of.inside);
+            pieces = record {
+              links = count_from 1 (length piece_rows_of.rows);
+              linked = piece_links l.opening.lent.pieces piece_rows_of.rows piece_room;
+              shows = sym (pieces_shown l.opening.lent.pieces piece_rows_of.rows piece_room piece_rows_of.lines (l.now.store ++ unused l) ∙ piece_rows_of.shows);
+              stored = rw used_is (pieces_inside l.opening.lent.pieces piece_rows_of.rows piece_room piece_rows_of.lines (length l.now.store) piece_rows_of.inside);
+            };
             trees = trees;
             calendar = calendar_there;
             days = days_there;

@@ -104,10 +104,7 @@ module _ (t : Tables) (l : Ledger) (e : Encodes t l) (blocks' : List ℕ) (long 
     count = head_same head_count ∙ e.count;
     blocks = rw (head_same head_count) (e.blocks ∙ sym (blocks_kept t.store (same_rows (head_at t head_count))));
     blocks_stored = rw (head_same head_count, head_same head_used) (stored_kept (same_rows (head_at t head_count)) e.blocks_stored);
-    links = e.links;
-    linked = e.linked;
-    pieces = e.pieces;
-    pieces_stored = rw (head_same head_used) e.pieces_stored;
+    pieces = rw (head_same head_used) e.pieces;
     trees = front_trees l.trees e.trees;
     calendar = calendar-in;
     days = days-in;

@@ -12,7 +12,7 @@ use borrow.Author.Tests.{ne_eqb, le-ltb}
 use Rattle.lists.specs.Lists.{All, all_nil, Mem, count_from}
 use Rattle.lists.proofs.Numbers.{lt_or_le, decides_leb, decided}
 use Rattle.lists.proofs.Stores.{get_d_sets_in, get_d_sets_out}
-use Rattle.history.specs.Lent.{too_short, row_width, block_head}
+use Rattle.history.specs.Lent.{too_short, row_width, piece_head, block_head}
 use Rattle.history.specs.Rules.{every}
 use Rattle.history.specs.Ledger.{Opening, opened}
 use Rattle.history.specs.Refusals.{accepted, first_of, max_end_tick, open_refusals, open_answer}
@@ -26,7 +26,7 @@ use Rattle.day_table.proofs.DayLists.{days_none}
 use Rattle.calendar_table.proofs.Calendars.{calendar-none}
 use Rattle.kind_mask.specs.Masks.{mask_of}
 use Rattle.layout.specs.Tables.{Tables, lengths_of, head_at}
-use Rattle.layout.specs.Encodes.{open_state, Encodes}
+use Rattle.layout.specs.Encodes.{open_state, PiecesIn, Encodes}
 use Rattle.layout.specs.Formed.{Blank}
 use Rattle.layout.specs.Relations.{opening_of, opened_tables}
 use Rattle.kind_mask.proofs.Masks.{mask_below, mask_kinds}
@@ -66,6 +66,11 @@ no_links pieces room zeros = record {
   where
     nothing : {A : Type 0} {link : ℕ} → Mem link [] → A
     nothing m = elim m [ ]
+
+-- so no pieces are in it
+pub no_pieces_in : (n : ℕ) → piece_head ≤ n → (store : List ℕ) (used : ℕ) → PiecesIn (replicate n 0) store used []
+no_pieces_in n room store used =
+    record { links = []; linked = no_links (replicate n 0) (omega (arith, length-replicate {A = ℕ} n 0)) (get_d_zeros n); shows = refl; stored = all_nil }
 
 no_blocks : (store blocks : List ℕ) (n : ℕ) → n ≡ 0 → [] ≡ blocks_of store blocks n
 unfolding blocks_of count_from
@@ -117,10 +122,7 @@ module _ (end : ℕ) (kinds : List ℕ) (t : Tables) where
         count = head_out head_count (omega arith);
         blocks = no_blocks t.store (opened_tables end kinds t).blocks (head_at (opened_tables end kinds t) head_count) (head_out head_count (omega arith));
         blocks_stored = record { inside = λ link p q. absurd (omega (arith, head_out head_count (omega arith))) };
-        links = [];
-        linked = no_links (replicate (length t.pieces) 0) (omega (arith, length-replicate {A = ℕ} (length t.pieces) 0, h.pieces)) (get_d_zeros (length t.pieces));
-        pieces = refl;
-        pieces_stored = all_nil;
+        pieces = no_pieces_in (length t.pieces) h.pieces t.store _;
         trees = record { none = λ link z. let e : link ≡ 0 = omega arith in rw e (head_out block_next (omega arith)) };
         calendar = calendar-none (opened_tables end kinds t).blocks front_zero;
         days = days_none (opened_tables end kinds t).blocks days_zero;

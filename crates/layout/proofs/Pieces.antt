@@ -65,45 +65,45 @@ module _ (t : Tables) (l : Ledger) (e : Encodes t l) (s : SoundBoard l) where
   abbrev seen : ℕ → Piece
   seen link = shown t.store (row link)
 
-  pub pieces_inside : All (λ link. (piece_at t.pieces link).offset + (piece_at t.pieces link).size ≤ length t.store) e.links
-  pieces_inside = all_map (λ link h. omega (arith, used_fits t l e)) e.pieces_stored
+  pub pieces_inside : All (λ link. (piece_at t.pieces link).offset + (piece_at t.pieces link).size ≤ length t.store) e.pieces.links
+  pieces_inside = all_map (λ link h. omega (arith, used_fits t l e)) e.pieces.stored
 
-  pieces_sound : All (λ link. SoundPiece l.opening.kinds l.now (seen link)) e.links
-  pieces_sound = all_un_map seen e.links (subst (λ (ps : List Piece). All (SoundPiece l.opening.kinds l.now) ps) e.pieces s.pieces)
+  pieces_sound : All (λ link. SoundPiece l.opening.kinds l.now (seen link)) e.pieces.links
+  pieces_sound = all_un_map seen e.pieces.links (subst (λ (ps : List Piece). All (SoundPiece l.opening.kinds l.now) ps) e.pieces.shows s.pieces)
 
-  pieces_order : InOrder (map seen e.links)
-  pieces_order = subst InOrder e.pieces s.in_order
+  pieces_order : InOrder (map seen e.pieces.links)
+  pieces_order = subst InOrder e.pieces.shows s.in_order
 
-  pieces_allowed : All (λ link. piece.Allowed (head_at t head_kinds) (head_at t head_used) (head_at t head_last) (row link)) e.links
+  pieces_allowed : All (λ link. piece.Allowed (head_at t head_kinds) (head_at t head_used) (head_at t head_last) (row link)) e.pieces.links
   pieces_allowed =
-      all_both (λ link x y. record { inside = y; known = omega (arith, x.written_by_last, e.last); owned = owned link x.own_kind }) pieces_sound e.pieces_stored
+      all_both (λ link x y. record { inside = y; known = omega (arith, x.written_by_last, e.last); owned = owned link x.own_kind }) pieces_sound e.pieces.stored
     where
       owned : (link : ℕ) → has (row link).owner l.opening.kinds ≡ true → opens (head_at t head_kinds) (row link).owner ≡ true
       owned link h = sym (kinds_has (head_at t head_kinds) (row link).owner) ∙ rw e.kinds at h
 
-  pub pieces_filled : length t.store < 2 ^ 64 → All (λ link. Filled (piece_at t.pieces link)) e.links
+  pub pieces_filled : length t.store < 2 ^ 64 → All (λ link. Filled (piece_at t.pieces link)) e.pieces.links
   pieces_filled fits = all_both (λ link x y. row_filled l.opening.kinds t.store (row link) l fits y x) pieces_sound pieces_inside
 
-  pub pieces_linked : length t.pieces < 2 ^ 64 → length t.store < 2 ^ 64 → Linked t.pieces e.links
+  pub pieces_linked : length t.pieces < 2 ^ 64 → length t.store < 2 ^ 64 → Linked t.pieces e.pieces.links
   pieces_linked few fits =
       record {
-        dense = e.linked;
+        dense = e.pieces.linked;
         few = few;
         order =
-            follows row t.store 0 e.links (all_any e.links (λ link. omega arith))
+            follows row t.store 0 e.pieces.links (all_any e.pieces.links (λ link. omega arith))
             (pieces_filled fits) pieces_inside pieces_order;
       }
 
   -- the table stands for the rows of the links, and the ledger has the pieces that they show
-  pub pieces_rep : length t.pieces < 2 ^ 64 → length t.store < 2 ^ 64 → Rep t.pieces (map (piece_at t.pieces) e.links)
-  pieces_rep few fits = record { links = e.links; linked = pieces_linked few fits; pieces = refl }
+  pub pieces_rep : length t.pieces < 2 ^ 64 → length t.store < 2 ^ 64 → Rep t.pieces (map (piece_at t.pieces) e.pieces.links)
+  pieces_rep few fits = record { links = e.pieces.links; linked = pieces_linked few fits; pieces = refl }
 
   pub pieces_formed : length t.pieces < 2 ^ 64 → length t.store < 2 ^ 64 → piece.WellFormed t.pieces (head_at t head_kinds) (head_at t head_used) (head_at t head_last)
-  pieces_formed few fits = record { pieces = map (piece_at t.pieces) e.links; rep = pieces_rep few fits; allowed = all_of_map row pieces_allowed }
+  pieces_formed few fits = record { pieces = map (piece_at t.pieces) e.pieces.links; rep = pieces_rep few fits; allowed = all_of_map row pieces_allowed }
 
 -- the ledger's pieces are those that the rows show
-pub pieces_shown : (t : Tables) (l : Ledger) (e : Encodes t l) → l.now.pieces ≡ map (shown t.store) (map (piece_at t.pieces) e.links)
-pieces_shown t l e = e.pieces ∙ sym (map-map (shown t.store) (piece_at t.pieces) e.links)
+pub pieces_shown : (t : Tables) (l : Ledger) (e : Encodes t l) → l.now.pieces ≡ map (shown t.store) (map (piece_at t.pieces) e.pieces.links)
+pieces_shown t l e = e.pieces.shows ∙ sym (map-map (shown t.store) (piece_at t.pieces) e.pieces.links)
 
 -- ── from the table to the ledger ──
 

@@ -4,10 +4,11 @@ use mathlib.Core.Path.{◌≡◌, refl, sym, ap, ◌∙◌, subst}
 use mathlib.Core.Logic.{⊎_elim}
 use mathlib.Core.Bool.{Bool, true, false, cond, true≢false}
 use mathlib.Core.Option.{Option, none, some}
-use mathlib.Core.List.{List}
+use mathlib.Core.List.{List, [], ◌∷◌}
 use Prim.Native.Nat.{ℕ, ◌+◌, ◌≤◌, ◌<◌}
 use native.Mathlib.Omega.{arith}
 use lib.ListN.{length}
+use lib.Dec.{ltb}
 use lib.Seq.{sets}
 use borrow.Author.Tests.{le-leb, lt-leb, lt-ltb, le-ltb}
 use Rattle.lists.proofs.Numbers.{le_or_lt}
@@ -15,7 +16,7 @@ use Rattle.history.specs.Lent.{too_short}
 use Rattle.history.specs.Tree.{Tree}
 use Rattle.history.specs.Ledger.{Ledger, finished, is_some, opens_kind}
 use Rattle.history.specs.Reads.{block_by, clock_by}
-use Rattle.history.specs.Refusals.{Answer, accepted, refused, first_of, window_refusals, neighbour_refusals, block_refusals, block_answer, clock_refusals, clock_answer, write_refusals}
+use Rattle.history.specs.Refusals.{Answer, accepted, refused, Refusal, ◌if◌, first_of, tick_refusals, window_refusals, neighbour_refusals, block_refusals, block_answer, clock_refusals, clock_answer, write_refusals}
 use Rattle.history.specs.File.{file_by, write_answer}
 use Rattle.tables.specs.Masks.{opens, Opens}
 use Rattle.tables.proofs.Masks.{kinds_has}
@@ -65,42 +66,61 @@ module _ {t : Tables} {l : Ledger} (e : Encodes t l) where
   unfolding clock_refusals first_of
   clock_there cell = rw heads-held
 
--- ── what a closed index answers to a window ──
+-- ── what a closed index answers at a tick ──
 
--- of every read of a window at a tick, whatever it gives
+-- of every read of a kind at a tick, whatever it gives: 25, 14, and then what it refuses by itself
+module _ {t : Tables} {l : Ledger} (e : Encodes t l) (done : finished l ≡ true) {A : Type 0} (given : A) (own : List Refusal) (kind tick : ℕ) where
+  pub tick_25 : opens (head_at t head_kinds) kind ≡ false → first_of (tick_refusals l kind tick own) given ≡ refused 25
+  unfolding first_of
+  tick_25 k = rw (heads-held e, done, opens_kind_lem e kind ∙ k)
+
+  module _ (k : opens (head_at t head_kinds) kind ≡ true) where
+    pub tick_14 : head_at t head_end ≤ tick → first_of (tick_refusals l kind tick own) given ≡ refused 14
+    unfolding first_of
+    tick_14 h = rw (heads-held e, done, opens_kind_lem e kind ∙ k, le-leb l.opening.end tick (omega (arith, e.end)))
+
+    pub tick_rest : tick < head_at t head_end → first_of (tick_refusals l kind tick own) given ≡ first_of own given
+    unfolding first_of
+    tick_rest h = rw (heads-held e, done, opens_kind_lem e kind ∙ k, lt-leb l.opening.end tick (omega (arith, e.end)))
+
+-- of every read of a window
 module _ {t : Tables} {l : Ledger} (e : Encodes t l) (done : finished l ≡ true) {A : Type 0} (given : A) (exceeds : Bool) (kind tick start stop : ℕ) where
+  -- what it refuses by itself
+  abbrev own : List Refusal
+  own = 15 if ltb stop start ∷ 16 if exceeds ∷ []
+
   pub window_25 : opens (head_at t head_kinds) kind ≡ false → first_of (window_refusals l kind tick start stop exceeds) given ≡ refused 25
-  unfolding window_refusals first_of
-  window_25 k = rw (heads-held e, done, opens_kind_lem e kind ∙ k)
+  unfolding window_refusals
+  window_25 k = tick_25 e done given own kind tick k
 
   module _ (k : opens (head_at t head_kinds) kind ≡ true) where
     pub window_14 : head_at t head_end ≤ tick → first_of (window_refusals l kind tick start stop exceeds) given ≡ refused 14
-    unfolding window_refusals first_of
-    window_14 h = rw (heads-held e, done, opens_kind_lem e kind ∙ k, le-leb l.opening.end tick (omega (arith, e.end)))
+    unfolding window_refusals
+    window_14 h = tick_14 e done given own kind tick k h
 
     pub window_15 : tick < head_at t head_end → stop < start → first_of (window_refusals l kind tick start stop exceeds) given ≡ refused 15
     unfolding window_refusals first_of
-    window_15 h b = rw (heads-held e, done, opens_kind_lem e kind ∙ k, lt-leb l.opening.end tick (omega (arith, e.end)), lt-ltb stop start b)
+    window_15 h b = tick_rest e done given own kind tick k h ∙ rw (lt-ltb stop start b)
 
     pub window_rest : tick < head_at t head_end → start ≤ stop
         → first_of (window_refusals l kind tick start stop exceeds) given ≡ cond exceeds (refused 16) (accepted given)
     unfolding window_refusals first_of
-    window_rest h b = rw (heads-held e, done, opens_kind_lem e kind ∙ k, lt-leb l.opening.end tick (omega (arith, e.end)), le-ltb stop start b)
+    window_rest h b = tick_rest e done given own kind tick k h ∙ rw (le-ltb stop start b)
 
--- of next and last, whatever they give
+-- of next and last
 module _ {t : Tables} {l : Ledger} (e : Encodes t l) (done : finished l ≡ true) {A : Type 0} (given : A) (kind tick : ℕ) where
   pub neighbour_25 : opens (head_at t head_kinds) kind ≡ false → first_of (neighbour_refusals l kind tick) given ≡ refused 25
-  unfolding neighbour_refusals first_of
-  neighbour_25 k = rw (heads-held e, done, opens_kind_lem e kind ∙ k)
+  unfolding neighbour_refusals
+  neighbour_25 k = tick_25 e done given [] kind tick k
 
   module _ (k : opens (head_at t head_kinds) kind ≡ true) where
     pub neighbour_14 : head_at t head_end ≤ tick → first_of (neighbour_refusals l kind tick) given ≡ refused 14
-    unfolding neighbour_refusals first_of
-    neighbour_14 h = rw (heads-held e, done, opens_kind_lem e kind ∙ k, le-leb l.opening.end tick (omega (arith, e.end)))
+    unfolding neighbour_refusals
+    neighbour_14 h = tick_14 e done given [] kind tick k h
 
     pub neighbour_rest : tick < head_at t head_end → first_of (neighbour_refusals l kind tick) given ≡ accepted given
     unfolding neighbour_refusals first_of
-    neighbour_rest h = rw (heads-held e, done, opens_kind_lem e kind ∙ k, lt-leb l.opening.end tick (omega (arith, e.end)))
+    neighbour_rest h = tick_rest e done given [] kind tick k h
 
 -- ── what it answers to a number, and to write ──
 
@@ -143,6 +163,20 @@ module _ {A B : Type 0} {values : A → B} {part : A → List ℕ} where
 pub closed_refuses : {A : Type 0} {t : Tables} {asked : Ledger → Answer A} {Handed : Answer A → Type 0} {n : ℕ}
     → ((l : Ledger) → Encodes t l → finished l ≡ true → asked l ≡ refused n) → Handed (refused n) → ClosedBy t asked Handed
 closed_refuses {A} {Handed = Handed} refuses h = record { closed = λ l e s done. subst (λ (x : Answer A). Handed x) (sym (refuses l e done)) h }
+
+-- a read of a kind at a tick, whatever it gives: refused by the mask and the end that were read, or by what it refuses itself
+module _ {t : Tables} {A : Type 0} {Handed : Answer A → Type 0} (own : Ledger → List Refusal) (given : Ledger → A) {kind mask : ℕ} (tick : ℕ) {o : Bool}
+    (m : mask ≡ head_at t head_kinds) (is : Opens mask kind o) where
+  pub closed_25 : o ≡ false → Handed (refused 25) → ClosedBy t (λ l. first_of (tick_refusals l kind tick (own l)) (given l)) Handed
+  closed_25 q h = closed_refuses (λ l e done. tick_25 e done (given l) (own l) kind tick (mask_opens m is q)) h
+
+  module _ (q : o ≡ true) {end : ℕ} (at_end : end ≡ head_at t head_end) where
+    pub closed_14 : end ≤ tick → Handed (refused 14) → ClosedBy t (λ l. first_of (tick_refusals l kind tick (own l)) (given l)) Handed
+    closed_14 late h = closed_refuses (λ l e done. tick_14 e done (given l) (own l) kind tick (mask_opens m is q) (omega arith)) h
+
+    pub closed_own : {n : ℕ} → tick < end → ((l : Ledger) → first_of (own l) (given l) ≡ refused n) → Handed (refused n)
+        → ClosedBy t (λ l. first_of (tick_refusals l kind tick (own l)) (given l)) Handed
+    closed_own in_time refuses h = closed_refuses (λ l e done. tick_rest e done (given l) (own l) kind tick (mask_opens m is q) (omega arith) ∙ refuses l) h
 
 -- ── block by number ──
 

@@ -57,9 +57,9 @@ unique t l m e f = λ i. record { opening = opening i; now = now i; trees = tree
 
     pieces : l.now.pieces ≡ m.now.pieces
     pieces =
-        e.pieces
-        ∙ ap (map (λ link. shown t.store (piece_at t.pieces link))) (links_one t.pieces e.links f.links e.linked f.linked)
-        ∙ sym f.pieces
+        e.pieces.shows
+        ∙ ap (map (λ link. shown t.store (piece_at t.pieces link))) (links_one t.pieces e.pieces.links f.pieces.links e.pieces.linked f.pieces.linked)
+        ∙ sym f.pieces.shows
 
     now : l.now ≡ m.now
     now = λ i. record {

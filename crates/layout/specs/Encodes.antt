@@ -2,6 +2,7 @@
 use Rattle.std.specs.Prelude.{◌≡◌, false, List, map, ℕ, ◌+◌, ◌^◌, ◌≤◌, ◌<◌, length, take}
 use Rattle.std.proofs.Math.Option.{Option, none, some}
 use Rattle.lists.specs.Lists.{All}
+use Rattle.history.specs.Words.{Piece}
 use Rattle.history.specs.Lent.{too_short}
 use Rattle.history.specs.Tree as segment
 use Rattle.history.specs.Ledger.{Ledger}
@@ -35,6 +36,15 @@ abbrev pub TreesIn : Tables → Ledger → Option (List segment.Tree) → Type 0
 TreesIn t l none = Unordered t.blocks (length l.now.blocks)
 TreesIn t l (some trees) = Closed (tree_tables t) l.opening.end trees
 
+-- ── pieces ──
+
+-- The pieces are the rows of the links, in order; their bytes are inside the first so many of the store.
+pub record PiecesIn (table store : List ℕ) (used : ℕ) (pieces : List Piece) : Type 0 where
+  pub links : List ℕ
+  pub linked : Links table links
+  pub shows : pieces ≡ map (λ link. shown store (piece_at table link)) links
+  pub stored : All (λ link. (piece_at table link).offset + (piece_at table link).size ≤ used) links
+
 -- ── the whole ──
 
 pub record Encodes (t : Tables) (l : Ledger) : Type 0 where
@@ -53,11 +63,7 @@ pub record Encodes (t : Tables) (l : Ledger) : Type 0 where
   pub count : head_at t head_count ≡ length l.now.blocks
   pub blocks : l.now.blocks ≡ blocks_of t.store t.blocks (head_at t head_count)
   pub blocks_stored : Stored (head_at t head_used) t.blocks (head_at t head_count)
-  -- the pieces are the rows of the links, in order; their bytes are inside the used part
-  pub links : List ℕ
-  pub linked : Links t.pieces links
-  pub pieces : l.now.pieces ≡ map (λ link. shown t.store (piece_at t.pieces link)) links
-  pub pieces_stored : All (λ link. (piece_at t.pieces link).offset + (piece_at t.pieces link).size ≤ head_at t head_used) links
+  pub pieces : PiecesIn t.pieces t.store (head_at t head_used) l.now.pieces
   pub trees : TreesIn t l l.trees
   -- the calendar, or that there is none, in the front of the head
   pub calendar : CalendarIn t.blocks l.calendar

@@ -18,7 +18,8 @@ use Rattle.history.specs.Rules.{Apart}
 use Rattle.history.specs.Ledger.{Ledger, finished}
 use Rattle.history.specs.Sound.{Sound, SoundStretch}
 use Rattle.history.proofs.ByKind.{kind_known}
-use Rattle.tables.specs.Columns.{block_column, head_end, head_count}
+use Rattle.tables.specs.Masks.{opens}
+use Rattle.tables.specs.Columns.{block_column, head_kinds, head_end, head_count}
 use Rattle.block_table.specs.Blocks.{Room, first_cell_at, block_of_row, length_at, offset_at}
 use Rattle.block_table.proofs.Blocks.{blocks_at, blocks_key, bytes_length}
 use Rattle.segment_table.specs.Closed.{TreeOf}
@@ -32,7 +33,22 @@ use Rattle.layout.specs.Tables.{Tables, tables, head_at, tree_tables}
 use Rattle.layout.specs.Encodes.{Encodes}
 use Rattle.layout.proofs.Pieces.{used_fits}
 use Rattle.layout.proofs.Trees.{tree_known}
+use Rattle.layout.proofs.ReadLaws.{opens_kind_lem}
 use Rattle.live_blocks.specs.Live.{ClosedAt}
+
+-- ── an index at a tick ──
+
+-- the tables of a closed index, at a tick below its end
+pub closed_at : {pieces blocks store nodes entries : List ℕ} (kind : ℕ) {tick : ℕ} {l : Ledger} → Encodes (tables pieces blocks store nodes entries) l → Sound l → finished l ≡ true
+    → opens (block_column blocks 0 head_kinds) kind ≡ true → tick < block_column blocks 0 head_end → ClosedAt blocks store nodes entries kind tick l
+closed_at {pieces} kind e s done k h = record {
+  pieces = pieces;
+  encodes = e;
+  sound = s;
+  done = done;
+  opened = opens_kind_lem e kind ∙ k;
+  before_end = omega (arith, e.end);
+}
 
 -- ── the tree by the head ──
 
@@ -74,12 +90,13 @@ row_known t l e s k h =
 
 -- ── what the tree says of a tick ──
 
--- The numbers on the way down to a tick in a kind's tree are those of its live blocks of the kind, which share no cell; a neighbour found in the tables is one of them.
+-- The numbers on the way down to a tick in a kind's tree are those of its live blocks of the kind, each once, which share no cell; a neighbour found in the tables is one of them.
 pub record Living (blocks store nodes entries : List ℕ) (kind tick : ℕ) (bs : List Block) : Type 0 where
   pub tree : Tree
   pub rooted : Rooted blocks nodes entries kind (block_column blocks 0 head_end) tree
   pub list : List ℕ
   pub way : path tick 0 (block_column blocks 0 head_end) tree ≡ list
+  pub once : (k : ℕ) → count k list ≡ cond (live_of kind tick (block_at bs k)) 1 0
   pub met : (k : ℕ) → live_of kind tick (block_at bs k) ≡ true → Mem k list
   pub lives : (k : ℕ) → Mem k list → live_of kind tick (block_at bs k) ≡ true
   pub apart : Apart bs
@@ -108,6 +125,7 @@ living_in t l e s kind tick low before done =
       rooted = rw e.end (tree_rooted (tree_tables t) kind l.opening.end bs (tree_at k.trees kind) k.stood k.some_tick k.order k.keys);
       list = way;
       way = ap (λ (end : ℕ). path tick 0 end (tree_at k.trees kind)) e.end;
+      once = λ j. k.met tick j before;
       met = λ j h. listed way j (live_of kind tick (block_at bs j)) (k.met tick j before) h;
       lives = λ j m. unlisted way j (live_of kind tick (block_at bs j)) (k.met tick j before) m;
       apart = k.apart;

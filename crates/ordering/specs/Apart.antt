@@ -21,7 +21,7 @@ pub record Clash (blocks : List ℕ) (j k : ℕ) : Type 0 where
   pub one : HoldsAt blocks tick cell j
   pub other : HoldsAt blocks tick cell k
 
--- no two of the blocks 1 to n do: history's `Apart` (`unshared-apart`)
+-- no two of the blocks 1 to n do: history's `Apart` (`unshared_apart`)
 pub record Unshared (blocks : List ℕ) (n : ℕ) : Type 0 where
   pub apart : (j k : ℕ) → 0 < j → j ≤ n → 0 < k → k ≤ n → (j ≡ k → ⊥) → Clash blocks j k → ⊥
 

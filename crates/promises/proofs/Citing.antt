@@ -16,7 +16,9 @@ contracts = record {
   touching = record { free = λ κs a g. tt; says = λ κs a g x e h. h; whole = λ κs a g x e h. h };
   near = record { free = λ κs a g. tt; says = λ κs a g x e h. h; whole = λ κs a g x e h. h };
   read_cells = record { free = λ κs a g. tt; says = λ κs a g x e h. h; whole = λ κs a g x e h. h };
+  occupation = record { free = λ κs a g. tt; says = λ κs a g x e h. h; whole = λ κs a g x e h. h };
   clock = record { free = λ κs a g. tt; says = λ κs a g x e h. h; whole = λ κs a g x e h. h };
+  info = record { free = λ κs a g. tt; says = λ κs a g x e h. h; whole = λ κs a g x e h. h };
   serialize_to = record { free = λ κs a g. tt; says = λ κs a g x e h. h; whole = λ κs a g x e h. h };
   deserialize = record { free = λ κs a g. tt; says = λ κs a g x e h. h; whole = λ κs a g x e h. h };
   record_all = record { free = λ κs a g. tt; says = λ κs a g x e h. h; whole = λ κs a g x e h. h };
@@ -26,6 +28,7 @@ contracts = record {
 
 pub exported : Exported
 exported = record {
+  version = record { free = λ κs a g. tt; says = λ κs a g x e h. h; whole = λ κs a g x e h. h };
   length_for_lem = record { free = λ κs a g. tt; says = λ κs a g x e h. h; whole = λ κs a g x e h. h };
   opening = record { free = λ κs a g. tt; says = λ κs a g x e h. h; whole = λ κs a g x e h. h };
   record_op = record { free = λ κs a g. tt; says = λ κs a g x e h. h; whole = λ κs a g x e h. h };
@@ -40,9 +43,11 @@ exported = record {
   next = record { free = λ κs a g. tt; says = λ κs a g x e h. h; whole = λ κs a g x e h. h };
   last = record { free = λ κs a g. tt; says = λ κs a g x e h. h; whole = λ κs a g x e h. h };
   read_cells = record { free = λ κs a g. tt; says = λ κs a g x e h. h; whole = λ κs a g x e h. h };
+  occupation = record { free = λ κs a g. tt; says = λ κs a g x e h. h; whole = λ κs a g x e h. h };
   write = record { free = λ κs a g. tt; says = λ κs a g x e h. h; whole = λ κs a g x e h. h };
   load = record { free = λ κs a g. tt; says = λ κs a g x e h. h; whole = λ κs a g x e h. h };
   clock = record { free = λ κs a g. tt; says = λ κs a g x e h. h; whole = λ κs a g x e h. h };
+  info = record { free = λ κs a g. tt; says = λ κs a g x e h. h; whole = λ κs a g x e h. h };
 }
 
 pub exported_tested : ExportedTested
@@ -55,6 +60,8 @@ exported_tested = record {
   next = record { free = λ κs a g. tt; says = λ κs a g x e h. h; whole = λ κs a g x e h. h };
   last = record { free = λ κs a g. tt; says = λ κs a g x e h. h; whole = λ κs a g x e h. h };
   read_cells = record { free = λ κs a g. tt; says = λ κs a g x e h. h; whole = λ κs a g x e h. h };
+  occupation = record { free = λ κs a g. tt; says = λ κs a g x e h. h; whole = λ κs a g x e h. h };
   write = record { free = λ κs a g. tt; says = λ κs a g x e h. h; whole = λ κs a g x e h. h };
   clock = record { free = λ κs a g. tt; says = λ κs a g x e h. h; whole = λ κs a g x e h. h };
+  info = record { free = λ κs a g. tt; says = λ κs a g x e h. h; whole = λ κs a g x e h. h };
 }

@@ -7,13 +7,17 @@ use Rattle.std.specs.Borrow.{MutBor}
 use Rattle.layout.specs.Tables.{tables}
 use Rattle.layout.specs.Relations.{OpenedBy, RecordedBy, FinishedBy, InstalledBy, DaysInstalledBy, ClockGivenBy, FoundBy, TouchedBy, NextGivenBy, LastGivenBy, Fields, BlockGivenBy}
 use Rattle.history.specs.Results.{done}
+use Rattle.history.specs.Occupation.{Report}
 use Rattle.layout.specs.Files.{WrittenBy, LoadedBy}
 use Rattle.lengths.specs.Lengths.{length_for}
+use Rattle.info.specs.Info.{InfoGivenBy}
 use Rattle.index_record.specs.Calls.{operation}
 use Rattle.cells.specs.Answers.{CellsReadBy}
+use Rattle.occupation_read.specs.Answers.{OccupationReportedBy}
 use Rattle.record_all.specs.Many.{RecordedAll}
 use Rattle.find_all.specs.Many.{FoundAll}
-use Rattle.servercape.specs.Numbers.{ByNumber, ToldAs, changes, changes_of, counts, near, fields}
+use Rattle.servercape.specs.Numbers.{ByNumber, ToldAs, changes, changes_of, counts, near, fields, summary, report}
+use Rattle.servercape.specs.contracts.servercape_version as version-contract
 use Rattle.servercape.specs.contracts.servercape_length as length-contract
 use Rattle.servercape.specs.contracts.changes.servercape_open as open-contract
 use Rattle.servercape.specs.contracts.changes.servercape_record as record-contract
@@ -28,17 +32,24 @@ use Rattle.servercape.specs.contracts.reads.servercape_touching as touching-cont
 use Rattle.servercape.specs.contracts.reads.servercape_next as next-contract
 use Rattle.servercape.specs.contracts.reads.servercape_last as last-contract
 use Rattle.servercape.specs.contracts.reads.servercape_read_cells as cells-contract
+use Rattle.servercape.specs.contracts.reads.servercape_occupation as occupation-contract
 use Rattle.servercape.specs.contracts.files.servercape_write as write-contract
 use Rattle.servercape.specs.contracts.files.servercape_load as load-contract
 use Rattle.servercape.specs.contracts.reads.servercape_clock as clock-contract
+use Rattle.servercape.specs.contracts.reads.servercape_info as info-contract
 use Rattle.promises.specs.Relations.{Says, held, held_open, held_record, held_install, held_load, behind}
 
 -- the fields of a block, behind six `&mut`
 abbrev pub handed_out : {X : Type 0} → MutBor ℕ × (MutBor ℕ × (MutBor ℕ × (MutBor ℕ × (MutBor ℕ × (MutBor ℕ × X))))) → Fields
 handed_out a = fields a.0.now a.1.0.now a.1.1.0.now a.1.1.1.0.now a.1.1.1.1.0.now a.1.1.1.1.1.0.now
 
+-- a report, behind three `&mut`
+abbrev pub reported : {X : Type 0} → MutBor ℕ × (MutBor ℕ × (MutBor ℕ × X)) → Report
+reported a = report a.0.now a.1.0.now a.1.1.0.now
+
 -- arguments as in `Contracts`; `x` is the number
 pub record Exported : Type 0 where
+  pub version : Says version-contract.ended (version-contract.clauses w₀.𝓛 w₀.𝓜.mem w₀.𝓡.returns) (λ κs a g. r_top) (λ κs a g x e. r_last _) (λ κs a x e. x ≡ 2000)
   pub length_for_lem : Says length-contract.ended (length-contract.clauses w₀.𝓛 w₀.𝓜.mem w₀.𝓡.returns) (λ κs a g. r_top) (λ κs a g x e. r_last _) (λ κs a x e. x ≡ length_for a.0 a.1.0)
   pub opening : Says open-contract.ended (open-contract.clauses w₀.𝓛 w₀.𝓜.mem w₀.𝓡.returns) (λ κs a g. r_top) (λ κs a g x e. r_last _)
       (λ κs a x e. ByNumber (OpenedBy (behind a).0 (behind a).1.0.now (held_open a)
@@ -75,9 +86,14 @@ pub record Exported : Type 0 where
   pub read_cells : Says cells-contract.ended (cells-contract.clauses w₀.𝓛 w₀.𝓜.mem w₀.𝓡.returns) (λ κs a g. r_top) (λ κs a g x e. r_last _)
       (λ κs a x e. ByNumber (CellsReadBy (held a) (behind a).0 (behind a).1.0 (behind a).1.1.0 (behind a).1.1.1.0 (behind a).1.1.1.1.0.now (behind e).1.1.1.1.0.now
       (behind a).1.1.1.1.1.0.now (behind e).1.1.1.1.1.0.now) x tt tt)
+  pub occupation : Says occupation-contract.ended (occupation-contract.clauses w₀.𝓛 w₀.𝓜.mem w₀.𝓡.returns) (λ κs a g. r_top) (λ κs a g x e. r_last _)
+      (λ κs a x e. ByNumber (OccupationReportedBy (held a) (behind a).0 (behind a).1.0 (behind a).1.1.0.now) x
+      (reported (behind a).1.1.1) (reported (behind e).1.1.1))
   pub write : Says write-contract.ended (write-contract.clauses w₀.𝓛 w₀.𝓜.mem w₀.𝓡.returns) (λ κs a g. r_top) (λ κs a g x e. r_last _)
       (λ κs a x e. ByNumber (WrittenBy (held a) (behind a).0.now (behind e).0.now) x (behind a).1.0.now (behind e).1.0.now)
   pub load : Says load-contract.ended (load-contract.clauses w₀.𝓛 w₀.𝓜.mem w₀.𝓡.returns) (λ κs a g. r_top) (λ κs a g x e. r_last _)
       (λ κs a x e. ByNumber (LoadedBy (behind a).0.now (behind a).1.0 (held_load a) (held_load e)) x (behind a).1.1.0.now (behind e).1.1.0.now)
   pub clock : Says clock-contract.ended (clock-contract.clauses w₀.𝓛 w₀.𝓜.mem w₀.𝓡.returns) (λ κs a g. r_top) (λ κs a g x e. r_last _)
       (λ κs a x e. ByNumber (ClockGivenBy (held a) (behind a).0) x (behind a).1.0.now (behind e).1.0.now)
+  pub info : Says info-contract.ended (info-contract.clauses w₀.𝓛 w₀.𝓜.mem w₀.𝓡.returns) (λ κs a g. r_top) (λ κs a g x e. r_last _)
+      (λ κs a x e. ByNumber (InfoGivenBy (held a)) x (summary (behind a).0.now) (summary (behind e).0.now))

@@ -2,8 +2,12 @@
 use Rattle.history.specs.Law.{ValueAt, LawOfChange, LawOfCalls, LawOfFind, LawOfTouching, LawOfNeighbours}
 use Rattle.history.specs.HoursLaw.{LawOfHours}
 use Rattle.history.specs.DaysLaw.{LawOfDays}
+use Rattle.history.specs.SumsLaw.{LawOfSums}
+use Rattle.history.specs.OccupationLaw.{LawOfOccupation}
+use Rattle.history.specs.ChargesLaw.{LawOfCharges}
 use Rattle.history.specs.Boards.{MarkedBoards}
 use Rattle.history.specs.Requested.{RequestedBoards}
+use Rattle.history.specs.ReportsBoards.{ReportsBoards}
 use Rattle.apart_laws.specs.Law.{TheoremH}
 use Rattle.tree_room.specs.Room.{LawOfRoom}
 use Rattle.layout.specs.Law.{OneLedger, TablesExist, ShallowTrees}
@@ -13,6 +17,7 @@ use Rattle.index_test.specs.Law.{TestDecides}
 use Rattle.demand.specs.Theorem.{Demand3}
 use Rattle.demand.specs.Cells.{CellsShown}
 use Rattle.demand.specs.Touching.{TouchingShown}
+use Rattle.reports_law.specs.Occupation.{OccupationShown}
 use Rattle.record_all.specs.Law.{WrittenOut}
 use Rattle.index_tested.specs.Law.{TestKeeps, FinishCloses}
 use Rattle.sessions.specs.Law.{Sessions}
@@ -32,6 +37,7 @@ pub record OfCalls : Type 0 where
   pub demand_3 : Demand3
   pub shows-history : CellsShown
   pub touching_shows-history : TouchingShown
+  pub occupation_shows_history : OccupationShown
   pub records_written_out : WrittenOut
   pub contracts_are_relations : Contracts
   pub answers-told : Meanings
@@ -55,8 +61,12 @@ pub record OfHistory : Type 0 where
   pub law_of_neighbours : LawOfNeighbours
   pub law_of_hours : LawOfHours
   pub law_of_days : LawOfDays
+  pub law_of_sums : LawOfSums
+  pub law_of_occupation : LawOfOccupation
+  pub law_of_charges : LawOfCharges
   pub marked-boards : MarkedBoards
   pub requested_boards : RequestedBoards
+  pub report_boards : ReportsBoards
   pub theorem_h : TheoremH
   pub law_of_room : LawOfRoom
 

@@ -11,6 +11,8 @@ use Rattle.layout.specs.Tables.{Tables, tables, held as read_of}
 use Rattle.layout.specs.declared.Tables.{Tables as LentTables}
 use Rattle.layout.specs.Relations.{OpenedBy, RecordedBy, FinishedBy, InstalledBy, DaysInstalledBy, ClockGivenBy, FoundBy, TouchedBy, BlockGivenBy}
 use Rattle.layout.specs.Files.{WrittenBy, LoadedBy}
+use Rattle.info.specs.Info.{InfoGivenBy}
+use Rattle.info.specs.Answers.{summary_given}
 use Rattle.index_record.specs.Calls.{lent_operation, recorded}
 use Rattle.index_read.specs.Answers.{counts_given, fields_given}
 use Rattle.index.specs.Answers.{BytesGivenBy}
@@ -19,6 +21,8 @@ use Rattle.refusals.specs.Numbers.{answer_by}
 use Rattle.touching_read.specs.Answers.{near_told}
 use Rattle.touching.specs.Sides.{NearGivenBy}
 use Rattle.cells.specs.Answers.{CellsReadBy}
+use Rattle.occupation.specs.Windows.{report_given}
+use Rattle.occupation_read.specs.Answers.{OccupationReportedBy}
 use Rattle.record_all.specs.Many.{RecordedAll}
 use Rattle.find_all.specs.Many.{FoundAll}
 use Rattle.board_run.specs.Room.{PrintsBoard}
@@ -33,7 +37,9 @@ use Rattle.install.specs.contracts.install_days as days-contract
 use Rattle.touching.specs.contracts.touching as touching-contract
 use Rattle.touching.specs.contracts.near as near-contract
 use Rattle.cells.specs.contracts.read_cells as cells-contract
+use Rattle.reports.specs.contracts.occupation as occupation-contract
 use Rattle.clock.specs.contracts.clock as clock-contract
+use Rattle.info.specs.contracts.info as info-contract
 use Rattle.spacetime_file.specs.contracts.serialize_to as write-contract
 use Rattle.spacetime_file.specs.contracts.deserialize as load-contract
 use Rattle.record_all.specs.contracts.record_all as all-contract
@@ -120,8 +126,12 @@ pub record Contracts : Type 0 where
   pub read_cells : Says cells-contract.ended (cells-contract.clauses w₀.𝓛 w₀.𝓜.mem w₀.𝓡.returns) (λ κs a g. r_top) (λ κs a g x e. r_last _)
       (λ κs a x e. CellsReadBy (held_read a) a.1.0 a.1.1.0 a.1.1.1.0 a.1.1.1.1.0 a.1.1.1.1.1.0.now e.1.1.1.1.1.0.now
       a.1.1.1.1.1.1.0.now e.1.1.1.1.1.1.0.now (answer_by (λ _. tt) x))
+  pub occupation : Says occupation-contract.ended (occupation-contract.clauses w₀.𝓛 w₀.𝓜.mem w₀.𝓡.returns) (λ κs a g. r_top) (λ κs a g x e. r_last _)
+      (λ κs a x e. OccupationReportedBy (held_read a) a.1.0 a.1.1.0 a.1.1.1.0.now (answer_by report_given x))
   pub clock : Says clock-contract.ended (clock-contract.clauses w₀.𝓛 w₀.𝓜.mem w₀.𝓡.returns) (λ κs a g. r_top) (λ κs a g x e. r_last _)
       (λ κs a x e. ClockGivenBy (held_read a) a.1.0 (answer_by (λ n. n) x))
+  pub info : Says info-contract.ended (info-contract.clauses w₀.𝓛 w₀.𝓜.mem w₀.𝓡.returns) (λ κs a g. r_top) (λ κs a g x e. r_last _)
+      (λ κs a x e. InfoGivenBy (held_read a) (answer_by summary_given x))
   pub serialize_to : Says write-contract.ended (write-contract.clauses w₀.𝓛 w₀.𝓜.mem w₀.𝓡.returns) (λ κs a g. r_top) (λ κs a g x e. r_last _)
       (λ κs a x e. WrittenBy (held_read a) a.1.0.now e.1.0.now (answer_by (λ n. n) x))
   pub deserialize : Says load-contract.ended (load-contract.clauses w₀.𝓛 w₀.𝓜.mem w₀.𝓡.returns) (λ κs a g. r_top) (λ κs a g x e. r_last _)

@@ -45,6 +45,7 @@ pub fn of_calls()
     demand::demand_3();
     demand::shows_history();
     demand::touching_shows_history();
+    reports_law::occupation_shows_history();
     record_all::records_written_out();
     contracts_are_relations();
     answers_told();
@@ -74,8 +75,12 @@ pub fn of_history()
     history::law_of_neighbours();
     history::law_of_hours();
     history::law_of_days();
+    history::law_of_sums();
+    history::law_of_occupation();
+    history::law_of_charges();
     history::marked_boards();
     history::requested_boards();
+    history::report_boards();
     apart_laws::theorem_h();
     tree_room::law_of_room();
 }

@@ -28,10 +28,14 @@ use Rattle.cells_read.proofs.Reading.{cells_refused}
 use Rattle.file_write.specs.Answers.{WrittenClosed}
 use Rattle.clock.specs.Answers.{ClockTold}
 use Rattle.clock.proofs.Telling.{formed_told}
+use Rattle.info.specs.Info.{Summary}
+use Rattle.info.specs.Answers.{InfoTold, summary_given}
+use Rattle.info.specs.declared.Summary.{Summary as Given}
+use Rattle.info.proofs.Telling.{formed_told as summary_told}
 use Rattle.index_test.specs.declared.State.{State}
 use Rattle.index_tested.specs.Kept.{BlocksFit}
 use Rattle.index_tested.proofs.Keeping.{kept_formed, kept_not_formed, formed_fits}
-use Rattle.reads_tested.specs.Tested.{TouchedTested, NearTested, CellsTested, WrittenTested, ClockTested}
+use Rattle.reads_tested.specs.Tested.{TouchedTested, NearTested, CellsTested, WrittenTested, ClockTested, InfoTested}
 
 -- ── touching, next, last and read cells ──
 
@@ -100,3 +104,12 @@ module _ (s : State) {x : Result Unit Refusal} {blocks : List ℕ} {cell : ℕ} 
 
   pub clock_told : {u : Unit} {n : ℕ} → x ≡ Ok u → ClockTold blocks cell n → ClockTested s blocks cell (accepted n)
   clock_told q f = record { done = λ pieces store nodes entries k. formed_told (kept_formed s k (sym is ∙ q)) f }
+
+-- ── info ──
+
+module _ (s : State) {x : Result Unit Refusal} {pieces blocks nodes entries : List ℕ} (is : x ≡ when_formed s) where
+  pub info_refused : {e : Refusal} → x ≡ Err e → InfoTested s pieces blocks nodes entries (refused (number_of e))
+  info_refused {e} q = record { done = λ store k. record { read = kept_not_formed e s k (sym is ∙ q) (λ n. HandedOut (λ (y : Summary). y) (refused n)) out_refused } }
+
+  pub info_told : {u : Unit} {given : Given} → x ≡ Ok u → InfoTold pieces blocks nodes entries given → InfoTested s pieces blocks nodes entries (accepted (summary_given given))
+  info_told q f = record { done = λ store k. summary_told (kept_formed s k (sym is ∙ q)) f }

@@ -4,6 +4,7 @@ use Rattle.history.specs.Refusals.{Answer}
 use Rattle.layout.specs.Tables.{tables}
 use Rattle.layout.specs.Relations.{TouchedBy, Near, NextGivenBy, LastGivenBy, ClockGivenBy}
 use Rattle.layout.specs.Files.{WrittenBy}
+use Rattle.info.specs.Info.{Summary, InfoGivenBy}
 use Rattle.cells.specs.Answers.{CellsReadBy}
 use Rattle.segment_near.specs.declared.Side.{Side}
 use Rattle.segment_near.specs.declared.Side.TheVariants.{From, Before}
@@ -38,3 +39,7 @@ pub record WrittenTested (s : State) (blocks store nodes entries out out' : List
 -- `clock_tested`
 pub record ClockTested (s : State) (blocks : List ℕ) (cell : ℕ) (answer : Answer ℕ) : Type 0 where
   pub done : (pieces store nodes entries : List ℕ) → Kept s (tables pieces blocks store nodes entries) → ClockGivenBy (tables pieces blocks store nodes entries) cell answer
+
+-- `info_tested`
+pub record InfoTested (s : State) (pieces blocks nodes entries : List ℕ) (answer : Answer Summary) : Type 0 where
+  pub done : (store : List ℕ) → Kept s (tables pieces blocks store nodes entries) → InfoGivenBy (tables pieces blocks store nodes entries) answer

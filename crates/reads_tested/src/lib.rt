@@ -1,4 +1,4 @@
-// Touching, next, last, read cells, write and clock after one test: each takes the state that `index_test::test` found and does not test the tables again
+// Touching, next, last, read cells, write, clock and info after one test: each takes the state that `index_test::test` found and does not test the tables again
 // (crate `index_tested`). Where the state is false they end after few steps too: ways down are at most 66 long, a run of cells ends behind its start, and
 // write goes over no more blocks than the table has rows and puts a byte for each node.
 //
@@ -9,9 +9,11 @@
 
 ghost use Rattle.touching_read.specs.Answers.{near_told};
 ghost use Rattle.refusals.specs.Numbers.{answer_by};
-ghost use Rattle.reads_tested.specs.Tested.{TouchedTested, NearTested, CellsTested, WrittenTested, ClockTested};
+ghost use Rattle.info.specs.Answers.{summary_given};
+ghost use Rattle.reads_tested.specs.Tested.{TouchedTested, NearTested, CellsTested, WrittenTested, ClockTested, InfoTested};
 
 use index_test::State;
+use info::Summary;
 use refusals::Refusal;
 use segment_near::Side;
 use segment_table::lent::Closed;
@@ -99,4 +101,18 @@ pub fn clock_tested(state: State, blocks: &[u64], cell: u64) -> Result<u64, Refu
 {
     state.formed()?;
     Ok(clock::clock_formed(blocks, cell))
+}
+
+// What stands in an index, open or closed.
+pub fn info_tested(
+    state: State,
+    pieces: &[u64],
+    blocks: &[u64],
+    nodes: &[u64],
+    entries: &[u64],
+) -> Result<Summary, Refusal>
+    ensures { InfoTested state pieces.now blocks.now nodes.now entries.now (answer_by summary_given result) }
+{
+    state.formed()?;
+    Ok(info::info_formed(pieces, blocks, nodes, entries))
 }

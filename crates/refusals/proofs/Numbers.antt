@@ -6,7 +6,7 @@ use lib.Dec.{eqb}
 use Rattle.std.specs.Prelude.{Result, Ok, Err}
 use Rattle.history.specs.Refusals.{Answer, accepted, refused}
 use Rattle.refusals.specs.declared.Refusal.{Refusal}
-use Rattle.refusals.specs.declared.Refusal.TheVariants.{BadOpening, Malformed, Finished, NotFinished, NoCells, EndTooHigh, TickTooHigh, TickTooLow, PiecesFull, BlocksFull, StoreFull, NodesFull, EntriesFull, NoSuchTick, OutOfRange, ResultTooLong, FileEnds, FileKind, FilePresence, FileRoom, FileTree, FileBlocks, FileEntries, FileShared, KindNotOpened, CellClosed, BadCalendar, BadDays}
+use Rattle.refusals.specs.declared.Refusal.TheVariants.{BadOpening, Malformed, Finished, NotFinished, NoCells, EndTooHigh, TickTooHigh, TickTooLow, PiecesFull, BlocksFull, StoreFull, NodesFull, EntriesFull, NoSuchTick, OutOfRange, ResultTooLong, FileEnds, FileKind, FilePresence, FileRoom, FileTree, FileBlocks, FileEntries, FileShared, KindNotOpened, CellClosed, BadCalendar, BadDays, PriceTooHigh, ManyPlatforms, BadWindows}
 use Rattle.refusals.specs.Numbers.{number_of, answer_by}
 
 pub some_number : (e : Refusal) → number_of e ≡ 0 → ⊥
@@ -38,6 +38,9 @@ some_number KindNotOpened z = cc
 some_number CellClosed z = cc
 some_number BadCalendar z = cc
 some_number BadDays z = cc
+some_number PriceTooHigh z = cc
+some_number ManyPlatforms z = cc
+some_number BadWindows z = cc
 
 -- the refusal of a number
 abbrev named : ℕ → Refusal
@@ -68,7 +71,10 @@ named n =
     (cond (eqb n 24) FileShared
     (cond (eqb n 25) KindNotOpened
     (cond (eqb n 26) CellClosed
-    (cond (eqb n 27) BadCalendar BadDays))))))))))))))))))))))))))
+    (cond (eqb n 27) BadCalendar
+    (cond (eqb n 28) BadDays
+    (cond (eqb n 35) PriceTooHigh
+    (cond (eqb n 36) ManyPlatforms BadWindows)))))))))))))))))))))))))))))
 
 named_same : (e : Refusal) → named (number_of e) ≡ e
 named_same BadOpening = refl
@@ -99,6 +105,9 @@ named_same KindNotOpened = refl
 named_same CellClosed = refl
 named_same BadCalendar = refl
 named_same BadDays = refl
+named_same PriceTooHigh = refl
+named_same ManyPlatforms = refl
+named_same BadWindows = refl
 
 -- the result of an answer, where what it gives tells what was found
 abbrev pub result_back : {A B : Type 0} → (B → A) → Answer B → Result A Refusal

@@ -2,7 +2,7 @@
 use Rattle.std.specs.Prelude.{ℕ, Result, Ok, Err}
 use Rattle.history.specs.Refusals.{Answer, accepted, refused}
 use Rattle.refusals.specs.declared.Refusal.{Refusal}
-use Rattle.refusals.specs.declared.Refusal.TheVariants.{BadOpening, Malformed, Finished, NotFinished, NoCells, EndTooHigh, TickTooHigh, TickTooLow, PiecesFull, BlocksFull, StoreFull, NodesFull, EntriesFull, NoSuchTick, OutOfRange, ResultTooLong, FileEnds, FileKind, FilePresence, FileRoom, FileTree, FileBlocks, FileEntries, FileShared, KindNotOpened, CellClosed, BadCalendar, BadDays}
+use Rattle.refusals.specs.declared.Refusal.TheVariants.{BadOpening, Malformed, Finished, NotFinished, NoCells, EndTooHigh, TickTooHigh, TickTooLow, PiecesFull, BlocksFull, StoreFull, NodesFull, EntriesFull, NoSuchTick, OutOfRange, ResultTooLong, FileEnds, FileKind, FilePresence, FileRoom, FileTree, FileBlocks, FileEntries, FileShared, KindNotOpened, CellClosed, BadCalendar, BadDays, PriceTooHigh, ManyPlatforms, BadWindows}
 
 abbrev pub number_of : Refusal → ℕ
 number_of BadOpening = 1
@@ -33,6 +33,9 @@ number_of KindNotOpened = 25
 number_of CellClosed = 26
 number_of BadCalendar = 27
 number_of BadDays = 28
+number_of PriceTooHigh = 35
+number_of ManyPlatforms = 36
+number_of BadWindows = 37
 
 -- what a result means: accepted with what it gives, or refused with the number
 abbrev pub answer_by : {A B : Type 0} → (A → B) → Result A Refusal → Answer B

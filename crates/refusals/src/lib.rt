@@ -52,6 +52,11 @@ pub enum Refusal {
     // What install does not take.
     BadCalendar = 27,
     BadDays = 28,
+    // A charge at a price above 1,000,000, or for a window whose first and last cell are on different platforms.
+    PriceTooHigh = 35,
+    ManyPlatforms = 36,
+    // A report on no cell, on more than 256 windows, or on more than 2^32 cells.
+    BadWindows = 37,
 }
 
 impl From<Refusal> for u64 {

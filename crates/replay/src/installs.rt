@@ -1,6 +1,6 @@
 // Installing a calendar or a list of days, whose numbers stand in the pool.
-use crate::input::Reader;
 use crate::lent::Tables;
+use crate::listed;
 use crate::rows::{self, Call, Code, Row};
 
 const START: usize = 2;
@@ -9,22 +9,11 @@ const LENGTH: usize = 3;
 
 const COUNT: usize = 4;
 
-// The most numbers that tools/stored.py may lend.
-const NUMBERS: usize = 1300;
-
-// Reads so many of a row's numbers, one behind the other.
-fn fill(numbers: &mut [u64; NUMBERS], call: Call<'_>, many: usize) {
-    let mut list = Reader::new(call.part(START, LENGTH));
-    for number in numbers.iter_mut().take(many) {
-        *number = list.number();
-    }
-}
-
 // Installs what a row has: a list of days, or a calendar.
 pub fn play(t: &mut Tables<'_>, code: Code, call: Call<'_>, told: &mut Row) {
-    let mut numbers = [0; NUMBERS];
-    let many = rows::at_most(call.get(COUNT), NUMBERS);
-    fill(&mut numbers, call, many);
+    let mut numbers = [0; listed::MOST];
+    let many = rows::at_most(call.get(COUNT), listed::MOST);
+    listed::fill(&mut numbers, call.part(START, LENGTH), many);
     let lent = &numbers[..many];
     let pieces = &mut *t.pieces;
     let store = &mut *t.store;

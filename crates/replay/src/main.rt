@@ -4,8 +4,9 @@
 //   input          the list as it is read
 //   rows           the columns and codes of its rows, and what is told in them
 //   play           row after row
-//   update, installs, read, near   each call
+//   update, installs, read, near, report   each call
 //   damage         a file damaged at each place of a run
+//   listed         numbers that a call is lent
 //   lent           the tables that a call is lent, and whether it leaves them as it must
 //   alike          slices compared
 //   counts         what is counted, and what is lent
@@ -23,9 +24,11 @@ mod damage;
 mod input;
 mod installs;
 mod lent;
+mod listed;
 mod near;
 mod play;
 mod read;
+mod report;
 mod rows;
 mod update;
 

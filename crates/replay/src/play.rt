@@ -3,7 +3,7 @@ use crate::counts::Counts;
 use crate::input::Reader;
 use crate::lent::Tables;
 use crate::rows::{self, Call, Code, NoCode, Row};
-use crate::{damage, installs, near, read, update};
+use crate::{damage, installs, near, read, report, update};
 use std::io::Stdout;
 use touching::Side;
 
@@ -20,6 +20,7 @@ fn tell_read(t: &Tables<'_>, code: Code, call: Call<'_>, told: &mut Row) {
         Code::Touching => near::touching(t, call, told),
         Code::Next => near::near(t, Side::From, call, told),
         Code::Last => near::near(t, Side::Before, call, told),
+        Code::Occupation => report::occupation(t, call, told),
         _ => told.must(false),
     }
 }

@@ -48,6 +48,7 @@ pub enum Code {
     Last,
     Calendar,
     Days,
+    Occupation,
 }
 
 // A number that is no code.
@@ -78,6 +79,7 @@ impl TryFrom<u64> for Code {
             16 => Code::Last,
             17 => Code::Calendar,
             18 => Code::Days,
+            19 => Code::Occupation,
             _ => return Err(NoCode),
         };
         Ok(code)

@@ -18,6 +18,6 @@ pub record AllBounded (blocks : List ℕ) (end n : ℕ) : Type 0 where
   pub rows : (link : ℕ) → 0 < link → link ≤ n → Bounded blocks end link
 
 -- Of the tables of a closed index with bounded rows it is decided whether rule 24 holds: no two blocks share a cell at a tick. `Unshared` is history's `Apart`
--- (ordering, `unshared-apart`).
+-- (ordering, `unshared_apart`).
 pub record ClosedApart (t : Tables) (end n : ℕ) (r : Bool) : Type 0 where
   pub decides : (bs : List Block) → BlockRows t.blocks n bs → ClosedTrees t end bs → AllBounded t.blocks end n → Decides r (Unshared t.blocks n)

@@ -5,8 +5,11 @@ use Rattle.refusals.specs.declared.Refusal.{Refusal}
 use Rattle.refusals.specs.Numbers.{number_of}
 use Rattle.history.specs.Results.{Result, done, read, update, number as counted}
 use Rattle.history.specs.Refusals.{Answer, accepted, refused}
+use Rattle.history.specs.Occupation.{Report}
 use Rattle.layout.specs.Reads.{values_of}
 use Rattle.layout.specs.Relations.{Counts, Near, Fields}
+use Rattle.info.specs.Info.{Summary}
+use Rattle.servercape.specs.declared.answers.Info.{Info}
 
 -- 0 is accepted, and gives the values handed out; any other number is that refusal
 unfoldable pub answer_of : {A : Type 0} → (number : ℕ) → A → Answer A
@@ -69,3 +72,22 @@ near found number = record { found = found; number = number }
 abbrev pub fields : (kind first length created destroyed offset : ℕ) → Fields
 fields kind first length created destroyed offset =
     record { kind = kind; first = first; length = length; created = created; destroyed = destroyed; offset = offset }
+
+-- of nine numbers
+abbrev pub summary : Info → Summary
+summary i =
+    record {
+      state = i.state;
+      end_tick = i.end_tick;
+      last_tick = i.last_tick;
+      kinds = i.kinds;
+      pieces = i.pieces;
+      blocks = i.blocks;
+      store = i.store;
+      nodes = i.nodes;
+      entries = i.entries;
+    }
+
+-- a fraction reduced fully, and tenths of a percent
+abbrev pub report : (occupied cells tenths : ℕ) → Report
+report occupied cells tenths = record { fraction = record { part = occupied; whole = cells }; tenths = tenths }

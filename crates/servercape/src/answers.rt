@@ -1,10 +1,14 @@
 // A result for Rust and C: 0, and what it gives through `&mut`; or the number of its refusal, and every value as it was.
 ghost use Rattle.std.specs.Prelude.{◌≡◌};
 ghost use Rattle.index_read.specs.Answers.{counts_given, fields_given};
-ghost use Rattle.servercape.specs.Numbers.{Handed, told_by, flagged, counts, fields};
+ghost use Rattle.info.specs.Answers.{summary_given};
+ghost use Rattle.servercape.specs.Numbers.{Handed, told_by, flagged, counts, fields, summary, report};
+ghost use Rattle.occupation.specs.Windows.{report_given};
 
 use index::{Block, Found};
+use info::Summary;
 use refusals::Refusal;
+use reports::Report;
 
 // A result that gives nothing.
 pub fn done(answer: Result<(), Refusal>) -> u64
@@ -80,6 +84,65 @@ pub fn block(
             *created = row.created;
             *destroyed = row.destroyed;
             *offset = row.offset;
+            0
+        }
+        Err(refusal) => u64::from(refusal),
+    }
+}
+
+// What info gives, in numbers: the state is 1 open or 2 closed.
+#[repr(C)]
+#[derive(Clone, Copy)]
+pub struct Info {
+    pub state: u64,
+    pub end_tick: u64,
+    pub last_tick: u64,
+    pub kinds: u64,
+    pub pieces: u64,
+    pub blocks: u64,
+    pub store: u64,
+    pub nodes: u64,
+    pub entries: u64,
+}
+
+// What stands in an index.
+pub fn standing(answer: Result<Summary, Refusal>, info: &mut Info) -> u64
+    ensures { Handed summary_given answer result (summary info.old) (summary info.new) }
+{
+    match answer {
+        Ok(told) => {
+            *info = Info {
+                state: u64::from(told.state),
+                end_tick: told.end_tick,
+                last_tick: told.last_tick,
+                kinds: told.kinds,
+                pieces: told.pieces,
+                blocks: told.blocks,
+                store: told.store,
+                nodes: told.nodes,
+                entries: told.entries,
+            };
+            0
+        }
+        Err(refusal) => u64::from(refusal),
+    }
+}
+
+/// The occupation report: its fraction reduced, and tenths of a percent.
+pub fn report(
+    answer: Result<Report, Refusal>,
+    occupied: &mut u64,
+    cells: &mut u64,
+    tenths: &mut u64,
+) -> u64
+    ensures { Handed report_given answer result
+        (report occupied.old cells.old tenths.old) (report occupied.new cells.new tenths.new) }
+{
+    match answer {
+        Ok(reported) => {
+            *occupied = reported.fraction.part;
+            *cells = reported.fraction.whole;
+            *tenths = reported.tenths;
             0
         }
         Err(refusal) => u64::from(refusal),

@@ -1,9 +1,11 @@
-// The reads: block by number, find, touching, next, last, read cells and the clock.
+// The reads: block by number, find, touching, next, last, read cells, the occupation report, the clock and info.
 ghost use Rattle.layout.specs.Tables.{tables};
 ghost use Rattle.layout.specs.Relations.{ClockGivenBy, BlockGivenBy, FoundBy, TouchedBy, NextGivenBy, LastGivenBy};
 ghost use Rattle.cells.specs.Answers.{CellsReadBy};
+ghost use Rattle.occupation_read.specs.Answers.{OccupationReportedBy};
 ghost use Rattle.find_all.specs.Many.{FoundAll};
-ghost use Rattle.servercape.specs.Numbers.{ByNumber, counts, near, fields};
+ghost use Rattle.info.specs.Info.{InfoGivenBy};
+ghost use Rattle.servercape.specs.Numbers.{ByNumber, counts, near, fields, summary, report};
 
 use crate::answers;
 use layout::Tables;
@@ -211,6 +213,35 @@ pub fn servercape_read_cells(
     answers::done(read)
 }
 
+/// The occupation of some windows of a kind at a tick: occupied cells over all cells, reduced fully, and in tenths of a percent. Windows are pairs, start and end.
+pub fn servercape_occupation(
+    pieces: &[u64],
+    blocks: &[u64],
+    store: &[u8],
+    nodes: &[u64],
+    entries: &[u64],
+    kind: u8,
+    tick: u64,
+    windows: &[u64],
+    occupied: &mut u64,
+    cells: &mut u64,
+    tenths: &mut u64,
+) -> u64
+    ensures { ByNumber (OccupationReportedBy
+        (tables pieces.now blocks.now store.now nodes.now entries.now) kind tick windows.now) result
+        (report occupied.old cells.old tenths.old) (report occupied.new cells.new tenths.new) }
+{
+    let lent = Tables {
+        pieces,
+        blocks,
+        store,
+        nodes,
+        entries,
+    };
+    let reported = reports::occupation(lent, kind, tick, windows);
+    answers::report(reported, occupied, cells, tenths)
+}
+
 // The clock label of a cell, by the list of days of an open or a closed index.
 pub fn servercape_clock(
     pieces: &[u64],
@@ -234,4 +265,27 @@ pub fn servercape_clock(
     };
     let shown = clock::clock(lent, cell);
     answers::number(shown, label)
+}
+
+// What stands in an index, open or closed.
+pub fn servercape_info(
+    pieces: &[u64],
+    blocks: &[u64],
+    store: &[u8],
+    nodes: &[u64],
+    entries: &[u64],
+    info: &mut answers::Info,
+) -> u64
+    ensures { ByNumber (InfoGivenBy
+        (tables pieces.now blocks.now store.now nodes.now entries.now)) result
+        (summary info.old) (summary info.new) }
+{
+    let lent = Tables {
+        pieces,
+        blocks,
+        store,
+        nodes,
+        entries,
+    };
+    answers::standing(info::info(lent), info)
 }

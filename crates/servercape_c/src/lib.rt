@@ -1,5 +1,6 @@
 // The exports of the library for Rust and C: each calls the function of `servercape` of its name and has its clauses. C callers link the archive that this crate makes.
-// Callers link by name and pass numbers and slices one by one: so there is an export for each name, and no struct in any.
+// Callers link by name and pass numbers and slices one by one: so there is an export for each name. `servercape_info` alone hands out a struct, of nine numbers.
+// tools/bindings writes the parameters from bindings/servercape.h; contracts and bodies are written by hand.
 
 #![tactic(auto)]
 
@@ -10,10 +11,22 @@ ghost use Rattle.history.specs.Results.{done};
 ghost use Rattle.layout.specs.Files.{WrittenBy, LoadedBy};
 ghost use Rattle.index_record.specs.Calls.{operation};
 ghost use Rattle.cells.specs.Answers.{CellsReadBy};
+ghost use Rattle.occupation_read.specs.Answers.{OccupationReportedBy};
 ghost use Rattle.record_all.specs.Many.{RecordedAll};
 ghost use Rattle.find_all.specs.Many.{FoundAll};
 ghost use Rattle.lengths.specs.Lengths.{length_for};
-ghost use Rattle.servercape.specs.Numbers.{ByNumber, ToldAs, changes, changes_of, counts, near, fields};
+ghost use Rattle.info.specs.Info.{InfoGivenBy};
+ghost use Rattle.servercape.specs.Numbers.{ByNumber, ToldAs, changes, changes_of, counts, near, fields, summary, report};
+
+use servercape::answers::Info;
+
+// The version of the library that is linked, 0.2.0: major * 1,000,000 + minor * 1,000 + patch.
+#[unsafe(no_mangle)]
+pub extern "C" fn servercape_version() -> u64
+    ensures { result ≡ 2000 }
+{
+    servercape::servercape_version()
+}
 
 // How many numbers (of the store: bytes) to lend for so many rows: table 0 pieces, 1 blocks, 2 store, 3 nodes, 4 entries, 5 scratch. 0 where that is no
 // 64-bit number, and for any other table.
@@ -313,6 +326,30 @@ pub extern "C" fn servercape_read_cells(
     )
 }
 
+/// The occupation of some windows of a kind at a tick: occupied cells over all cells, reduced fully, and in tenths of a percent. Windows are pairs, start and end.
+#[unsafe(no_mangle)]
+pub extern "C" fn servercape_occupation(
+    pieces: &[u64],
+    blocks: &[u64],
+    store: &[u8],
+    nodes: &[u64],
+    entries: &[u64],
+    kind: u8,
+    tick: u64,
+    windows: &[u64],
+    occupied: &mut u64,
+    cells: &mut u64,
+    tenths: &mut u64,
+) -> u64
+    ensures { ByNumber (OccupationReportedBy
+        (tables pieces.now blocks.now store.now nodes.now entries.now) kind tick windows.now) result
+        (report occupied.old cells.old tenths.old) (report occupied.new cells.new tenths.new) }
+{
+    servercape::reads::servercape_occupation(
+        pieces, blocks, store, nodes, entries, kind, tick, windows, occupied, cells, tenths,
+    )
+}
+
 // Writes the file of a finished or loaded index from the start of `out` on: how many bytes.
 #[unsafe(no_mangle)]
 pub extern "C" fn servercape_write(
@@ -367,4 +404,21 @@ pub extern "C" fn servercape_clock(
         label.old label.new }
 {
     servercape::reads::servercape_clock(pieces, blocks, store, nodes, entries, cell, label)
+}
+
+// What stands in an index, open or closed.
+#[unsafe(no_mangle)]
+pub extern "C" fn servercape_info(
+    pieces: &[u64],
+    blocks: &[u64],
+    store: &[u8],
+    nodes: &[u64],
+    entries: &[u64],
+    info: &mut Info,
+) -> u64
+    ensures { ByNumber (InfoGivenBy
+        (tables pieces.now blocks.now store.now nodes.now entries.now)) result
+        (summary info.old) (summary info.new) }
+{
+    servercape::reads::servercape_info(pieces, blocks, store, nodes, entries, info)
 }

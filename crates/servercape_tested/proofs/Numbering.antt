@@ -17,16 +17,23 @@ use Rattle.index_read.specs.declared.Block.{Block}
 use Rattle.index_read.specs.declared.Found.{Found}
 use Rattle.std.specs.Prelude.{Option}
 use Rattle.touching_read.specs.Answers.{near_told}
+use Rattle.info.specs.Info.{Summary}
+use Rattle.info.specs.Answers.{summary_given}
+use Rattle.info.specs.declared.Summary.{Summary as Given}
 use Rattle.std.specs.Prelude.{Result}
 use Rattle.refusals.specs.declared.Refusal.{Refusal}
 use Rattle.refusals.specs.Numbers.{answer_by}
 use Rattle.index_tested.specs.Kept.{Kept}
 use Rattle.index_tested.specs.Tested.{RecordedTested, FoundTested, BlockTested}
 use Rattle.index_tested.proofs.Keeping.{test_keeps}
-use Rattle.reads_tested.specs.Tested.{TouchedTested, NextTested, LastTested, CellsTested, WrittenTested, ClockTested}
+use Rattle.reads_tested.specs.Tested.{TouchedTested, NextTested, LastTested, CellsTested, WrittenTested, ClockTested, InfoTested}
 use Rattle.servercape.specs.Numbers.{Handed, told_by, flagged, changes, near}
 use Rattle.servercape.proofs.Answering.{by_number, by_done, by_near, by_change}
-use Rattle.servercape_tested.specs.States.{StateTold, RecordedAs, FoundAs, BlockAs, TouchedAs, NextAs, LastAs, CellsAs, WrittenAs, ClockAs}
+use Rattle.servercape_tested.specs.States.{StateTold, RecordedAs, FoundAs, BlockAs, TouchedAs, NextAs, LastAs, CellsAs, WrittenAs, ClockAs, InfoAs, OccupationAs}
+use Rattle.history.specs.Occupation as history
+use Rattle.occupation.specs.declared.Report.{Report}
+use Rattle.occupation.specs.Windows.{report_given}
+use Rattle.reports_tested.specs.Tested.{OccupationTested}
 
 -- ── the state ──
 
@@ -80,6 +87,11 @@ module _ {n : ℕ} {s : State} (at : s ≡ state_numbered n) where
       → CellsTested s b st no e kind tick start stop bytes bytes' held held' (answer_by (λ _. tt) x) → m ≡ told_by x → CellsAs n b st no e kind tick start stop bytes bytes' held held' m
   cells_by x told h = record { done = λ p k. by_done x (told.done p (into at k)) h }
 
+  pub occupation_by : {b st no e : List ℕ} {kind tick : ℕ} {windows : List ℕ} {m : ℕ} {before after : history.Report} {x : Result Report Refusal}
+      → OccupationTested s b st no e kind tick windows (answer_by report_given x) → Handed report_given x m before after
+      → OccupationAs n b st no e kind tick windows m before after
+  occupation_by {x = x} told h = record { done = λ p k. by_number report_given x (told.done p (into at k)) h }
+
   pub write_by : {b st no e out out' : List ℕ} {m before after : ℕ} {x : Result ℕ Refusal}
       → WrittenTested s b st no e out out' (answer_by (λ i. i) x) → Handed (λ i. i) x m before after → WrittenAs n b st no e out out' m before after
   write_by {x = x} told h = record { done = λ p k. by_number (λ i. i) x (told.done p (into at k)) h }
@@ -87,3 +99,7 @@ module _ {n : ℕ} {s : State} (at : s ≡ state_numbered n) where
   pub clock_by : {b : List ℕ} {cell m before after : ℕ} {x : Result ℕ Refusal}
       → ClockTested s b cell (answer_by (λ i. i) x) → Handed (λ i. i) x m before after → ClockAs n b cell m before after
   clock_by {x = x} told h = record { done = λ p st no e k. by_number (λ i. i) x (told.done p st no e (into at k)) h }
+
+  pub info_by : {p b no e : List ℕ} {m : ℕ} {before after : Summary} {x : Result Given Refusal}
+      → InfoTested s p b no e (answer_by summary_given x) → Handed summary_given x m before after → InfoAs n p b no e m before after
+  info_by {x = x} told h = record { done = λ st k. by_number summary_given x (told.done st (into at k)) h }

@@ -2,10 +2,13 @@
 -- whatever tables are not lent. A record keeps the state true; a read changes no table. Definitions alone.
 use Rattle.std.specs.Prelude.{List, ℕ, ◌≤◌}
 use Rattle.history.specs.Words.{Operation}
+use Rattle.history.specs.Occupation.{Report}
 use Rattle.layout.specs.Tables.{Tables, tables}
 use Rattle.layout.specs.Relations.{RecordedBy, Counts, FoundBy, Fields, BlockGivenBy, TouchedBy, Near, NextGivenBy, LastGivenBy, ClockGivenBy}
 use Rattle.layout.specs.Files.{WrittenBy}
 use Rattle.cells.specs.Answers.{CellsReadBy}
+use Rattle.info.specs.Info.{Summary, InfoGivenBy}
+use Rattle.occupation_read.specs.Answers.{OccupationReportedBy}
 use Rattle.index_test.specs.States.{state_numbered}
 use Rattle.index_tested.specs.Kept.{Kept}
 use Rattle.servercape.specs.Numbers.{ByNumber, ToldAs, Changes, changes_of}
@@ -54,6 +57,11 @@ pub record CellsAs (state : ℕ) (blocks store nodes entries : List ℕ) (kind t
   pub done : (pieces : List ℕ) → Kept (state_numbered state) (tables pieces blocks store nodes entries)
       → ByNumber (CellsReadBy (tables pieces blocks store nodes entries) kind tick start stop bytes bytes' held held') r tt tt
 
+-- `servercape_occupation_tested`
+pub record OccupationAs (state : ℕ) (blocks store nodes entries : List ℕ) (kind tick : ℕ) (windows : List ℕ) (r : ℕ) (before after : Report) : Type 0 where
+  pub done : (pieces : List ℕ) → Kept (state_numbered state) (tables pieces blocks store nodes entries)
+      → ByNumber (OccupationReportedBy (tables pieces blocks store nodes entries) kind tick windows) r before after
+
 -- `servercape_write_tested`
 pub record WrittenAs (state : ℕ) (blocks store nodes entries out out' : List ℕ) (r before after : ℕ) : Type 0 where
   pub done : (pieces : List ℕ) → Kept (state_numbered state) (tables pieces blocks store nodes entries)
@@ -63,3 +71,8 @@ pub record WrittenAs (state : ℕ) (blocks store nodes entries out out' : List �
 pub record ClockAs (state : ℕ) (blocks : List ℕ) (cell r before after : ℕ) : Type 0 where
   pub done : (pieces store nodes entries : List ℕ) → Kept (state_numbered state) (tables pieces blocks store nodes entries)
       → ByNumber (ClockGivenBy (tables pieces blocks store nodes entries) cell) r before after
+
+-- `servercape_info_tested`
+pub record InfoAs (state : ℕ) (pieces blocks nodes entries : List ℕ) (r : ℕ) (before after : Summary) : Type 0 where
+  pub done : (store : List ℕ) → Kept (state_numbered state) (tables pieces blocks store nodes entries)
+      → ByNumber (InfoGivenBy (tables pieces blocks store nodes entries)) r before after

@@ -11,8 +11,8 @@
 ghost use Rattle.std.specs.Prelude.{length};
 ghost use Rattle.layout.specs.Tables.{tables};
 ghost use Rattle.index_record.specs.Calls.{operation};
-ghost use Rattle.servercape.specs.Numbers.{changes, counts, near, fields};
-ghost use Rattle.servercape_tested.specs.States.{StateTold, RecordedAs, FoundAs, BlockAs, TouchedAs, NextAs, LastAs, CellsAs, WrittenAs, ClockAs};
+ghost use Rattle.servercape.specs.Numbers.{changes, counts, near, fields, summary, report};
+ghost use Rattle.servercape_tested.specs.States.{StateTold, RecordedAs, FoundAs, BlockAs, TouchedAs, NextAs, LastAs, CellsAs, WrittenAs, ClockAs, InfoAs, OccupationAs};
 
 use index::Operation;
 use index_test::State;
@@ -262,6 +262,39 @@ pub fn servercape_read_cells_tested(
     answers::done(read)
 }
 
+/// The occupation of some windows of a kind at a tick: occupied cells over all cells, reduced fully, and in tenths of a percent.
+pub fn servercape_occupation_tested(
+    state: u64,
+    blocks: &[u64],
+    store: &[u8],
+    nodes: &[u64],
+    entries: &[u64],
+    kind: u8,
+    tick: u64,
+    windows: &[u64],
+    occupied: &mut u64,
+    cells: &mut u64,
+    tenths: &mut u64,
+) -> u64
+    ensures { OccupationAs state blocks.now store.now nodes.now entries.now kind tick windows.now result
+        (report occupied.old cells.old tenths.old) (report occupied.new cells.new tenths.new) }
+{
+    let closed = Closed {
+        blocks,
+        nodes,
+        entries,
+    };
+    let reported = reports_tested::occupation_tested(
+        State::from(state),
+        &closed,
+        store,
+        kind,
+        tick,
+        windows,
+    );
+    answers::report(reported, occupied, cells, tenths)
+}
+
 // Writes the file of a finished or loaded index from the start of `out` on: how many bytes.
 pub fn servercape_write_tested(
     state: u64,
@@ -290,4 +323,20 @@ pub fn servercape_clock_tested(state: u64, blocks: &[u64], cell: u64, label: &mu
 {
     let shown = reads_tested::clock_tested(State::from(state), blocks, cell);
     answers::number(shown, label)
+}
+
+// What stands in an index, open or closed.
+pub fn servercape_info_tested(
+    state: u64,
+    pieces: &[u64],
+    blocks: &[u64],
+    nodes: &[u64],
+    entries: &[u64],
+    info: &mut answers::Info,
+) -> u64
+    ensures { InfoAs state pieces.now blocks.now nodes.now entries.now result
+        (summary info.old) (summary info.new) }
+{
+    let told = reads_tested::info_tested(State::from(state), pieces, blocks, nodes, entries);
+    answers::standing(told, info)
 }

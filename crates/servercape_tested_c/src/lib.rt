@@ -1,13 +1,16 @@
 // The exports of the library for Rust and C, after one test: each calls the function of `servercape_tested` of its name and has its clauses. C callers link the archive that this crate makes.
-// Callers link by name and pass numbers and slices one by one: so there is an export for each name, and no struct in any.
+// Callers link by name and pass numbers and slices one by one: so there is an export for each name. `servercape_info_tested` alone hands out a struct, of nine numbers.
+// tools/bindings writes the parameters from bindings/servercape_tested.h; contracts and bodies are written by hand.
 
 #![tactic(auto)]
 
 ghost use Rattle.std.specs.Prelude.{length};
 ghost use Rattle.layout.specs.Tables.{tables};
 ghost use Rattle.index_record.specs.Calls.{operation};
-ghost use Rattle.servercape.specs.Numbers.{changes, counts, near, fields};
-ghost use Rattle.servercape_tested.specs.States.{StateTold, RecordedAs, FoundAs, BlockAs, TouchedAs, NextAs, LastAs, CellsAs, WrittenAs, ClockAs};
+ghost use Rattle.servercape.specs.Numbers.{changes, counts, near, fields, summary, report};
+ghost use Rattle.servercape_tested.specs.States.{StateTold, RecordedAs, FoundAs, BlockAs, TouchedAs, NextAs, LastAs, CellsAs, WrittenAs, ClockAs, InfoAs, OccupationAs};
+
+use servercape::answers::Info;
 
 // Tests the tables: 0 not well formed, 1 open, 2 closed.
 #[unsafe(no_mangle)]
@@ -180,6 +183,29 @@ pub extern "C" fn servercape_read_cells_tested(
     )
 }
 
+/// The occupation of some windows of a kind at a tick: occupied cells over all cells, reduced fully, and in tenths of a percent.
+#[unsafe(no_mangle)]
+pub extern "C" fn servercape_occupation_tested(
+    state: u64,
+    blocks: &[u64],
+    store: &[u8],
+    nodes: &[u64],
+    entries: &[u64],
+    kind: u8,
+    tick: u64,
+    windows: &[u64],
+    occupied: &mut u64,
+    cells: &mut u64,
+    tenths: &mut u64,
+) -> u64
+    ensures { OccupationAs state blocks.now store.now nodes.now entries.now kind tick windows.now result
+        (report occupied.old cells.old tenths.old) (report occupied.new cells.new tenths.new) }
+{
+    servercape_tested::servercape_occupation_tested(
+        state, blocks, store, nodes, entries, kind, tick, windows, occupied, cells, tenths,
+    )
+}
+
 // Writes the file of a finished or loaded index from the start of `out` on: how many bytes.
 #[unsafe(no_mangle)]
 pub extern "C" fn servercape_write_tested(
@@ -208,4 +234,20 @@ pub extern "C" fn servercape_clock_tested(
     ensures { ClockAs state blocks.now cell result label.old label.new }
 {
     servercape_tested::servercape_clock_tested(state, blocks, cell, label)
+}
+
+// What stands in an index, open or closed.
+#[unsafe(no_mangle)]
+pub extern "C" fn servercape_info_tested(
+    state: u64,
+    pieces: &[u64],
+    blocks: &[u64],
+    nodes: &[u64],
+    entries: &[u64],
+    info: &mut Info,
+) -> u64
+    ensures { InfoAs state pieces.now blocks.now nodes.now entries.now result
+        (summary info.old) (summary info.new) }
+{
+    servercape_tested::servercape_info_tested(state, pieces, blocks, nodes, entries, info)
 }

@@ -9,7 +9,7 @@ use Rattle.layout.specs.Tables.{Tables, tables}
 use Rattle.layout.specs.Relations.{RecordedBy}
 use Rattle.index_test.specs.declared.State.{State}
 use Rattle.index_tested.specs.Kept.{Kept}
-use Rattle.sessions.specs.Law.{Asked, recorded, found, block, carried, touched, next, last, shown, written, clocked, Run, run_none, run_more, Public, RecordStep, Tested, Sessions}
+use Rattle.sessions.specs.Law.{Asked, recorded, found, block, carried, touched, next, last, shown, written, clocked, informed, Run, run_none, run_more, Public, RecordStep, Tested, Sessions}
 
 record_step : (s : State) (scratch : ℕ) (o : Operation) (a : Answer Result) (t t' : Tables) → Kept s t → RecordStep s scratch o a t t' → RecordedBy scratch o t t' a × Kept s t'
 record_step s scratch o a t t' k d =
@@ -33,6 +33,7 @@ step s (last kind tick cell a) t t' k d = ((d.0.done t.pieces t.store k, d.1), s
 step s (shown kind tick start stop bytes bytes' held held' a) t t' k d = ((d.0.done t.pieces k, d.1), stays s t t' d.1 k)
 step s (written out out' a) t t' k d = ((d.0.done t.pieces k, d.1), stays s t t' d.1 k)
 step s (clocked cell a) t t' k d = ((d.0.done t.pieces t.store t.nodes t.entries k, d.1), stays s t t' d.1 k)
+step s (informed a) t t' k d = ((d.0.done t.store k, d.1), stays s t t' d.1 k)
 
 runs : (s : State) {t t' : Tables} {ks : List Asked} → Kept s t → Run (Tested s) t ks t' → Run Public t ks t' × Kept s t'
 runs s k run_none = (run_none, k)

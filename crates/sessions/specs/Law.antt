@@ -8,10 +8,11 @@ use Rattle.layout.specs.Relations.{RecordedBy, Counts, FoundBy, Fields, BlockGiv
 use Rattle.layout.specs.Files.{WrittenBy}
 use Rattle.index.specs.Answers.{BytesGivenBy}
 use Rattle.cells.specs.Answers.{CellsReadBy}
+use Rattle.info.specs.Info.{Summary, InfoGivenBy}
 use Rattle.index_test.specs.declared.State.{State}
 use Rattle.index_tested.specs.Kept.{Kept}
 use Rattle.index_tested.specs.Tested.{RecordedTested, FoundTested, BlockTested, BytesTested}
-use Rattle.reads_tested.specs.Tested.{TouchedTested, NextTested, LastTested, CellsTested, WrittenTested, ClockTested}
+use Rattle.reads_tested.specs.Tested.{TouchedTested, NextTested, LastTested, CellsTested, WrittenTested, ClockTested, InfoTested}
 
 -- ── calls ──
 
@@ -27,6 +28,7 @@ pub data Asked : Type 0 where
   shown : (kind tick start stop : ℕ) (bytes bytes' held held' : List ℕ) (answer : Answer Unit) → Asked
   written : (out out' : List ℕ) (answer : Answer ℕ) → Asked
   clocked : (cell : ℕ) (answer : Answer ℕ) → Asked
+  informed : (answer : Answer Summary) → Asked
 
 -- calls one after the other: each finds the tables as the one before left them
 pub data Run (Does : Asked → Tables → Tables → Type 0) : Tables → List Asked → Tables → Type 0 where
@@ -47,6 +49,7 @@ Public (last kind tick cell a) t t' = LastGivenBy t kind tick cell a × (t' ≡ 
 Public (shown kind tick start stop bytes bytes' held held' a) t t' = CellsReadBy t kind tick start stop bytes bytes' held held' a × (t' ≡ t)
 Public (written out out' a) t t' = WrittenBy t out out' a × (t' ≡ t)
 Public (clocked cell a) t t' = ClockGivenBy t cell a × (t' ≡ t)
+Public (informed a) t t' = InfoGivenBy t a × (t' ≡ t)
 
 -- ── the calls with a state, which do not ──
 
@@ -68,6 +71,7 @@ Tested s (shown kind tick start stop bytes bytes' held held' a) t t' =
     CellsTested s t.blocks t.store t.nodes t.entries kind tick start stop bytes bytes' held held' a × (t' ≡ t)
 Tested s (written out out' a) t t' = WrittenTested s t.blocks t.store t.nodes t.entries out out' a × (t' ≡ t)
 Tested s (clocked cell a) t t' = ClockTested s t.blocks cell a × (t' ≡ t)
+Tested s (informed a) t t' = InfoTested s t.pieces t.blocks t.nodes t.entries a × (t' ≡ t)
 
 -- ── the theorem ──
 

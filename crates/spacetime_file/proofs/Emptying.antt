@@ -9,7 +9,7 @@ use lib.ListN.{length, take, drop}
 use borrow.Author.Tests.{le-ltb}
 use Rattle.lists.specs.Lists.{All, all_nil, all_cons, here, has, count_from, sum_of}
 use Rattle.lists.proofs.Lists.{all_mem}
-use Rattle.lists.proofs.Numbers.{lt_or_le, decided}
+use Rattle.lists.proofs.Numbers.{lt_or_le, bool_cases, decided}
 use Rattle.lists.proofs.Counting.{has_decides, all_count_from}
 use Rattle.history.specs.Words.{Block, all_kinds, only_kind, own_life}
 use Rattle.history.specs.Lent.{Lent, node_rows}
@@ -25,10 +25,10 @@ use Rattle.history.proofs.RulesLaws.{numbered_decides, rule23_decides}
 use Rattle.history.proofs.TreeCounts.{entry_count_in}
 use Rattle.history.proofs.FileReads.{number_cut}
 use Rattle.history.proofs.FileRenumbered.{map_tree_same}
-use Rattle.history.proofs.FileRules.{rule20_decides}
+use Rattle.history.proofs.FileRules.{rule20_decides, Rule20}
 use Rattle.history.proofs.FileIntervals.{tree_from-nodes_of}
 use Rattle.history.proofs.FileKept.{entered_lives, written-rule21}
-use Rattle.history.proofs.FileLoad.{load_fault, load_blocks, file_some, file_none, read_written}
+use Rattle.history.proofs.FileLoad.{load_fault, load_room, load_blocks, file_some, file_none, read_written}
 use Rattle.history.proofs.FileReloaded.{index_fits}
 use Rattle.history.proofs.FileSound.{file_only}
 use Rattle.layout.specs.Tables.{Tables, lengths_of}
@@ -156,24 +156,41 @@ module _ {t : Tables} {l : Ledger} {kind : ℕ} (c : KindIn t l kind) (lifeless 
         bytes = omega arith;
       })
 
+  lifeless_full : (n : Lent) → node_rows n < node_count tree → rule20 n said ≡ false
+  lifeless_full n h =
+      ⊎_elim
+      (λ e.
+      let room : Rule20 n said = (rule20_decides n said).yes e in
+      let nodes : node_count tree ≤ node_rows n = rw (tree_from-nodes_of 0 l.opening.end tree) at room.nodes in
+      absurd (omega arith))
+      (λ e. e) (bool_cases (rule20 n said))
+
   no_block_lem : (e : ℕ) → rule22 e [] ≡ false
   unfolding rule22
   no_block_lem e = refl
 
-  -- 22
-  lifeless_load : (n : Lent) → node_count tree ≤ node_rows n → (file : List ℕ) (at : ℕ) → take (length (file_part l kind)) (drop at file) ≡ file_part l kind
-      → load n file at ≡ fault 22
-  lifeless_load n room file at e =
-      let part = file_of kind l.opening.end bs tree in
-      let same : take (length part) (drop at file) ≡ part = rw part_is at e in
-      let s = stands_at file part at (file_bytes_lem kind l.opening.end bs tree c.can.rooted) same in
-      let read : read_file file at ≡ got said (at + length part) =
-      subst (λ (p : ℕ). read_file file p ≡ got said (p + length part)) s.place
-      (subst (λ (f : List ℕ). read_file f (length s.before) ≡ got said (length s.before + length part)) (sym s.whole)
-      (read_written kind l.opening.end bs tree c.can.rooted (index_fits kind l.opening.end bs tree c.can) s.before s.behind
-      ∙ ap (λ (f : File). got f (length s.before + length part)) says)) in
-      load_blocks n file at said _ read (lifeless_room n room) (rw (same_tree (place_in (written bs tree))) at (written-rule21 kind l.opening.end bs tree c.can))
-      (no_block_lem _)
+  module _ (n : Lent) (file : List ℕ) (at : ℕ) (e : take (length (file_part l kind)) (drop at file) ≡ file_part l kind) where
+    abbrev part : List ℕ
+    part = file_of kind l.opening.end bs tree
+
+    lifeless_read : read_file file at ≡ got said (at + length part)
+    lifeless_read =
+        let same : take (length part) (drop at file) ≡ part = rw part_is at e in
+        let s = stands_at file part at (file_bytes_lem kind l.opening.end bs tree c.can.rooted) same in
+        subst (λ (p : ℕ). read_file file p ≡ got said (p + length part)) s.place
+        (subst (λ (f : List ℕ). read_file f (length s.before) ≡ got said (length s.before + length part)) (sym s.whole)
+        (read_written kind l.opening.end bs tree c.can.rooted (index_fits kind l.opening.end bs tree c.can) s.before s.behind
+        ∙ ap (λ (f : File). got f (length s.before + length part)) says))
+
+    -- 20
+    lifeless_no_room : node_rows n < node_count tree → load n file at ≡ fault 20
+    lifeless_no_room h = load_room n file at said _ lifeless_read (lifeless_full n h)
+
+    -- 22
+    lifeless_load : node_count tree ≤ node_rows n → load n file at ≡ fault 22
+    lifeless_load room =
+        load_blocks n file at said _ lifeless_read (lifeless_room n room) (rw (same_tree (place_in (written bs tree))) at (written-rule21 kind l.opening.end bs tree c.can))
+        (no_block_lem _)
 
 -- ── all of it ──
 
@@ -185,5 +202,7 @@ empty_files = record {
   at_end = λ file at t t' answer past d. fault_answered 17 (load_fault (lengths_of t) file at 17 (read_end file at past)) d;
   lifeless = λ t l slices c kind some_block none. lifeless_file (kind_in slices c kind some_block) none;
   refused_22 = λ t l slices c kind some_block none file at same u u' answer room d.
-      fault_answered 22 (lifeless_load (kind_in slices c kind some_block) none (lengths_of u) room file at same) d;
+      fault_answered 22 (lifeless_load (kind_in slices c kind some_block) none (lengths_of u) file at same room) d;
+  refused_20 = λ t l slices c kind some_block none file at same u u' answer full d.
+      fault_answered 20 (lifeless_no_room (kind_in slices c kind some_block) none (lengths_of u) file at same full) d;
 }

@@ -1,4 +1,6 @@
 pub mod Closed
+pub mod Numbering
+pub mod Touched
 pub mod Alike
 pub mod Saving
 pub mod Reached

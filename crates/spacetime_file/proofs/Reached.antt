@@ -11,17 +11,18 @@ use Rattle.lists.proofs.Lists.{all_append, all_at, all_map, all_of_map, mem_plac
 use Rattle.history.specs.Words.{Operation, Piece, Block, HoldsCell, ends, stretch_of, below, inside, above, piece_of, block_of}
 use Rattle.history.specs.Lent.{Lent, row_width, entry_width, block_head, node_head, entry_head, block_rows, node_rows, entry_rows}
 use Rattle.history.specs.Tree.{no_block, node_count, entry_count}
-use Rattle.history.specs.Ledger.{Opening, Ledger, with_now, opened, finished, is_read, read_by, update_by, record_by, settled, finish_by, install_by, install_days_by}
+use Rattle.history.specs.Ledger.{Opening, Moment, Ledger, opened, finished, is_read, read_by, update_by, record_by, settled, finish_by}
 use Rattle.history.specs.Reads.{trees_or_none, tree_in, block_by}
 use Rattle.history.specs.Results.{Result}
-use Rattle.history.specs.Refusals.{Answer, accepted, refused, open_answer, record_answer, finish_answer, install_answer, days_answer}
-use Rattle.history.specs.Calls.{Call, record_call, finish_call, calendar_call, days_call, answer_to, accepted_by, leaves, after, after_all, noted, history}
+use Rattle.history.specs.Refusals.{accepted, open_answer, record_answer}
+use Rattle.history.specs.Calls.{Call, after_all, history}
 use Rattle.history.specs.Law.{Faithful}
 use Rattle.history.specs.Sound.{none_of, Sound}
 use Rattle.history.specs.File.{saved_ledger}
 use Rattle.history.proofs.Parts.{all_inside, all_updated}
 use Rattle.history.proofs.Passing.{taken}
 use Rattle.history.proofs.EveryList.{the_law, every_list, opening_kept}
+use Rattle.history.proofs.Reaching.{KeptByCalls, every_board}
 use Rattle.history.proofs.FileReloaded.{room_written}
 use Rattle.history.proofs.FileSound.{sum_at}
 use Rattle.layout.specs.Tables.{Tables, lengths_of}
@@ -30,9 +31,12 @@ use Rattle.layout.specs.Relations.{opening_of}
 use Rattle.layout.proofs.Lengths.{heads_fit}
 use Rattle.layout.proofs.Opening.{open_accepted}
 use Rattle.demand.proofs.Runs.{finished_encodes}
+use Rattle.demand.proofs.Touched.{list_shows, touching_shows}
 use Rattle.cells.proofs.History.{cells_show_history}
 use Rattle.spacetime_file.specs.Law.{Slices, ClosedIn, Lives, Reloads, RoomFor, AsLong, LoadedAgain, SavedAndLoaded}
 use Rattle.spacetime_file.proofs.Closed.{KindIn, kind_in, trees_sound}
+use Rattle.spacetime_file.proofs.Numbering.{one-opened}
+use Rattle.spacetime_file.proofs.Touched.{list_shows_again}
 use Rattle.spacetime_file.proofs.Alike.{alike, cells_back}
 use Rattle.history.proofs.Cutting.{cells_in, block_cells, cells_append, block_cells_append, destroyed_cells, parts_cells}
 use Rattle.history.proofs.ByKind.{some-owned}
@@ -52,66 +56,67 @@ record Booked (end : ℕ) (h : List Operation) (kind : ℕ) : Type 0 where
 booked_on : {end kind : ℕ} {h : List Operation} (o : Operation) → Booked end h kind → Booked end (o ∷ h) kind
 booked_on o b = record { call = b.call; member = there b.member; same_kind = b.same_kind; some_cell = b.some_cell; before_end = b.before_end }
 
-record Kept (l : Ledger) (h : List Operation) : Type 0 where
+record Kept (a : Opening) (m : Moment) (h : List Operation) : Type 0 where
   -- every cell of a block or a piece has its own byte in the store;
-  stored : block_cells l.now.blocks + cells_in l.now.pieces ≡ length l.now.store
+  stored : block_cells m.blocks + cells_in m.pieces ≡ length m.store
   -- and a call of its kind brought it
-  pieces : All (λ (p : Piece). Booked l.opening.end h p.kind) l.now.pieces
-  blocks : All (λ (b : Block). Booked l.opening.end h b.kind) l.now.blocks
+  pieces : All (λ (p : Piece). Booked a.end h p.kind) m.pieces
+  blocks : All (λ (b : Block). Booked a.end h b.kind) m.blocks
 
-opened_kept : (a : Opening) → Kept (opened a) []
-unfolding opened sum_of
-opened_kept a = record { stored = refl; pieces = all_nil; blocks = all_nil }
-
-update_stored : (l : Ledger) (h : List Operation) (o : Operation) → Kept l h
-    → block_cells (update_by l.now o).blocks + cells_in (update_by l.now o).pieces ≡ length (update_by l.now o).store
+update_stored : (a : Opening) (m : Moment) (h : List Operation) (o : Operation) → Kept a m h
+    → block_cells (update_by m o).blocks + cells_in (update_by m o).pieces ≡ length (update_by m o).store
 unfolding update_by stretch_of sum_of
-update_stored l h o k =
+update_stored a m h o k =
     let f = (stretch_of o).first in
     let e = ends (stretch_of o) in
-    let ps = l.now.pieces in
-    let blocks = block_cells_append l.now.blocks (map (block_of o.tick) (inside f e ps)) ∙ ap (λ (n : ℕ). block_cells l.now.blocks + n) (destroyed_cells o.tick (inside f e ps)) in
+    let ps = m.pieces in
+    let blocks = block_cells_append m.blocks (map (block_of o.tick) (inside f e ps)) ∙ ap (λ (n : ℕ). block_cells m.blocks + n) (destroyed_cells o.tick (inside f e ps)) in
     let pieces = cells_append (below f ps) (piece_of o ∷ above e ps) in
     let all = parts_cells f e (omega arith) ps in
-    rw (blocks, pieces, length-append l.now.store o.bytes) (sums _ _ _ _ _ _ _ all k.stored)
+    rw (blocks, pieces, length-append m.store o.bytes) (sums _ _ _ _ _ _ _ all k.stored)
   where
     sums : (b i x s a all m : ℕ) → x + (i + a) ≡ all → b + all ≡ m → (b + i) + (x + (s + a)) ≡ m + s
     sums b i x s a all m p q = omega arith
 
-module _ (l : Ledger) (h : List Operation) (o : Operation) (k : Kept l h) where
+module _ (a : Opening) (m : Moment) (h : List Operation) (o : Operation) (k : Kept a m h) where
   -- a part of a piece is of the piece's kind
-  part_booked : (p q : Piece) → q.kind ≡ p.kind → Booked l.opening.end h p.kind → Booked l.opening.end (o ∷ h) q.kind
+  part_booked : (p q : Piece) → q.kind ≡ p.kind → Booked a.end h p.kind → Booked a.end (o ∷ h) q.kind
   part_booked p q same b = rw same (booked_on o b)
 
-  older : {A : Type 0} {kind_of : A → ℕ} {xs : List A} → All (λ (x : A). Booked l.opening.end h (kind_of x)) xs → All (λ (x : A). Booked l.opening.end (o ∷ h) (kind_of x)) xs
+  older : {A : Type 0} {kind_of : A → ℕ} {xs : List A} → All (λ (x : A). Booked a.end h (kind_of x)) xs → All (λ (x : A). Booked a.end (o ∷ h) (kind_of x)) xs
   older bs = all_map (λ x b. booked_on o b) bs
 
-  update_pieces : Booked l.opening.end (o ∷ h) o.kind → All (λ (p : Piece). Booked l.opening.end (o ∷ h) p.kind) (update_by l.now o).pieces
+  update_pieces : Booked a.end (o ∷ h) o.kind → All (λ (p : Piece). Booked a.end (o ∷ h) p.kind) (update_by m o).pieces
   unfolding update_by
   update_pieces own =
-      all_updated o l.now.pieces (λ (p : Piece). Booked l.opening.end h p.kind) (λ (p : Piece). Booked l.opening.end (o ∷ h) p.kind)
+      all_updated o m.pieces (λ (p : Piece). Booked a.end h p.kind) (λ (p : Piece). Booked a.end (o ∷ h) p.kind)
       (λ from to p q part b. part_booked p q part.same_kind b) own k.pieces
 
-  update_blocks : All (λ (b : Block). Booked l.opening.end (o ∷ h) b.kind) (update_by l.now o).blocks
+  update_blocks : All (λ (b : Block). Booked a.end (o ∷ h) b.kind) (update_by m o).blocks
   unfolding update_by
   update_blocks =
       all_append (older k.blocks)
       (all_of_map (block_of o.tick)
-      (all_inside (λ (p : Piece). Booked l.opening.end h p.kind) (λ (p : Piece). Booked l.opening.end (o ∷ h) p.kind) (stretch_of o).first (ends (stretch_of o))
-      l.now.pieces (λ p q part b. part_booked p q part.same_kind b) k.pieces))
+      (all_inside (λ (p : Piece). Booked a.end h p.kind) (λ (p : Piece). Booked a.end (o ∷ h) p.kind) (stretch_of o).first (ends (stretch_of o))
+      m.pieces (λ p q part b. part_booked p q part.same_kind b) k.pieces))
 
-record_kept : (l : Ledger) (h : List Operation) (scratch : ℕ) (o : Operation) {r : Result} → record_answer l scratch o ≡ accepted r → Kept l h → Kept (record_by l o) (o ∷ h)
+record_kept : (l : Ledger) (h : List Operation) (scratch : ℕ) (o : Operation) {r : Result} → record_answer l scratch o ≡ accepted r → Kept l.opening l.now h
+    → Kept l.opening (record_by l o).now (o ∷ h)
 unfolding record_by read_by
 record_kept l h scratch o e k = go (is_read l.now o)
   where
     own : Booked l.opening.end (o ∷ h) o.kind
     own = let z = taken l scratch o e in record { call = o; member = here refl; same_kind = refl; some_cell = z.some_cell; before_end = z.before_end }
 
-    go : (r : Bool) → Kept (with_now (cond r (read_by l.now o) (update_by l.now o)) l) (o ∷ h)
-    go true = record { stored = k.stored; pieces = older l h o k k.pieces; blocks = older l h o k k.blocks }
-    go false = record { stored = update_stored l h o k; pieces = update_pieces l h o k own; blocks = update_blocks l h o k }
+    go : (r : Bool) → Kept l.opening (cond r (read_by l.now o) (update_by l.now o)) (o ∷ h)
+    go true = record { stored = k.stored; pieces = older l.opening l.now h o k k.pieces; blocks = older l.opening l.now h o k k.blocks }
+    go false = record {
+      stored = update_stored l.opening l.now h o k;
+      pieces = update_pieces l.opening l.now h o k own;
+      blocks = update_blocks l.opening l.now h o k;
+    }
 
-finish_kept : (l : Ledger) (h : List Operation) → Kept l h → Kept (finish_by l) h
+finish_kept : (l : Ledger) (h : List Operation) → Kept l.opening l.now h → Kept l.opening (finish_by l).now h
 unfolding finish_by settled sum_of
 finish_kept l h k = record {
   stored =
@@ -120,45 +125,21 @@ finish_kept l h k = record {
   blocks = all_append k.blocks (all_of_map (block_of l.opening.end) k.pieces);
 }
 
--- the two install calls change nothing of this
-install_kept : (l : Ledger) (h : List Operation) (numbers : List ℕ) → Kept l h → Kept (install_by l numbers) h
-unfolding install_by
-install_kept l h numbers k = record { stored = k.stored; pieces = k.pieces; blocks = k.blocks }
+-- of an open index and of a closed one
+abbrev KeptThen : (closed : Bool) → Opening → Moment → List Operation → Type 0
+KeptThen closed a m h = Kept a m h
 
-days_kept : (l : Ledger) (h : List Operation) (numbers : List ℕ) → Kept l h → Kept (install_days_by l numbers) h
-unfolding install_days_by
-days_kept l h numbers k = record { stored = k.stored; pieces = k.pieces; blocks = k.blocks }
+kept_by_calls : KeptByCalls KeptThen
+unfolding opened sum_of
+kept_by_calls = record {
+  opens = λ a e. record { stored = refl; pieces = all_nil; blocks = all_nil };
+  records = λ l h scratch o e law k. record_kept l h scratch o e k;
+  finishes = λ l h e law k. finish_kept l h k;
+}
 
-after_kept : (l : Ledger) (h : List Operation) (k : Call) → Kept l h → Kept (after l k) (noted h k (answer_to l k))
-unfolding after leaves answer_to accepted_by noted
-after_kept l h (record_call scratch o) kept = go (record_answer l scratch o) refl
-  where
-    go : (x : Answer Result) → record_answer l scratch o ≡ x → Kept (leaves x l (record_by l o)) (noted h (record_call scratch o) x)
-    go (accepted a) e = record_kept l h scratch o e kept
-    go (refused n) e = kept
-after_kept l h finish_call kept = go (finish_answer l)
-  where
-    go : (x : Answer Result) → Kept (leaves x l (finish_by l)) (noted h finish_call x)
-    go (accepted a) = finish_kept l h kept
-    go (refused n) = kept
-after_kept l h (calendar_call numbers) kept = go (install_answer l numbers)
-  where
-    go : (x : Answer Result) → Kept (leaves x l (install_by l numbers)) (noted h (calendar_call numbers) x)
-    go (accepted a) = install_kept l h numbers kept
-    go (refused n) = kept
-after_kept l h (days_call numbers) kept = go (days_answer l numbers)
-  where
-    go : (x : Answer Result) → Kept (leaves x l (install_days_by l numbers)) (noted h (days_call numbers) x)
-    go (accepted a) = days_kept l h numbers kept
-    go (refused n) = kept
-
-all_kept : (ks : List Call) (l : Ledger) (h : List Operation) → Kept l h → Kept (after_all l ks) (history h l ks)
-unfolding after_all history
-all_kept [] l h kept = kept
-all_kept (k ∷ ks) l h kept = all_kept ks (after l k) (noted h k (answer_to l k)) (after_kept l h k kept)
-
-reached_kept : (a : Opening) (ks : List Call) → Kept (after_all (opened a) ks) (history [] (opened a) ks)
-reached_kept a ks = all_kept ks (opened a) [] (opened_kept a)
+reached_kept : (a : Opening) → open_answer a ≡ accepted tt → (ks : List Call)
+    → Kept (after_all (opened a) ks).opening (after_all (opened a) ks).now (history [] (opened a) ks)
+reached_kept a e ks = every_board KeptThen kept_by_calls a e ks
 
 -- ── a block with a life ──
 
@@ -184,7 +165,7 @@ reached_lives a e ks done kind some_block =
     let h = history [] (opened a) ks in
     let one = some-owned kind l.now.blocks some_block in
     let same : l.opening.end ≡ a.end = ap (λ (x : Opening). x.end) (opening_kept ks (opened a)) in
-    booked_lives l h kind (rw same ((every_list a e ks).faithful done)) (rw one.2 at (all_at no_block (reached_kept a ks).blocks one.0 one.1))
+    booked_lives l h kind (rw same ((every_list a e ks).faithful done)) (rw one.2 at (all_at no_block (reached_kept a e ks).blocks one.0 one.1))
 
 -- ── room in tables as long ──
 
@@ -195,7 +176,7 @@ more_rows head many lent long longer e h g = omega arith
 more_entries : (many lent long longer : ℕ) → lent ≡ long → long ≤ longer → many ≤ (lent - entry_head) / entry_width → many ≤ (longer - entry_head) / entry_width
 more_entries many lent long longer e h g = omega arith
 
-long_room : {t u : Tables} {l : Ledger} {h : List Operation} → ClosedIn t l → Kept l h → AsLong t u → (kind : ℕ) → RoomFor l kind u
+long_room : {t u : Tables} {l : Ledger} {h : List Operation} → ClosedIn t l → Kept l.opening l.now h → AsLong t u → (kind : ℕ) → RoomFor l kind u
 unfolding node_count entry_count
 long_room {t} {u} {l} c kept long kind =
     let lengths = c.encodes.lengths in
@@ -225,6 +206,10 @@ module _ (a : Opening) (e : open_answer a ≡ accepted tt) (ks : List Call) (don
   closed : ClosedIn t reached
   closed = record { encodes = stands; sound = (the_law a e ks).sound.sound; closed = done }
 
+  faithful : Faithful reached.opening.end reached.now.blocks (history [] (opened a) ks)
+  unfolding opened
+  faithful = let same : reached.opening.end ≡ a.end = ap (λ (x : Opening). x.end) (opening_kept ks (opened a)) in rw same ((every_list a e ks).faithful done)
+
   own : KindIn t reached kind
   own = kind_in slices closed kind some_block
 
@@ -235,13 +220,22 @@ module _ (a : Opening) (e : open_answer a ≡ accepted tt) (ks : List Call) (don
         shows = λ tick start stop bytes bytes' held held' answer before ordered cells room room' d.
             cells_show_history a e ks done t stands kind own.opens tick start stop bytes bytes' held held' answer before ordered cells room room'
             (cells_back own enc sound tick start stop cells d);
+        touched =
+            touching_shows (saved_ledger (lengths_of u) reached kind) (history [] (opened a) ks) u enc sound refl kind (one-opened kind)
+            (λ tick start stop before. list_shows_again own enc sound (history [] (opened a) ks) tick start stop
+            (list_shows reached (history [] (opened a) ks) closed.sound done faithful kind tick before start stop));
       }
 
-  reached_again : Reloads t reached kind (AsLong t) (LoadedAgain a ks kind t)
-  reached_again out out' wrote w fits file at small same u u' loaded long d =
+  -- whatever follows of tables that stand for what was saved is true of those that are loaded
+  pub reached_reloads : {Good : Tables → Type 0} → ((u : Tables) → Encodes u (saved_ledger (lengths_of u) reached kind) → Sound (saved_ledger (lengths_of u) reached kind) → Good u)
+      → Reloads t reached kind (AsLong t) Good
+  reached_reloads good out out' wrote w fits file at small same u u' loaded long d =
       let one = reached_lives a e ks done kind some_block in
-      reloads own (some_written own one.0 one.1) loaded_again out out' wrote w fits file at small same u u' loaded
-      (long_room closed (reached_kept a ks) long kind) d
+      reloads own (some_written own one.0 one.1) good out out' wrote w fits file at small same u u' loaded
+      (long_room closed (reached_kept a e ks) long kind) d
+
+  reached_again : Reloads t reached kind (AsLong t) (LoadedAgain a ks kind t)
+  reached_again = reached_reloads loaded_again
 
 pub saved_and_loaded : SavedAndLoaded
 saved_and_loaded = record {

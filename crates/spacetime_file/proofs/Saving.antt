@@ -22,7 +22,8 @@ use Rattle.layout.specs.Relations.{zeros}
 use Rattle.layout.specs.Files.{LoadedTables, LoadLeaves, position_of, headed}
 use Rattle.spacetime_file.specs.Law.{Slices, ClosedIn, Lives, RoomFor, Reloads, PartsFollow, AnswersAlike}
 use Rattle.spacetime_file.proofs.Closed.{KindIn, kind_in, contents_only, file_written, take_part, file_bytes_lem}
-use Rattle.spacetime_file.proofs.Alike.{alike, lives-written}
+use Rattle.spacetime_file.proofs.Numbering.{lives-written}
+use Rattle.spacetime_file.proofs.Alike.{alike}
 
 -- ── bytes at a position ──
 

@@ -22,7 +22,7 @@ use Rattle.layout.specs.Files.{LoadedTables, LoadLeaves, LoadedBy, position_of, 
 use Rattle.layout.proofs.Lengths.{heads_fit}
 use Rattle.spacetime_file.specs.Law.{IsFile, ClosedIn, LoadedAndWritten, RulesHold, TakenAndNotRefused}
 use Rattle.spacetime_file.proofs.Closed.{file_written, file_refused}
-use Rattle.spacetime_file.proofs.Alike.{accepted_refused, accepted_same}
+use Rattle.spacetime_file.proofs.Numbering.{accepted_refused, accepted_same}
 use Rattle.spacetime_file.proofs.Saving.{loaded_encodes}
 
 -- ── an accepted load ──

@@ -1,5 +1,5 @@
 -- What is proved of write and load. Statements alone: the proofs stand in proofs/.
-use Rattle.std.specs.Prelude.{◌≡◌, true, false, List, [], ◌++◌, map, ℕ, suc, ◌+◌, ◌-◌, ◌^◌, ◌≤◌, ◌<◌, length, take, drop}
+use Rattle.std.specs.Prelude.{◌≡◌, true, false, cond, List, [], ◌++◌, map, ℕ, suc, ◌+◌, ◌-◌, ◌^◌, ◌≤◌, ◌<◌, eqb, length, take, drop}
 use Rattle.std.proofs.lemmas.List.Edits.{sets}
 use Rattle.lists.specs.Lists.{All}
 use Rattle.history.specs.Words.{all_kinds, life}
@@ -7,20 +7,21 @@ use Rattle.history.specs.Lent.{Lent, piece_head, node_rows}
 use Rattle.history.specs.Tree.{node_count}
 use Rattle.history.specs.Rules.{rule23, apart}
 use Rattle.history.specs.Ledger.{Opening, Ledger, opened, finished}
-use Rattle.history.specs.Reads.{tree_in, block_by}
+use Rattle.history.specs.Reads.{tree_in, block_by, clock_label}
 use Rattle.history.specs.Results.{Result}
 use Rattle.history.specs.Refusals.{Answer, accepted, refused, open_answer, max_end_tick}
-use Rattle.history.specs.Calls.{Call, after_all}
+use Rattle.history.specs.Calls.{Call, after_all, history}
 use Rattle.history.specs.Sound.{none_of, Sound}
-use Rattle.history.specs.File.{File, bytes_of, node_bytes, nodes_of, new_number, contents, file_part, file_by, part_at, got, read_file, tree_from, end_of, rule20, rule21, rule22, loaded_from, loaded_ledger}
+use Rattle.history.specs.File.{File, bytes_of, node_bytes, nodes_of, new_number, contents, file_part, file_by, part_at, got, read_file, tree_from, end_of, rule20, rule21, rule22, loaded_from, loaded_ledger, saved_ledger}
 use Rattle.kind_mask.specs.Masks.{Taken}
 use Rattle.layout.specs.Tables.{Tables, lengths_of}
 use Rattle.layout.specs.Encodes.{Encodes}
 use Rattle.layout.specs.Formed.{WellFormed}
 use Rattle.layout.specs.Reads.{values_of}
-use Rattle.layout.specs.Relations.{opening_of, OpenedBy, Counts, FoundBy, Fields, block_in, BlockGivenBy}
+use Rattle.layout.specs.Relations.{opening_of, OpenedBy, Counts, FoundBy, Fields, block_in, BlockGivenBy, TouchedBy, Near, NextGivenBy, LastGivenBy, ClockGivenBy}
 use Rattle.layout.specs.Files.{WrittenBy, LoadedBy, headed, zeroed_tables}
 use Rattle.demand.specs.Theorem.{Run}
+use Rattle.demand.specs.Touching.{TouchingShows}
 use Rattle.cells.specs.Answers.{CellsReadBy}
 use Rattle.cells.specs.Law.{ShowsHistory}
 
@@ -53,6 +54,10 @@ pub record Lives (l : Ledger) (kind k : ℕ) : Type 0 where
 abbrev pub number_in : Ledger → (kind k : ℕ) → ℕ
 number_in l kind = new_number l.now.blocks (tree_in l kind)
 
+-- what next or last tells of a block, under its number in the file
+abbrev pub near_in : Ledger → (kind : ℕ) → Near → Near
+near_in l kind n = record { found = n.found; number = cond (eqb n.found 0) 0 (number_in l kind n.number) }
+
 -- Tables u answer for a kind as tables t, in which the ledger stands; the blocks of other kinds and of no life are gone, and the others are numbered
 -- accordingly.
 pub record AnswersAlike (l : Ledger) (kind : ℕ) (t u : Tables) : Type 0 where
@@ -66,10 +71,18 @@ pub record AnswersAlike (l : Ledger) (kind : ℕ) (t u : Tables) : Type 0 where
   -- find refuses alike, or lists as many and visits as many nodes: the same blocks in the same order, under their new numbers;
   pub finds : (tick start stop : ℕ) (out old new : List ℕ) (a b : Answer Counts) → FoundBy t kind tick start stop out old a → FoundBy u kind tick start stop out new b
       → (b ≡ a) × ((c : Counts) → a ≡ accepted c → take c.count new ≡ map (number_in l kind) (take c.count old))
+  -- touching refuses alike, or lists as many, likewise;
+  pub touches : (tick start stop : ℕ) (out old new : List ℕ) (a b : Answer ℕ) → TouchedBy t kind tick start stop out old a → TouchedBy u kind tick start stop out new b
+      → (b ≡ a) × ((n : ℕ) → a ≡ accepted n → take n new ≡ map (number_in l kind) (take n old))
+  -- next and last refuse alike, or give the same block under its new number, or that there is none;
+  pub next : (tick cell : ℕ) (a b : Answer Near) → NextGivenBy t kind tick cell a → NextGivenBy u kind tick cell b → b ≡ values_of (near_in l kind) a
+  pub last : (tick cell : ℕ) (a b : Answer Near) → LastGivenBy t kind tick cell a → LastGivenBy u kind tick cell b → b ≡ values_of (near_in l kind) a
   -- read cells refuses alike, or gives the same bytes and the same held cells.
   pub cells : (tick start stop : ℕ) (bytes bytes₁ bytes₂ held held₁ held₂ : List ℕ) (a b : Answer Unit) → stop < 2 ^ 64
       → CellsReadBy t kind tick start stop bytes bytes₁ held held₁ a → CellsReadBy u kind tick start stop bytes bytes₂ held held₂ b
       → (b ≡ a) × (bytes₂ ≡ bytes₁) × (held₂ ≡ held₁)
+  -- The clock goes by no list of days, since a file holds none.
+  pub clock : (cell : ℕ) (b : Answer ℕ) → ClockGivenBy u cell b → b ≡ accepted (clock_label [] cell)
 
 -- Of what write writes into a slice that holds it, the part of a kind, at its position, can be loaded, wherever it stands in a file, into any tables that have
 -- room; then these are good.
@@ -99,10 +112,11 @@ pub record AsLong (t u : Tables) : Type 0 where
   pub nodes : length t.nodes ≤ length u.nodes
   pub entries : length t.entries ≤ length u.entries
 
--- a kind of an index that calls have reached, loaded again: it answers alike, and read cells shows the history of the kind
+-- a kind of an index that calls have reached, loaded again: it answers alike, and read cells, touching, next and last show the history of the kind
 pub record LoadedAgain (a : Opening) (ks : List Call) (kind : ℕ) (t u : Tables) : Type 0 where
   pub alike : AnswersAlike (after_all (opened a) ks) kind t u
   pub shows : ShowsHistory a ks kind u
+  pub touched : TouchingShows (saved_ledger (lengths_of u) (after_all (opened a) ks) kind) (history [] (opened a) ks) u kind
 
 pub record SavedAndLoaded : Type 0 where
   -- What is written has a part for each kind.
@@ -172,8 +186,13 @@ pub record EmptyFiles : Type 0 where
   -- A kind with blocks of no life alone writes kind, count 0 and its nodes,
   pub lifeless : (t : Tables) (l : Ledger) → Slices t → ClosedIn t l → (kind : ℕ) → none_of kind l.now.blocks ≡ false → ((k : ℕ) → Lives l kind k → ⊥)
       → file_part l kind ≡ bytes_of 1 kind ++ (bytes_of 8 0 ++ node_bytes (nodes_of 0 l.opening.end (tree_in l kind)))
-  -- which the loader refuses 22, if its table has room for the nodes; the tables hold zeros then.
+  -- which the loader refuses 22, if its table has room for the nodes; the tables hold zeros then;
   pub refused_22 : (t : Tables) (l : Ledger) → Slices t → ClosedIn t l → (kind : ℕ) → none_of kind l.now.blocks ≡ false → ((k : ℕ) → Lives l kind k → ⊥)
       → (file : List ℕ) (at : ℕ) → take (length (file_part l kind)) (drop at file) ≡ file_part l kind
       → (u u' : Tables) (answer : Answer ℕ) → node_count (tree_in l kind) ≤ node_rows (lengths_of u) → LoadedBy file at u u' answer
       → (answer ≡ refused 22) × (u' ≡ zeroed_tables u)
+  -- and else 20, with nothing changed.
+  pub refused_20 : (t : Tables) (l : Ledger) → Slices t → ClosedIn t l → (kind : ℕ) → none_of kind l.now.blocks ≡ false → ((k : ℕ) → Lives l kind k → ⊥)
+      → (file : List ℕ) (at : ℕ) → take (length (file_part l kind)) (drop at file) ≡ file_part l kind
+      → (u u' : Tables) (answer : Answer ℕ) → node_rows (lengths_of u) < node_count (tree_in l kind) → LoadedBy file at u u' answer
+      → (answer ≡ refused 20) × (u' ≡ u)

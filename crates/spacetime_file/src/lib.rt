@@ -3,7 +3,7 @@
 //
 //   lib   proofs/Answering                2 and 4; the rest stands in file_write and file_load
 //         specs/Law                       the theorems, each the contract of a function without work
-//         proofs/Closed, Alike, Saving    written and loaded: the same answers
+//         proofs/Closed, Numbering, Touched, Alike, Saving    written and loaded: the same answers
 //         proofs/Reached                  of an index that calls have reached
 //         proofs/Taking, Emptying         what the loader takes; files that it refuses
 
@@ -48,8 +48,8 @@ pub fn deserialize(
     file_load::load(pieces, blocks, store, nodes, entries, file, at)
 }
 
-// Each kind's part of what was written, at its position, is loaded and answers every find, block and read of cells as the index does for that kind, and shows
-// its history; the positions follow one another.
+// Each kind's part of what was written, at its position, is loaded and answers every find, touching, next, last, block and read of cells as the index does for
+// that kind, and shows its history; the positions follow one another.
 #[tactic(auto, using(crate::proofs::Reached::saved_and_loaded))]
 pub fn saved_and_loaded()
     ensures { SavedAndLoaded }
@@ -61,7 +61,8 @@ pub fn loaded_and_written()
     ensures { LoadedAndWritten }
 {}
 
-// Whatever the loader takes is well formed and is what the parser says; what the parser and rules 20 to 24 accept is not refused.
+// Whatever the loader takes is what the parser says, and is well formed if the piece table holds its head; what the parser and rules 20 to 24 accept is not
+// refused.
 #[tactic(auto, using(crate::proofs::Taking::taken_and_not_refused))]
 pub fn taken_and_not_refused()
     ensures { TakenAndNotRefused }

@@ -73,11 +73,11 @@ block_offset = 4
 abbrev pub block_owner : ℕ
 block_owner = 5
 
--- the next block by first cell, then number; in the head, the first one
+-- finish's to work with while it decides rule 24, in rows and in the head: 0 in an open index; in a closed one nothing reads it
 abbrev pub block_next : ℕ
 block_next = 6
 
--- not used: 0
+-- not used; 0 in a new row
 abbrev pub block_spare : ℕ
 block_spare = 7
 
@@ -103,7 +103,7 @@ head_last = 5
 
 -- ── the front of the block table's head: places, each behind the one before it ──
 
--- But for the calendar free until the requests that fill them: zeros from open or load on, and no call reads them.
+-- All but the calendar and the list of days are free until the requests that fill them: zeros from open or load on, and no call reads them.
 
 -- a planner's floor, and how many pieces he holds
 abbrev pub front_floors : ℕ

@@ -14,9 +14,9 @@ pub const DESTROYED: usize = 3;
 pub const OFFSET: usize = 4;
 // The kind of the block.
 pub const OWNER: usize = 5;
-// The next block by first cell, then number; in the head, the first one.
+// Finish's to work with while it decides rule 24, in rows and in the head: 0 in an open index; in a closed one nothing reads it.
 pub const NEXT: usize = 6;
-// Not used: 0.
+// Not used; 0 in a new row.
 pub const SPARE: usize = 7;
 
 pub const STATE: usize = 0;
@@ -45,8 +45,8 @@ pub const HEAD: usize = 2048;
 // Numbers in front of the row of link 0: the front of the head.
 pub const BASE: usize = HEAD - super::ROW;
 
-// Places in the front of the head, each behind the one before it. But for the calendar free until the requests that fill them: zeros from open or load
-// on, and no call reads them. A planner's floor, and how many pieces he holds.
+// Places in the front of the head, each behind the one before it. All but the calendar and the list of days are free until the requests that fill them:
+// zeros from open or load on, and no call reads them. A planner's floor, and how many pieces he holds.
 pub const FLOORS: usize = 0;
 
 pub const COUNTS: usize = FLOORS + 16;

@@ -33,7 +33,7 @@ use Rattle.layout.specs.Reads.{HandedInto}
 use Rattle.layout.proofs.Trees.{tree_known}
 use Rattle.layout.proofs.ReadLaws.{opens_kind_lem, window_25, window_14, window_15, window_rest, into_refused, closed_refuses}
 use Rattle.touching_read.specs.Reads.{OverAt, TouchingClosed}
-use Rattle.touching_read.proofs.Reaching.{closed_at}
+use Rattle.live_blocks.proofs.Living.{closed_at}
 use Rattle.touching_read.proofs.Starting.{started, touched_started, touched-over, touched_none}
 
 -- ── what `starting` leaves ──

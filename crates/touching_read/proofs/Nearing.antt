@@ -29,7 +29,8 @@ use Rattle.live_blocks.specs.Live.{ClosedAt}
 use Rattle.live_blocks.proofs.Seeing.{some_cell, meet_same}
 use Rattle.live_blocks.proofs.Living.{near_in, living}
 use Rattle.touching_read.specs.Reads.{EndOf, NextClosed, LastClosed, NearClosed}
-use Rattle.touching_read.proofs.Reaching.{closed_at, end_is}
+use Rattle.live_blocks.proofs.Living.{closed_at}
+use Rattle.touching_read.proofs.Reaching.{end_is}
 
 -- ── next ──
 

@@ -8,35 +8,15 @@ use native.Mathlib.Omega.{arith}
 use Rattle.lists.proofs.Lists.{all_at, all_mem}
 use Rattle.history.specs.Words.{end_cell, live_of}
 use Rattle.history.specs.Tree.{no_block, block_at}
-use Rattle.history.specs.Ledger.{Ledger, finished}
-use Rattle.history.specs.Sound.{Sound}
-use Rattle.tables.specs.Masks.{opens}
-use Rattle.tables.specs.Columns.{block_column, head_end, head_kinds}
+use Rattle.history.specs.Ledger.{Ledger}
 use Rattle.segment_table.specs.Closed.{TreeOf}
 use Rattle.segment_near.specs.declared.Side.TheVariants.{Before}
 use Rattle.segment_near.specs.declared.Neighbour.{Neighbour}
 use Rattle.segment_near.specs.Neighbours.{NearestLive}
-use Rattle.layout.specs.Tables.{tables}
-use Rattle.layout.specs.Encodes.{Encodes}
-use Rattle.layout.proofs.ReadLaws.{opens_kind_lem}
 use Rattle.live_blocks.specs.Live.{ClosedAt}
 use Rattle.live_blocks.proofs.Seeing.{live-number, passed_last, passed_first}
 use Rattle.live_blocks.proofs.Living.{near_in, living}
 use Rattle.touching_read.specs.Reads.{EndOf, Reaches, OverAt}
-
--- ── a closed index ──
-
--- the tables of a closed index, at a tick below its end
-pub closed_at : {pieces blocks store nodes entries : List ℕ} (kind : ℕ) {tick : ℕ} {l : Ledger} → Encodes (tables pieces blocks store nodes entries) l → Sound l → finished l ≡ true
-    → opens (block_column blocks 0 head_kinds) kind ≡ true → tick < block_column blocks 0 head_end → ClosedAt blocks store nodes entries kind tick l
-closed_at {pieces} kind e s done k h = record {
-  pieces = pieces;
-  encodes = e;
-  sound = s;
-  done = done;
-  opened = opens_kind_lem e kind ∙ k;
-  before_end = omega (arith, e.end);
-}
 
 -- the end that a live block's row has is the block's
 pub end_is : {blocks store nodes entries : List ℕ} {kind tick : ℕ} {l : Ledger} → ClosedAt blocks store nodes entries kind tick l → (k r : ℕ)

@@ -1,8 +1,8 @@
 -- The ticks of an open index are those of the accepted calls: a piece was written by one, a block created by one and destroyed by another, all of its kind.
 -- Assumes nothing.
-use mathlib.Core.Path.{◌≡◌, refl}
+use mathlib.Core.Path.{◌≡◌, refl, subst}
 use mathlib.Core.Logic.{inl, inr}
-use mathlib.Core.Bool.{Bool, true, false, cond, true≢false}
+use mathlib.Core.Bool.{Bool, true, false, cond}
 use mathlib.Core.List.{List, [], ◌∷◌}
 use Prim.Native.Nat.{ℕ, ◌+◌, ◌-◌, ◌^◌, ◌≤◌}
 use native.Mathlib.Omega.{arith}
@@ -11,16 +11,16 @@ use Rattle.lists.specs.Lists.{All, all_nil, Mem, here, there}
 use Rattle.lists.proofs.Lists.{all_append, all_map, all_both, all_of_map}
 use Rattle.lists.proofs.Numbers.{lt_or_le, eq_or_ne}
 use Rattle.history.specs.Words.{Operation, Piece, Block, ends, stretch_of, block_of}
-use Rattle.history.specs.Ledger.{Opening, Moment, Ledger, opened, finished, is_read, read_by, update_by, record_by, finish_by, install_by, install_days_by}
+use Rattle.history.specs.Ledger.{Opening, Moment, Ledger, opened, finished, is_read, read_by, update_by, record_by}
 use Rattle.history.specs.Results.{Result}
-use Rattle.history.specs.Refusals.{Answer, accepted, refused, open_answer, record_answer, finish_answer, install_answer, days_answer}
-use Rattle.history.specs.Calls.{Call, record_call, finish_call, calendar_call, days_call, answer_to, accepted_by, leaves, after, after_all, noted, history}
+use Rattle.history.specs.Refusals.{accepted, open_answer, record_answer}
+use Rattle.history.specs.Calls.{Call, after_all, history}
 use Rattle.history.specs.Sound.{SoundStretch, SoundPiece}
 use Rattle.history.specs.Law.{LedgerLaw}
 use Rattle.history.proofs.ByKind.{line_next}
 use Rattle.history.proofs.Parts.{PartOf, all_inside, all_updated}
 use Rattle.history.proofs.Passing.{taken}
-use Rattle.history.proofs.EveryList.{the_law, law_after}
+use Rattle.history.proofs.Reaching.{KeptByCalls, every_board}
 
 -- the tick of one of the calls of the kind
 pub record Called (h : List Operation) (kind tick : ℕ) : Type 0 where
@@ -81,49 +81,27 @@ noted_update kinds m h o sound wrap n = record {
     Both : Piece → Type 0
     Both p = Called h p.kind p.written × SoundPiece kinds m p
 
--- ── a call, and a list of calls ──
+-- ── every list of calls ──
 
--- while the index is open
-abbrev NotedOpen : Ledger → List Operation → Type 0
-NotedOpen l h = finished l ≡ false → Noted l.now h
-
-noted_record : (l : Ledger) (h : List Operation) (scratch : ℕ) (o : Operation) {r : Result} → record_answer l scratch o ≡ accepted r → LedgerLaw l h → NotedOpen l h
-    → NotedOpen (record_by l o) (o ∷ h)
+noted_record : (l : Ledger) (h : List Operation) (scratch : ℕ) (o : Operation) {r : Result} → record_answer l scratch o ≡ accepted r → LedgerLaw l h → Noted l.now h
+    → Noted (record_by l o).now (o ∷ h)
 unfolding record_by
-noted_record l h scratch o e law n still = go (is_read l.now o)
+noted_record l h scratch o e law n = go (is_read l.now o)
   where
     go : (r : Bool) → Noted (cond r (read_by l.now o) (update_by l.now o)) (o ∷ h)
-    go true = noted_read l.now h o (n still)
-    go false = noted_update l.opening.kinds l.now h o law.sound.sound.board.pieces (taken l scratch o e).no_wrap (n still)
+    go true = noted_read l.now h o n
+    go false = noted_update l.opening.kinds l.now h o law.sound.sound.board.pieces (taken l scratch o e).no_wrap n
 
-noted-after : (l : Ledger) (h : List Operation) (k : Call) → LedgerLaw l h → NotedOpen l h → NotedOpen (after l k) (noted h k (answer_to l k))
-unfolding after leaves noted answer_to accepted_by finish_by install_by install_days_by
-noted-after l h (record_call scratch o) law n = go (record_answer l scratch o) refl
-  where
-    go : (x : Answer Result) → record_answer l scratch o ≡ x → NotedOpen (leaves x l (record_by l o)) (noted h (record_call scratch o) x)
-    go (accepted a) e = noted_record l h scratch o e law n
-    go (refused _) e = n
-noted-after l h finish_call law n = go (finish_answer l)
-  where
-    go : (x : Answer Result) → NotedOpen (leaves x l (finish_by l)) h
-    go (accepted a) = λ closed. absurd (true≢false closed)
-    go (refused _) = n
-noted-after l h (calendar_call numbers) law n = go (install_answer l numbers)
-  where
-    go : (x : Answer Result) → NotedOpen (leaves x l (install_by l numbers)) h
-    go (accepted a) = n
-    go (refused _) = n
-noted-after l h (days_call numbers) law n = go (days_answer l numbers)
-  where
-    go : (x : Answer Result) → NotedOpen (leaves x l (install_days_by l numbers)) h
-    go (accepted a) = n
-    go (refused _) = n
+-- while the index is open
+abbrev NotedOpen : (closed : Bool) → Opening → Moment → List Operation → Type 0
+NotedOpen false a m h = Noted m h
+NotedOpen true a m h = Unit {0}
 
-noted_all : (ks : List Call) (l : Ledger) (h : List Operation) → LedgerLaw l h → NotedOpen l h → NotedOpen (after_all l ks) (history h l ks)
-unfolding after_all history
-noted_all [] l h law n = n
-noted_all (k ∷ ks) l h law n = noted_all ks (after l k) (noted h k (answer_to l k)) (law_after l h k law) (noted-after l h k law n)
+noted_kept : KeptByCalls NotedOpen
+unfolding opened
+noted_kept = record { opens = λ a e. record { pieces = all_nil; blocks = all_nil }; records = λ l h scratch o e law n. noted_record l h scratch o e law n; finishes = λ l h e law n. tt }
 
 pub noted_ticks : (a : Opening) → open_answer a ≡ accepted tt → (ks : List Call) → finished (after_all (opened a) ks) ≡ false → Noted (after_all (opened a) ks).now (history [] (opened a) ks)
-unfolding opened after_all history
-noted_ticks a opens ks = noted_all ks (opened a) [] (the_law a opens []) (λ _. record { pieces = all_nil; blocks = all_nil })
+noted_ticks a opens ks still =
+    let l = after_all (opened a) ks in
+    subst (λ (b : Bool). NotedOpen b l.opening l.now (history [] (opened a) ks)) still (every_board NotedOpen noted_kept a opens ks)

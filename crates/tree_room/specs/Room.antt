@@ -58,7 +58,7 @@ changed_once = a_block 1 100 (7 ∷ []) 0 3 ∷ a_block 1 100 (9 ∷ []) 3 8 ∷
 
 pub record LawOfRoom : Type 0 where
   pub tree : (levels kind end : ℕ) (blocks : List Block) → end ≤ max_end_tick → end ≤ 2 ^ levels → TreeFits levels kind end blocks
-  -- No lower bound of nodes would do: in 8 ticks, halved three times, a cell that changes at one tick takes all of them.
+  -- In 8 ticks, halved three times, a cell that changes at one tick takes as many nodes.
   pub reached : node_count (tree_of 1 8 changed_once) ≡ nodes_for 3 1 1
   -- With so many node rows for the ticks of each kind, and so many entry rows for the rows of the block table, finish is not refused.
   pub finish : (levels : ℕ) (kinds : List ℕ) (ticks : (kind : ℕ) → List ℕ) (a : Opening) (ks : List Call) → Awaits levels kinds ticks a ks

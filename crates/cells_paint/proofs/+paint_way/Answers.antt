@@ -1,6 +1,7 @@
 use Rattle.std.proofs.Common.{arith, ◌∙◌}
 use Rattle.segment_walk.proofs.Halving.{present, half_falls}
-use Rattle.cells_paint.proofs.Ways.{rows_in_table, row_in_table, way_none, way_both}
+use Rattle.live_rows.proofs.Latest.{rows_in_table, row_in_table}
+use Rattle.cells_paint.proofs.Ways.{way_none, way_both}
 use Rattle.cells_paint.proofs.+paint_way.Goals as goal
 
 pub returns-then-absent : goal.returns-then-absent

@@ -7,25 +7,16 @@ use Rattle.file_fill.proofs.blocks.fill_blocks.Goals as goal
 pub loop-rows-init : goal.loop-rows-init
 loop-rows-init c =
     let all : c.args.count - 0 ≡ c.args.count = omega arith in
-    rw all (fill_start _ _ _ _ _ _)
+    rw all (fill_start _ _ _ _ _)
 
 pub returns-in_default : goal.returns-in_default
-returns-in_default c = fill_fault c.loop-rows.invariant c.in_default.ensures (omega arith)
-
-pub slice_bounds-copy_in-start : goal.slice_bounds-copy_in-start
-slice_bounds-copy_in-start c = omega (arith, fill_room c.loop-rows.invariant c.in-Ok.ensures)
-
-pub slice_bounds-copy_in-end : goal.slice_bounds-copy_in-end
-slice_bounds-copy_in-end c = omega (arith, fill_room c.loop-rows.invariant c.in-Ok.ensures)
-
-pub slice_bounds-copy_in-count : goal.slice_bounds-copy_in-count
-slice_bounds-copy_in-count c = omega (arith, fill_room c.loop-rows.invariant c.in-Ok.ensures)
+returns-in_default c = fill_fault c.loop-rows.invariant _ c.in_default.ensures.read (omega arith)
 
 pub overflow_add-used : goal.overflow_add-used
-overflow_add-used c = omega (arith, fill_room c.loop-rows.invariant c.in-Ok.ensures)
+overflow_add-used c = omega (arith, fill_room c.loop-rows.invariant c.in-Ok.field-0 c.in-Ok.ensures.read)
 
 pub loop-rows-preserved : goal.loop-rows-preserved
-loop-rows-preserved c = fill_turn c.loop-rows.invariant c.in-Ok.ensures c.put_row.ensures c.copy_in.ensures (omega arith)
+loop-rows-preserved c = fill_turn c.loop-rows.invariant c.in-Ok.field-0 c.in-Ok.ensures.read c.put_row.ensures c.copy_in.ensures (omega arith)
 
 pub returns : goal.returns
 returns c = fill_done c.loop-rows.invariant (omega arith)
