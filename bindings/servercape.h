@@ -1,5 +1,5 @@
 /* The board's history, for C. `bindings/install PREFIX` puts it where `pkg-config --cflags --libs servercape` finds it; or link dist/libservercape.a of the
-   repository. Of other libraries it asks for memset, memcpy and memmove of the C library alone. docs/RULES.md has the rules, and every refusal.
+   repository. Of other libraries it asks for memset of the C library alone. docs/RULES.md has the rules, and every refusal.
 
    The two headers are the one source of the signatures: `tools/bindings` writes from them what the Rust crate and the Python package declare, and the
    parameters of the proved exports.

@@ -17,7 +17,7 @@ use Rattle.segment_table.specs.Closed.{TreeAt, first_cell_in}
 use Rattle.segment_walk.specs.declared.walk.Node.{Node}
 use Rattle.segment_walk.specs.declared.rows.Rows.{Rows}
 use Rattle.segment_walk.specs.Walking.{Stands, root_at, Absent, half_at}
-use Rattle.segment_walk.specs.Rowing.{rows_at, blocks_in, Lower, InWindow}
+use Rattle.segment_walk.specs.Rowing.{rows_at, blocks_in, Lower, RunOf, InWindow}
 use Rattle.segment_walk.proofs.Halving.{Present, absent_hole, Down, down}
 use Rattle.segment_walk.proofs.Rowing.{run_of}
 use Rattle.segment_walk.proofs.Windows.{in_window}
@@ -26,6 +26,7 @@ use Rattle.segment_near.proofs.Neighbouring.{nearest_none, nearest_both, nearest
 use Rattle.live_rows.specs.Extents.{Later, one_of}
 use Rattle.cells_paint.specs.Painting.{Painted, RowsPainted, WayPainted, Shown}
 use Rattle.cells_paint.proofs.Drawing.{painted_none, painted_append}
+use Rattle.cells_paint.proofs.Rows.{ascending_from}
 
 -- ── the returns of `paint_way` ──
 
@@ -55,9 +56,10 @@ module _ {blocks nodes entries store : List ℕ} {n : Node} {tick start stop : �
       go kind hole s = absurd (there.row s.stood)
       go kind (node xs l r') s =
           let d : Down blocks nodes entries kind tick n h xs (node xs l r') = down blocks nodes entries kind tick n xs l r' s h half in
-          let own : blocks_in entries (record { from = row; to = here.past }) ≡ window (first_cell_in blocks) start stop xs =
-          w.lists blocks xs (run_of blocks nodes entries kind n xs l r' s) in
-          rw (d.way, window-append, ← own) (painted_append here.painted (below.painted kind d.below d.stands))
+          let run : RunOf blocks entries (rows_at nodes entries n.link) xs = run_of blocks nodes entries kind n xs l r' s in
+          let own : blocks_in entries (record { from = row; to = here.past }) ≡ window (first_cell_in blocks) start stop xs = w.lists blocks xs run in
+          let all : RunOf blocks entries rows xs = rw (← e) at run in
+          rw (d.way, window-append, ← own) (painted_append (here.painted (ascending_from all (low.inside all.order).0)) (below.painted kind d.below d.stands))
 
 -- ── the returns of `show` ──
 

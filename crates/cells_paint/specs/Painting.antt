@@ -1,11 +1,11 @@
 -- What blocks leave in the slices of a window. Definitions alone.
-use Rattle.std.specs.Prelude.{◌≡◌, Option, List, ℕ, suc, ◌+◌, ◌-◌, ◌≤◌, ◌<◌, length, get_or}
+use Rattle.std.specs.Prelude.{◌≡◌, Option, List, [], ◌∷◌, ℕ, suc, ◌+◌, ◌-◌, ◌≤◌, ◌<◌, ◌⊎◌, length, get_or}
 use Rattle.lists.specs.Lists.{All, Mem}
 use Rattle.history.specs.Tree.{Tree}
 use Rattle.history.specs.Find.{path, window}
 use Rattle.tables.specs.Columns.{block_column, head_end}
 use Rattle.block_table.specs.Blocks.{Room, first_cell_at, length_at, offset_at}
-use Rattle.segment_table.specs.Closed.{first_cell_in}
+use Rattle.segment_table.specs.Closed.{block_in, first_cell_in}
 use Rattle.segment_walk.specs.declared.walk.Node.{Node}
 use Rattle.segment_walk.specs.declared.rows.Rows.{Rows}
 use Rattle.segment_walk.specs.Walking.{Stands, Rooted}
@@ -48,11 +48,27 @@ pub record Painted (blocks store ks : List ℕ) (start stop : ℕ) (bytes bytes'
 
 -- ── what the functions give ──
 
+-- Block k was painted from a place on: what stands before it stays. Either no cell was, and r is that place, or all that the block has before r are in the store.
+-- It has no cell of the window from r on.
+pub record PaintedFrom (blocks store : List ℕ) (k start place stop r : ℕ) (bytes bytes' held held' : List ℕ) : Type 0 where
+  pub cell : (i : ℕ) → i < stop - start → place ≤ start + i
+      → Drawn blocks store (k ∷ []) (start + i) (get_or bytes i 0) (get_or held i 0) (get_or bytes' i 0) (get_or held' i 0)
+  pub kept : (i : ℕ) → start + i < place → (get_or bytes' i 0 ≡ get_or bytes i 0) × (get_or held' i 0 ≡ get_or held i 0)
+  pub onward : place ≤ r
+  pub reached : (r ≡ place) ⊎ ((c : ℕ) → first_cell_at blocks (suc k) ≤ c → c < r → Covers blocks store k c)
+  pub inside : place ≤ stop → r ≤ stop
+  pub spent : (c : ℕ) → r ≤ c → c < stop → Covers blocks store k c → ⊥
+
+-- the blocks of the rows ascend by first cell, as those of a closed index do
+pub record Ascending (blocks entries : List ℕ) (rows : Rows) : Type 0 where
+  pub firsts : (i j : ℕ) → rows.from ≤ i → i ≤ j → j < rows.to → first_cell_in blocks (block_in entries i) ≤ first_cell_in blocks (block_in entries j)
+
 -- the blocks of the rows up to the first that starts at the stop or behind it
 pub record RowsPainted (entries blocks store : List ℕ) (rows : Rows) (start stop : ℕ) (bytes bytes' held held' : List ℕ) : Type 0 where
   pub past : ℕ
   pub ends : Lower entries rows stop past
-  pub painted : Painted blocks store (blocks_in entries (record { from = rows.from; to = past })) start stop bytes bytes' held held'
+  pub painted : Ascending blocks entries rows
+      → Painted blocks store (blocks_in entries (record { from = rows.from; to = past })) start stop bytes bytes' held held'
 
 -- from a node on the way down to the tick
 pub record WayPainted (blocks nodes entries store : List ℕ) (n : Node) (tick start stop : ℕ) (best r : Option Neighbour) (bytes bytes' held held' : List ℕ) : Type 0 where

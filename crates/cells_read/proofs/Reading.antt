@@ -4,8 +4,9 @@ use mathlib.Core.Bool.{Bool, true, false}
 use mathlib.Core.List.{List, ◌++◌}
 use Prim.Native.Nat.{ℕ, ◌+◌, ◌-◌, ◌^◌, ◌≤◌, ◌<◌}
 use native.Mathlib.Omega.{arith}
-use lib.ListN.{length, take, drop, length-take}
+use lib.ListN.{length, take, drop, length-take, length-append, length-drop}
 use lib.Seq.{sets}
+use Rattle.std.proofs.lemmas.List.{append-nil, drop_all}
 use Rattle.std.proofs.lemmas.List.Edits.{sets-eq}
 use borrow.Author.Tests.{lt-ltb, le-ltb}
 use Rattle.history.specs.Ledger.{Ledger, finished}
@@ -19,6 +20,7 @@ use Rattle.layout.proofs.ReadLaws.{mask_opens, window_25, window_14, window_15, 
 use Rattle.live_blocks.specs.Live.{ClosedAt}
 use Rattle.live_blocks.proofs.Living.{closed_at}
 use Rattle.cells_paint.specs.Painting.{Slices, Shown}
+use Rattle.cells_read.specs.Long.{Front}
 use Rattle.cells_read.proofs.Showing.{cells_shown}
 use Rattle.cells_read.specs.Answers.{CellsHanded, ReadClosed}
 
@@ -40,6 +42,13 @@ module _ {t : Tables} {l : Ledger} (e : Encodes t l) (done : finished l ≡ true
 -- a list written to the front of another
 in_front : (many : ℕ) (out xs : List ℕ) → length xs ≡ many → many ≤ length out → xs ++ drop many out ≡ sets out 0 xs
 in_front many out xs long room = let front : 0 + length xs ≡ many = omega arith in sym (rw front at (sets-eq xs out 0 (omega arith)))
+
+-- a list written over another from a place to its end
+to_the_end : (n : ℕ) (l xs : List ℕ) → take n l ++ (xs ++ drop (length l - n) (drop n l)) ≡ take n l ++ xs
+to_the_end n l xs = rw (drop_all (length l - n) (drop n l) (omega (arith, length-drop n l)), append-nil)
+
+whole_long : (n many : ℕ) (l xs : List ℕ) → n ≤ many → length l ≡ many → length xs ≡ length (take (length l - n) (drop n l)) → length (take n l ++ xs) ≡ many
+whole_long n many l xs room long rest = omega (arith, length-append (take n l) xs, length-take n l, length-take (length l - n) (drop n l), length-drop n l)
 
 -- a refusal: its number, and both slices as they were
 pub cells_refused : {bytes held : List ℕ} {n : ℕ} → CellsHanded bytes bytes held held (refused n) (refused n)
@@ -70,21 +79,41 @@ module _ {blocks store nodes entries : List ℕ} {kind tick start stop mask : �
     read_16_held h b room short = refuses 16 (λ pieces l enc done. cells_held enc done kind tick start stop (length bytes) (length held) (mask_opens m is q) (omega arith) b room short)
 
     -- both slices begin with the window's cells
-    pub read_filled : {many : ℕ} {xs ys : List ℕ} → tick < last → start ≤ stop → stop < 2 ^ 64 → many ≡ stop - start → many ≤ length bytes
-        → many ≤ length held → length xs ≡ length (take many bytes) → length ys ≡ length (take many held) → Shown blocks nodes entries store kind tick start stop xs ys
-        → ReadClosed blocks store nodes entries kind tick start stop bytes (xs ++ drop many bytes) held (ys ++ drop many held) (accepted tt)
-    read_filled {many} {xs = xs} {ys} h b small size room room' long long' shown = record {
-      read = λ pieces. record {
-        closed = λ l enc s done.
-            let at : ClosedAt blocks store nodes entries kind tick l = closed_at kind enc s done (mask_opens m is q) (omega arith) in
-            let w : Slices start stop xs ys = record { bytes_long = omega (arith, length-take many bytes); held_long = omega (arith, length-take many held) } in
-            rw (cells_given enc done kind tick start stop (length bytes) (length held) (mask_opens m is q) (omega arith) b (omega arith) (omega arith), cells_shown at small w shown)
-            (record {
-              answered = refl;
-              in_bytes = in_front many bytes xs (w.bytes_long ∙ sym size) room;
-              in_held = in_front many held ys (w.held_long ∙ sym size) room';
-            });
-      };
-    }
+    pub read_filled : {many done place : ℕ} {bytes₁ held₁ xs ys : List ℕ} → tick < last → start ≤ stop → stop < 2 ^ 64 → many ≡ stop - start → many ≤ length bytes
+        → many ≤ length held → length bytes₁ ≡ length (take many bytes) → length held₁ ≡ length (take many held)
+        → Front blocks store nodes entries kind tick start stop place bytes₁ held₁ → done ≡ place - start
+        → length xs ≡ length (take (length bytes₁ - done) (drop done bytes₁)) → length ys ≡ length (take (length held₁ - done) (drop done held₁))
+        → Shown blocks nodes entries store kind tick place stop xs ys
+        → ReadClosed blocks store nodes entries kind tick start stop bytes ((take done bytes₁ ++ (xs ++ drop (length bytes₁ - done) (drop done bytes₁))) ++ drop many bytes)
+        held ((take done held₁ ++ (ys ++ drop (length held₁ - done) (drop done held₁))) ++ drop many held) (accepted tt)
+    read_filled {many} {done} {place} {bytes₁} {held₁} {xs} {ys} h b small size room room' long long' front far wide wide' shown =
+        rw (to_the_end done bytes₁ xs, to_the_end done held₁ ys, far)
+        (record {
+          read = λ pieces. record {
+            closed = λ l enc s done.
+                let at : ClosedAt blocks store nodes entries kind tick l = closed_at kind enc s done (mask_opens m is q) (omega arith) in
+                rw (
+                  cells_given enc done kind tick start stop (length bytes) (length held) (mask_opens m is q) (omega arith) b (omega arith) (omega arith),
+                  cells_shown at front.onward small (omega (arith, bytes_are, front.inside)) (omega (arith, held_are, front.inside)) (front.shown l at) shown w,
+                )
+                (record {
+                  answered = refl;
+                  in_bytes = in_front many bytes (take (place - start) bytes₁ ++ xs) (w.bytes_long ∙ sym size) room;
+                  in_held = in_front many held (take (place - start) held₁ ++ ys) (w.held_long ∙ sym size) room';
+                });
+          };
+        })
+      where
+        bytes_are : length bytes₁ ≡ stop - start
+        bytes_are = omega (arith, length-take many bytes)
+
+        held_are : length held₁ ≡ stop - start
+        held_are = omega (arith, length-take many held)
+
+        w : Slices start stop (take (place - start) bytes₁ ++ xs) (take (place - start) held₁ ++ ys)
+        w = record {
+          bytes_long = rw (← far) (whole_long done (stop - start) bytes₁ xs (omega (arith, front.inside)) bytes_are wide);
+          held_long = rw (← far) (whole_long done (stop - start) held₁ ys (omega (arith, front.inside)) held_are wide');
+        }
 
 pub ruleset reading = (read_25, read_14, read_15, read_16_bytes, read_16_held, read_filled, arith)

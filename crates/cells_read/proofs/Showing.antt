@@ -3,11 +3,12 @@ use Rattle.std.specs.Prelude.{Option, Some, None}
 use mathlib.Core.Path.{◌≡◌, refl, sym, ap, ap₂, ◌∙◌}
 use mathlib.Core.Logic.{inl, inr}
 use mathlib.Core.Bool.{Bool, true, false, cond}
-use mathlib.Core.List.{List, [], ◌∷◌, map}
-use Prim.Native.Nat.{ℕ, suc, ◌+◌, ◌-◌, ◌^◌, ◌≤◌, ◌<◌, min}
+use mathlib.Core.List.{List, [], ◌∷◌, ◌++◌, map}
+use Prim.Native.Nat.{ℕ, suc, ◌+◌, ◌-◌, ◌^◌, ◌≤◌, ◌<◌}
 use native.Mathlib.Omega.{arith}
-use lib.ListN.{length, get_or}
-use lib.Seq.{ext_get_or}
+use lib.ListN.{length, get_or, take, length-take, get_or-append}
+use lib.Seq.{ext_get_or, get_or-take}
+use Rattle.std.proofs.lemmas.List.{get_or-append_right}
 use Rattle.lists.specs.Lists.{Mem, here, there, count, count_from}
 use Rattle.lists.proofs.Lists.{count_from_length, count_from_at, all_mem, mem_left, mem_right, mem_split}
 use Rattle.lists.proofs.Counting.{not_mem_nil, mem_count, count_mem}
@@ -30,6 +31,7 @@ use Rattle.live_blocks.proofs.Seeing.{live-number, free_cell, held_by, meet_same
 use Rattle.live_blocks.proofs.Living.{Row, Living, living}
 use Rattle.live_rows.specs.Extents.{one_of, reaching}
 use Rattle.cells_paint.specs.Painting.{Covers, byte_of, Drawn, left, drawn, Slices, Shown}
+use Rattle.cells_read.specs.Long.{CellShown, ShownIn}
 
 -- ── the window of a list ──
 
@@ -46,23 +48,18 @@ module _ (key : ℕ → ℕ) (start stop : ℕ) {k : ℕ} {xs : List ℕ} where
 
 -- ── a cell ──
 
--- it shows what the blocks show
-record CellShown (bs : List Block) (kind tick c byte held : ℕ) : Type 0 where
-  byte_is : get_or (seen tick (cell_place kind c) bs) 0 0 ≡ byte
-  held_is : min 1 (length (seen tick (cell_place kind c) bs)) ≡ held
-
 module _ {blocks store nodes entries : List ℕ} {kind tick : ℕ} {bs : List Block} (v : Living blocks store nodes entries kind tick bs) where
-  row_of : (k : ℕ) → live_of kind tick (block_at bs k) ≡ true → Row blocks store bs k
+  pub row_of : (k : ℕ) → live_of kind tick (block_at bs k) ≡ true → Row blocks store bs k
   row_of k a = v.row k (live-number bs kind tick v.apart v.used v.lies k a)
 
   -- a live block covers its cells
-  covers : (k c : ℕ) → live_of kind tick (block_at bs k) ≡ true → key_in bs k ≤ c → c < end_cell (block_at bs k) → Covers blocks store k c
+  pub covers : (k c : ℕ) → live_of kind tick (block_at bs k) ≡ true → key_in bs k ≤ c → c < end_cell (block_at bs k) → Covers blocks store k c
   covers k c a from below =
       let row = row_of k a in
       record { row = row.room; stored = row.inside; from = omega (arith, row.first); below = omega (arith, row.ended) }
 
   -- it alone shows what such a cell has
-  alone : (k c : ℕ) → live_of kind tick (block_at bs k) ≡ true → Covers blocks store k c → seen tick (cell_place kind c) bs ≡ byte_of blocks store k c ∷ []
+  pub alone : (k c : ℕ) → live_of kind tick (block_at bs k) ≡ true → Covers blocks store k c → seen tick (cell_place kind c) bs ≡ byte_of blocks store k c ∷ []
   alone k c a on =
       let row = row_of k a in
       held_by bs kind tick v.apart v.used v.lies k c a (omega (arith, row.first, on.from)) (omega (arith, row.ended, on.below))
@@ -114,6 +111,14 @@ module _ {blocks store nodes entries : List ℕ} {kind tick : ℕ} {bs : List Bl
 
 -- ── all cells ──
 
+-- a place of the first n of a list, with others behind them
+in_first : (n : ℕ) (l xs : List ℕ) (i : ℕ) → n ≤ length l → i < n → get_or (take n l ++ xs) i 0 ≡ get_or l i 0
+in_first n l xs i room h = get_or-append (take n l) xs 0 i (omega (arith, length-take n l)) ∙ get_or-take n l i 0 h
+
+-- and of those behind them
+in_last : (n : ℕ) (l xs : List ℕ) (i : ℕ) → n ≤ length l → n ≤ i → get_or (take n l ++ xs) i 0 ≡ get_or xs (i - n) 0
+in_last n l xs i room h = get_or-append_right (take n l) xs n i 0 (omega (arith, length-take n l)) h
+
 -- what a function gives for the numbers from a on
 map_is : (f : ℕ → ℕ) (a m : ℕ) (xs : List ℕ) → length xs ≡ m → ((i : ℕ) → i < m → f (a + i) ≡ get_or xs i 0) → map f (count_from a m) ≡ xs
 map_is f a m xs n h =
@@ -121,15 +126,31 @@ map_is f a m xs n h =
     let below : i < m = omega (arith, length_of_map f (count_from a m), count_from_length a m) in
     get_d_of_map f (count_from a m) i 0 0 (rw (count_from_length a m) below) ∙ rw (count_from_at a m i below) (h i below))
 
-pub cells_shown : {blocks store nodes entries : List ℕ} {kind tick start stop : ℕ} {l : Ledger} {bytes held : List ℕ} → ClosedAt blocks store nodes entries kind tick l
-    → stop < 2 ^ 64 → Slices start stop bytes held → Shown blocks nodes entries store kind tick start stop bytes held → cells_by l kind tick start stop ≡ record { bytes = bytes; held = held }
-unfolding cells_by
-cells_shown {kind = kind} {tick} {start} {stop} {l} {bytes} {held} at small w s =
-    ap₂ (λ (b h : List ℕ). record { bytes = b; held = h })
-    (map_is _ start (stop - start) bytes w.bytes_long (λ i a. (cell i a).byte_is))
-    (map_is _ start (stop - start) held w.held_long (λ i a. (cell i a).held_is))
-  where
-    cell : (i : ℕ) → i < stop - start → CellShown l.now.blocks kind tick (start + i) (get_or bytes i 0) (get_or held i 0)
-    cell i a =
-        let v = living at in
-        cell_shown v stop s.before (v.near Before start s.near) (omega arith) (omega arith) small (rw v.way at (s.cell v.tree v.rooted i a))
+module _ {blocks store nodes entries : List ℕ} {kind tick start place stop : ℕ} {l : Ledger} (at : ClosedAt blocks store nodes entries kind tick l) (onward : start ≤ place)
+    (small : stop < 2 ^ 64) {bytes held xs ys : List ℕ} (long : place - start ≤ length bytes) (long' : place - start ≤ length held)
+    (front : ShownIn l.now.blocks kind tick start start place bytes held) (s : Shown blocks nodes entries store kind tick place stop xs ys) where
+  -- what runs show at the front, and what is painted behind it
+  cell : (i : ℕ) → i < stop - start
+      → CellShown l.now.blocks kind tick (start + i) (get_or (take (place - start) bytes ++ xs) i 0) (get_or (take (place - start) held ++ ys) i 0)
+  cell i a = elim (lt_or_le i (place - start)) [ inl h ↦ shown i h | inr h ↦ painted i a h ]
+    where
+      shown : (i : ℕ) → i < place - start
+          → CellShown l.now.blocks kind tick (start + i) (get_or (take (place - start) bytes ++ xs) i 0) (get_or (take (place - start) held ++ ys) i 0)
+      shown i h =
+          rw (in_first (place - start) bytes xs i long h, in_first (place - start) held ys i long' h) (front.cell i (omega arith) (omega arith))
+
+      painted : (i : ℕ) → i < stop - start → place - start ≤ i
+          → CellShown l.now.blocks kind tick (start + i) (get_or (take (place - start) bytes ++ xs) i 0) (get_or (take (place - start) held ++ ys) i 0)
+      painted i a h =
+          let v = living at in
+          let same : place + (i - (place - start)) ≡ start + i = omega arith in
+          rw (in_last (place - start) bytes xs i long h, in_last (place - start) held ys i long' h)
+          (cell_shown v stop s.before (v.near Before place s.near) (omega arith) (omega arith) small (rw (v.way, same) at (s.cell v.tree v.rooted (i - (place - start)) (omega arith))))
+
+  pub cells_shown : Slices start stop (take (place - start) bytes ++ xs) (take (place - start) held ++ ys)
+      → cells_by l kind tick start stop ≡ record { bytes = take (place - start) bytes ++ xs; held = take (place - start) held ++ ys }
+  unfolding cells_by
+  cells_shown w =
+      ap₂ (λ (b h : List ℕ). record { bytes = b; held = h })
+      (map_is _ start (stop - start) (take (place - start) bytes ++ xs) w.bytes_long (λ i a. (cell i a).byte_is))
+      (map_is _ start (stop - start) (take (place - start) held ++ ys) w.held_long (λ i a. (cell i a).held_is))

@@ -1,8 +1,10 @@
-// Read cells of a closed index, without the test of its tables: for callers that have tested them. The refusals, then crate `cells_paint`.
+// Read cells of a closed index, without the test of its tables: for callers that have tested them. The refusals, then the long runs at the front of a long
+// window, and what is left by crate `cells_paint`.
 //
 //   specs/Answers    what is handed out
-//   proofs/Showing   what is painted are the ledger's cells
+//   proofs/Showing   what is painted are the ledger's cells, and so is what runs show
 //   proofs/Reading   25, 14, 15 and 16
+//   long             specs/Long   proofs/Running   run by run
 
 #![tactic(auto)]
 
@@ -12,6 +14,8 @@ ghost use Rattle.cells_read.specs.Answers.{ReadClosed};
 use refusals::Refusal;
 use segment_table::lent::Closed;
 use tables::kinds;
+
+mod long;
 
 // The cells of [start, end) of a kind at a tick: 25, 14, 15 and 16 in their order. Both slices are filled, or nothing has changed.
 pub fn read_closed(
@@ -42,6 +46,11 @@ pub fn read_closed(
     }
     let bytes = &mut bytes[..many];
     let held = &mut held[..many];
+    let place = long::show_front(closed, store, kind, tick, start, end, bytes, held);
+    let done = (place - start) as usize;
+    let start = place;
+    let bytes = &mut bytes[done..];
+    let held = &mut held[done..];
     cells_paint::show(closed, store, kind, tick, start, end, bytes, held);
     Ok(())
 }

@@ -1,6 +1,5 @@
 -- One read after another: where a read has left its reader the next one goes on. Assumes nothing.
-use mathlib.Core.Path.{◌≡◌, refl, sym, ap, ◌∙◌}
-use mathlib.Core.List.{List}
+use mathlib.Core.Path.{◌≡◌, refl, ap}
 use Prim.Native.Nat.{ℕ}
 use Rattle.history.specs.File.{Read, got, fault, onward, ◌>>=◌}
 use Rattle.history.specs.File.{Reader as Reading}

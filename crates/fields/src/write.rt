@@ -15,7 +15,7 @@ pub fn put_byte(out: &mut [u8], at: usize, value: u64)
     }
 }
 
-// Writes a number: with one test, where all of it goes in.
+// Writes a number: with one test, where all of it goes in; else each byte that goes in, as a copy of so many bytes would be a call of the C library.
 #[tactic(auto, using(crate::proofs::Writing::writing))]
 pub fn put_number(out: &mut [u8], at: usize, value: u64)
     ensures { out.new ≡ sets out.old at (bytes_of 8 value) }
@@ -23,7 +23,11 @@ pub fn put_number(out: &mut [u8], at: usize, value: u64)
     let bytes = value.to_le_bytes();
     if WIDTH <= out.len() && at <= out.len() - WIDTH {
         out[at..at + WIDTH].copy_from_slice(&bytes);
-    } else {
-        tables::copy_in(out, at, &bytes);
+    } else if at < out.len() {
+        for i in 0..WIDTH {
+            if at + i < out.len() {
+                out[at + i] = bytes[i];
+            }
+        }
     }
 }

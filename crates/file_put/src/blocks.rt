@@ -10,8 +10,8 @@ use tables::block;
 pub fn lives(blocks: &[u64], kind: u64, link: u64) -> bool
     ensures { result ≡ lives_at blocks.now kind link }
 {
-    block::get(blocks, link, block::OWNER) == kind
-        && block::get(blocks, link, block::CREATED) < block::get(blocks, link, block::DESTROYED)
+    let row = block_table::read(blocks, link);
+    row.owner == kind && row.created < row.destroyed
 }
 
 // The block of a link: its row, and its bytes from the store. Of bytes that are not in the store, which no closed index has, nothing is put.

@@ -11,7 +11,11 @@ use fields::{WIDTH, write};
 fn past(out: &[u8], at: usize, many: usize) -> usize
     ensures { result ≡ behind (length out.now) at many }
 {
-    at.saturating_add(many).min(out.len()).max(at)
+    if many <= out.len() && at <= out.len() - many {
+        at + many
+    } else {
+        out.len().max(at)
+    }
 }
 
 // A byte, the lowest of a value.
@@ -23,13 +27,25 @@ pub fn byte(out: &mut [u8], at: usize, value: u64) -> usize
     past(out, at, 1)
 }
 
-// A number.
+// A number at the end of the slice, which may not have all of it.
 #[tactic(auto, using(crate::proofs::Putting::put_field))]
-pub fn number(out: &mut [u8], at: usize, value: u64) -> usize
+fn last_number(out: &mut [u8], at: usize, value: u64) -> usize
     ensures { Put out.old at (bytes_of 8 value) out.new result }
 {
     write::put_number(out, at, value);
     past(out, at, WIDTH)
+}
+
+// A number. One that goes in returns by itself, so that the next one is not made to wait for the place behind it.
+#[tactic(auto, using(crate::proofs::Putting::put_field))]
+pub fn number(out: &mut [u8], at: usize, value: u64) -> usize
+    ensures { Put out.old at (bytes_of 8 value) out.new result }
+{
+    if out.len() < WIDTH || out.len() - WIDTH < at {
+        return last_number(out, at, value);
+    }
+    write::put_number(out, at, value);
+    at + WIDTH
 }
 
 // Bytes.

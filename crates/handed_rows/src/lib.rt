@@ -159,7 +159,8 @@ pub fn handed_on(pieces: &[u64], blocks: &mut [u64], n: u64) -> bool
     if !ends_apart::ends_apart(blocks, n) {
         return false;
     }
-    let guide = Guide::of(blocks, n);
+    let mut guide = Guide::new();
+    guide.mark_rows(blocks, n);
     tally_rows(blocks, n, &guide);
     let m = tables::get(pieces, 0, piece::COUNT);
     tally_pieces(pieces, m, blocks, n, &guide);

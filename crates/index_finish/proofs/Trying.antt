@@ -25,6 +25,7 @@ use Rattle.block_table.specs.Blocks.{block_of_row, blocks_of, Filled, Stored}
 use Rattle.block_table.proofs.Blocks.{blocks_length, blocks_at, blocks_key, bytes_length}
 use Rattle.ordering.specs.Order.{Sorted, cleared}
 use Rattle.ordering.specs.Apart.{Unshared, TestedApart}
+use Rattle.ordering.proofs.Parting.{comparable_whole}
 use Rattle.ordering.proofs.Keeping.{blocks_order, filled_order, stored_order}
 use Rattle.ordering.proofs.Clearing.{cleared_back}
 use Rattle.ordering.proofs.Agreeing.{unshared_apart, apart_unshared}
@@ -189,7 +190,7 @@ order_tried {blocks} {b} {b'} {n} {r} sort test clear = record {
       record {
         same = clear ∙ cleared_back blocks b n none o.only;
         decides = decides_iff r (λ u. apart_unshared store inside (subst Apart same (unshared_apart store kept u)))
-            (λ u. apart_unshared store kept (subst Apart (sym same) (unshared_apart store inside u))) (test.decides o.order (filled_order o.only full));
+            (λ u. apart_unshared store kept (subst Apart (sym same) (unshared_apart store inside u))) (test.decides o.order (comparable_whole (filled_order o.only full)));
       };
 }
 

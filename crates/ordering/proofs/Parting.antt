@@ -16,7 +16,7 @@ use Rattle.history.specs.Words.{line_of}
 use Rattle.history.proofs.ByKind.{line_next}
 use Rattle.block_table.specs.Blocks.{first_cell_at, owner_at, place_at, length_at, created_at, destroyed_at, Filled}
 use Rattle.ordering.specs.Order.{next_at, rank, Trail, end, link}
-use Rattle.ordering.specs.Apart.{Clash, Unshared, StartsWithin, StartsIn, LivesMeet, Clear, AllClear, FollowersApart, RowsApart, TestedApart}
+use Rattle.ordering.specs.Apart.{Clash, Unshared, StartsWithin, Comparable, AllComparable, StartsIn, LivesMeet, Clear, AllClear, FollowersApart, RowsApart, TestedApart}
 use Rattle.ordering.proofs.Rank.{rank_first}
 use Rattle.ordering.proofs.Trail.{trail_wider}
 use Rattle.ordering.proofs.Dense.{Met, trail_met, trail_distinct, order_dense}
@@ -26,7 +26,12 @@ use Rattle.ordering.proofs.Dense.{Met, trail_met, trail_distinct, order_dense}
 module _ {t : List ℕ} {j k first start own other : ℕ} (ef : first ≡ first_cell_at t j) (es : start ≡ first_cell_at t k) (eo : own ≡ owner_at t j) (ek : other ≡ owner_at t k) where
   -- of another kind
   pub starts_apart : (own ≡ other → ⊥) → start < 2 ^ 64 → StartsIn t j k false
-  starts_apart n small = record { decides = λ fits. refute (λ w. go fits w (lt_or_le (owner_at t j) (owner_at t k))) }
+  starts_apart n small = record {
+    decides = λ z. elim z [
+      | inl e ↦ absurd (n (eo ∙ e ∙ sym ek))
+      | inr fits ↦ refute (λ w. go fits w (lt_or_le (owner_at t j) (owner_at t k)))
+    ];
+  }
     where
       go : first_cell_at t j + length_at t j ≤ 2 ^ 64 → StartsWithin t j k → (owner_at t j < owner_at t k) ⊎ (owner_at t k ≤ owner_at t j) → ⊥
       go fits w (inl h) = omega (arith, line_next (owner_at t j) (owner_at t k) h, w.below)
@@ -112,11 +117,11 @@ module _ {t : List ℕ} {j k fuel : ℕ} where
   pub followers_past : {q : Bool} → StartsIn t j k q → q ≡ false → FollowersApart t j k fuel true
   followers_past d f = record { decides = λ n links small whole fill tr fits. go n links small whole tr }
     where
-      go : (n : ℕ) (xs : List ℕ) → n < 2 ^ 64 → first_cell_at t j + length_at t j ≤ 2 ^ 64 → Trail t 0 n (rank t j) k xs → Decides true (Clear t j xs)
+      go : (n : ℕ) (xs : List ℕ) → n < 2 ^ 64 → ((y : ℕ) → 0 < y → y ≤ n → Comparable t j y) → Trail t 0 n (rank t j) k xs → Decides true (Clear t j xs)
       go n [] small whole (end e) = confirm all_nil
       go n (x ∷ xs) small whole (link e a b up r) =
           let p : place_at t j ≤ place_at t x = rank_first (place_at t j) j (place_at t x) x up (omega arith) in
-          confirm (all_of_mem (x ∷ xs) (λ y m c. (d.decides whole).not f (rw e (clash_starts p (trail_first small r m) c))))
+          confirm (all_of_mem (x ∷ xs) (λ y m c. (d.decides (rw e (whole x a b))).not f (rw e (clash_starts p (trail_first small r m) c))))
 
   pub followers_clash : {q s : Bool} → (k ≡ 0 → ⊥) → StartsIn t j k q → q ≡ true → Decides s (LivesMeet t j k) → s ≡ true
       → FollowersApart t j k fuel false
@@ -125,10 +130,10 @@ module _ {t : List ℕ} {j k fuel : ℕ} where
       first : {x : ℕ} {xs : List ℕ} → Clear t j (x ∷ xs) → Clash t j x → ⊥
       first (all_cons p ps) = p
 
-      go : (n : ℕ) (xs : List ℕ) → first_cell_at t j + length_at t j ≤ 2 ^ 64 → Filled t n → Trail t 0 n (rank t j) k xs → Decides false (Clear t j xs)
+      go : (n : ℕ) (xs : List ℕ) → ((y : ℕ) → 0 < y → y ≤ n → Comparable t j y) → AllComparable t n → Trail t 0 n (rank t j) k xs → Decides false (Clear t j xs)
       go n [] whole fill (end z) = absurd (nz z)
       go n (x ∷ xs) whole fill (link ex a b up r) =
-          let starts : StartsWithin t j x = rw ex at ((d.decides whole).yes f) in
+          let starts : StartsWithin t j x = rw ex at ((d.decides (rw ex (whole x a b))).yes f) in
           let meet : LivesMeet t j x = rw ex at (e.yes g) in
           refute (λ c. first c (meets_clash (fill.filled x a b) starts meet))
 
@@ -139,7 +144,7 @@ module _ {t : List ℕ} {j k fuel : ℕ} where
       later : {x : ℕ} {xs : List ℕ} → Clear t j (x ∷ xs) → Clear t j xs
       later (all_cons p ps) = ps
 
-      go : (n : ℕ) (xs : List ℕ) → n < 2 ^ 64 → first_cell_at t j + length_at t j ≤ 2 ^ 64 → Filled t n → Trail t 0 n (rank t j) k xs → length xs ≤ fuel → Decides r (Clear t j xs)
+      go : (n : ℕ) (xs : List ℕ) → n < 2 ^ 64 → ((y : ℕ) → 0 < y → y ≤ n → Comparable t j y) → AllComparable t n → Trail t 0 n (rank t j) k xs → length xs ≤ fuel → Decides r (Clear t j xs)
       go n [] small whole fill (end z) fits = absurd (nz z)
       go n (x ∷ xs) small whole fill (link ex a b up tr) fits =
           let apart : Clash t j x → ⊥ = λ c. e.not g (rw ex (clash_lives c)) in
@@ -185,11 +190,11 @@ module _ {t : List ℕ} {k fuel : ℕ} where
   pub rows_clash : {next left : ℕ} {q : Bool} → (k ≡ 0 → ⊥) → next ≡ next_at t k → FollowersApart t k next left q → q ≡ false → left ≡ fuel - 1 → RowsApart t k fuel false
   rows_clash {next} {left} {q} nz en d f is = record { decides = go }
     where
-      go : (n low : ℕ) (xs : List ℕ) → n < 2 ^ 64 → Filled t n → Trail t 0 n low k xs → length xs ≤ fuel → Decides false (AllClear t xs)
+      go : (n low : ℕ) (xs : List ℕ) → n < 2 ^ 64 → AllComparable t n → Trail t 0 n low k xs → length xs ≤ fuel → Decides false (AllClear t xs)
       go n low [] small fill (end z) fits = absurd (nz z)
       go n low (x ∷ xs) small fill (link ex a b up tr) fits =
           let tail : Trail t 0 n (rank t k) next xs = rw (en, ex) tr in
-          let whole : first_cell_at t k + length_at t k ≤ 2 ^ 64 = rw ex (fill.no_wrap x a b) in
+          let whole : (y : ℕ) → 0 < y → y ≤ n → Comparable t k y = rw ex (λ y c d. fill.two x y a b c d) in
           refute (λ p. (d.decides n xs small whole fill tail (omega arith)).not f (rw ex (head p)))
         where
           head : AllClear t (x ∷ xs) → Clear t x xs
@@ -199,11 +204,11 @@ module _ {t : List ℕ} {k fuel : ℕ} where
       → RowsApart t next (fuel - 1) r → RowsApart t k fuel r
   rows_more {next} {q} {r} nz en d f rest = record { decides = go }
     where
-      go : (n low : ℕ) (xs : List ℕ) → n < 2 ^ 64 → Filled t n → Trail t 0 n low k xs → length xs ≤ fuel → Decides r (AllClear t xs)
+      go : (n low : ℕ) (xs : List ℕ) → n < 2 ^ 64 → AllComparable t n → Trail t 0 n low k xs → length xs ≤ fuel → Decides r (AllClear t xs)
       go n low [] small fill (end z) fits = absurd (nz z)
       go n low (x ∷ xs) small fill (link ex a b up tr) fits =
           let tail : Trail t 0 n (rank t k) next xs = rw (en, ex) tr in
-          let whole : first_cell_at t k + length_at t k ≤ 2 ^ 64 = rw ex (fill.no_wrap x a b) in
+          let whole : (y : ℕ) → 0 < y → y ≤ n → Comparable t k y = rw ex (λ y c d. fill.two x y a b c d) in
           let clear : Clear t x xs = rw ex at ((d.decides n xs small whole fill tail (omega arith)).yes f) in
           decides_iff r (λ p. pairs_cons clear p) after (rest.decides n (rank t k) xs small fill tail (omega arith))
         where
@@ -255,3 +260,8 @@ apart_tested {t} {head} {n} {r} small e d = record {
 }
 
 pub ruleset apartness = (apart_tested)
+
+-- ── tables without blocks that wrap, and those of one kind ──
+
+pub comparable_whole : {t : List ℕ} {n : ℕ} → Filled t n → AllComparable t n
+comparable_whole f = record { filled = f.filled; two = λ j k a b c d. inr (f.no_wrap j a b) }

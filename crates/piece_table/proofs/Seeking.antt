@@ -32,7 +32,8 @@ use Rattle.piece_table.specs.declared.Found.{Found}
 -- ── `ends_past`, `ends_after` ──
 
 pub ends-past_other : {owner first size kind cell : ℕ} → (owner ≡ kind → ⊥) → cell < 2 ^ 64 → EndsPast owner first size kind cell (ltb kind owner)
-ends-past_other {owner} {first} {size} {kind} {cell} n small = record { is = λ fits. go fits (lt_or_le kind owner) }
+ends-past_other {owner} {first} {size} {kind} {cell} n small =
+    record { is = λ fits. go fits (lt_or_le kind owner); same = λ e. absurd (n e); other = λ m. refl }
   where
     go : first + size ≤ 2 ^ 64 → (kind < owner) ⊎ (owner ≤ kind) → ltb kind owner ≡ ltb (cell_place kind cell) (cell_place owner first + size)
     go fits (inl h) = lt-ltb kind owner h ∙ sym (lt-ltb (cell_place kind cell) (cell_place owner first + size) (omega (arith, line_next kind owner h)))
@@ -41,18 +42,32 @@ ends-past_other {owner} {first} {size} {kind} {cell} n small = record { is = λ 
 pub ends-past_low : {owner first size kind cell : ℕ} → owner ≡ kind → cell < first → EndsPast owner first size kind cell true
 ends-past_low {owner} {first} {size} {kind} {cell} e h =
     let same = ap line_of e in
-    record { is = λ fits. sym (lt-ltb (cell_place kind cell) (cell_place owner first + size) (omega arith)) }
+    record {
+      is = λ fits. sym (lt-ltb (cell_place kind cell) (cell_place owner first + size) (omega arith));
+      same = λ q. sym (lt-ltb cell (first + size) (omega arith));
+      other = λ n. absurd (n e);
+    }
 
 pub ends-past_rest : {owner first size kind cell : ℕ} → owner ≡ kind → first ≤ cell → EndsPast owner first size kind cell (ltb (cell - first) size)
-ends-past_rest {owner} {first} {size} {kind} {cell} same h = record { is = λ fits. go (ltb (cell - first) size) refl }
+ends-past_rest {owner} {first} {size} {kind} {cell} same h =
+    record { is = λ fits. go (ltb (cell - first) size) refl; same = λ q. cells (ltb (cell - first) size) refl; other = λ n. absurd (n same) }
   where
+    cells : (q : Bool) → ltb (cell - first) size ≡ q → ltb (cell - first) size ≡ ltb cell (first + size)
+    cells true e = e ∙ sym (lt-ltb cell (first + size) (omega (arith, ltb-true (cell - first) size e)))
+    cells false e = e ∙ sym (le-ltb cell (first + size) (omega (arith, ltb-false (cell - first) size e)))
+
     go : (q : Bool) → ltb (cell - first) size ≡ q → ltb (cell - first) size ≡ ltb (cell_place kind cell) (cell_place owner first + size)
     go true e = let line = ap line_of same in e ∙ sym (lt-ltb (cell_place kind cell) (cell_place owner first + size) (omega (arith, ltb-true (cell - first) size e)))
     go false e = let line = ap line_of same in e ∙ sym (le-ltb (cell_place kind cell) (cell_place owner first + size) (omega (arith, ltb-false (cell - first) size e)))
 
 pub ends-after_done : {t : List ℕ} {k kind cell owner first size : ℕ} {q : Bool} → owner ≡ column t k piece_owner → first ≡ column t k piece_first → size ≡ column t k piece_length
     → EndsPast owner first size kind cell q → EndsAfter t k kind cell q
-ends-after_done eo ef es e = record { is = λ on. rw (← eo, ← ef, ← es) (e.is (omega (arith, on.fits))) }
+ends-after_done eo ef es e =
+    record {
+      is = λ on. rw (← eo, ← ef, ← es) (e.is (omega (arith, on.fits)));
+      same = λ q. rw (← ef, ← es) (e.same (eo ∙ q));
+      other = λ n. rw (← eo) (e.other (λ q. n (sym eo ∙ q)));
+    }
 
 -- ── the model ──
 

@@ -41,9 +41,11 @@ pub record WroteRow (t t' : List ℕ) (link : ℕ) (p : PieceRow) : Type 0 where
 abbrev pub end_at : (t : List ℕ) (link : ℕ) → ℕ
 end_at t link = first_at t link + column t link piece_length
 
--- `ends_past`: so many cells of a kind from `first` on end past another place; where they wrap nothing is said
+-- `ends_past`: so many cells of a kind from `first` on end past another place; of one kind they do also where they wrap
 pub record EndsPast (owner first size kind cell : ℕ) (answer : Bool) : Type 0 where
   pub is : first + size ≤ 2 ^ 64 → answer ≡ ltb (cell_place kind cell) (cell_place owner first + size)
+  pub same : owner ≡ kind → answer ≡ ltb cell (first + size)
+  pub other : (owner ≡ kind → ⊥) → answer ≡ ltb kind owner
 
 -- the cells of a row do not wrap
 pub record OnLine (t : List ℕ) (link : ℕ) : Type 0 where
@@ -52,6 +54,8 @@ pub record OnLine (t : List ℕ) (link : ℕ) : Type 0 where
 -- `ends_after`
 pub record EndsAfter (t : List ℕ) (link kind cell : ℕ) (answer : Bool) : Type 0 where
   pub is : OnLine t link → answer ≡ ltb (cell_place kind cell) (end_at t link)
+  pub same : column t link piece_owner ≡ kind → answer ≡ ltb cell (column t link piece_first + column t link piece_length)
+  pub other : (column t link piece_owner ≡ kind → ⊥) → answer ≡ ltb kind (column t link piece_owner)
 
 -- the first link of a tree whose end is past a place, `best` if there is none; and of a list
 unfoldable pub sought : (end : ℕ → ℕ) (place best : ℕ) → Tree → ℕ

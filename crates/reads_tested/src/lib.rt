@@ -1,5 +1,5 @@
 // Touching, next, last, read cells, write, clock and info after one test: each takes the state that `index_test::test` found and does not test the tables again
-// (crate `index_tested`). Where the state is false they end after few steps too: ways down are at most 66 long, a run of cells ends behind its start, and
+// (crate `index_tested`). Where the state is false they end after few steps too: ways down are at most 66 long, no node on the way paints a cell twice, and
 // write goes over no more blocks than the table has rows and puts a byte for each node.
 //
 //   specs/Tested       the calls at a state

@@ -18,6 +18,9 @@ const FROM: usize = 6;
 
 const MANY: usize = 7;
 
+// What comes where the tables are not left as they must be, or the file is not written again: no number of an answer.
+const WRONG: u64 = 99;
+
 // Bytes of the longest file.
 pub const FILE: usize = 16384;
 
@@ -78,7 +81,7 @@ pub fn play(stdout: &Stdout, counts: &mut Counts, t: &mut Tables<'_>, call: Call
     let from = call.get(FROM) as usize;
     for place in from..tally::skip(whole, from, call.get(MANY)) {
         let number = load_damaged(t, &mut file, call, place);
-        let alike = number == Some(call.get(rows::REFUSAL));
+        let alike = number.unwrap_or(WRONG) == call.get(rows::REFUSAL);
         counts.count_answer(stdout, Code::Damaged, alike);
     }
 }

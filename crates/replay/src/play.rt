@@ -2,7 +2,7 @@
 use crate::counts::Counts;
 use crate::input::Reader;
 use crate::lent::Tables;
-use crate::rows::{self, Call, Code, NoCode, Row};
+use crate::rows::{self, Call, Code, Row};
 use crate::{damage, installs, near, read, report, update};
 use std::io::Stdout;
 use touching::Side;
@@ -111,17 +111,16 @@ fn play_row(stdout: &Stdout, counts: &mut Counts, t: &mut Tables<'_>, code: Code
     }
 }
 
-// Plays a part: how many bytes its pool has, the pool, the rows. A row that has no code is an answer that differs.
+// Plays a part: how many bytes its pool has, the pool, the rows. A number that is no code stands for a calendar.
 pub fn play(stdout: &Stdout, counts: &mut Counts, t: &mut Tables<'_>, part: &[u8]) {
     let mut list = Reader::new(part);
     let many = list.number();
     let pool = list.part(many);
     for _ in 0..ROWS {
         let row = list.row();
-        match row.code() {
-            Ok(Code::End) => return,
-            Ok(code) => play_row(stdout, counts, t, code, Call { row: &row, pool }),
-            Err(NoCode) => counts.count_answer(stdout, Code::End, false),
+        match row.code().unwrap_or(Code::Calendar) {
+            Code::End => return,
+            code => play_row(stdout, counts, t, code, Call { row: &row, pool }),
         }
     }
 }

@@ -7,7 +7,7 @@
 
 #![tactic(auto)]
 
-ghost use Rattle.std.specs.Prelude.{◌≡◌, ◌≤◌, max, length};
+ghost use Rattle.std.specs.Prelude.{◌≡◌, ◌≤◌, max, length, replicate};
 ghost use Rattle.row_seek.specs.Slots.{slot_at, Marked, Filled, Guides};
 
 use block_table::Row;
@@ -63,17 +63,25 @@ fn fill(slots: &mut [u32])
 }
 
 impl Guide {
-    // The guide of the rows 1 to n. Slots are so wide that the last row's tick has one.
-    pub fn of(blocks: &[u64], n: u64) -> Guide
-        ensures { Guides result.rows blocks.now result.shift n }
+    // A guide of no rows. It is made before it is marked, and stays where it is: to move it would copy all its slots.
+    pub fn new() -> Guide
+        ensures { result.rows ≡ replicate SLOTS u32.MAX }
+    {
+        Guide {
+            shift: 0,
+            rows: [u32::MAX; SLOTS],
+        }
+    }
+
+    // Makes it the guide of the rows 1 to n, where it is new. Slots are so wide that the last row's tick has one.
+    pub fn mark_rows(&mut self, blocks: &[u64], n: u64)
+        ensures { Guides self.new.rows blocks.now self.new.shift n }
     {
         let last = block_table::read(blocks, n).destroyed;
-        let shift = (64 - last.leading_zeros()).saturating_sub(BITS);
-        let mut rows = [u32::MAX; SLOTS];
-        mark(&mut rows, blocks, n, shift);
-        let used = slot_of(last, shift).saturating_add(1).min(SLOTS);
-        fill(&mut rows[..used]);
-        Guide { shift, rows }
+        self.shift = (64 - last.leading_zeros()).saturating_sub(BITS);
+        mark(&mut self.rows, blocks, n, self.shift);
+        let used = slot_of(last, self.shift).saturating_add(1).min(SLOTS);
+        fill(&mut self.rows[..used]);
     }
 
     // What stands in a slot, as one of the rows up to n; behind the last slot n.

@@ -1,11 +1,11 @@
 -- Past its end a table reads as 0; bytes are copied as far as a store goes. Assumes nothing.
 use mathlib.Core.Path.{◌≡◌, sym, ◌∙◌, ap}
-use mathlib.Core.List.{List, ◌++◌, append_assoc}
+use mathlib.Core.List.{List, [], ◌∷◌, ◌++◌}
 use Prim.Native.Nat.{ℕ, ◌+◌, ◌-◌, ◌≤◌, ◌<◌, min}
 use native.Mathlib.Omega.{arith}
-use lib.ListN.{length, get_or, take, drop, get_or-eq_default, take-append-drop}
-use lib.Seq.{sets, sets-eq, length-sets, take_all, length-take-le, drop-drop}
-use borrow.Rule.Slice.PartMut.{put_mid}
+use native.Mathlib.Numerals.{add-one}
+use lib.ListN.{length, get_or, set, take, drop, get_or-eq_default, take-append-drop}
+use lib.Seq.{sets, length-sets, take-suc, take_all, length-take-le}
 use mathlib.Core.Logic.{⊎_elim}
 use Rattle.lists.proofs.Numbers.{lt_or_le}
 use Rattle.lists.proofs.Stores.{sets-append, sets-past}
@@ -28,13 +28,14 @@ sets-cut l vs at i h k =
 sets_all : (l vs : List ℕ) (at i : ℕ) → length vs ≤ i → sets l at (take i vs) ≡ sets l at vs
 sets_all l vs at i h = rw (take_all i vs h)
 
--- as many bytes as there is room for, in place of those that stand there
-pub copied : (store bytes : List ℕ) (at many k : ℕ) (ys : List ℕ) → at < length store → many ≡ min (length bytes) (length store - at) → k ≡ many
-    → ys ≡ take many bytes → put_mid at k store ys ≡ sets store at bytes
-copied store bytes at many k ys h m e w =
-    let n : length (take many bytes) ≡ many = length-take-le many bytes (omega arith) in
-    let all : sets store at (take many bytes) ≡ sets store at bytes =
+-- one byte more
+pub sets_more : (l vs : List ℕ) (at i : ℕ) → i < length vs → set (sets l at (take i vs)) (at + i) (get_or vs i 0) ≡ sets l at (take (i + 1) vs)
+sets_more l vs at i h =
+    let n : length (take i vs) ≡ i = length-take-le i vs (omega arith) in
+    sym (rw (add-one, take-suc vs i 0 h, sets-append l at (take i vs) (get_or vs i 0 ∷ []), n))
+
+-- as many bytes as there is room for
+pub copied : (store bytes : List ℕ) (at many : ℕ) → many ≡ min (length bytes) (length store - at) → sets store at (take many bytes) ≡ sets store at bytes
+copied store bytes at many m =
     ⊎_elim (λ l. sets_all store bytes at many (omega arith)) (λ l. sets-cut store bytes at many (omega arith) (omega arith))
-    (lt_or_le (length bytes) (length store - at)) in
-    let written = rw (n, append_assoc) at (sets-eq (take many bytes) store at (omega arith)) in
-    rw (w, e, drop-drop many at store) (sym written ∙ all)
+    (lt_or_le (length bytes) (length store - at))

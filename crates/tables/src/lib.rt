@@ -89,18 +89,37 @@ pub fn zero(table: &mut [u64])
     table.fill(0);
 }
 
-// Whether every number of the table is 0. It goes over all of them and has no branch, so that several are read at once.
-pub fn all_zero(table: &[u64]) -> bool
-    ensures { Decides result (table.now ≡ replicate (length table.now) 0) }
+// Whether every number of a part is 0. It goes over all of them and has no branch, so that several are read at once.
+fn part_zero(part: &[u64]) -> bool
+    ensures { Decides result (part.now ≡ replicate (length part.now) 0) }
 {
     let mut bits = 0;
-    for i in 0..table.len() {
-        bits |= table[i];
+    for i in 0..part.len() {
+        bits |= part[i];
     }
     bits == 0
 }
 
+// Numbers that are read before the next test.
+const PART: usize = 512;
+
+// Whether every number of the table is 0. It ends with the first part that has another one.
+pub fn all_zero(table: &[u64]) -> bool
+    ensures { Decides result (table.now ≡ replicate (length table.now) 0) }
+{
+    let mut from = 0;
+    while from < table.len() {
+        let to = table.len().min(from.saturating_add(PART));
+        if !part_zero(&table[from..to]) {
+            return false;
+        }
+        from = to;
+    }
+    true
+}
+
 // Copies bytes into the store from place `at` on, as far as the store goes.
+// A loop, as `copy_from_slice` would have callers in C link a further function of the C library.
 pub fn copy_in(store: &mut [u8], at: usize, bytes: &[u8])
     ensures { store.new ≡ sets store.old at bytes.now }
 {
@@ -108,7 +127,9 @@ pub fn copy_in(store: &mut [u8], at: usize, bytes: &[u8])
         return;
     }
     let many = bytes.len().min(store.len() - at);
-    store[at..at + many].copy_from_slice(&bytes[..many]);
+    for i in 0..many {
+        store[at + i] = bytes[i];
+    }
 }
 
 // So many bytes from an offset on; none where there are not so many.

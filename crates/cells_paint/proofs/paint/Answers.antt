@@ -16,5 +16,5 @@ returns-then-past-from c =
 
 pub returns : goal.returns
 returns c =
-    part_painted c.in-Some.ensures c.max-from.ensures (omega (arith, c.min-past.ensures, c.saturating_add.ensures)) c.ranges.end.fits c.requires
+    part_painted c.in-Some.ensures c.max-from.ensures (omega (arith, c.min-past.ensures, c.saturating_add.ensures)) c.ranges.end.fits c.requires.window c.requires.inside
     (omega arith) c.if-past-from.false (omega arith) c.copy_in.ensures c.fill.ensures

@@ -7,7 +7,7 @@ loop-row-init c = rowing_none c.requires.window
 
 pub loop-row-preserved : goal.loop-row-preserved
 loop-row-preserved c =
-    rowing_more c.loop-row.invariant (omega arith) c.block_in-own.ensures c.if-end-own.false c.paint.auto.bytes c.paint.auto.held c.paint.ensures
+    rowing_more c.loop-row.invariant (omega arith) (omega arith) c.block_in-own.ensures c.if-end-own.false c.paint-place.auto.bytes c.paint-place.auto.held c.paint-place.ensures
 
 pub returns-then-end-own : goal.returns-then-end-own
 returns-then-end-own c = rowing_past c.loop-row.invariant (omega arith) (omega arith) c.block_in-own.ensures c.if-end-own.true

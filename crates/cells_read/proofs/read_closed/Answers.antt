@@ -22,4 +22,4 @@ returns-then-bytes-many c =
 pub returns : goal.returns
 returns c =
     read_filled c.kinds.ensures c.has.ensures c.if-not-has.false c.end.ensures c.if-end-tick.false c.if-end-start.false c.ranges.end.fits (omega arith) c.if-bytes-many.false
-    c.if-held-many.false c.show.auto.bytes c.show.auto.held c.show.ensures
+    c.if-held-many.false c.show_front-place.auto.bytes c.show_front-place.auto.held c.show_front-place.ensures (omega arith) c.show.auto.bytes c.show.auto.held c.show.ensures

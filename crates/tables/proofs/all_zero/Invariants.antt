@@ -1,6 +1,10 @@
--- the bits of the first i numbers
-use Rattle.tables.proofs.Zeros.{BitsTo}
+-- the numbers before `from` are zeros
+use Rattle.std.proofs.Common.{◌-◌, length}
+use Rattle.tables.proofs.Zeros.{ZerosTo}
 use Rattle.tables.proofs.all_zero.Given as goal
 
-abbrev pub invariant-loop-i : goal.invariant-loop-i
-invariant-loop-i l = BitsTo l.table l.bits l.i
+abbrev pub invariant-loop-from : goal.invariant-loop-from
+invariant-loop-from l = ZerosTo l.table l.from
+
+abbrev pub decreases-loop-from : goal.decreases-loop-from
+decreases-loop-from l = length l.table - l.from
