@@ -13,7 +13,7 @@ use Rattle.segment_table.proofs.Closed.{run_split, run_mem}
 use Rattle.segment_walk.specs.declared.rows.Rows.{Rows}
 use Rattle.segment_walk.specs.Rowing.{key_at, RunOf}
 use Rattle.segment_near.specs.declared.Neighbour.{Neighbour}
-use Rattle.cells_paint.specs.Painting.{Covers, Drawn, left, drawn, Slices, Painted, PaintedFrom, Ascending, RowsPainted}
+use Rattle.cells_paint.specs.Painting.{Covers, Drawn, left, drawn, Slices, Painted, PaintedFrom, RowsPainted, Ascending, AscendingPainted}
 use Rattle.cells_paint.proofs.Drawing.{drawn_append, painted_none}
 
 -- the block of a row before `row` has all its cells below `place` in the store
@@ -107,7 +107,7 @@ rowing_more s low inside o h same same' p = rowing_row s low inside (rw o at p) 
 module _ {entries blocks store : List ℕ} {rows : Rows} {start stop row place : ℕ} {bytes₀ bytes held₀ held : List ℕ}
     (s : Rowing entries blocks store rows start stop bytes₀ bytes held₀ held row place) (low : rows.from ≤ row) where
   -- those that start before the end of the window are all painted
-  pub rowing_past : {own : Neighbour} → row < rows.to → own ≡ row_block entries row → stop ≤ own.first → RowsPainted entries blocks store rows start stop bytes₀ bytes held₀ held
+  pub rowing_past : {own : Neighbour} → row < rows.to → own ≡ row_block entries row → stop ≤ own.first → AscendingPainted entries blocks store rows start stop bytes₀ bytes held₀ held
   rowing_past inside o h =
       record {
         past = row;
@@ -119,13 +119,18 @@ module _ {entries blocks store : List ℕ} {rows : Rows} {start stop row place :
       }
 
   -- there are no more
-  pub rowing_all : rows.to ≤ row → (rows.from ≤ rows.to → row ≤ rows.to) → RowsPainted entries blocks store rows start stop bytes₀ bytes held₀ held
+  pub rowing_all : rows.to ≤ row → (rows.from ≤ rows.to → row ≤ rows.to) → AscendingPainted entries blocks store rows start stop bytes₀ bytes held₀ held
   rowing_all h high =
       record {
         past = row;
         ends = record { inside = λ o. (low, high o); parts = λ room order. record { below = s.below; above = λ i x y. absurd (omega arith) } };
         painted = s.painted;
       }
+
+-- rows that ascend are painted whole
+abbrev pub rows_painted : {entries blocks store : List ℕ} {rows : Rows} {start stop : ℕ} {bytes bytes' held held' : List ℕ} → Ascending blocks entries rows
+    → AscendingPainted entries blocks store rows start stop bytes bytes' held held' → RowsPainted entries blocks store rows start stop bytes bytes' held held'
+rows_painted o p = record { past = p.past; ends = p.ends; painted = p.painted o }
 
 -- the rows of a node that stands in the tables, from one of them on, ascend
 pub ascending_from : {blocks entries : List ℕ} {rows : Rows} {xs : List ℕ} {row : ℕ} → RunOf blocks entries rows xs → rows.from ≤ row

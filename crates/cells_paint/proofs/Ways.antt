@@ -24,9 +24,9 @@ use Rattle.segment_walk.proofs.Windows.{in_window}
 use Rattle.segment_near.specs.declared.Neighbour.{Neighbour}
 use Rattle.segment_near.proofs.Neighbouring.{nearest_none, nearest_both, nearest_live}
 use Rattle.live_rows.specs.Extents.{Later, one_of}
-use Rattle.cells_paint.specs.Painting.{Painted, RowsPainted, WayPainted, Shown}
+use Rattle.cells_paint.specs.Painting.{Painted, AscendingPainted, WayPainted, Shown}
 use Rattle.cells_paint.proofs.Drawing.{painted_none, painted_append}
-use Rattle.cells_paint.proofs.Rows.{ascending_from}
+use Rattle.cells_paint.proofs.Rows.{rows_painted, ascending_from}
 
 -- ── the returns of `paint_way` ──
 
@@ -38,7 +38,7 @@ module _ {blocks nodes entries store : List ℕ} {n : Node} {tick start stop : �
   -- the rows of a node in the window, then what is painted on the way down from its half
   pub way_both : {rows : Rows} {h : Node} {row : ℕ} {near r : Option Neighbour} {bytes₁ bytes₂ held₁ held₂ : List ℕ} → Present n → rows ≡ rows_at nodes entries n.link
       → Lower entries rows start row → Later entries rows row best near
-      → RowsPainted entries blocks store (record { from = row; to = rows.to }) start stop bytes bytes₁ held held₁ → h ≡ half_at nodes tick n
+      → AscendingPainted entries blocks store (record { from = row; to = rows.to }) start stop bytes bytes₁ held held₁ → h ≡ half_at nodes tick n
       → WayPainted blocks nodes entries store h tick start stop near r bytes₁ bytes₂ held₁ held₂
       → WayPainted blocks nodes entries store n tick start stop best r bytes bytes₂ held held₂
   unfolding TreeAt
@@ -59,7 +59,8 @@ module _ {blocks nodes entries store : List ℕ} {n : Node} {tick start stop : �
           let run : RunOf blocks entries (rows_at nodes entries n.link) xs = run_of blocks nodes entries kind n xs l r' s in
           let own : blocks_in entries (record { from = row; to = here.past }) ≡ window (first_cell_in blocks) start stop xs = w.lists blocks xs run in
           let all : RunOf blocks entries rows xs = rw (← e) at run in
-          rw (d.way, window-append, ← own) (painted_append (here.painted (ascending_from all (low.inside all.order).0)) (below.painted kind d.below d.stands))
+          let whole = rows_painted (ascending_from all (low.inside all.order).0) here in
+          rw (d.way, window-append, ← own) (painted_append whole.painted (below.painted kind d.below d.stands))
 
 -- ── the returns of `show` ──
 

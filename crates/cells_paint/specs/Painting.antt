@@ -59,12 +59,18 @@ pub record PaintedFrom (blocks store : List ℕ) (k start place stop r : ℕ) (b
   pub inside : place ≤ stop → r ≤ stop
   pub spent : (c : ℕ) → r ≤ c → c < stop → Covers blocks store k c → ⊥
 
+-- the blocks of the rows up to the first that starts at the stop or behind it
+pub record RowsPainted (entries blocks store : List ℕ) (rows : Rows) (start stop : ℕ) (bytes bytes' held held' : List ℕ) : Type 0 where
+  pub past : ℕ
+  pub ends : Lower entries rows stop past
+  pub painted : Painted blocks store (blocks_in entries (record { from = rows.from; to = past })) start stop bytes bytes' held held'
+
 -- the blocks of the rows ascend by first cell, as those of a closed index do
 pub record Ascending (blocks entries : List ℕ) (rows : Rows) : Type 0 where
   pub firsts : (i j : ℕ) → rows.from ≤ i → i ≤ j → j < rows.to → first_cell_in blocks (block_in entries i) ≤ first_cell_in blocks (block_in entries j)
 
--- the blocks of the rows up to the first that starts at the stop or behind it
-pub record RowsPainted (entries blocks store : List ℕ) (rows : Rows) (start stop : ℕ) (bytes bytes' held held' : List ℕ) : Type 0 where
+-- the same of rows that ascend; of others only where they end
+pub record AscendingPainted (entries blocks store : List ℕ) (rows : Rows) (start stop : ℕ) (bytes bytes' held held' : List ℕ) : Type 0 where
   pub past : ℕ
   pub ends : Lower entries rows stop past
   pub painted : Ascending blocks entries rows
