@@ -23,7 +23,7 @@ pub record Reached (entries blocks store : List ℕ) (from row place : ℕ) : Ty
   pub high : at < row
   pub covers : (c : ℕ) → first_cell_in blocks (block_in entries at) ≤ c → c < place → Covers blocks store (block_in entries at) c
 
--- the rows before `row` are painted; `place` is behind the last cell that was
+-- the rows before `row` are painted, where the rows ascend; `place` is behind the last cell that was
 pub record Rowing (entries blocks store : List ℕ) (rows : Rows) (start stop : ℕ) (bytes₀ bytes held₀ held : List ℕ) (row place : ℕ) : Type 0 where
   pub window : Slices start stop bytes held
   pub onward : start ≤ place
@@ -106,7 +106,7 @@ rowing_more s low inside o h same same' p = rowing_row s low inside (rw o at p) 
 
 module _ {entries blocks store : List ℕ} {rows : Rows} {start stop row place : ℕ} {bytes₀ bytes held₀ held : List ℕ}
     (s : Rowing entries blocks store rows start stop bytes₀ bytes held₀ held row place) (low : rows.from ≤ row) where
-  -- those that start before the end of the window are all painted
+  -- the rows end at the first that starts behind the window
   pub rowing_past : {own : Neighbour} → row < rows.to → own ≡ row_block entries row → stop ≤ own.first → AscendingPainted entries blocks store rows start stop bytes₀ bytes held₀ held
   rowing_past inside o h =
       record {
@@ -118,7 +118,7 @@ module _ {entries blocks store : List ℕ} {rows : Rows} {start stop row place :
         painted = s.painted;
       }
 
-  -- there are no more
+  -- or where there are no more
   pub rowing_all : rows.to ≤ row → (rows.from ≤ rows.to → row ≤ rows.to) → AscendingPainted entries blocks store rows start stop bytes₀ bytes held₀ held
   rowing_all h high =
       record {
